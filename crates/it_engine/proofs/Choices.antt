@@ -33,6 +33,16 @@ best_within entry right basis (suc i) m o e h = subst (λ (o : Option ℕ). IfSo
 pub best_more : (entry right : ℕ → ℤ) (basis : ℕ → ℕ) (i : ℕ) → best_row_below entry right basis (i + 1) ≡ best_after_row entry right basis i (best_row_below entry right basis i)
 best_more entry right basis i = let e : i + 1 ≡ suc i = omega arith in ap (best_row_below entry right basis) e
 
+-- only the entries of the rows below i count
+pub best_by_entries : (entry other right : ℕ → ℤ) (basis : ℕ → ℕ) (i : ℕ) → ((k : ℕ) → k < i → entry k ≡ other k) → best_row_below entry right basis i ≡ best_row_below other right basis i
+best_by_entries entry other right basis zero e = refl
+best_by_entries entry other right basis (suc i) e = ap (best_after_row entry right basis i) (best_by_entries entry other right basis i (λ k l. e k (omega arith))) ∙ by_option (best_row_below other right basis i) refl
+  where
+    by_option : (o : Option ℕ) → best_row_below other right basis i ≡ o → best_after_row entry right basis i o ≡ best_after_row other right basis i o
+    by_option None f = ap (λ z. cond (is_above_zero z) (Some i) None) (e i (omega arith))
+    by_option (Some k) f = let l : k < i = best_within other right basis i i (Some k) (sym f) (omega arith) in
+        ap₂ (λ z w. cond (is_above_zero z) (cond (comes_first (right i) z (basis i) (right k) w (basis k)) (Some i) (Some k)) (Some k)) (e i (omega arith)) (e k (omega (arith, l)))
+
 -- the sign of a difference of n / x and k / y
 difference_sign : (a b : Rational) (n k : ℤ) (x y : ℕ) → 0 < x → 0 < y → IsRatio a n x → IsRatio b k y
     → is_at_least_zero (Q.plus a (Q.minus b)) ≡ sign_least (n *ℤ pos y +ℤ neg_ℤ (k *ℤ pos x))

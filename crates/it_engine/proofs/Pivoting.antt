@@ -2,9 +2,7 @@
 use Rattle.std.proofs.Common.{◌≡◌, ◌≢◌, ◌⊎◌, inl, inr, ℤ, pos, ◌≤ℤ◌, ◌^◌, unsigned_abs, refl, ℕ, ◌+◌, ◌<◌, ◌≤◌, List, [], length, slice_set, sym, subst, ◌∙◌, arith}
 use Rattle.std.proofs.lemmas.Bool.{cases_eq}
 use Rattle.std.proofs.lemmas.List.{get_or-set_same, get_or-set_other, length-set}
-use Rattle.it_space.specs.Rows.{Terms, value}
 use Rattle.it_engine.specs.Updates.{AreWholeRowsPivoted, IsWholeRowDivided, IsQuotient, IsUpdated, IsUsable}
-use Rattle.it_space.specs.Sums.{number_at}
 use Rattle.it_engine.specs.Whole.{WholeRowView, whole_row_at}
 use Rattle.it_engine.proofs.RowSteps.{divided_row, less_divided}
 use Rattle.it_engine.proofs.Usable.{quotient_usable, shortened_divided}
@@ -42,26 +40,36 @@ module _ (old : List WholeRowView) (r : ℕ) (Done : ℕ → WholeRowView → Ty
   other_rows_are_done now i y h u k l d = subst (Done k) (sym (get_or-set_other now r k y absent_row d)) (u.done k (omega arith) d)
 
 -- all rows are done by the row that leaves as divided by its entry, and that row is row r
-pub pivot_ends : (old : List WholeRowView) (r width limit : ℕ) (terms : Terms) (p : ℤ) (now : List WholeRowView) (i : ℕ) (y : WholeRowView) → r < length old → IsUsable width limit (whole_row_at old r) → length old ≤ i
-    → p ≡ value terms (number_at (whole_row_at old r).numbers) → pos 1 ≤ℤ p → unsigned_abs p < 2 ^ 63
-    → IsPivotUnderWay old now r i (λ k row. IsUpdated width limit (whole_row_at old k) y terms (pos y.bottom) row) → IsQuotient (whole_row_at old r) p y → AreWholeRowsPivoted width limit old terms r (slice_set now r y)
-pivot_ends old r width limit terms p now i y hr usable hi ep hp small u q = record {
+pub pivot_ends : (old : List WholeRowView) (r width limit : ℕ) (entry : ℕ → ℤ) (now : List WholeRowView) (i : ℕ) (y : WholeRowView) → r < length old → IsUsable width limit (whole_row_at old r) → length old ≤ i
+    → pos 1 ≤ℤ entry r → unsigned_abs (entry r) < 2 ^ 63
+    → IsPivotUnderWay old now r i (λ k row. IsUpdated width limit (whole_row_at old k) y (entry k) (pos y.bottom) row) → IsQuotient (whole_row_at old r) (entry r) y → AreWholeRowsPivoted width limit old entry r (slice_set now r y)
+pivot_ends old r width limit entry now i y hr usable hi hp small u q = record {
   same_length = length-set now r y ∙ u.same_length;
-  others = λ k l d. subst (λ (z : ℤ). IsUpdated width limit (whole_row_at old k) (whole_row_at old r) terms z (whole_row_at (slice_set now r y) k)) ep
-      (by_own k (whole_row_at (slice_set now r y) k) (other_rows_are_done old r (λ k row. IsUpdated width limit (whole_row_at old k) y terms (pos y.bottom) row) now i y hi u k l d));
-  own = subst (IsWholeRowDivided width limit (whole_row_at old r) (value terms (number_at (whole_row_at old r).numbers))) row_is_set (subst (λ (z : ℤ). IsWholeRowDivided width limit (whole_row_at old r) z y) ep own_row_divided);
-  own_usable = subst (IsUsable width limit) row_is_set (quotient_usable width limit (whole_row_at old r) p y usable hp q);
+  others = λ k l d. by_own k (whole_row_at (slice_set now r y) k) (other_rows_are_done old r (λ k row. IsUpdated width limit (whole_row_at old k) y (entry k) (pos y.bottom) row) now i y hi u k l d);
+  own = subst (IsWholeRowDivided width limit (whole_row_at old r) (entry r)) row_is_set own_row_divided;
+  own_usable = subst (IsUsable width limit) row_is_set (quotient_usable width limit (whole_row_at old r) (entry r) y usable hp q);
 }
   where
     row_is_set : y ≡ whole_row_at (slice_set now r y) r
     row_is_set = sym (get_or-set_same now r y absent_row (omega (arith, u.same_length, hr)))
 
-    own_row_divided : IsWholeRowDivided width limit (whole_row_at old r) p y
-    own_row_divided = shortened_divided width limit (whole_row_at old r) record { numbers = (whole_row_at old r).numbers; bottom = unsigned_abs p } y p
-        (divided_row width limit (whole_row_at old r) record { numbers = (whole_row_at old r).numbers; bottom = unsigned_abs p } p hp small refl refl) q
+    own_row_divided : IsWholeRowDivided width limit (whole_row_at old r) (entry r) y
+    own_row_divided = shortened_divided width limit (whole_row_at old r) record { numbers = (whole_row_at old r).numbers; bottom = unsigned_abs (entry r) } y (entry r)
+        (divided_row width limit (whole_row_at old r) record { numbers = (whole_row_at old r).numbers; bottom = unsigned_abs (entry r) } (entry r) hp small refl refl) q
 
-    by_own : (k : ℕ) (new : WholeRowView) → IsUpdated width limit (whole_row_at old k) y terms (pos y.bottom) new → IsUpdated width limit (whole_row_at old k) (whole_row_at old r) terms p new
+    by_own : (k : ℕ) (new : WholeRowView) → IsUpdated width limit (whole_row_at old k) y (entry k) (pos y.bottom) new → IsUpdated width limit (whole_row_at old k) (whole_row_at old r) (entry k) (entry r) new
     by_own k new w = record {
-      less = less_divided width limit (whole_row_at old k) (whole_row_at old r) y new (value terms (number_at (whole_row_at old k).numbers)) p own_row_divided w.less;
+      less = less_divided width limit (whole_row_at old k) (whole_row_at old r) y new (entry k) (entry r) own_row_divided w.less;
       usable = w.usable;
     }
+
+-- only the entries of the rows count
+pub pivoted_by_entries : (width limit : ℕ) (old : List WholeRowView) (entry other : ℕ → ℤ) (r : ℕ) (new : List WholeRowView) → r < length old → ((i : ℕ) → i < length old → entry i ≡ other i)
+    → AreWholeRowsPivoted width limit old entry r new → AreWholeRowsPivoted width limit old other r new
+pivoted_by_entries width limit old entry other r new hr e a = record {
+  same_length = a.same_length;
+  others = λ i l d. subst (λ (p : ℤ). IsUpdated width limit (whole_row_at old i) (whole_row_at old r) (other i) p (whole_row_at new i)) (e r hr)
+      (subst (λ (z : ℤ). IsUpdated width limit (whole_row_at old i) (whole_row_at old r) z (entry r) (whole_row_at new i)) (e i l) (a.others i l d));
+  own = subst (λ (p : ℤ). IsWholeRowDivided width limit (whole_row_at old r) p (whole_row_at new r)) (e r hr) a.own;
+  own_usable = a.own_usable;
+}

@@ -105,7 +105,7 @@ module _ (p : FeasibilityProblem Rational) (t : SimplexTable Rational) (columns 
     next_is = to_step (λ r' c'. pivot field_ℚ t r c ≡ pivot field_ℚ t r' c') refl
 
     -- the new rows show the table after the pivot
-    pub shows_pivot : (new : List WholeRowView) → AreWholeRowsPivoted (length rows) limit rows (slice_index_or columns c []) r new
+    pub shows_pivot : (new : List WholeRowView) → AreWholeRowsPivoted (length rows) limit rows (entry_of (slice_index_or columns c []) rows) r new
         → ShowsTable (length basis) (length columns) limit (pivot field_ℚ t r c) new (slice_set basis r c)
     shows_pivot new a = record {
       rows_are = a.same_length ∙ s.shows.rows_are;
@@ -141,7 +141,7 @@ module _ (p : FeasibilityProblem Rational) (t : SimplexTable Rational) (columns 
         basis_after i l (inl e) = ap (λ b. cond b c (t.basis i)) (eq-eqb i r e) ∙ sym (get_or-set_same basis r c 0 row_leaves.1) ∙ ap (λ x. slice_index_or (slice_set basis r c) x 0) (sym e)
         basis_after i l (inr d) = ap (λ b. cond b c (t.basis i)) (ne_eqb i r d) ∙ s.shows.basis_is i l ∙ sym (get_or-set_other basis r i c 0 d)
 
-    pub step_is_made : (new : List WholeRowView) → AreWholeRowsPivoted (length rows) limit rows (slice_index_or columns c []) r new → IsStepMade p t columns limit basis new (slice_set basis r c)
+    pub step_is_made : (new : List WholeRowView) → AreWholeRowsPivoted (length rows) limit rows (entry_of (slice_index_or columns c []) rows) r new → IsStepMade p t columns limit basis new (slice_set basis r c)
     step_is_made new a = record {
       moves = moves_here;
       fits = fits_here;
@@ -160,9 +160,9 @@ module _ (p : FeasibilityProblem Rational) (t : SimplexTable Rational) (columns 
         same_length = length-set basis r c
 
 -- the step keeps the engine's parts in agreement
-pub engine_kept : (columns : List Terms) (limit : ℕ) (rows new : List WholeRowView) (basis : List ℕ) (terms : Terms) (r c : ℕ) → r < length basis → IsSafe columns limit rows basis
-    → AreWholeRowsPivoted (length rows) limit rows terms r new → IsSafe columns limit new (slice_set basis r c)
-engine_kept columns limit rows new basis terms r c h e a = record {
+pub engine_kept : (columns : List Terms) (limit : ℕ) (rows new : List WholeRowView) (basis : List ℕ) (entry : ℕ → ℤ) (r c : ℕ) → r < length basis → IsSafe columns limit rows basis
+    → AreWholeRowsPivoted (length rows) limit rows entry r new → IsSafe columns limit new (slice_set basis r c)
+engine_kept columns limit rows new basis entry r c h e a = record {
   rows_are = a.same_length ∙ e.rows_are ∙ ap (λ k. k + 1) (sym (length-set basis r c));
   usable = λ i l. subst (λ (w : ℕ). IsUsable w limit (whole_row_at new i)) (sym a.same_length) (by_cases i (omega (arith, l, a.same_length)) (cases_eq i r));
   fitting = λ j l. subst (λ (w : ℕ). IsFitting w limit (slice_index_or columns j [])) (sym a.same_length) (e.fitting j l);

@@ -53,8 +53,8 @@ factor_some (pos p) z a h e = subst (λ (a : ℤ). 0 < unsigned_abs a) (sym e) (
     entry_some = omega (arith, ints, h)
 
 -- a row whose entry is 0 is kept
-pub kept_updated : (width limit : ℕ) (old own : WholeRowView) (terms : Terms) (p : ℤ) → IsUsable width limit old → value terms (number_at old.numbers) ≡ pos 0 → IsUpdated width limit old own terms p old
-kept_updated width limit old own terms p u e = record {
+pub kept_updated : (width limit : ℕ) (old own : WholeRowView) (z p : ℤ) → IsUsable width limit old → z ≡ pos 0 → IsUpdated width limit old own z p old
+kept_updated width limit old own z p u e = record {
   less = subst (λ (z : ℤ). IsWholeRowReduced width limit old own z p old) (sym e) (kept_row width limit old own p);
   usable = u;
 }

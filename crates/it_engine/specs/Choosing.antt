@@ -1,5 +1,5 @@
 -- No public clause cites this module: the choice of column and row by whole numbers.
-use Rattle.std.specs.Prelude.{ℕ, zero, suc, Bool, true, cond, ltb, ◌&&◌, not, Option, Some, None, ℤ, ◌+ℤ◌, ◌*ℤ◌, neg_ℤ, List, [], length, slice_index_or}
+use Rattle.std.specs.Prelude.{◌≡◌, ◌<◌, ℕ, zero, suc, Bool, true, cond, ltb, ◌&&◌, not, Option, Some, None, ℤ, ◌+ℤ◌, ◌*ℤ◌, neg_ℤ, List, [], length, slice_index_or}
 use Rattle.it_rational.specs.Rational.{sign_least}
 use Rattle.it_space.specs.Rows.{Terms, value}
 use Rattle.it_run.specs.Choice.{first_false}
@@ -36,6 +36,11 @@ module _ (entry right : ℕ → ℤ) (basis : ℕ → ℕ) where
 -- the entry of row i at a column, over the row's denominator
 abbrev pub entry_of : Terms → List WholeRowView → ℕ → ℤ
 entry_of terms rows i = value terms (number_at (whole_row_at rows i).numbers)
+
+-- a list of the entries of all rows at a column
+pub record AreEntries (terms : Terms) (rows : List WholeRowView) (entries : List ℤ) : Type 0 where
+  pub length_is : length entries ≡ length rows
+  pub each : (i : ℕ) → i < length rows → number_at entries i ≡ entry_of terms rows i
 
 -- the right side of row i, which stands at place m
 abbrev pub right_side_of : ℕ → List WholeRowView → ℕ → ℤ

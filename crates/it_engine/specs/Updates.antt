@@ -84,15 +84,15 @@ abbrev pub AreUsable : ℕ → ℕ → List WholeRowView → Type 0
 AreUsable width limit rows = (i : ℕ) → i < length rows → IsUsable width limit (whole_row_at rows i)
 
 -- the row is made less as above, and stays usable
-pub record IsUpdated (width limit : ℕ) (old own : WholeRowView) (terms : Terms) (p : ℤ) (new : WholeRowView) : Type 0 where
-  pub less : IsWholeRowReduced width limit old own (value terms (number_at old.numbers)) p new
+pub record IsUpdated (width limit : ℕ) (old own : WholeRowView) (z p : ℤ) (new : WholeRowView) : Type 0 where
+  pub less : IsWholeRowReduced width limit old own z p new
   pub usable : IsUsable width limit new
 
--- the rows after a pivot on row r and the column of these terms
-pub record AreWholeRowsPivoted (width limit : ℕ) (old : List WholeRowView) (terms : Terms) (r : ℕ) (new : List WholeRowView) : Type 0 where
+-- the rows after a pivot on row r and the column at which they have these entries
+pub record AreWholeRowsPivoted (width limit : ℕ) (old : List WholeRowView) (entry : ℕ → ℤ) (r : ℕ) (new : List WholeRowView) : Type 0 where
   pub same_length : length new ≡ length old
-  pub others : (i : ℕ) → i < length old → i ≢ r → IsUpdated width limit (whole_row_at old i) (whole_row_at old r) terms (value terms (number_at (whole_row_at old r).numbers)) (whole_row_at new i)
-  pub own : IsWholeRowDivided width limit (whole_row_at old r) (value terms (number_at (whole_row_at old r).numbers)) (whole_row_at new r)
+  pub others : (i : ℕ) → i < length old → i ≢ r → IsUpdated width limit (whole_row_at old i) (whole_row_at old r) (entry i) (entry r) (whole_row_at new i)
+  pub own : IsWholeRowDivided width limit (whole_row_at old r) (entry r) (whole_row_at new r)
   pub own_usable : IsUsable width limit (whole_row_at new r)
 
 -- no number times a and no number of another row, which are at most y, times b sum to more than a bound within the limit

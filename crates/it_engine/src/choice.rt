@@ -1,12 +1,14 @@
-//! The column that enters and the row that leaves.
+//! The column that enters, the entries of the rows there, and the row that leaves.
 ghost use Rattle.std.specs.Prelude.{◌≡◌, ◌+◌, ◌<◌, ℕ, length};
 ghost use Rattle.std.specs.Option.{IfNone, IfSome};
-ghost use Rattle.it_engine.specs.Choosing.{best_after_row, basic_column_at, best_row, entry_of, first_negative_cost, right_side_of};
+ghost use Rattle.it_engine.specs.Choosing.{AreEntries, best_after_row, basic_column_at, best_row_below, entry_of, first_negative_cost, right_side_of};
 ghost use Rattle.it_engine.specs.Updates.{AllSuit, SuitsAll};
 ghost use Rattle.it_engine.specs.Whole.{whole_row_at};
+ghost use Rattle.it_space.specs.Sums.{number_at};
 
 use crate::arithmetic::{comes_first, is_above_zero, is_at_least_zero};
 use crate::columns::Column;
+use crate::numbers::read;
 use crate::rows::WholeRow;
 
 /// The first column with a cost below 0.
@@ -35,6 +37,18 @@ fn entry(column: &Column, rows: &[WholeRow], i: usize) -> i64
     column.price(&rows[i])
 }
 
+/// Writes down the entry of each row at the column, so that a step prices each row once.
+pub fn note_entries(column: &Column, rows: &[WholeRow], entries: &mut [i64])
+    requires even { length entries.old ≡ length rows.now }
+    requires suits { SuitsAll column.now rows.now }
+    ensures { AreEntries column.now rows.now entries.new }
+{
+    // by index, since the invariant speaks of the first i rows
+    for i in 0..rows.len() {
+        entries[i] = entry(column, rows, i);
+    }
+}
+
 /// The right side of a row, which stands at this place.
 pub fn right_side(rows: &[WholeRow], i: usize, place: usize) -> i64
     requires row { i < length rows.now }
@@ -48,7 +62,7 @@ pub fn right_side(rows: &[WholeRow], i: usize, place: usize) -> i64
 fn better_row(
     best: Option<usize>,
     i: usize,
-    column: &Column,
+    entries: &[i64],
     rows: &[WholeRow],
     basis: &[usize],
 ) -> Option<usize>
@@ -56,10 +70,10 @@ fn better_row(
     requires best { IfSome best (λ k. k < length basis.now) }
     requires rows { length rows.now ≡ length basis.now + 1 }
     requires even { (k : ℕ) → k < length rows.now → length (whole_row_at rows.now k).numbers ≡ length rows.now }
-    requires suits { SuitsAll column.now rows.now }
-    ensures { result ≡ best_after_row (entry_of column.now rows.now) (right_side_of (length basis.now) rows.now) (basic_column_at basis.now) i best }
+    requires entries { length entries.now ≡ length rows.now }
+    ensures { result ≡ best_after_row (number_at entries.now) (right_side_of (length basis.now) rows.now) (basic_column_at basis.now) i best }
 {
-    let entering = entry(column, rows, i);
+    let entering = read(entries, i);
     if !is_above_zero(entering) {
         return best;
     }
@@ -72,7 +86,7 @@ fn better_row(
         entering,
         basis[i],
         right_side(rows, k, last),
-        entry(column, rows, k),
+        read(entries, k),
         basis[k],
     ) {
         Some(i)
@@ -81,18 +95,19 @@ fn better_row(
     }
 }
 
-/// The row with the least ratio of those with an entry above 0, of several the one with the least basic column.
+/// The row with the least ratio of those with an entry above 0, of several the one with the least basic column. The entries are
+/// those of all rows at the column that enters.
 #[tactic(auto, using(crate::proofs::Choices::best_within, crate::proofs::Choices::best_more))]
-pub fn leaving_row(column: &Column, rows: &[WholeRow], basis: &[usize]) -> Option<usize>
+pub fn leaving_row(entries: &[i64], rows: &[WholeRow], basis: &[usize]) -> Option<usize>
     requires rows { length rows.now ≡ length basis.now + 1 }
     requires even { (k : ℕ) → k < length rows.now → length (whole_row_at rows.now k).numbers ≡ length rows.now }
-    requires suits { SuitsAll column.now rows.now }
-    ensures value { result ≡ best_row column.now rows.now basis.now (length basis.now) }
+    requires entries { length entries.now ≡ length rows.now }
+    ensures value { result ≡ best_row_below (number_at entries.now) (right_side_of (length basis.now) rows.now) (basic_column_at basis.now) (length basis.now) }
     ensures within { IfSome result (λ r. r < length basis.now) }
 {
     let mut best: Option<usize> = None;
     for i in 0..basis.len() {
-        best = better_row(best, i, column, rows, basis);
+        best = better_row(best, i, entries, rows, basis);
     }
     best
 }

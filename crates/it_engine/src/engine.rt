@@ -6,9 +6,9 @@ ghost use Rattle.it_engine.specs.Choosing.{first_negative_cost, right_side_of};
 ghost use Rattle.it_engine.specs.Engine.{IsFinished, IsSafe, IsEngineStepOrStuck, StandsForSome};
 ghost use Rattle.it_engine.specs.Whole.{whole_row_at};
 
-use crate::choice::{entering_column, leaving_row};
+use crate::choice::entering_column;
 use crate::columns::Column;
-use crate::pivots::pivot;
+use crate::pivots::enter;
 use crate::rows::WholeRow;
 use std::alloc::Global;
 use std::marker::Model;
@@ -33,6 +33,8 @@ pub struct Engine {
     basis: Vec<usize>,
     // room for a pivot's notes on the leaving row
     next: Vec<usize>,
+    // room for the entries of the rows at the column that enters
+    entries: Vec<i64>,
 }
 
 impl Model for Engine {
@@ -43,13 +45,20 @@ impl Model for Engine {
 
     ghost view = { λ e. record { rows = e.rows.items; basis = e.basis.items } };
 
-    ghost invariant = { λ e. length e.next.items ≡ length e.basis.items + 2 };
+    ghost invariant = { λ e. (length e.next.items ≡ length e.basis.items + 2) × (length e.entries.items ≡ length e.basis.items + 1) };
 }
 
 impl Engine {
-    /// An engine, with room for two numbers more than there are basic columns.
-    pub fn new(alloc: Global, rows: Vec<WholeRow>, basis: Vec<usize>, next: Vec<usize>) -> Engine
-        requires { length next.items ≡ length basis.items + 2 }
+    /// An engine, with room for two numbers more than there are basic columns, and for an entry of each row.
+    pub fn new(
+        alloc: Global,
+        rows: Vec<WholeRow>,
+        basis: Vec<usize>,
+        next: Vec<usize>,
+        entries: Vec<i64>,
+    ) -> Engine
+        requires next { length next.items ≡ length basis.items + 2 }
+        requires entries { length entries.items ≡ length basis.items + 1 }
         ensures rows { result.rows ≡ rows.items }
         ensures basis { result.basis ≡ basis.items }
     {
@@ -58,6 +67,7 @@ impl Engine {
             rows,
             basis,
             next,
+            entries,
         }
     }
 
@@ -111,20 +121,17 @@ impl Engine {
         let Some(column) = self.next_column(columns) else {
             return Some(false);
         };
-        let row = leaving_row(&columns[column], self.rows(), self.basis())?;
-        if pivot(
+        let row = enter(
             self.alloc,
             self.rows.as_mut_slice(),
-            &mut self.next,
+            self.basis.as_slice(),
+            self.next.as_mut_slice(),
+            self.entries.as_mut_slice(),
             &columns[column],
-            row,
             limit,
-        ) {
-            self.basis[row] = column;
-            Some(true)
-        } else {
-            None
-        }
+        )?;
+        self.basis[row] = column;
+        Some(true)
     }
 
     /// Makes the run with a budget of steps.

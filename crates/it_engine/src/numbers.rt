@@ -12,7 +12,7 @@ use crate::arithmetic::{common_divisor, narrow_difference, quotient};
 
 /// The number at place k.
 #[inline]
-fn read(row: &[i64], k: usize) -> i64
+pub fn read(row: &[i64], k: usize) -> i64
     requires { k < length row.now }
     ensures { result ≡ number_at row.now k }
 {
@@ -35,17 +35,17 @@ fn next_number(row: &[i64], by: &[i64], k: usize, a: i64, b: i64, limit: u64) ->
 }
 
 /// As combine, with a test at each number; false where one would be too large, and then nothing is known of them.
-fn combine_tested(row: &mut Vec<i64>, by: &[i64], a: i64, b: i64, limit: u64) -> bool
-    requires even { length row.old.items ≡ length by.now }
-    requires row { AreShort row.old.items }
+fn combine_tested(row: &mut [i64], by: &[i64], a: i64, b: i64, limit: u64) -> bool
+    requires even { length row.old ≡ length by.now }
+    requires row { AreShort row.old }
     requires by { AreShort by.now }
     requires a { unsigned_abs a < 2 ^ 63 }
     requires b { unsigned_abs b < 2 ^ 63 }
     requires limit { limit < 2 ^ 63 }
-    ensures { OnTrue result (IsCombined (length by.now) limit row.old.items by.now a b row.new.items) }
+    ensures { OnTrue result (IsCombined (length by.now) limit row.old by.now a b row.new) }
 {
     for k in 0..row.len() {
-        let Some(number) = next_number(row.as_slice(), by, k, a, b, limit) else {
+        let Some(number) = next_number(row, by, k, a, b, limit) else {
             return false;
         };
         row[k] = number;
@@ -148,9 +148,9 @@ fn next_place(row: &[i64], k: usize, after: usize) -> usize
 }
 
 /// Notes for each place of the row the next one where the row isn't 0.
-pub fn note_places(row: &[i64], next: &mut Vec<usize>)
-    requires { length next.old.items ≡ length row.now + 1 }
-    ensures { AreNextPlaces row.now next.new.items }
+pub fn note_places(row: &[i64], next: &mut [usize])
+    requires { length next.old ≡ length row.now + 1 }
+    ensures { AreNextPlaces row.now next.new }
 {
     let mut k = row.len();
     next[k] = k;
@@ -162,39 +162,39 @@ pub fn note_places(row: &[i64], next: &mut Vec<usize>)
 }
 
 /// As combine, where no number needs a test.
-fn multiply_and_subtract(row: &mut Vec<i64>, by: &[i64], a: i64, b: i64)
-    requires even { length row.old.items ≡ length by.now }
-    requires bound { (k : ℕ) → k < length by.now → unsigned_abs (number_at row.old.items k *ℤ a) + unsigned_abs (number_at by.now k *ℤ b) < 2 ^ 63 }
-    ensures length { length row.new.items ≡ length row.old.items }
-    ensures entries { (k : ℕ) → k < length by.now → number_at row.new.items k ≡ number_at row.old.items k *ℤ a +ℤ neg_ℤ (number_at by.now k *ℤ b) }
+fn multiply_and_subtract(row: &mut [i64], by: &[i64], a: i64, b: i64)
+    requires even { length row.old ≡ length by.now }
+    requires bound { (k : ℕ) → k < length by.now → unsigned_abs (number_at row.old k *ℤ a) + unsigned_abs (number_at by.now k *ℤ b) < 2 ^ 63 }
+    ensures length { length row.new ≡ length row.old }
+    ensures entries { (k : ℕ) → k < length by.now → number_at row.new k ≡ number_at row.old k *ℤ a +ℤ neg_ℤ (number_at by.now k *ℤ b) }
 {
     for k in 0..row.len() {
-        row[k] = plain_number(row.as_slice(), by, k, a, b);
+        row[k] = plain_number(row, by, k, a, b);
     }
 }
 
 /// As combine with the factor 1, where no number needs a test: only the places where the other row isn't 0 change.
-fn subtract_times(row: &mut Vec<i64>, by: &[i64], next: &[usize], b: i64)
-    requires even { length row.old.items ≡ length by.now }
-    requires bound { (k : ℕ) → k < length by.now → unsigned_abs (number_at row.old.items k) + unsigned_abs (number_at by.now k *ℤ b) < 2 ^ 63 }
+fn subtract_times(row: &mut [i64], by: &[i64], next: &[usize], b: i64)
+    requires even { length row.old ≡ length by.now }
+    requires bound { (k : ℕ) → k < length by.now → unsigned_abs (number_at row.old k) + unsigned_abs (number_at by.now k *ℤ b) < 2 ^ 63 }
     requires places { AreNextPlaces by.now next.now }
-    ensures length { length row.new.items ≡ length row.old.items }
-    ensures entries { (k : ℕ) → k < length by.now → number_at row.new.items k ≡ number_at row.old.items k +ℤ neg_ℤ (number_at by.now k *ℤ b) }
+    ensures length { length row.new ≡ length row.old }
+    ensures entries { (k : ℕ) → k < length by.now → number_at row.new k ≡ number_at row.old k +ℤ neg_ℤ (number_at by.now k *ℤ b) }
 {
     let mut k = next[0];
     while k < row.len() {
-        row[k] = less_product(row.as_slice(), by, k, b);
+        row[k] = less_product(row, by, k, b);
         k = next[k + 1];
     }
 }
 
 /// As combine, where no number needs a test.
-fn combine_plain(row: &mut Vec<i64>, by: &[i64], next: &[usize], a: i64, b: i64)
-    requires even { length row.old.items ≡ length by.now }
-    requires bound { (k : ℕ) → k < length by.now → unsigned_abs (number_at row.old.items k *ℤ a) + unsigned_abs (number_at by.now k *ℤ b) < 2 ^ 63 }
+fn combine_plain(row: &mut [i64], by: &[i64], next: &[usize], a: i64, b: i64)
+    requires even { length row.old ≡ length by.now }
+    requires bound { (k : ℕ) → k < length by.now → unsigned_abs (number_at row.old k *ℤ a) + unsigned_abs (number_at by.now k *ℤ b) < 2 ^ 63 }
     requires places { AreNextPlaces by.now next.now }
-    ensures length { length row.new.items ≡ length row.old.items }
-    ensures entries { (k : ℕ) → k < length by.now → number_at row.new.items k ≡ number_at row.old.items k *ℤ a +ℤ neg_ℤ (number_at by.now k *ℤ b) }
+    ensures length { length row.new ≡ length row.old }
+    ensures entries { (k : ℕ) → k < length by.now → number_at row.new k ≡ number_at row.old k *ℤ a +ℤ neg_ℤ (number_at by.now k *ℤ b) }
 {
     if a == 1 {
         subtract_times(row, by, next, b);
@@ -207,7 +207,7 @@ fn combine_plain(row: &mut Vec<i64>, by: &[i64], next: &[usize], a: i64, b: i64)
 /// numbers of the two, and next has the next places where the other row isn't 0. None where one would be larger than the
 /// limit: then nothing is known of them.
 pub fn combine(
-    row: &mut Vec<i64>,
+    row: &mut [i64],
     by: &[i64],
     next: &[usize],
     a: i64,
@@ -216,20 +216,20 @@ pub fn combine(
     most_by: u64,
     limit: u64,
 ) -> Option<u64>
-    requires even { length row.old.items ≡ length by.now }
-    requires row { AreShort row.old.items }
+    requires even { length row.old ≡ length by.now }
+    requires row { AreShort row.old }
     requires by { AreShort by.now }
     requires places { AreNextPlaces by.now next.now }
-    requires most { AreAtMost row.old.items most }
+    requires most { AreAtMost row.old most }
     requires most_by { AreAtMost by.now most_by }
     requires a { unsigned_abs a < 2 ^ 63 }
     requires b { unsigned_abs b < 2 ^ 63 }
     requires limit { limit < 2 ^ 63 }
-    ensures combined { IfSome result (λ m. IsCombined (length by.now) limit row.old.items by.now a b row.new.items) }
-    ensures most { IfSome result (λ m. AreAtMost row.new.items m) }
+    ensures combined { IfSome result (λ m. IsCombined (length by.now) limit row.old by.now a b row.new) }
+    ensures most { IfSome result (λ m. AreAtMost row.new m) }
 {
     match bound(
-        row.as_slice(),
+        row,
         most,
         a.unsigned_abs(),
         most_by,
@@ -267,13 +267,13 @@ pub fn divisor(row: &[i64], bottom: u64) -> u64
 }
 
 /// Divides the numbers by a common divisor.
-pub fn divide(row: &mut Vec<i64>, shared: u64)
-    requires row { AreShort row.old.items }
-    requires divides { DividesAll shared row.old.items }
-    ensures length { length row.new.items ≡ length row.old.items }
-    ensures entries { (k : ℕ) → k < length row.old.items → number_at row.new.items k *ℤ pos shared ≡ number_at row.old.items k }
+pub fn divide(row: &mut [i64], shared: u64)
+    requires row { AreShort row.old }
+    requires divides { DividesAll shared row.old }
+    ensures length { length row.new ≡ length row.old }
+    ensures entries { (k : ℕ) → k < length row.old → number_at row.new k *ℤ pos shared ≡ number_at row.old k }
 {
     for k in 0..row.len() {
-        row[k] = quotient(read(row.as_slice(), k), shared);
+        row[k] = quotient(read(row, k), shared);
     }
 }

@@ -1,48 +1,83 @@
 //! The pivot.
-ghost use Rattle.std.specs.Prelude.{◌≡◌, ◌+◌, ◌<◌, ◌^◌, ◌≤ℤ◌, pos, length};
+ghost use Rattle.std.specs.Prelude.{◌≡◌, ◌+◌, ◌<◌, ◌^◌, ◌≤ℤ◌, pos, length, Some};
 ghost use Rattle.std.specs.Bool.{OnTrue};
-ghost use Rattle.it_space.specs.Rows.{value};
-ghost use Rattle.it_engine.specs.Updates.{AreWholeRowsPivoted, AreUsable, IsFitting};
+ghost use Rattle.std.specs.Option.{IfSome};
+ghost use Rattle.it_engine.specs.Choosing.{best_row, entry_of};
+ghost use Rattle.it_engine.specs.Updates.{AreShort, AreWholeRowsPivoted, AreUsable, IsFitting};
 ghost use Rattle.it_space.specs.Sums.{number_at};
-ghost use Rattle.it_engine.specs.Whole.{whole_row_at};
 
+use crate::choice::{leaving_row, note_entries};
 use crate::columns::Column;
+use crate::numbers::read;
 use crate::rows::WholeRow;
 use std::alloc::Global;
 
-/// Makes the column basic in row r; false where a number would be too large, and then nothing is known of the rows. Next is room
-/// for a number for each place of a row and one more.
-pub fn pivot(
+/// Makes the column at which the rows have these entries basic in row r; false where a number would be too large, and then nothing
+/// is known of the rows. Next is room for a number for each place of a row and one more.
+fn pivot(
     alloc: Global,
     rows: &mut [WholeRow],
-    next: &mut Vec<usize>,
-    column: &Column,
+    next: &mut [usize],
+    entries: &[i64],
     r: usize,
     limit: u64,
 ) -> bool
     requires row { r < length rows.old }
     requires rows { AreUsable (length rows.old) limit rows.old }
-    requires room { length next.old.items ≡ length rows.old + 1 }
-    requires column { IsFitting (length rows.old) limit column.now }
-    requires positive { pos 1 ≤ℤ value column.now (number_at (whole_row_at rows.old r).numbers) }
+    requires room { length next.old ≡ length rows.old + 1 }
+    requires entries { length entries.now ≡ length rows.old }
+    requires short { AreShort entries.now }
+    requires positive { pos 1 ≤ℤ number_at entries.now r }
     requires limit { limit < 2 ^ 63 }
-    ensures pivoted { OnTrue result (AreWholeRowsPivoted (length rows.old) limit rows.old column.now r rows.new) }
-    ensures room { length next.new.items ≡ length next.old.items }
+    ensures pivoted { OnTrue result (AreWholeRowsPivoted (length rows.old) limit rows.old (number_at entries.now) r rows.new) }
+    ensures room { length next.new ≡ length next.old }
 {
     let taken = std::mem::replace(&mut rows[r], WholeRow::empty(alloc));
-    let entry = column.price(&taken);
     // Divided first, so that it is in lowest terms: then the factors of most other rows are 1, and their numbers stay small.
-    let own = taken.divided_by(entry);
+    let own = taken.divided_by(read(entries, r));
     let p = own.unit();
     own.note_places(next);
     // by index, since the invariant speaks of the rows before i and of those from i on
     for i in 0..rows.len() {
         if i != r {
-            if !rows[i].update(&own, next.as_slice(), column, p, limit) {
+            if !rows[i].update(&own, next, read(entries, i), p, limit) {
                 return false;
             }
         }
     }
     rows[r] = own;
     true
+}
+
+/// Makes the column basic in the row that leaves, and tells that row; None where none leaves, or where a number would be too large,
+/// and then nothing is known of the rows. Next is room for a number for each place of a row and one more, entries for one for each
+/// row.
+pub fn enter(
+    alloc: Global,
+    rows: &mut [WholeRow],
+    basis: &[usize],
+    next: &mut [usize],
+    entries: &mut [i64],
+    column: &Column,
+    limit: u64,
+) -> Option<usize>
+    requires height { length rows.old ≡ length basis.now + 1 }
+    requires rows { AreUsable (length rows.old) limit rows.old }
+    requires next { length next.old ≡ length rows.old + 1 }
+    requires entries { length entries.old ≡ length rows.old }
+    requires column { IsFitting (length rows.old) limit column.now }
+    requires limit { limit < 2 ^ 63 }
+    ensures leaves { IfSome result (λ r. best_row column.now rows.old basis.now (length basis.now) ≡ Some r) }
+    ensures within { IfSome result (λ r. r < length basis.now) }
+    ensures pivoted { IfSome result (λ r. AreWholeRowsPivoted (length rows.old) limit rows.old (entry_of column.now rows.old) r rows.new) }
+    ensures next { length next.new ≡ length next.old }
+    ensures entries { length entries.new ≡ length entries.old }
+{
+    note_entries(column, rows, entries);
+    let row = leaving_row(entries, rows, basis)?;
+    if pivot(alloc, rows, next, entries, row, limit) {
+        Some(row)
+    } else {
+        None
+    }
 }

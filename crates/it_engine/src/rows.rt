@@ -2,10 +2,9 @@
 ghost use Rattle.std.specs.Prelude.{◌≡◌, ◌+◌, ◌<◌, ◌^◌, ◌≤ℤ◌, [], unsigned_abs, length, pos};
 ghost use Rattle.std.specs.Bool.{OnTrue};
 ghost use Rattle.it_space.specs.Sums.{number_at};
-ghost use Rattle.it_engine.specs.Updates.{AreNextPlaces, AreShort, IsFitting, IsWholeRowReduced, IsQuotient, IsShortened, IsUpdated, IsUsable};
+ghost use Rattle.it_engine.specs.Updates.{AreNextPlaces, AreShort, IsWholeRowReduced, IsQuotient, IsShortened, IsUpdated, IsUsable};
 
 use crate::arithmetic::{common_divisor, quotient, short_product};
-use crate::columns::Column;
 use crate::numbers::{combine, divide, divisor, greatest_size, note_places};
 use std::alloc::Global;
 use std::marker::Model;
@@ -80,9 +79,9 @@ impl WholeRow {
     }
 
     /// Notes for each place the next one where the row isn't 0.
-    pub fn note_places(&self, next: &mut Vec<usize>)
-        requires { length next.old.items ≡ length self.now.numbers + 1 }
-        ensures { AreNextPlaces self.now.numbers next.new.items }
+    pub fn note_places(&self, next: &mut [usize])
+        requires { length next.old ≡ length self.now.numbers + 1 }
+        ensures { AreNextPlaces self.now.numbers next.new }
     {
         note_places(self.numbers.as_slice(), next);
     }
@@ -109,7 +108,7 @@ impl WholeRow {
         if shared == 1 {
             return;
         }
-        divide(&mut self.numbers, shared);
+        divide(self.numbers.as_mut_slice(), shared);
         self.bottom /= shared;
         self.most = greatest_size(self.numbers.as_slice());
     }
@@ -133,7 +132,7 @@ impl WholeRow {
             return false;
         };
         match combine(
-            &mut self.numbers,
+            self.numbers.as_mut_slice(),
             own.numbers.as_slice(),
             next,
             a,
@@ -154,25 +153,25 @@ impl WholeRow {
         }
     }
 
-    /// The row after a step in which another row leaves, whose entry at the column is the pivot; false where a number would be
-    /// larger than the limit, and then nothing is known of the row. Next has the next places where the leaving row isn't 0.
+    /// The row, which has this entry at the column, after a step in which another row leaves, whose entry there is the pivot; false
+    /// where a number would be larger than the limit, and then nothing is known of the row. Next has the next places where the
+    /// leaving row isn't 0.
     pub fn update(
         &mut self,
         own: &WholeRow,
         next: &[usize],
-        column: &Column,
+        entry: i64,
         pivot: i64,
         limit: u64,
     ) -> bool
         requires row { IsUsable (length own.now.numbers) limit self.old }
         requires own { IsUsable (length own.now.numbers) limit own.now }
         requires places { AreNextPlaces own.now.numbers next.now }
-        requires column { IsFitting (length own.now.numbers) limit column.now }
+        requires entry { unsigned_abs entry < 2 ^ 63 }
         requires pivot { pos 1 ≤ℤ pivot }
         requires limit { limit < 2 ^ 63 }
-        ensures { OnTrue result (IsUpdated (length own.now.numbers) limit self.old own.now column.now pivot self.new) }
+        ensures { OnTrue result (IsUpdated (length own.now.numbers) limit self.old own.now entry pivot self.new) }
     {
-        let entry = column.price(self);
         if entry == 0 {
             return true;
         }

@@ -81,6 +81,7 @@ pub fn whole_run(
     };
     let basis = basis(alloc, start)?;
     let next = Vec::from_elem(alloc, 0, basis.len() + 2)?;
-    let engine = Engine::new(alloc, rows, basis, next);
+    let entries = Vec::from_elem(alloc, 0, basis.len() + 1)?;
+    let engine = Engine::new(alloc, rows, basis, next, entries);
     answer(alloc, start, columns.as_slice(), limit, engine, budget)
 }

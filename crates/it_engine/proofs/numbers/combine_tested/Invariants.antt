@@ -4,8 +4,8 @@ use Rattle.it_engine.proofs.numbers.combine_tested.Given as goal
 
 abbrev pub invariant-loop-k : goal.invariant-loop-k
 invariant-loop-k l = record {
-  same_length : length l.row.items ≡ length l.initial.row.items;
-  done : (k : ℕ) → k < l.k → number_at l.row.items k ≡ number_at l.initial.row.items k *ℤ l.a +ℤ neg_ℤ (number_at l.by k *ℤ l.b);
-  small : (k : ℕ) → k < l.k → unsigned_abs (number_at l.row.items k) ≤ l.limit;
-  rest : (k : ℕ) → l.k ≤ k → number_at l.row.items k ≡ number_at l.initial.row.items k;
+  same_length : length l.row ≡ length l.initial.row;
+  done : (k : ℕ) → k < l.k → number_at l.row k ≡ number_at l.initial.row k *ℤ l.a +ℤ neg_ℤ (number_at l.by k *ℤ l.b);
+  small : (k : ℕ) → k < l.k → unsigned_abs (number_at l.row k) ≤ l.limit;
+  rest : (k : ℕ) → l.k ≤ k → number_at l.row k ≡ number_at l.initial.row k;
 }

@@ -4,9 +4,9 @@ use Rattle.it_engine.proofs.numbers.note_places.Given as goal
 
 abbrev pub invariant-loop-k : goal.invariant-loop-k
 invariant-loop-k l = record {
-  same_length : length l.next.items ≡ length l.row + 1;
+  same_length : length l.next ≡ length l.row + 1;
   within : l.k ≤ length l.row;
-  noted : (k : ℕ) → l.k ≤ k → k ≤ length l.row → IsNextPlace l.row k (slice_index_or l.next.items k 0);
+  noted : (k : ℕ) → l.k ≤ k → k ≤ length l.row → IsNextPlace l.row k (slice_index_or l.next k 0);
 }
 
 abbrev pub decreases-loop-k : goal.decreases-loop-k

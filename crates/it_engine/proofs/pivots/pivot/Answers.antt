@@ -1,34 +1,28 @@
-use Rattle.std.proofs.Common.{rules, ◌≡◌, ◌≤ℤ◌, pos, ℤ, ◌<◌, ◌+◌, ◌^◌, ◌∙◌, ap, sym, subst, FitsSigned, to_z-of_z, to_z, of_z, w64, length, List, ℕ, [], slice_index_or, unsigned_abs, arith}
+use Rattle.std.proofs.Common.{rules, ◌≡◌, ℤ, ◌<◌, ◌+◌, ◌^◌, ◌∙◌, sym, subst, FitsSigned, to_z-of_z, to_z, of_z, w64, length, List, ℕ, [], slice_index_or, unsigned_abs, arith}
 use Rattle.std.proofs.lemmas.List.{get_or_default}
-use Rattle.it_space.specs.Rows.{value}
 use Rattle.it_space.specs.Sums.{number_at}
 use Rattle.it_engine.specs.Whole.{whole_row_at, WholeRowView}
 use Rattle.it_engine.specs.Updates.{IsQuotient, IsUpdated, IsUsable}
 use Rattle.it_engine.proofs.Pivoting.{IsPivotUnderWay, own_row_is_skipped, row_is_updated, pivot_ends}
-use Rattle.it_engine.proofs.Usable.{fitting_short, quotient_usable}
+use Rattle.it_engine.proofs.Usable.{quotient_usable}
 use Rattle.it_engine.proofs.pivots.pivot.Goals as goal
-use Rattle.it_engine.proofs.pivots.pivot.Goals.{then-i-r+else-not-update, else-i-r, After-price-entry, After-unit-p}
+use Rattle.it_engine.proofs.pivots.pivot.Goals.{then-i-r+else-not-update, else-i-r, After-read, After-unit-p}
 
-taken_is : (c : After-price-entry) → c.replace-taken.result ≡ whole_row_at c.args.rows.now c.args.r
+taken_is : (c : After-read) → c.replace-taken.result ≡ whole_row_at c.args.rows.now c.args.r
 taken_is c = c.replace-taken.ensures.value ∙ get_or_default c.args.rows.now c.args.r c.index-rows-r.result record { numbers = []; bottom = 1 } c.requires.row
 
-entry_is : (c : After-price-entry) → c.price-entry.result ≡ value c.args.column.now (number_at (whole_row_at c.args.rows.now c.args.r).numbers)
-entry_is c = c.price-entry.ensures ∙ ap (λ (r : WholeRowView). value c.args.column.now (number_at r.numbers)) (taken_is c)
+entry_short : (c : After-read) → unsigned_abs (number_at c.args.entries.now c.args.r) < 2 ^ 63
+entry_short c = c.requires.short c.args.r (omega (arith, c.requires.row, c.requires.entries))
 
-entry_is_positive : (c : After-price-entry) → pos 1 ≤ℤ c.price-entry.result
-entry_is_positive c = subst (λ (z : ℤ). pos 1 ≤ℤ z) (sym (entry_is c)) c.requires.positive
-
-entry_short : (c : After-price-entry) → unsigned_abs c.price-entry.result < 2 ^ 63
-entry_short c = subst (λ (z : ℤ). unsigned_abs z < 2 ^ 63) (sym (entry_is c)) (fitting_short (length c.args.rows.now) c.args.limit c.args.column.now (whole_row_at c.args.rows.now c.args.r) c.requires.column (c.requires.rows c.args.r c.requires.row))
-
-quotient_is : (c : After-unit-p) → IsQuotient (whole_row_at c.args.rows.now c.args.r) c.price-entry.result c.divided_by-own.result
+quotient_is : (c : After-unit-p) → IsQuotient (whole_row_at c.args.rows.now c.args.r) (number_at c.args.entries.now c.args.r) c.divided_by-own.result
 quotient_is c =
-    let f : FitsSigned w64 c.price-entry.result = search rules in
-    subst (λ (o : WholeRowView). IsQuotient o c.price-entry.result c.divided_by-own.result) (taken_is (goal.at.After-unit-p c).After-price-entry) (simp to_z-of_z at c.divided_by-own.ensures)
+    let f : FitsSigned w64 c.read.result = search rules in
+    subst (λ (z : ℤ). IsQuotient (whole_row_at c.args.rows.now c.args.r) z c.divided_by-own.result) c.read.ensures
+    (subst (λ (o : WholeRowView). IsQuotient o c.read.result c.divided_by-own.result) (taken_is (goal.at.After-unit-p c).After-read) (simp to_z-of_z at c.divided_by-own.ensures))
 
 own_usable : (c : After-unit-p) → IsUsable (length c.args.rows.now) c.args.limit c.divided_by-own.result
-own_usable c = quotient_usable (length c.args.rows.now) c.args.limit (whole_row_at c.args.rows.now c.args.r) c.price-entry.result c.divided_by-own.result
-    (c.requires.rows c.args.r c.requires.row) (entry_is_positive (goal.at.After-unit-p c).After-price-entry) (quotient_is c)
+own_usable c = quotient_usable (length c.args.rows.now) c.args.limit (whole_row_at c.args.rows.now c.args.r) (number_at c.args.entries.now c.args.r) c.divided_by-own.result
+    (c.requires.rows c.args.r c.requires.row) c.requires.positive (quotient_is c)
 
 pub update-requires-clause-row : goal.update-requires-clause-row
 update-requires-clause-row c =
@@ -44,19 +38,27 @@ update-requires-clause-own c =
     let d = (goal.at.update-requires-clause-own c).After-unit-p in
     subst (λ (n : ℕ). IsUsable n c.args.limit c.divided_by-own.result) (sym (own_usable d).length_is) (own_usable d)
 
+pub update-requires-clause-entry : goal.update-requires-clause-entry
+update-requires-clause-entry c =
+    let f : FitsSigned w64 c.read-then-i-r.result = search rules in
+    simp to_z-of_z (rw c.read-then-i-r.ensures (c.requires.short c.loop-i.i (omega (arith, c.loop-i-test.true, c.loop-i.auto.rows, c.loop-i.invariant.same_length, c.requires.entries))))
+
 pub loop-i-preserved : goal.loop-i-preserved
 loop-i-preserved c =
     let d = (goal.at.loop-i-preserved c).After-unit-p in
-    let Done : ℕ → WholeRowView → Type 0 = λ k row. IsUpdated (length c.args.rows.now) c.args.limit (whole_row_at c.args.rows.now k) c.divided_by-own.result c.args.column.now (to_z w64 (of_z w64 c.unit-p.result)) row in
+    let Done : ℕ → WholeRowView → Type 0 = λ k row. IsUpdated (length c.args.rows.now) c.args.limit (whole_row_at c.args.rows.now k) c.divided_by-own.result (number_at c.args.entries.now k) (to_z w64 (of_z w64 c.unit-p.result)) row in
     elim c.if-i-r.branch [
       | then-i-r+else-not-update w ↦
           let reached : c.loop-i.i < length c.loop-i.rows = omega (arith, c.loop-i-test.true, c.loop-i.auto.rows) in
           let row : slice_index_or c.loop-i.rows c.loop-i.i w.index-rows-i.result ≡ whole_row_at c.args.rows.now c.loop-i.i =
           get_or_default c.loop-i.rows c.loop-i.i w.index-rows-i.result record { numbers = []; bottom = 1 } reached ∙ c.loop-i.invariant.rest c.loop-i.i (omega arith) w.if-i-r.true in
+          let f : FitsSigned w64 w.read-then-i-r.result = search rules in
+          let updated = simp to_z-of_z at w.if-not-update.ensures in
           subst (λ (l : List WholeRowView). IsPivotUnderWay c.args.rows.now l c.args.r (c.loop-i.i + 1) Done) (sym w.rows-is)
           (row_is_updated c.args.rows.now c.args.r Done c.loop-i.rows c.loop-i.i w.update.new.self reached
-          (subst (λ (x : WholeRowView). IsUpdated (length c.args.rows.now) c.args.limit x c.divided_by-own.result c.args.column.now (to_z w64 (of_z w64 c.unit-p.result)) w.update.new.self) row
-          (subst (λ (n : ℕ). IsUpdated n c.args.limit (slice_index_or c.loop-i.rows c.loop-i.i w.index-rows-i.result) c.divided_by-own.result c.args.column.now (to_z w64 (of_z w64 c.unit-p.result)) w.update.new.self) (own_usable d).length_is w.if-not-update.ensures))
+          (subst (λ (z : ℤ). IsUpdated (length c.args.rows.now) c.args.limit (whole_row_at c.args.rows.now c.loop-i.i) c.divided_by-own.result z (to_z w64 (of_z w64 c.unit-p.result)) w.update.new.self) w.read-then-i-r.ensures
+          (subst (λ (x : WholeRowView). IsUpdated (length c.args.rows.now) c.args.limit x c.divided_by-own.result w.read-then-i-r.result (to_z w64 (of_z w64 c.unit-p.result)) w.update.new.self) row
+          (subst (λ (n : ℕ). IsUpdated n c.args.limit (slice_index_or c.loop-i.rows c.loop-i.i w.index-rows-i.result) c.divided_by-own.result w.read-then-i-r.result (to_z w64 (of_z w64 c.unit-p.result)) w.update.new.self) (own_usable d).length_is updated)))
           c.loop-i.invariant)
       | else-i-r w ↦
           subst (λ (l : List WholeRowView). IsPivotUnderWay c.args.rows.now l c.args.r (c.loop-i.i + 1) Done) (sym w.rows-is)
@@ -66,10 +68,10 @@ loop-i-preserved c =
 pub returns-clause-pivoted : goal.returns-clause-pivoted
 returns-clause-pivoted c =
     let d = (goal.at.returns-clause-pivoted c).After-unit-p in
-    let e = (goal.at.returns-clause-pivoted c).After-price-entry in
+    let e = (goal.at.returns-clause-pivoted c).After-read in
     let f : FitsSigned w64 c.unit-p.result = search rules in
     let u = simp to_z-of_z at c.loop-i.invariant in
-    pivot_ends c.args.rows.now c.args.r (length c.args.rows.now) c.args.limit c.args.column.now c.price-entry.result c.loop-i.rows c.loop-i.i c.divided_by-own.result
-    c.requires.row (c.requires.rows c.args.r c.requires.row) (omega (arith, c.loop-i-test.false, c.loop-i.invariant.same_length)) (entry_is e) (entry_is_positive e) (entry_short e)
+    pivot_ends c.args.rows.now c.args.r (length c.args.rows.now) c.args.limit (number_at c.args.entries.now) c.loop-i.rows c.loop-i.i c.divided_by-own.result
+    c.requires.row (c.requires.rows c.args.r c.requires.row) (omega (arith, c.loop-i-test.false, c.loop-i.invariant.same_length)) c.requires.positive (entry_short e)
     (subst (λ (p : ℤ). IsPivotUnderWay c.args.rows.now c.loop-i.rows c.args.r c.loop-i.i
-    (λ k row. IsUpdated (length c.args.rows.now) c.args.limit (whole_row_at c.args.rows.now k) c.divided_by-own.result c.args.column.now p row)) c.unit-p.ensures u) (quotient_is d)
+    (λ k row. IsUpdated (length c.args.rows.now) c.args.limit (whole_row_at c.args.rows.now k) c.divided_by-own.result (number_at c.args.entries.now k) p row)) c.unit-p.ensures u) (quotient_is d)
