@@ -1,6 +1,7 @@
 -- Common divisors of the numbers of a row.
-use Rattle.std.proofs.Common.{◌≡◌, ◌⊎◌, inl, inr, ℕ, ◌+◌, ◌<◌, ℤ, pos, ◌*ℤ◌, unsigned_abs, List, sym, ap, subst, ◌∙◌, arith}
-use Rattle.std.proofs.lemmas.Nat.Gcd.{dvd_trans}
+use Rattle.std.proofs.Common.{◌≡◌, ◌⊎◌, inl, inr, ℕ, ◌+◌, ◌*◌, ◌/◌, ◌<◌, ℤ, pos, ◌*ℤ◌, unsigned_abs, List, sym, ap, subst, ◌∙◌, arith}
+use Rattle.std.proofs.lemmas.Nat.Gcd.{dvd_trans, dvd_refl, dvd_antisymm}
+use Rattle.std.proofs.Math.Nat.{dvd-mul_left, mul-div_cancel}
 use Rattle.std.proofs.lemmas.Bool.{cases_eq}
 use Rattle.it_number.specs.Gcd.{gcd}
 use Rattle.it_number.specs.Division.{int_quotient}
@@ -30,3 +31,11 @@ divides_more numbers bottom shared next z k e f d = subst (λ (n : ℕ). Divides
 
 pub whole_over : (z y : ℤ) (k : ℕ) → k ∣ unsigned_abs z → y ≡ int_quotient z k → y *ℤ pos k ≡ z
 whole_over z y k h e = ap (λ x. x *ℤ pos k) e ∙ over_back z k h
+
+-- a number that is a multiple of k has k as its greatest common divisor with k
+pub gcd_of_multiple : (q k size : ℕ) → q * k ≡ size → gcd size k ≡ k
+gcd_of_multiple q k size e = dvd_antisymm (gcd_is size k).1 ((gcd_is size k).2 k (subst (λ (n : ℕ). k ∣ n) e (dvd-mul_left k q)) (dvd_refl k))
+
+-- and the factor is the quotient
+pub factor_is_quotient : (q k size : ℕ) → 0 < k → q * k ≡ size → q ≡ size / k
+factor_is_quotient q k size h e = sym (mul-div_cancel q h) ∙ ap (λ n. n / k) e

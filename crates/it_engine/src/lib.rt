@@ -9,6 +9,7 @@
 mod arithmetic;
 mod choice;
 mod columns;
+mod divisors;
 mod engine;
 mod loading;
 mod numbers;

@@ -8,7 +8,8 @@ ghost use Rattle.it_engine.specs.Updates.{AreShort, AreNextPlaces, DividesAll, I
 ghost use Rattle.it_space.specs.Sums.{number_at};
 ghost use Rattle.it_engine.specs.Whole.{AreAtMost};
 
-use crate::arithmetic::{common_divisor, narrow_difference, quotient};
+use crate::arithmetic::narrow_difference;
+use crate::divisors::Divisor;
 
 /// The number at place k.
 #[inline]
@@ -251,29 +252,29 @@ pub fn combine(
 }
 
 /// The greatest common divisor of the numbers and the denominator.
-pub fn divisor(row: &[i64], bottom: u64) -> u64
+pub fn divisor(row: &[i64], bottom: u64) -> Divisor
     requires { 0 < bottom }
-    ensures numbers { DividesAll result row.now }
-    ensures bottom { result ∣ bottom }
+    ensures numbers { DividesAll result.value row.now }
+    ensures bottom { result.value ∣ bottom }
 {
-    let mut shared = bottom;
+    let mut shared = Divisor::new(bottom);
     for k in 0..row.len() {
-        if shared == 1 {
-            return 1;
+        if shared.is_one() {
+            return shared;
         }
-        shared = common_divisor(read(row, k).unsigned_abs(), shared);
+        shared = shared.shared_with(read(row, k).unsigned_abs());
     }
     shared
 }
 
 /// Divides the numbers by a common divisor.
-pub fn divide(row: &mut [i64], shared: u64)
+pub fn divide(row: &mut [i64], shared: &Divisor)
     requires row { AreShort row.old }
-    requires divides { DividesAll shared row.old }
+    requires divides { DividesAll shared.now.value row.old }
     ensures length { length row.new ≡ length row.old }
-    ensures entries { (k : ℕ) → k < length row.old → number_at row.new k *ℤ pos shared ≡ number_at row.old k }
+    ensures entries { (k : ℕ) → k < length row.old → number_at row.new k *ℤ pos shared.now.value ≡ number_at row.old k }
 {
     for k in 0..row.len() {
-        row[k] = quotient(read(row, k), shared);
+        row[k] = shared.quotient(read(row, k));
     }
 }

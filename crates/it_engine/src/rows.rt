@@ -105,11 +105,11 @@ impl WholeRow {
         ensures { IsShortened self.old self.new }
     {
         let shared = divisor(self.numbers.as_slice(), self.bottom);
-        if shared == 1 {
+        if shared.is_one() {
             return;
         }
-        divide(self.numbers.as_mut_slice(), shared);
-        self.bottom /= shared;
+        divide(self.numbers.as_mut_slice(), &shared);
+        self.bottom = shared.size_quotient(self.bottom);
         self.most = greatest_size(self.numbers.as_slice());
     }
 

@@ -5,6 +5,6 @@ use Rattle.it_engine.proofs.numbers.divide.Given as goal
 abbrev pub invariant-loop-k : goal.invariant-loop-k
 invariant-loop-k l = record {
   same_length : length l.row ≡ length l.initial.row;
-  done : (k : ℕ) → k < l.k → number_at l.row k *ℤ pos l.shared ≡ number_at l.initial.row k;
+  done : (k : ℕ) → k < l.k → number_at l.row k *ℤ pos l.shared.value ≡ number_at l.initial.row k;
   rest : (k : ℕ) → l.k ≤ k → number_at l.row k ≡ number_at l.initial.row k;
 }
