@@ -1,5 +1,5 @@
 //! Questions with copies of variables added.
-ghost use Rattle.std.specs.Prelude.{◌≡◌, ◌≤◌, ◌<◌, ◌^◌, ◌++◌, None, [], true, false, IfOk, IfErr, OnOk, bit_or, length, map, nat_le, nat_lt};
+ghost use Rattle.std.specs.Prelude.{◌≡◌, ◌≤◌, ◌<◌, ◌^◌, ◌++◌, None, [], false, IfOk, IfErr, OnOk, bit_or, length, map, nat_le, nat_lt};
 ghost use Rattle.it_space.specs.Problems.{IsProblem, problem_view};
 ghost use Rattle.it_closure.specs.Sizes.{table_size};
 ghost use Rattle.it_syntax.specs.Givens.{given_view};
