@@ -62,8 +62,7 @@ pub made_question_is_of_perfect_sharing : MadeQuestionIsOfPerfectSharing
 unfolding made_question
 made_question_is_of_perfect_sharing x h s =
     let n = length x.names.variables in
-    let some : 1 ≤ n = omega (arith, s.some) in
-    (
+    let some : 1 ≤ n = omega (arith, s.some) in (
       (λ t. (t.0, (made_givens_are_perfect n x.qualified h some s.parties t.0).0 t.1.givens)),
       (λ q. (q.0, record { givens = (made_givens_are_perfect n x.qualified h some s.parties q.0).1 q.1; rows = All-nil (Holds n h) })),
     )

@@ -218,16 +218,19 @@ sharing_sure ls =
     (λ names hn. let n = length names.0.variables in sure_bind (AreSome n) Keeps (read_lists (party_env names.0) names.1) (λ lists. read_aim names.0 lists.1 >>= λ aim. read_end aim.1 >>= λ e. Ok (record { names = names.0; qualified = lists.0; best = aim.0.0; relation = aim.0.1 }, e.1)) (lists_sure names.0 names.1)
     (λ lists hl. sure_bind (Aims names.0) Keeps (read_aim names.0 lists.1) (λ aim. read_end aim.1 >>= λ e. Ok (record { names = names.0; qualified = lists.0; best = aim.0.0; relation = aim.0.1 }, e.1)) (aim_sure names.0 lists.1)
     (λ aim ha. sure_bind Any Keeps (read_end aim.1) (λ e. Ok (record { names = names.0; qualified = lists.0; best = aim.0.0; relation = aim.0.1 }, e.1)) (sure_any (read_end aim.1))
-    (λ e u. (record {
-      some = hn.0;
-      few = hn.1;
-      no_rates = hn.2;
-      some_listed = hl.0;
-      few_listed = hl.1.0;
-      nonempty = All-weaker (IsListed n) (λ s. 0 < s) (λ s h. h.1) lists.0 hl.1.1;
-      parties = All-weaker (IsListed n) (IsPartySet n) (even_party n) lists.0 hl.1.1;
-      relation = subst (λ (names : List (List ℕ)). IsRelationOf n (length names) aim.0.1) hn.2 ha.0;
-    }, ha.1))))))
+    (λ e u. (
+      record {
+        some = hn.0;
+        few = hn.1;
+        no_rates = hn.2;
+        some_listed = hl.0;
+        few_listed = hl.1.0;
+        nonempty = All-weaker (IsListed n) (λ s. 0 < s) (λ s h. h.1) lists.0 hl.1.1;
+        parties = All-weaker (IsListed n) (IsPartySet n) (even_party n) lists.0 hl.1.1;
+        relation = subst (λ (names : List (List ℕ)). IsRelationOf n (length names) aim.0.1) hn.2 ha.0;
+      },
+      ha.1,
+    ))))))
 
 pub sharing_limited : (ls r : List Letter) (y : SharingView) → read_sharing ls ≡ Ok (y, r) → IsSharing y × IsBestOfBound y
 sharing_limited ls r y e = subst (Sure Keeps) e (sharing_sure ls)
