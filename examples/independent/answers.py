@@ -7,6 +7,7 @@ import contain
 import defined
 import eliminate
 from contain import Containment
+from copies import Misfit, extended, read_with_head
 from generate import generated_file
 from questions import Fault, read
 from reports import answer_json, judge
@@ -44,6 +45,8 @@ class Answers:
         return end, found
 
     def lines(self, number, question):
+        if isinstance(question, Misfit):
+            return [f"{number} misfit {question}"]
         end, found = self.answer(question)
         if self.format == "json":
             return [answer_json(question, end, found)]
@@ -58,6 +61,22 @@ class Answers:
         if self.format == "proof" and end in ("yes", "contained"):
             lines += contain.proof_lines(number, *shown)
         return lines
+
+
+def asked(words, text):
+    """The questions of a file that are answered in the mode of these words; in mode `copy` with the copies of the file's head, or the
+    reason against them. `Fault` where the file has no reading."""
+    if "copy" not in words:
+        return read(text)
+
+    def with_copies(question):
+        try:
+            return extended(question, copies)
+        except Misfit as misfit:
+            return misfit
+
+    copies, questions = read_with_head(text)
+    return [with_copies(question) for question in questions]
 
 
 def bench_line(words):
@@ -87,7 +106,7 @@ def outcome(words, source):
     if len(source) > BYTES:
         return "refused long\n", 3
     try:
-        questions = read(source.decode("latin-1"))
+        questions = asked(words, source.decode("latin-1"))
     except Fault as fault:
         return f"refused {fault}\n", 3
     answers = Answers(words)

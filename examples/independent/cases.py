@@ -1,7 +1,8 @@
 """Cases for the comparison of the program with this folder: the words of a call, and the bytes of its input, each made from a seed.
 
 `valid` files are right, `broken` ones have a few tokens, lines or bytes changed; `limits` are at a limit or just past it; `wide` ones
-have numbers near 2**64 and denominators near 2**32; `large` ones have nine or ten variables; `reports` are right and damaged lines.
+have numbers near 2**64 and denominators near 2**32; `large` ones have nine or ten variables; `reports` are right and damaged lines;
+`copies` are files with a head, right ones, broken ones, and ones whose questions can't have the copies.
 """
 
 import re
@@ -13,7 +14,7 @@ from generate import Damage, Generator
 from questions import ENTRIES, LINES, read
 
 # of each fifty cases
-SHARES = {"valid": 17, "broken": 18, "limits": 5, "wide": 4, "large": 1, "reports": 5}
+SHARES = {"valid": 15, "broken": 16, "limits": 5, "wide": 4, "large": 1, "reports": 4, "copies": 5}
 KINDS = [kind for kind, share in SHARES.items() for _ in range(share)]
 
 BUDGETS = ["--pivots", "60", "--rows", "40", "--tries", "8"]
@@ -26,10 +27,11 @@ WORDS = {
     "wide": [["answer", *BUDGETS], ["answer", "--format", "json", *BUDGETS], ["answer", "--format", "proof", *BUDGETS]],
     "large": [["answer", *FEW], ["answer", "--format", "json", *FEW], ["answer", "--format", "proof", *FEW]],
     "reports": [["check"]],
+    "copies": [["copy", "--pivots", "60"], ["copy", "--pivots", "60"], ["copy", "--pivots=300"], ["--pivots", "2", "copy"]],
 }
 TOKENS = re.compile(r"[A-Za-z0-9_]+|->|>=|<=|:=|\s|.", re.DOTALL)
 PIECES = """H I ( ) , ; | + - -> >= <= = := / 0 1 2 00 1/2 /0 /3 1/0 0/5 18446744073709551615 18446744073709551616 4294967296 4294967297
-X Y Z W R0 R1 U V foo H_ of markov indep func vars rates given row region aux try prove eliminate contain $ : < > é # _
+X Y Z W R0 R1 U V foo H_ of markov indep func vars rates given row region aux try prove eliminate contain copy over $ : < > é # _
 aaaaaaaaaaaaaaaa aaaaaaaaaaaaaaaaa""".split() + ["\n", "\r", "\t", " ", "", "\r\n"]
 NAMES = ["A", "B", "C", "D", "E", "F", "G", "J", "K", "L", "M", "N"]
 
@@ -254,3 +256,37 @@ class Case:
             lines += text.splitlines()
         damage = Damage(self.name + " damage", lines)
         return "".join(damage.line() for _ in range(self.pick([2, 4, 6])))
+
+    # Files with a head
+
+    def copies(self):
+        """Most of the copies can be made. Half of the files are changed."""
+        questions = self.pick([self.questions_to_prove, self.questions_to_prove, self.questions_to_prove, self.questions, self.many_variables])()
+        text = self.loose(self.head() + questions)
+        if self.chance(0.5):
+            return text
+        pieces = TOKENS.findall(text)
+        return "".join(self.changed(pieces) or ["\n"])
+
+    def questions_to_prove(self):
+        return "".join(self.generator.question() for _ in range(self.pick([1, 1, 2])))
+
+    def head(self):
+        """Copies, some of them of copies before."""
+        known, lines = ["X", "Y", "Z", "W"][: self.pick([2, 3, 4, 4])], []
+        for name in self.random.sample(["R", "S", "T", "U", "V", "copy", "vars"], self.pick([0, 1, 1, 1, 2, 2, 3, 4, 5])):
+            original = self.pick(known)
+            others = [other for other in known if other != original]
+            over = self.random.sample(others, min(len(others), self.pick([0, 1, 1, 2, 2, 2, 3, 4, 5])))
+            if self.chance(0.1):
+                original, name = self.pick([(original, self.pick([*known, "R0", "H"])), (self.pick([*over, "R0", "foo", "I"]), name)])
+            lines.append(f"copy {name} of {original} over {', '.join(over) or self.pick(['0', '00'])}\n")
+            known.append(name)
+        return "".join(lines)
+
+    def many_variables(self):
+        """So many that two or three copies make them ten, a few of them functions of others, and near so many lines as there may be."""
+        names = ["X", "Y", "Z", "W", *NAMES][: self.pick([6, 7, 8, 8, 9])]
+        self.generator.names = names
+        lines = ["vars " + ", ".join(names), *self.functions(names), *["given H(X) >= 0"] * self.pick([0, 0, 0, 40, 52, 56])]
+        return "\n".join([*lines, f"prove {self.generator.relation([])}"]) + "\n"

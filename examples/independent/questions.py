@@ -99,7 +99,8 @@ class Question(Scope):
     def __init__(self, names):
         super().__init__(names)
         self.verb, self.targets, self.rows, self.eliminated, self.regions, self.tries = None, [], [], [], [], []
-        self.line, self.text = 0, ""
+        # the number of its line, how many `given` lines it has, and what is read of its lines
+        self.line, self.givens, self.text = 0, 0, ""
 
     def system(self):
         return [row for constraint in self.rows for row in constraint.least()]
@@ -341,11 +342,15 @@ class Line:
 
 
 class File:
-    """The questions read so far, and the one under way."""
+    """The questions of the lines of a text from the one with number `first` on; `Fault` where they are none."""
 
-    def __init__(self):
+    def __init__(self, lines, first=1):
         self.questions, self.question, self.before = [], None, None
         self.counts = {}
+        for number, line in enumerate(lines[first - 1 :], first):
+            self.read(line, number)
+        if self.question:
+            raise Fault(len(lines) + 1, 1, "unfinished")
 
     def scope(self):
         return self.question.regions[-1] if self.question and self.question.regions else self.question
@@ -453,7 +458,7 @@ class File:
     def done(self, verb):
         # Generators are numbered with all `given` lines first.
         self.question.constraints.sort(key=lambda g: not g.given)
-        self.question.verb = verb
+        self.question.verb, self.question.givens = verb, self.counts.get("given", 0)
         self.questions.append(self.question)
         self.question = None
 
@@ -461,12 +466,12 @@ class File:
 setattr(File, "try", File.try_)
 
 
+def lines_of(text):
+    """What is read of each line of a text."""
+    lines = text.removesuffix("\n").split("\n") if text else []
+    return [line.removesuffix("\r").split("#")[0].replace("\t", " ") for line in lines]
+
+
 def read(text):
     """The questions of a file, each character of `text` a byte; `Fault` where it is none."""
-    lines = text.removesuffix("\n").split("\n") if text else []
-    file = File()
-    for number, line in enumerate(lines, 1):
-        file.read(line.removesuffix("\r").split("#")[0].replace("\t", " "), number)
-    if file.question:
-        raise Fault(len(lines) + 1, 1, "unfinished")
-    return file.questions
+    return File(lines_of(text)).questions

@@ -10,8 +10,7 @@ use Rattle.it_syntax.specs.declared.types.Code.{Code}
 use Rattle.it_question.specs.Questions.{QuestionView, question_view}
 use Rattle.it_question.specs.Files.{IsFile, FileFaultAt}
 use Rattle.it_question.specs.declared.types.Question.{Question}
-use Rattle.it_question.proofs.FileLemmas.{file_is_one, file_or_fault}
-use Rattle.it_question.proofs.ExistenceLemmas.{file_has_one}
+use Rattle.it_question.proofs.FileLemmas.{file_is_one, file_or_fault, file_has_one}
 use Rattle.it_certificate.specs.declared.keys.Refusal.{Refusal}
 use Rattle.it_certificate.specs.declared.keys.Refusal.TheVariants as refusals
 use Rattle.it_certificate.specs.declared.kinds.AnswerKind.{AnswerKind}

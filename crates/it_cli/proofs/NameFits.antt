@@ -213,5 +213,5 @@ no_number (c ∷ cs) h =
 -- a rate of the question that a text asks
 pub rates_found : (q : QuestionView) (r : ℕ) → IsFile q.text (q ∷ []) → r < length q.body.names.rates → IsFoundIn q.body.names r × (step_of (rate_name q.body.names r) ≡ None)
 rates_found q r f h =
-    let g = read_good q f.lines f.trees (lines_sound 1 (split_lines q.text) f.lines f.cut) f.spelled f.are in
+    let g = read_good q f.lines f.tree (lines_sound 1 (split_lines q.text) f.lines f.cut) f.spelled f.says in
     (found_at q.body.names.rates r g.distinct h, no_number (rate_name q.body.names r) (every_at IsLettered q.body.names.rates r g.lettered h))

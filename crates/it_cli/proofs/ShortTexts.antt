@@ -114,4 +114,4 @@ pub texts_are_short : (bytes : List ℕ) (qs : List QuestionView) → IsFile byt
 texts_are_short bytes qs f =
     let a = lines_short 1 (split_lines bytes) f.lines f.cut in
     let b = split_length bytes in
-    subst (All (IsShortBy (length bytes + 1))) f.are (all_short (length bytes + 1) most_questions f.trees f.lines f.spelled (lines_sound 1 (split_lines bytes) f.lines f.cut) (omega (arith, a, b)))
+    subst (All (IsShortBy (length bytes + 1))) f.says (all_short (length bytes + 1) most_questions f.tree f.lines f.spelled (lines_sound 1 (split_lines bytes) f.lines f.cut) (omega (arith, a, b)))

@@ -162,5 +162,5 @@ all_prove seed (suc count) lines = All-cons IsProve _ _ tt (all_prove (state_aft
 pub generated_is_file : GeneratedIsFile
 generated_is_file seed count few =
     let r = file_read seed count 1 1000 few in
-    let asked : IsFile (generated_file seed count) (with_texts r.lines (questions_of (trees seed count))) = record { lines = r.lines; cut = r.cut; trees = trees seed count; spelled = r.same; are = refl } in
+    let asked : IsFile (generated_file seed count) (with_texts r.lines (questions_of (trees seed count))) = record { lines = r.lines; cut = r.cut; tree = trees seed count; spelled = r.same; says = refl } in
     record { questions = _; asked = asked; counted = question_count seed count r.lines; prove = all_prove seed count r.lines; short = generated_short seed count few }

@@ -201,4 +201,4 @@ all_questions n (x ∷ xs) lines e s =
     (all_questions (n - 1) xs (drop i lines) (c.after ∙ ap without_marks (sym d.after)) d.sound)
 
 pub texts_are_ascii : TextsAreAscii
-texts_are_ascii bytes qs f = subst (All IsAsciiQuestion) f.are (all_questions most_questions f.trees f.lines f.spelled (lines_sound 1 (split_lines bytes) f.lines f.cut))
+texts_are_ascii bytes qs f = subst (All IsAsciiQuestion) f.says (all_questions most_questions f.tree f.lines f.spelled (lines_sound 1 (split_lines bytes) f.lines f.cut))

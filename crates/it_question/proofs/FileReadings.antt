@@ -1,37 +1,26 @@
 -- What the reading of a file's letters says of the file.
-use Rattle.std.proofs.Common.{◌≡◌, ℕ, ◌≤◌, ◌^◌, List, [], ◌∷◌, length, drop, map, All, Ok, refl, sym, ap, ◌∙◌, subst, arith, length-append}
+use Rattle.std.proofs.Common.{◌≡◌, ℕ, List, [], ◌∷◌, drop, map, All, Ok, refl, sym, ap, ◌∙◌, subst, arith}
 use Rattle.std.proofs.lemmas.List.Elements.{All-cons, All-head, All-tail}
-use Rattle.it_syntax.specs.declared.types.Code.{Code}
-use Rattle.it_syntax.specs.declared.rest.Stop.{Stop}
-use Rattle.it_syntax.specs.declared.rest.Stop.TheVariants as stops
-use Rattle.it_syntax.specs.Gives.{StopsAs}
 use Rattle.it_syntax.specs.Letters.{Letter}
-use Rattle.it_syntax.specs.FirstFault.{FirstFault}
-use Rattle.it_question.specs.declared.types.FileFault.{FileFault}
-use Rattle.it_question.specs.declared.types.FileFault.TheVariants.{Memory, Fault}
 use Rattle.it_question.specs.declared.types.Question.{Question}
 use Rattle.it_question.specs.declared.bodies.Body.{Body}
 use Rattle.it_question.specs.Bodies.{body_view}
-use Rattle.it_question.specs.Files.{place_of, IsFile, IsFirstFileFault}
-use Rattle.it_question.specs.Stops.{IsLeft, IfFault, IsStopAt}
+use Rattle.it_question.specs.Files.{IsFile}
 use Rattle.it_question.specs.Lines.{LineView, AreLinesOf, letters_of_lines}
 use Rattle.it_question.specs.Limits.{IsQuestion}
 use Rattle.it_question.specs.Questions.{BodyView, QuestionView, question_body, question_view}
 use Rattle.it_question.specs.Reading.{read_file}
-use Rattle.it_question.specs.WrittenFiles.{spell_file, questions_of}
+use Rattle.it_question.specs.WrittenFiles.{questions_of}
 use Rattle.it_question.specs.Texts.{question_line_count, with_texts}
-use Rattle.it_question.proofs.FileLemmas.{read_asks, asks_read, read_stops}
+use Rattle.it_question.proofs.FileLemmas.{file_language}
+use Rattle.it_question.proofs.WholeFileLemmas.{says_read, read_says}
 use Rattle.it_question.specs.Tables.{HasSmallTable}
 use Rattle.it_question.proofs.LimitLemmas.{each_of_file, file_limited}
 use Rattle.it_question.proofs.SmallTables.{question_small}
-use Rattle.it_question.proofs.LetterLemmas.{letters_bound, places_length}
-use Rattle.it_question.proofs.ExistenceLemmas.{letters_left}
 
 -- a file whose letters were read
 pub file_read : (bytes : List ℕ) (lines : List LineView) (ys : List BodyView) (r : List Letter) (qs : List QuestionView) → AreLinesOf bytes lines → read_file (letters_of_lines lines) ≡ Ok (ys, r) → qs ≡ with_texts lines ys → IsFile bytes qs
-file_read bytes lines ys r qs cut e are =
-    let k = read_asks bytes lines ys r cut e in
-    record { lines = lines; cut = cut; trees = k.0; spelled = k.1.0; are = ap (with_texts lines) k.1.1 ∙ sym are }
+file_read bytes lines ys r qs cut e are = subst (IsFile bytes) (sym are) (read_says file_language with_texts bytes lines ys r cut e)
 
 -- the questions with their texts are those that were read
 body_again : (lines : List LineView) (ys : List BodyView) → map (λ (q : QuestionView). q.body) (with_texts lines ys) ≡ ys
@@ -58,9 +47,9 @@ questions_limited qs lines ys r e are =
 -- what holds of each question that is read holds of those of a file
 of_file : (P : BodyView → Type 0) → ((ls r : List Letter) (ys : List BodyView) → read_file ls ≡ Ok (ys, r) → All P ys) → (bytes : List ℕ) (qs : List QuestionView) → IsFile bytes qs → All (λ (q : QuestionView). P q.body) qs
 of_file P each bytes qs f =
-    let bodies = questions_of f.trees in
-    from_map P (λ (q : QuestionView). q.body) qs (subst (All P) (sym (body_again f.lines bodies) ∙ ap (map (λ (q : QuestionView). q.body)) f.are)
-    (each (letters_of_lines f.lines) [] bodies (asks_read (letters_of_lines f.lines) f.trees f.spelled)))
+    let bodies = questions_of f.tree in
+    from_map P (λ (q : QuestionView). q.body) qs (subst (All P) (sym (body_again f.lines bodies) ∙ ap (map (λ (q : QuestionView). q.body)) f.says)
+    (each (letters_of_lines f.lines) [] bodies (says_read file_language (letters_of_lines f.lines) f.tree f.spelled)))
 
 -- the questions of a file keep the limits
 pub file_limits : (bytes : List ℕ) (qs : List QuestionView) → IsFile bytes qs → All (λ (q : QuestionView). IsQuestion q.body) qs
@@ -69,21 +58,3 @@ file_limits = of_file IsQuestion file_limited
 -- and their tables aren't too large
 pub file_has_small_tables : (bytes : List ℕ) (qs : List QuestionView) → IsFile bytes qs → All (λ (q : QuestionView). HasSmallTable q.body) qs
 file_has_small_tables = of_file HasSmallTable (each_of_file HasSmallTable question_small)
-
--- ---- a fault
-
-pub few_letters : (bytes : List ℕ) (lines : List LineView) → AreLinesOf bytes lines → length bytes ≤ 1048577 → length (letters_of_lines lines) ≤ 2 ^ 32
-few_letters bytes lines cut few = omega (arith, letters_bound bytes lines cut, few)
-
-pub some_left : (bytes : List ℕ) (lines : List LineView) (stop : Stop) (r : List Letter) → AreLinesOf bytes lines → StopsAs stop r (read_file (letters_of_lines lines)) → IfFault stop (IsLeft lines r)
-some_left bytes lines stops.Memory r cut e = tt
-some_left bytes lines (stops.Fault c) [] cut e = absurd (letters_left bytes lines c cut e)
-some_left bytes lines (stops.Fault c) (l ∷ r) cut e =
-    let f = read_stops lines c (l ∷ r) e in
-    record { within = omega (arith, ap length f.parts, length-append f.front (l ∷ r)); some = omega (arith, places_length lines, ap length f.parts, length-append f.front (l ∷ r)) }
-
-pub first_file_fault : (bytes : List ℕ) (lines : List LineView) (stop : Stop) (r : List Letter) (fault : FileFault) → AreLinesOf bytes lines → StopsAs stop r (read_file (letters_of_lines lines)) → IsStopAt (place_of lines r) stop fault → IsFirstFileFault bytes fault
-first_file_fault bytes lines stops.Memory r fault cut e at = subst (IsFirstFileFault bytes) (sym at) tt
-first_file_fault bytes lines (stops.Fault c) r Memory cut e at = absurd at
-first_file_fault bytes lines (stops.Fault c) r (Fault line column code) cut e at =
-    record { lines = lines; cut = cut; left = r; first = subst (λ (d : Code). FirstFault spell_file (letters_of_lines lines) d r) (sym at.0) (read_stops lines c r e); place = at.1 }

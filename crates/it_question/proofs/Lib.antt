@@ -31,7 +31,6 @@ pub mod Puts
 pub mod TokenPuts
 pub mod LinePuts
 pub mod TokensExist
-pub mod ExistenceLemmas
 pub mod OwnLineLemmas
 pub mod RateLemmas
 pub mod Blanks
@@ -49,3 +48,5 @@ pub mod QuestionLemmas
 pub mod RegionLemmas
 pub mod StatedLines
 pub mod TableLemmas
+pub mod LineListLemmas
+pub mod WholeFileLemmas

@@ -22,14 +22,14 @@ use Rattle.it_question.proofs.TokenPuts.{list_puts, relation_puts, given_puts}
 
 -- ---- names
 
-new_puts : (sort : NameSortView) (n : ℕ) (v : NamesView) (w : List ℕ) → Puts AreTokens (spell_new sort n v w)
+pub new_puts : (sort : NameSortView) (n : ℕ) (v : NamesView) (w : List ℕ) → Puts AreTokens (spell_new sort n v w)
 new_puts sort n v w = one_token (Word w, new_mark (is_measure w) (is_taken v w) n) tt
 
 new_more_puts : (sort : NameSortView) (n : ℕ) (v : NamesView) (ws : List (List ℕ)) → Puts AreTokens (spell_new_more sort n v ws)
 new_more_puts sort n v [] = no_tokens
 new_more_puts sort n v (w ∷ ws) = token_then (without_mark (Sym symbols.Comma)) tt (tokens_then (new_puts sort n v w) (new_more_puts sort (n - 1) (with_name sort v w) ws))
 
-new_names_puts : (sort : NameSortView) (n : ℕ) (v : NamesView) (l : WrittenList) → Puts AreTokens (spell_new_names sort n v l)
+pub new_names_puts : (sort : NameSortView) (n : ℕ) (v : NamesView) (l : WrittenList) → Puts AreTokens (spell_new_names sort n v l)
 new_names_puts sort n v l = tokens_then (new_puts sort n v l.first) (new_more_puts sort (n - 1) (with_name sort v l.first) l.more)
 
 one_if : Option WrittenList → ℕ

@@ -25,7 +25,7 @@ answers_new_name sort n v w false true k = answers_at_mark codes.Twice (Word w) 
 answers_new_name sort zero v w false false k = answers_at_mark codes.Many (Word w) k _ _
 answers_new_name sort (suc n) v w false false k = inl (refl, record { front = Word w ∷ []; is = refl })
 
-new_answers : (sort : NameSortView) (n : ℕ) (v : NamesView) (w : List ℕ) (k : MarkedLetters) → Answers (read_new sort n v (letters (spell_new sort n v w k))) (spell_new sort n v w k) (with_name sort v w) k
+pub new_answers : (sort : NameSortView) (n : ℕ) (v : NamesView) (w : List ℕ) (k : MarkedLetters) → Answers (read_new sort n v (letters (spell_new sort n v w k))) (spell_new sort n v w k) (with_name sort v w) k
 unfolding read_new
 new_answers sort n v w k = answers_new_name sort n v w (is_measure w) (is_taken v w) k
 

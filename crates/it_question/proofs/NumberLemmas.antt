@@ -281,4 +281,4 @@ texts_apart lines (q ∷ qs) h = (h.0, texts_apart (drop (question_line_count q)
 pub file_has_small_numbers : (bytes : List ℕ) (qs : List QuestionView) → IsFile bytes qs → Every (λ (q : QuestionView). QuestionHasSmallNumbers q.body) qs
 file_has_small_numbers bytes qs f =
     let small = subst AreSmall (sym f.spelled) (lines_small 1 (split_lines bytes) f.lines f.cut) in
-    subst (Every (λ (q : QuestionView). QuestionHasSmallNumbers q.body)) f.are (texts_apart f.lines (questions_of f.trees) (questions_small most_questions f.trees _ small))
+    subst (Every (λ (q : QuestionView). QuestionHasSmallNumbers q.body)) f.says (texts_apart f.lines (questions_of f.tree) (questions_small most_questions f.tree _ small))

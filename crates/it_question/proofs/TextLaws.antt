@@ -37,9 +37,9 @@ first_alone mark x k lines e s =
     record {
       lines = t.again;
       cut = t.cut;
-      trees = x ∷ [];
+      tree = x ∷ [];
       spelled = spelled ∙ ap (λ (m : MarkedLetters). m ++ end_mark) c.front ∙ sym (cleaned_append (letters p.front) (file_end ∷ [])) ∙ ap without_marks (sym letters_are);
-      are = ap (λ (text : List ℕ). record { body = question_of x; text = text } ∷ []) (ap (λ (i : ℕ). text_of_lines (take i t.again)) (sym d.long) ∙ t.text);
+      says = ap (λ (text : List ℕ). record { body = question_of x; text = text } ∷ []) (ap (λ (i : ℕ). text_of_lines (take i t.again)) (sym d.long) ∙ t.text);
     }
 
 one_question_file : (n : ℕ) (xs : List WrittenQuestion) (lines : List LineView) (front rs : List QuestionView) (q : QuestionView) → spell_questions n xs end_mark ≡ without_marks (letters_of_lines lines) → AreSound lines → with_texts lines (questions_of xs) ≡ front ++ q ∷ rs → IsFile q.text (q ∷ [])
@@ -59,4 +59,4 @@ one_question_file n (x ∷ xs) lines (f ∷ front) rs q e s h =
     one_question_file (n - 1) xs (drop i lines) front rs q (c.after ∙ ap without_marks (sym d.after)) d.sound tails
 
 pub text_reads_back : TextReadsBack
-text_reads_back bytes qs rs q front f e = one_question_file most_questions f.trees f.lines front rs q f.spelled (lines_sound 1 (split_lines bytes) f.lines f.cut) (f.are ∙ e)
+text_reads_back bytes qs rs q front f e = one_question_file most_questions f.tree f.lines front rs q f.spelled (lines_sound 1 (split_lines bytes) f.lines f.cut) (f.says ∙ e)

@@ -79,7 +79,7 @@ signed_puts : {s : MarkedLetters → MarkedLetters} (o : Option TermSign) → Pu
 signed_puts None p = p
 signed_puts (Some s) p = token_then (without_mark (sign_letter s)) (sign_token s) p
 
-sum_puts : (n m : ℕ) (s : Scope) (e : WrittenSum) → Puts AreTokens (spell_sum n m s e)
+pub sum_puts : (n m : ℕ) (s : Scope) (e : WrittenSum) → Puts AreTokens (spell_sum n m s e)
 sum_puts n m s e = signed_puts e.sign (counted_puts n m s e.first e.more)
 
 compare_token : (s : Sign) → AreTokens (compare_letter s ∷ [])

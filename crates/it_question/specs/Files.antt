@@ -1,40 +1,29 @@
 -- What a file asks, and the first fault of one that has no reading.
-use Rattle.std.specs.Prelude.{◌≡◌, ℕ, ◌-◌, List, [], ◌∷◌, ◌++◌, length, Option, Some, slice_get, ◌⊎◌}
+use Rattle.std.specs.Prelude.{◌≡◌, ℕ, List, [], ◌∷◌, ◌++◌, ◌⊎◌}
 use Rattle.it_syntax.specs.declared.types.Code.{Code}
-use Rattle.it_syntax.specs.Letters.{Letter, without_marks}
-use Rattle.it_syntax.specs.FirstFault.{FirstFault}
 use Rattle.it_question.specs.declared.types.FileFault.{FileFault}
-use Rattle.it_question.specs.declared.types.FileFault.TheVariants.{Memory, Fault}
-use Rattle.it_question.specs.Lines.{LineView, AreLinesOf, letters_of_lines, places_of_lines}
+use Rattle.it_question.specs.Lines.{LineView}
 use Rattle.it_question.specs.Questions.{QuestionView}
 use Rattle.it_question.specs.WrittenQuestions.{WrittenQuestion}
 use Rattle.it_question.specs.WrittenFiles.{spell_file, questions_of}
 use Rattle.it_question.specs.Texts.{with_texts}
+use Rattle.it_question.specs.WholeFiles.{SaysWhole, WholeFaultAt, IsFirstWholeFault}
 
--- the bytes ask these questions: their letters are those of questions as they are written, and nothing is said against one
-pub record IsFile (bytes : List ℕ) (qs : List QuestionView) : Type 0 where
-  pub lines : List LineView
-  pub cut : AreLinesOf bytes lines
-  pub trees : List WrittenQuestion
-  pub spelled : spell_file trees ≡ without_marks (letters_of_lines lines)
-  pub are : with_texts lines (questions_of trees) ≡ qs
+-- what questions as they are written ask, in these lines
+abbrev pub questions_in : List LineView → List WrittenQuestion → List QuestionView
+questions_in lines trees = with_texts lines (questions_of trees)
 
--- where the first of the letters that are left of these lines stands
-abbrev pub place_of : List LineView → List Letter → Option (ℕ × ℕ)
-place_of lines left = slice_get (places_of_lines lines) (length (letters_of_lines lines) - length left)
+-- the bytes ask these questions
+abbrev pub IsFile : List ℕ → List QuestionView → Type 0
+IsFile bytes qs = SaysWhole spell_file questions_in bytes qs
 
--- Of these bytes the first fault is `code`, at this line and column: where letters are left at it, in the place of the first of them.
-pub record FileFaultAt (bytes : List ℕ) (line column : ℕ) (code : Code) : Type 0 where
-  pub lines : List LineView
-  pub cut : AreLinesOf bytes lines
-  pub left : List Letter
-  pub first : FirstFault spell_file (letters_of_lines lines) code left
-  pub place : place_of lines left ≡ Some (line, column)
+-- Of these bytes the first fault is `code`, at this line and column.
+abbrev pub FileFaultAt : List ℕ → ℕ → ℕ → Code → Type 0
+FileFaultAt bytes line column code = WholeFaultAt spell_file bytes line column code
 
 -- of an error: memory ran out, or it is the first fault
 abbrev pub IsFirstFileFault : List ℕ → FileFault → Type 0
-IsFirstFileFault bytes Memory = Unit {0}
-IsFirstFileFault bytes (Fault line column code) = FileFaultAt bytes line column code
+IsFirstFileFault bytes fault = IsFirstWholeFault spell_file bytes fault
 
 -- a file has at most one reading
 abbrev pub FileIsOne : Type 0

@@ -13,6 +13,7 @@ pub mod WrittenFiles
 pub mod Sorts
 pub mod Reading
 pub mod Texts
+pub mod WholeFiles
 pub mod Files
 pub mod AsciiTexts
 pub mod Limits

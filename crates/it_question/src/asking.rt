@@ -101,9 +101,9 @@ fn question(alloc: Global, cursor: &mut Cursor<'_>) -> Result<Body, Stop>
     Ok(Body { names, lines, verb })
 }
 
-/// The end of the file.
+/// Reads the end of the file, which must stand there. The fault is `Word` at another piece, or that piece's own.
 #[tactic(auto, unfolding(crate::specs::Reading::read_end))]
-fn file_end(cursor: &mut Cursor<'_>) -> Result<(), Stop>
+pub fn file_end(cursor: &mut Cursor<'_>) -> Result<(), Stop>
     ensures { GivesBy (λ x. []) result (letters_left cursor.new) (read_end (letters_left cursor.old)) }
 {
     match cursor.front() {

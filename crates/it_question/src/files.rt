@@ -1,7 +1,8 @@
 //! The questions of a file.
 ghost use Rattle.std.specs.Prelude.{◌≤◌, ◌^◌, length, map, All, IfOk, IfErr};
 ghost use Rattle.it_question.specs.Cursors.{line_view, letters_left};
-ghost use Rattle.it_question.specs.Files.{place_of, IsFile, IsFirstFileFault};
+ghost use Rattle.it_question.specs.Files.{IsFile, IsFirstFileFault};
+ghost use Rattle.it_question.specs.WholeFiles.{place_of};
 ghost use Rattle.it_question.specs.Stops.{IsLeft, IfFault, IsFaultAt, IsStopAt};
 ghost use Rattle.it_question.specs.Limits.{IsQuestion};
 ghost use Rattle.it_question.specs.Lines.{letters_of_lines};
@@ -28,8 +29,9 @@ fn fault(lines: &[Line], cursor: Cursor<'_>, code: Code) -> FileFault
     FileFault::Fault { line, column, code }
 }
 
-/// Why reading stopped at what is left of these lines.
-fn stop_fault(lines: &[Line], cursor: Cursor<'_>, stop: Stop) -> FileFault
+/// Why reading stopped at what is left of these lines: the code of the fault with the line and the column of the piece that is left
+/// first, or that memory ran out.
+pub fn stop_fault(lines: &[Line], cursor: Cursor<'_>, stop: Stop) -> FileFault
     requires few { length (letters_of_lines (map line_view lines.now)) ≤ 2 ^ 32 }
     requires there { IfFault stop (IsLeft (map line_view lines.now) (letters_left cursor)) }
     ensures { IsStopAt (place_of (map line_view lines.now) (letters_left cursor.entry)) stop result }

@@ -14,6 +14,7 @@ mod pieces;
 mod places;
 mod plain;
 mod rates;
+pub mod readers;
 mod regions;
 mod sorts;
 mod tables;

@@ -43,9 +43,10 @@ fn declare(names: &mut Names, sort: NameSort, word: &[u8]) -> Result<(), Stop>
     }
 }
 
-/// A new name, of which `most` are allowed.
+/// Reads a new name and declares it; `most` more are allowed. The fault is `Word` at a piece that is no name, `Twice` at a name that
+/// is taken, and `Many` at one where none more is allowed.
 #[tactic(auto, unfolding(crate::specs::Reading::read_new))]
-fn new_name(
+pub fn new_name(
     cursor: &mut Cursor<'_>,
     names: &mut Names,
     sort: NameSort,
@@ -115,7 +116,8 @@ fn new_names(
     more_names(cursor, names, sort, most - 1)
 }
 
-/// New names up to the line's end, of which `most` are allowed.
+/// Reads one or more new names with commas between them, up to the line's end, and declares them; `most` are allowed. The faults
+/// are those of `new_name`, and `Word` at another piece than a comma or the line's end after a name.
 pub fn names_to_end(
     cursor: &mut Cursor<'_>,
     names: &mut Names,

@@ -19,7 +19,8 @@ use it_syntax::rest::Stop;
 use it_syntax::types::{Code, Given, Relation};
 use std::alloc::Global;
 
-/// A relation, with the line's end.
+/// Reads a relation of variables and rates, with the line's end. The fault is the relation's first, as `relation` of `it_syntax`
+/// tells it, or `Word` at what stands after it.
 pub fn relation(alloc: Global, cursor: &mut Cursor<'_>, names: &Names) -> Result<Relation, Stop>
     ensures { GivesBy relation_view result (letters_left cursor.new) (to_end (read_relation (scope_of names.now true)) (letters_left cursor.old)) }
 {
@@ -57,7 +58,8 @@ pub fn given(alloc: Global, cursor: &mut Cursor<'_>, names: &Names) -> Result<Gi
     }
 }
 
-/// The set of a list of names.
+/// Reads a list of names of variables, with commas between them, and gives their set; what stands after it is left. The fault is
+/// `Word` at a piece that is no name, and `Name` at a name of which no variable is declared.
 pub fn names_set(cursor: &mut Cursor<'_>, names: &Names) -> Result<VarSet, Stop>
     ensures { Gives result (letters_left cursor.new) (read_list (env_of names.now) (letters_left cursor.old)) }
 {

@@ -3,6 +3,8 @@
 /// What a new name is to be.
 #[derive(Clone, Copy, Debug, PartialEq, Eq)]
 pub enum NameSort {
+    /// A random variable, of which there are at most 10.
     Variable,
+    /// A rate, of which there are at most 16.
     Rate,
 }

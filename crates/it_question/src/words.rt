@@ -53,7 +53,7 @@ pub fn after_word<'a>(cursor: Cursor<'a>, text: &[u8]) -> Option<Cursor<'a>>
     }
 }
 
-/// A word that must stand there.
+/// Reads this word, which must stand there. The fault is `Word` at another piece, or that piece's own.
 #[tactic(auto, unfolding(crate::specs::Reading::read_word))]
 pub fn word(cursor: &mut Cursor<'_>, text: &[u8]) -> Result<(), Stop>
     ensures { Gives result (letters_left cursor.new) (read_word text.now (letters_left cursor.old)) }
@@ -71,7 +71,7 @@ pub fn word(cursor: &mut Cursor<'_>, text: &[u8]) -> Result<(), Stop>
     }
 }
 
-/// The end of a line.
+/// Reads the end of a line, which must stand there. The fault is `Word` at another piece, or that piece's own.
 #[tactic(auto, unfolding(it_syntax::specs::MeasureReading::line_end))]
 pub fn line_end(cursor: &mut Cursor<'_>) -> Result<(), Stop>
     ensures { Gives result (letters_left cursor.new) (line_end (letters_left cursor.old)) }

@@ -211,7 +211,7 @@ sign_read None n m s t ts k = no_sign_read n m s t ts k
 sign_read (Some Positive) n m s t ts k = refl
 sign_read (Some Negative) n m s t ts k = refl
 
-sum_answers : (n m : ℕ) (s : Scope) (x : WrittenSum) (k : MarkedLetters) → NoSign k → EndsNumber k → Answers (read_sum n m s (letters (spell_sum n m s x k))) (spell_sum n m s x k) (sum_of s x) k
+pub sum_answers : (n m : ℕ) (s : Scope) (x : WrittenSum) (k : MarkedLetters) → NoSign k → EndsNumber k → Answers (read_sum n m s (letters (spell_sum n m s x k))) (spell_sum n m s x k) (sum_of s x) k
 unfolding read_sum
 sum_answers n m s x k free w =
     let z = spell_counted n m s x.first x.more k in

@@ -109,7 +109,7 @@ terms_sure s n m (suc most) k c small (Sym Minus ∷ ls) = more_terms_sure s n m
 terms_sure s n m (suc most) k c small [] = (omega arith, All-nil (λ (u : Term). IsAtomOf n m u.atom), small)
 terms_sure s n m (suc most) k c small (l ∷ ls) = (omega arith, All-nil (λ (u : Term). IsAtomOf n m u.atom), small)
 
-sum_sure : (s : Scope) (n m most k : ℕ) → Covers s n m → IsMultiple k → (ls : List Letter) → Sure (AreFew n m k most) (read_sum most k s ls)
+pub sum_sure : (s : Scope) (n m most k : ℕ) → Covers s n m → IsMultiple k → (ls : List Letter) → Sure (AreFew n m k most) (read_sum most k s ls)
 unfolding read_sum read_counted
 sum_sure s n m zero k c small ls = surplus_term_sure (AreFew n m k zero) s (read_sign ls).1
 sum_sure s n m (suc most) k c small ls = more_terms_sure s n m k most c small (read_sign ls).0 (read_sign ls).1 (λ next h. terms_sure s n m most next c h)

@@ -282,7 +282,7 @@ sum_without_sign : (n m : ℕ) (s : Scope) (ls : List Letter) → ((t : List Let
 sum_without_sign n m s ls h = by_equal_reader (read_counted n m s false) (read_sum n m s) (spell_sum n m s) (sum_of s) ls h (read_counted n m s false ls)
     (by_renaming (read_counted n m s false) (spell_first n m s) (spell_sum n m s) (term_more_of s false) (sum_of s) (sum_made None) ls (λ z k. refl) (λ z. refl) (read_counted n m s false ls) (counted_traces n m s false ls))
 
-sum_traces : (n m : ℕ) (s : Scope) → Traces (read_sum n m s) (spell_sum n m s) (sum_of s)
+pub sum_traces : (n m : ℕ) (s : Scope) → Traces (read_sum n m s) (spell_sum n m s) (sum_of s)
 unfolding read_sum read_sign
 sum_traces n m s (Sym Plus ∷ ls) = letter_then (read_sum n m s) (read_counted n m s false) (Sym Plus) (spell_first n m s) (spell_sum n m s) (term_more_of s false) (sum_of s) (sum_made (Some Positive)) ls (λ t. refl) (λ z k. refl) (λ z. refl) (read_counted n m s false ls) (counted_traces n m s false ls)
 sum_traces n m s (Sym Minus ∷ ls) = letter_then (read_sum n m s) (read_counted n m s true) (Sym Minus) (spell_first n m s) (spell_sum n m s) (term_more_of s true) (sum_of s) (sum_made (Some Negative)) ls (λ t. refl) (λ z k. refl) (λ z. refl) (read_counted n m s true ls) (counted_traces n m s true ls)

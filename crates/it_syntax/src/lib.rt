@@ -2,6 +2,7 @@
 #![tactic(auto)]
 
 mod atoms;
+pub mod copies;
 mod cutting;
 mod denominators;
 mod givens;

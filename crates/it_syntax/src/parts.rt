@@ -3,4 +3,5 @@
 
 pub use crate::givens::given_to_end;
 pub use crate::lists::list;
-pub use crate::relations::relation_to_end;
+pub use crate::relations::{MOST_TERMS, line_end, relation_to_end};
+pub use crate::sums::sum;

@@ -18,7 +18,7 @@ use crate::types::{Expr, LineTokens, Relation, Sign, Symbol, SyntaxFault};
 use std::alloc::Global;
 
 /// The most terms of a relation, both sides together.
-const MOST_TERMS: usize = 256;
+pub const MOST_TERMS: usize = 256;
 
 /// A `>=`, `<=` or `=`, which must stand there.
 #[tactic(auto, unfolding(crate::specs::RelationReading::read_compare))]
@@ -62,7 +62,7 @@ pub fn relation_part(
     })
 }
 
-/// Whether the line ends there.
+/// Whether the line ends there; nothing is taken. The fault is `Word` at another piece, or that piece's own.
 #[tactic(auto, unfolding(crate::specs::MeasureReading::line_end))]
 pub fn line_end(rest: &Rest<'_>) -> Result<(), Stop>
     ensures { GivesAll (λ x. x) result (letters_left rest.now) (line_end (letters_left rest.now)) }

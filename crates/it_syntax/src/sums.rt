@@ -74,7 +74,8 @@ fn counted_terms(
     }
 }
 
-/// A sum of at most `most` terms, after denominators with this least common multiple; with that of all denominators up to its end.
+/// Reads a sum of one to `most` terms, after denominators whose least common multiple is `multiple`, and gives its terms with that of
+/// all denominators up to its end. `rates` says whether rates may stand there. The fault is the first, as `relation` tells it.
 #[tactic(auto, unfolding(crate::specs::RelationReading::read_sum))]
 pub fn sum(
     alloc: Global,

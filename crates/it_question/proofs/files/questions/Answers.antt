@@ -5,14 +5,16 @@ use Rattle.it_syntax.specs.Letters.{Letter}
 use Rattle.it_syntax.specs.MeasureReading.{Reads}
 use Rattle.it_question.specs.Bodies.{body_view}
 use Rattle.it_question.specs.Cursors.{line_view, letters_left}
-use Rattle.it_question.specs.Files.{place_of}
+use Rattle.it_question.specs.WholeFiles.{place_of}
 use Rattle.it_question.specs.Stops.{IsLeft, IfFault, IsStopAt}
 use Rattle.it_question.specs.Lines.{LineView, letters_of_lines}
 use Rattle.it_question.specs.declared.cursor.Line.{Line}
 use Rattle.it_question.specs.Questions.{BodyView}
 use Rattle.it_question.specs.Reading.{read_file}
 use Rattle.it_question.specs.Texts.{with_texts}
-use Rattle.it_question.proofs.FileReadings.{file_read, bodies_limited, questions_limited, few_letters, some_left, first_file_fault}
+use Rattle.it_question.proofs.FileReadings.{file_read, bodies_limited, questions_limited}
+use Rattle.it_question.proofs.FileLemmas.{file_language}
+use Rattle.it_question.proofs.WholeFileLemmas.{few_letters, some_left, first_whole_fault}
 use Rattle.it_question.proofs.files.questions.Goals as goal
 
 -- reading began at the first of the lines
@@ -44,9 +46,9 @@ stop_fault-requires-clause-few c = same_lines (λ ls. length (letters_of_lines l
 
 pub stop_fault-requires-clause-there : goal.stop_fault-requires-clause-there
 stop_fault-requires-clause-there c = same_lines (λ ls. IfFault c.in-Err.stop (IsLeft ls (letters_left c.bodies.new.cursor))) c.in_ok-lines.lines.items c.as_slice-in-Err.result.now c.as_slice-in-Err.ensures.value
-    (some_left c.args.bytes.now (map line_view c.in_ok-lines.lines.items) c.in-Err.stop (letters_left c.bodies.new.cursor) c.in_ok-lines.ensures (begun_stop c.in_ok-lines.lines.items _ _ c.in-Err.stop (letters_left c.bodies.new.cursor) c.at-cursor.ensures c.as_slice.ensures.value c.in-Err.ensures))
+    (some_left file_language c.args.bytes.now (map line_view c.in_ok-lines.lines.items) c.in-Err.stop (letters_left c.bodies.new.cursor) c.in_ok-lines.ensures (begun_stop c.in_ok-lines.lines.items _ _ c.in-Err.stop (letters_left c.bodies.new.cursor) c.at-cursor.ensures c.as_slice.ensures.value c.in-Err.ensures))
 
 pub returns-clause-fault : goal.returns-clause-fault
 returns-clause-fault c =
-    first_file_fault c.args.bytes.now (map line_view c.in_ok-lines.lines.items) c.in-Err.stop (letters_left c.bodies.new.cursor) c.stop_fault.result c.in_ok-lines.ensures (begun_stop c.in_ok-lines.lines.items _ _ c.in-Err.stop (letters_left c.bodies.new.cursor) c.at-cursor.ensures c.as_slice.ensures.value c.in-Err.ensures)
+    first_whole_fault file_language c.args.bytes.now (map line_view c.in_ok-lines.lines.items) c.in-Err.stop (letters_left c.bodies.new.cursor) c.stop_fault.result c.in_ok-lines.ensures (begun_stop c.in_ok-lines.lines.items _ _ c.in-Err.stop (letters_left c.bodies.new.cursor) c.at-cursor.ensures c.as_slice.ensures.value c.in-Err.ensures)
     (subst (λ (ls : List Line). IsStopAt (place_of (map line_view ls) (letters_left c.bodies.new.cursor)) c.in-Err.stop c.stop_fault.result) c.as_slice-in-Err.ensures.value c.stop_fault.ensures)

@@ -1,0 +1,15 @@
+pub mod CopyTraces
+pub mod CopyAnswers
+pub mod CopyLineLemmas
+pub mod MemberLemmas
+pub mod HeadLemmas
+pub mod HeadLaws
+pub mod NumberLemmas
+pub mod EquationLemmas
+pub mod PlaceLemmas
+pub mod LimitLemmas
+pub mod CopyLoopLemmas
+pub mod ExtendLemmas
+pub mod PointLemmas
+pub mod MisfitLemmas
+pub mod SizeLemmas

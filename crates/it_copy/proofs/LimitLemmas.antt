@@ -1,0 +1,125 @@
+-- Questions with copies keep the limits.
+use Rattle.std.proofs.Common.{◌≡◌, ℕ, ◌+◌, ◌-◌, ◌<◌, ◌≤◌, ◌^◌, List, [], ◌∷◌, ◌++◌, length, map, filter, All, Option, Some, None, bit_or, refl, sym, ap, subst, ◌∙◌, arith, length-append}
+use Rattle.std.proofs.Math.Pow.{ones_lt, pow-lt}
+use Rattle.std.proofs.lemmas.List.Elements.{All-nil, All-cons, All-append, All-filter, All-map, All-weaker}
+use Rattle.it_polymatroid.proofs.Spans.{get_or-span, length-span}
+use Rattle.std.proofs.lemmas.Nat.{or_lt, pow_pos}
+use Rattle.it_polymatroid.specs.Elementals.{span}
+use Rattle.it_syntax.specs.declared.types.Term.{Term}
+use Rattle.it_syntax.specs.declared.types.Atom.TheVariants.{Nothing, Entropy, Mutual}
+use Rattle.it_syntax.specs.NamesViews.{NamesView}
+use Rattle.it_syntax.specs.Meaning.{RelationView, IsAtomOf}
+use Rattle.it_syntax.specs.Givens.{GivenView, IsGivenOf, IsRelationOf}
+use Rattle.it_question.specs.Questions.{BodyView, VerbView, Prove, Eliminate, Contain}
+use Rattle.it_question.specs.Limits.{IsQuestion, IsVerbOver}
+use Rattle.it_question.specs.WrittenQuestions.{most_lines, most_variables}
+use Rattle.it_number.specs.Gcd.{gcd, gcd_within, lcm}
+use Rattle.it_demand.proofs.LimitLemmas.{wider_given, wider_relation}
+use Rattle.it_copy.specs.CopyLines.{CopyView}
+use Rattle.it_copy.specs.Equations.{apart_equation, copy_equations, inside_equation, inside_equations, is_part, term_of}
+use Rattle.it_copy.specs.Extensions.{CanBeMade, IsProof, equations_in, equations_of, extended, first_unplaced, placed, with_copies, with_copy}
+use Rattle.it_copy.proofs.PlaceLemmas.{HasPlace, first_has_place, place_told}
+
+-- ---- the equations of one copy
+
+-- both terms count once
+one_multiple : lcm (lcm 1 1) 1 ≡ 1
+unfolding lcm gcd gcd_within
+one_multiple = refl
+
+one_term : (n : ℕ) (t : Term) → IsAtomOf n 0 t.atom → All (λ (u : Term). IsAtomOf n 0 u.atom) (t ∷ [])
+one_term n t a = All-cons (λ (u : Term). IsAtomOf n 0 u.atom) t [] a (All-nil (λ (u : Term). IsAtomOf n 0 u.atom))
+
+-- a part of a set of the variables before the copy
+module _ (n a over : ℕ) (old : a < n) (inside : over < 2 ^ n) where
+  copy_set : 2 ^ n < 2 ^ (n + 1)
+  copy_set = pow-lt {i = n} {j = n + 1} (omega arith)
+
+  old_set : 2 ^ a < 2 ^ (n + 1)
+  old_set = let h = pow-lt {i = a} {j = n + 1} (omega (arith, old)) in h
+
+  inside_is_given : (s : ℕ) → s < over + 1 → IsGivenOf (n + 1) (inside_equation n a s)
+  inside_is_given s h =
+      let part : s < 2 ^ (n + 1) = omega (arith, h, inside, copy_set) in record {
+        few = omega arith;
+        left = one_term (n + 1) (term_of (Entropy (bit_or (2 ^ n) s) 0)) (or_lt (n + 1) (2 ^ n) s copy_set part, pow_pos (n + 1));
+        right = one_term (n + 1) (term_of (Entropy (bit_or (2 ^ a) s) 0)) (or_lt (n + 1) (2 ^ a) s old_set part, pow_pos (n + 1));
+        some_multiple = omega (arith, one_multiple);
+        small_multiple = omega (arith, one_multiple);
+      }
+
+  apart_is_given : IsGivenOf (n + 1) (apart_equation n over)
+  apart_is_given =
+      let rest : (2 ^ n - 1) - over < 2 ^ (n + 1) = omega (arith, ones_lt n, copy_set) in
+      let part : over < 2 ^ (n + 1) = omega (arith, inside, copy_set) in record {
+        few = omega arith;
+        left = one_term (n + 1) (term_of (Mutual (2 ^ n) ((2 ^ n - 1) - over) over)) (copy_set, rest, part);
+        right = one_term (n + 1) (term_of Nothing) tt;
+        some_multiple = omega (arith, one_multiple);
+        small_multiple = omega (arith, one_multiple);
+      }
+
+  numbers_below : All (λ s. s < over + 1) (span 0 (over + 1))
+  numbers_below i d h = let below : i < over + 1 = omega (arith, h, length-span 0 (over + 1)) in omega (arith, get_or-span 0 (over + 1) i d below, below)
+
+  pub equations_are_givens : All (IsGivenOf (n + 1)) (copy_equations n a over)
+  unfolding copy_equations
+  equations_are_givens =
+      All-append (IsGivenOf (n + 1)) (inside_equations n a over) (apart_equation n over ∷ [])
+      (All-map (IsGivenOf (n + 1)) (inside_equation n a) (filter (is_part over) (span 0 (over + 1)))
+      (All-weaker (λ s. s < over + 1) (λ s. IsGivenOf (n + 1) (inside_equation n a s)) inside_is_given (filter (is_part over) (span 0 (over + 1))) (All-filter (is_part over) (λ s. s < over + 1) (span 0 (over + 1)) numbers_below)))
+      (All-cons (IsGivenOf (n + 1)) (apart_equation n over) [] apart_is_given (All-nil (IsGivenOf (n + 1))))
+
+-- ---- the equations of all copies, over all variables
+
+-- what copies add to names that have room for them
+pub record AreAdded (v all : NamesView) (equations : List GivenView) : Type 0 where
+  pub more : length v.variables ≤ length all.variables
+  pub few : length all.variables ≤ most_variables
+  pub rates : all.rates ≡ v.rates
+  pub givens : All (IsGivenOf (length all.variables)) equations
+
+copies_are_added : (k : ℕ) (v : NamesView) (cs : List CopyView) → length v.variables ≤ most_variables → first_unplaced k v cs ≡ None → AreAdded v (with_copies v cs) (equations_of v cs)
+copies_are_added k v [] few e = record { more = omega arith; few = few; rates = refl; givens = All-nil (IsGivenOf (length v.variables)) }
+copies_are_added k v (c ∷ cs) few e =
+    let x = first_has_place k v c cs (placed v c) refl e in
+    let p = place_told v c x.0 x.1 x.2 in
+    let counted : length (with_copy v c).variables ≡ length v.variables + 1 = length-append v.variables (c.fresh ∷ []) in
+    let later = copies_are_added (k + 1) (with_copy v c) cs (omega (arith, counted, p.room)) x.3 in
+    let all = with_copies (with_copy v c) cs in
+    let own : All (IsGivenOf (length all.variables)) (copy_equations (length v.variables) x.0 x.1) =
+    All-weaker (IsGivenOf (length v.variables + 1)) (IsGivenOf (length all.variables)) (λ g h. wider_given (length v.variables + 1) (length all.variables) (omega (arith, counted, later.more)) g h)
+    (copy_equations (length v.variables) x.0 x.1) (equations_are_givens (length v.variables) x.0 x.1 p.old p.over) in
+    record {
+      more = omega (arith, counted, later.more);
+      few = later.few;
+      rates = later.rates;
+      givens = All-append (IsGivenOf (length all.variables)) (equations_in (length v.variables) (placed v c)) (equations_of (with_copy v c) cs)
+          (subst (λ (o : Option (ℕ × ℕ)). All (IsGivenOf (length all.variables)) (equations_in (length v.variables) o)) (sym x.2) own) later.givens;
+    }
+
+-- ---- the question with copies
+
+proof_over : (q : BodyView) (cs : List CopyView) (added : AreAdded q.names (with_copies q.names cs) (equations_of q.names cs)) (verb : VerbView) → IsProof verb → IsVerbOver q.names verb → IsVerbOver (with_copies q.names cs) verb
+proof_over q cs added (Prove r) proof h =
+    subst (λ (m : ℕ). IsRelationOf (length (with_copies q.names cs).variables) m r) (sym (ap length added.rates)) (wider_relation (length q.names.variables) (length (with_copies q.names cs).variables) (length q.names.rates) added.more r h)
+proof_over q cs added (Eliminate rates) proof h = absurd proof
+proof_over q cs added (Contain first second tries) proof h = absurd proof
+
+pub extended_is_question : (q : BodyView) (cs : List CopyView) → IsQuestion q → CanBeMade q cs → length (extended q cs).lines.givens ≤ most_lines → IsQuestion (extended q cs)
+extended_is_question q cs k made few =
+    let added = copies_are_added 1 q.names cs k.few made.placed in
+    let n = length q.names.variables in
+    let m = length (with_copies q.names cs).variables in record {
+      some = omega (arith, k.some, added.more);
+      few = added.few;
+      few_rates = subst (λ (rates : List (List ℕ)). length rates ≤ 16) (sym added.rates) k.few_rates;
+      lines = record {
+        few_givens = few;
+        few_rows = k.lines.few_rows;
+        givens = All-append (IsGivenOf m) q.lines.givens (equations_of q.names cs) (All-weaker (IsGivenOf n) (IsGivenOf m) (λ g h. wider_given n m added.more g h) q.lines.givens k.lines.givens) added.givens;
+        rows = All-weaker (IsRelationOf n (length q.names.rates)) (IsRelationOf m (length (with_copies q.names cs).rates))
+            (λ r h. subst (λ (rates : ℕ). IsRelationOf m rates r) (sym (ap length added.rates)) (wider_relation n m (length q.names.rates) added.more r h)) q.lines.rows k.lines.rows;
+      };
+      verb = proof_over q cs added q.verb made.proof k.verb;
+    }

@@ -1,0 +1,22 @@
+-- What the size of its table says of a question.
+use Rattle.std.proofs.Common.{◌≡◌, ℕ, ◌≤◌, Bool, true, false, nat_lt, arith}
+use Rattle.std.proofs.lemmas.Bool.Decides.{nat_tests}
+use Rattle.it_space.specs.Problems.{ProblemView}
+use Rattle.it_closure.specs.Sizes.{table_size}
+use Rattle.it_question.specs.Questions.{BodyView}
+use Rattle.it_question.specs.Tables.{most_entries}
+use Rattle.it_canon.specs.QuestionDemands.{IsProblemOf}
+use Rattle.it_canon.proofs.SmallProblems.{small_by_problem, small_problem}
+use Rattle.it_copy.specs.ExtensionSteps.{IsLargeBy}
+
+more_or_few : (n most : ℕ) → true ≡ nat_lt most n → n ≤ most → ⊥
+more_or_few n most e few = grind (arith, nat_tests)
+
+few_by_test : (n most : ℕ) → false ≡ nat_lt most n → n ≤ most
+few_by_test n most e = grind (arith, nat_tests)
+
+-- by the problem that the question poses
+pub size_told : (q : BodyView) (p : ProblemView) → IsProblemOf q p → (large : Bool) → large ≡ nat_lt most_entries (table_size p) → IsLargeBy q large
+unfolding IsLargeBy
+size_told q p is true e = λ small. more_or_few (table_size p) most_entries e (small_problem q small p is)
+size_told q p is false e = small_by_problem q p is (few_by_test (table_size p) most_entries e)

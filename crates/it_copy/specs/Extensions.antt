@@ -1,0 +1,89 @@
+-- A question with copies of variables added, and why it can't have them.
+use Rattle.std.specs.Prelude.{◌≡◌, ℕ, ◌+◌, ◌<◌, ◌≤◌, ◌^◌, ◌||◌, nat_le, List, [], ◌∷◌, ◌++◌, length, Bool, Option, Some, None, is_some, if◌then◌else◌, option_and_then, bit_or}
+use Rattle.it_space.specs.Sets.{has_member}
+use Rattle.it_syntax.specs.NamesViews.{NamesView, index_of}
+use Rattle.it_syntax.specs.Givens.{GivenView}
+use Rattle.it_question.specs.NewNames.{Variable, is_taken, with_name}
+use Rattle.it_question.specs.Questions.{VerbView, Prove, Eliminate, Contain, BodyView}
+use Rattle.it_question.specs.WrittenQuestions.{most_lines, most_variables}
+use Rattle.it_question.specs.Tables.{HasSmallTable}
+use Rattle.it_copy.specs.declared.types.CopyFault.{CopyFault}
+use Rattle.it_copy.specs.declared.types.CopyFault.TheVariants as faults
+use Rattle.it_copy.specs.CopyLines.{CopyView}
+use Rattle.it_copy.specs.Equations.{copy_equations}
+
+-- the set of these names of variables with one that is there, if each is one
+abbrev pub set_with : List (List ℕ) → ℕ → List (List ℕ) → Option ℕ
+set_with variables s [] = Some s
+set_with variables s (w ∷ ws) = option_and_then (λ i. set_with variables (bit_or s (2 ^ i)) ws) (index_of variables w)
+
+-- the variable and the set, unless the variable is in the set
+abbrev pub unless_member : ℕ → ℕ → Option (ℕ × ℕ)
+unless_member a s = if has_member s a then None else Some (a, s)
+
+-- the variable and the set that a copy names, if they are there and apart
+unfoldable pub named_parts : NamesView → CopyView → Option (ℕ × ℕ)
+named_parts v c = option_and_then (λ a. option_and_then (unless_member a) (set_with v.variables 0 c.over)) (index_of v.variables c.old)
+
+-- The variable that a copy is of and the set that it is over, by their numbers; none where the copy can't be made: its name is taken, a
+-- name isn't that of a variable, the variable is in the set, or there are as many variables as there may be.
+unfoldable pub placed : NamesView → CopyView → Option (ℕ × ℕ)
+placed v c = if is_taken v c.fresh || nat_le most_variables (length v.variables) then None else named_parts v c
+
+-- the names with that of a copy, which is a variable
+abbrev pub with_copy : NamesView → CopyView → NamesView
+with_copy v c = with_name Variable v c.fresh
+
+-- the names with those of copies, in order
+abbrev pub with_copies : NamesView → List CopyView → NamesView
+with_copies v [] = v
+with_copies v (c ∷ cs) = with_copies (with_copy v c) cs
+
+-- the equations of a copy in its place, the next variable being number n
+abbrev pub equations_in : ℕ → Option (ℕ × ℕ) → List GivenView
+equations_in n None = []
+equations_in n (Some (a, s)) = copy_equations n a s
+
+-- the equations of copies, in order
+abbrev pub equations_of : NamesView → List CopyView → List GivenView
+equations_of v [] = []
+equations_of v (c ∷ cs) = equations_in (length v.variables) (placed v c) ++ equations_of (with_copy v c) cs
+
+-- the number of the first copy that can't be made, the first being number k
+abbrev pub first_unplaced : ℕ → NamesView → List CopyView → Option ℕ
+first_unplaced k v [] = None
+first_unplaced k v (c ∷ cs) = if is_some (placed v c) then first_unplaced (k + 1) (with_copy v c) cs else Some k
+
+-- the question with the copies after its variables, and their equations after its givens
+abbrev pub extended : BodyView → List CopyView → BodyView
+extended q cs = record {
+  names = with_copies q.names cs;
+  lines = record { givens = q.lines.givens ++ equations_of q.names cs; rows = q.lines.rows };
+  verb = q.verb;
+}
+
+-- the question is about a relation
+abbrev pub IsProof : VerbView → Type 0
+IsProof (Prove r) = Unit {0}
+IsProof (Eliminate rates) = ⊥
+IsProof (Contain first second tries) = ⊥
+
+-- each copy can be made
+pub record CanBeMade (q : BodyView) (cs : List CopyView) : Type 0 where
+  pub proof : IsProof q.verb
+  pub placed : first_unplaced 1 q.names cs ≡ None
+
+-- the question with these copies, which it can have
+pub record IsExtension (q : BodyView) (cs : List CopyView) (e : BodyView) : Type 0 where
+  pub made : CanBeMade q cs
+  pub few : length e.lines.givens ≤ most_lines
+  pub small : HasSmallTable e
+  pub is : e ≡ extended q cs
+
+-- why it can't have them: the first of these reasons, in their order; or memory ran out
+abbrev pub IsMisfit : BodyView → List CopyView → CopyFault → Type 0
+IsMisfit q cs faults.Memory = Unit {0}
+IsMisfit q cs faults.Verb = IsProof q.verb → ⊥
+IsMisfit q cs (faults.Copy k) = IsProof q.verb × (first_unplaced 1 q.names cs ≡ Some k)
+IsMisfit q cs faults.Many = CanBeMade q cs × (most_lines < length (extended q cs).lines.givens)
+IsMisfit q cs faults.Large = CanBeMade q cs × (length (extended q cs).lines.givens ≤ most_lines) × (HasSmallTable (extended q cs) → ⊥)

@@ -1,0 +1,9 @@
+pub mod CopyLines
+pub mod CopyReading
+pub mod Heads
+pub mod HeadSteps
+pub mod Files
+pub mod Equations
+pub mod Extensions
+pub mod ExtensionSteps
+pub mod Points

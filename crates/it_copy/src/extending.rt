@@ -1,0 +1,246 @@
+//! Questions with copies of variables added.
+ghost use Rattle.std.specs.Prelude.{◌≡◌, ◌≤◌, ◌<◌, ◌^◌, ◌++◌, None, [], false, IfOk, IfErr, OnOk, bit_or, length, map, nat_le, nat_lt};
+ghost use Rattle.it_space.specs.Problems.{IsProblem, problem_view};
+ghost use Rattle.it_closure.specs.Sizes.{table_size};
+ghost use Rattle.it_syntax.specs.Givens.{given_view};
+ghost use Rattle.it_syntax.specs.Meaning.{relation_view};
+ghost use Rattle.it_question.specs.Limits.{IsQuestion};
+ghost use Rattle.it_question.specs.NewNames.{Variable, is_taken, with_name};
+ghost use Rattle.it_question.specs.Tables.{most_entries};
+ghost use Rattle.it_question.specs.Questions.{Prove, question_body, question_view};
+ghost use Rattle.it_question.specs.WrittenQuestions.{most_variables};
+ghost use Rattle.it_copy.specs.CopyLines.{AreNamed, copy_view};
+ghost use Rattle.it_copy.specs.Equations.{copy_equations};
+ghost use Rattle.it_copy.specs.Extensions.{IsExtension, IsMisfit, equations_of, extended, first_unplaced, named_parts, placed, set_with, unless_member, with_copies};
+ghost use Rattle.it_copy.specs.ExtensionSteps.{IsLarge, IsLargeBy, IsPastLimits, IsUnplaced};
+
+use crate::duplicates;
+use crate::equations::add_equations;
+use crate::types::{CopyFault, CopyLine};
+use it_canon::problem;
+use it_closure::size;
+use it_question::types::{OwnLines, Question, Verb};
+use it_space::{Problem, VarSet};
+use it_syntax::Names;
+use it_syntax::types::{Given, Relation};
+use std::alloc::{AllocError, Global};
+
+/// The most variables of a question.
+const MOST_VARIABLES: u8 = 10;
+
+/// The most constraints of a question.
+const MOST_GIVENS: usize = 64;
+
+/// The most entries of a question's first table.
+const MOST_ENTRIES: u64 = 4000000;
+
+/// Whether a variable or a rate has this name.
+#[tactic(auto, unfolding(it_question::specs::NewNames::is_taken))]
+fn is_taken(names: &Names, name: &[u8]) -> bool
+    ensures { result ≡ is_taken names.now name.now }
+{
+    names.variable(name).is_some() || names.rate(name).is_some()
+}
+
+/// Whether there are as many variables as there may be.
+fn is_full(names: &Names) -> bool
+    ensures { result ≡ nat_le most_variables (length names.now.variables) }
+{
+    MOST_VARIABLES <= names.space().variables
+}
+
+/// The set with one more variable.
+fn with_variable(set: VarSet, i: u8) -> VarSet
+    requires { i < 16 }
+    ensures { result ≡ bit_or set (2 ^ i) }
+{
+    set.union(VarSet::single(i))
+}
+
+/// The set of these names of variables, if each is one.
+fn set_of(names: &Names, over: &[Vec<u8>]) -> Option<VarSet>
+    ensures { result ≡ set_with names.now.variables 0 (map (λ v. v.items) over.now) }
+{
+    let mut set = VarSet::empty();
+    for name in over {
+        let i = names.variable(name.as_slice())?;
+        set = with_variable(set, i);
+    }
+    Some(set)
+}
+
+/// The variable and the set, unless the variable is in the set.
+fn unless_member(old: u8, over: VarSet) -> Option<(u8, VarSet)>
+    ensures { result ≡ unless_member old over }
+{
+    if over.has(old) { None } else { Some((old, over)) }
+}
+
+/// The variable and the set of these names, if they are apart.
+#[tactic(auto, unfolding(crate::specs::Extensions::named_parts))]
+fn named_parts(names: &Names, line: &CopyLine) -> Option<(u8, VarSet)>
+    ensures { result ≡ named_parts names.now (copy_view line.now) }
+{
+    let old = names.variable(line.old.as_slice())?;
+    let over = set_of(names, line.over.as_slice())?;
+    unless_member(old, over)
+}
+
+/// The variable and the set that a copy is of and over, by their numbers; none where it can't be made.
+#[tactic(auto, unfolding(crate::specs::Extensions::placed))]
+fn placed(names: &Names, line: &CopyLine) -> Option<(u8, VarSet)>
+    ensures { result ≡ placed names.now (copy_view line.now) }
+{
+    if is_taken(names, line.fresh.as_slice()) || is_full(names) {
+        None
+    } else {
+        named_parts(names, line)
+    }
+}
+
+/// Adds a copy in its place to names and constraints.
+fn add_copy(
+    alloc: Global,
+    names: &mut Names,
+    givens: &mut Vec<Given>,
+    fresh: &[u8],
+    place: (u8, VarSet),
+) -> Result<(), AllocError>
+    requires new { is_taken names.old fresh.now ≡ false }
+    requires some { 1 ≤ length fresh.now }
+    requires short { length fresh.now ≤ 16 }
+    requires room { length names.old.variables < most_variables }
+    requires old { place.0 < 16 }
+    requires inside { place.1 < 2 ^ length names.old.variables }
+    ensures names { OnOk result (names.new ≡ with_name Variable names.old fresh.now) }
+    ensures givens { OnOk result (map given_view givens.new.items ≡ map given_view givens.old.items ++ copy_equations (length names.old.variables) place.0 place.1) }
+{
+    let next = names.space().variables;
+    add_equations(alloc, givens, next, place.0, place.1)?;
+    names.add_variable(fresh)
+}
+
+/// Adds copies to names and constraints, in order, or tells the first copy that can't be made.
+fn add_copies(
+    alloc: Global,
+    names: &mut Names,
+    givens: &mut Vec<Given>,
+    lines: &[CopyLine],
+) -> Result<(), CopyFault>
+    requires names { AreNamed lines.now }
+    requires few { length lines.now ≤ 4 }
+    ensures names { OnOk result (names.new ≡ with_copies names.old (map copy_view lines.now)) }
+    ensures givens { OnOk result (map given_view givens.new.items ≡ map given_view givens.old.items ++ equations_of names.old (map copy_view lines.now)) }
+    ensures placed { OnOk result (first_unplaced 1 names.old (map copy_view lines.now) ≡ None) }
+    ensures first { IfErr result (IsUnplaced names.old (map copy_view lines.now)) }
+{
+    for (i, line) in lines.iter().enumerate() {
+        let Some(place) = placed(names, line) else {
+            return Err(CopyFault::Copy { line: i as u16 + 1 });
+        };
+        match add_copy(alloc, names, givens, line.fresh.as_slice(), place) {
+            Ok(()) => {}
+            Err(_) => return Err(CopyFault::Memory),
+        }
+    }
+    Ok(())
+}
+
+/// Whether the table of a problem is too large.
+fn is_large(alloc: Global, problem: &Problem) -> Result<bool, AllocError>
+    requires { IsProblem (problem_view problem.now) }
+    ensures { IfOk result (λ large. large ≡ nat_lt most_entries (table_size (problem_view problem.now))) }
+{
+    let size = size(alloc, problem)?;
+    Ok(MOST_ENTRIES < size)
+}
+
+/// Whether the table of a question is too large.
+fn has_large_table(alloc: Global, question: &Question) -> Result<bool, AllocError>
+    requires { IsQuestion (question_body question.now) }
+    ensures { IfOk result (λ large. IsLargeBy (question_body question.now) large) }
+{
+    let problem = problem(alloc, question)?;
+    let large = is_large(alloc, &problem)?;
+    Ok(large)
+}
+
+/// Judges the size of a question's table.
+fn judge_size(alloc: Global, question: &Question) -> Result<(), CopyFault>
+    requires { IsQuestion (question_body question.now) }
+    ensures small { OnOk result (IsLargeBy (question_body question.now) false) }
+    ensures large { IfErr result (IsLarge (question_body question.now)) }
+{
+    let large = has_large_table(alloc, question)?;
+    if large { Err(CopyFault::Large) } else { Ok(()) }
+}
+
+/// The question about a relation with copies of variables added, whatever comes of its size, or the first copy that can't be made.
+fn copied(
+    alloc: Global,
+    question: &Question,
+    relation: &Relation,
+    lines: &[CopyLine],
+) -> Result<Question, CopyFault>
+    requires verb { (question_body question.now).verb ≡ Prove (relation_view relation.now) }
+    requires names { AreNamed lines.now }
+    requires few { length lines.now ≤ 4 }
+    ensures body { IfOk result (λ e. question_body e ≡ extended (question_body question.now) (map copy_view lines.now)) }
+    ensures placed { IfOk result (λ e. first_unplaced 1 (question_body question.now).names (map copy_view lines.now) ≡ None) }
+    ensures text { IfOk result (λ e. e.text.items ≡ []) }
+    ensures first { IfErr result (IsUnplaced (question_body question.now).names (map copy_view lines.now)) }
+{
+    let mut names = question.names.copy()?;
+    let mut givens = duplicates::givens(alloc, question.lines.givens.as_slice())?;
+    match add_copies(alloc, &mut names, &mut givens, lines) {
+        Ok(()) => {}
+        Err(fault) => return Err(fault),
+    }
+    let rows = duplicates::relations(alloc, question.lines.rows.as_slice())?;
+    let relation = duplicates::relation(relation)?;
+    Ok(Question {
+        names,
+        text: Vec::new(alloc),
+        lines: OwnLines { givens, rows },
+        verb: Verb::Prove(relation),
+    })
+}
+
+/// Judges how many constraints a question has, and then the size of its table.
+fn judge_limits(alloc: Global, question: &Question) -> Result<(), CopyFault>
+    requires { length question.now.lines.givens.items ≤ 64 → IsQuestion (question_body question.now) }
+    ensures few { OnOk result (length question.now.lines.givens.items ≤ 64) }
+    ensures small { OnOk result (IsLargeBy (question_body question.now) false) }
+    ensures past { IfErr result (IsPastLimits (question_body question.now)) }
+{
+    if question.lines.givens.len() > MOST_GIVENS {
+        return Err(CopyFault::Many);
+    }
+    judge_size(alloc, question)
+}
+
+/// A question about a relation with copies of variables added, each with its equations as further constraints.
+pub fn extend(
+    alloc: Global,
+    question: &Question,
+    lines: &[CopyLine],
+) -> Result<Question, CopyFault>
+    requires limits { IsQuestion (question_body question.now) }
+    requires names { AreNamed lines.now }
+    requires few { length lines.now ≤ 4 }
+    ensures extension { IfOk result (λ e. IsExtension (question_body question.now) (map copy_view lines.now) (question_body e)) }
+    ensures limits { IfOk result (λ e. IsQuestion (question_body e)) }
+    ensures text { IfOk result (λ e. e.text.items ≡ []) }
+    ensures misfit { IfErr result (IsMisfit (question_body question.now) (map copy_view lines.now)) }
+{
+    match &question.verb {
+        Verb::Prove(relation) => match copied(alloc, question, relation, lines) {
+            Ok(extended) => match judge_limits(alloc, &extended) {
+                Ok(()) => Ok(extended),
+                Err(fault) => Err(fault),
+            },
+            Err(fault) => Err(fault),
+        },
+        _ => Err(CopyFault::Verb),
+    }
+}

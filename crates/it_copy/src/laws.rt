@@ -1,0 +1,26 @@
+//! Theorems on copies, each as the contract of a function.
+ghost use Rattle.it_copy.specs.Files.{CopyFaultIsOne, CopyFileIsOne, CopyFileOrFault};
+ghost use Rattle.it_copy.specs.Points.{ExtensionOrMisfit, OneExtension, OneMisfit, YesByCopies};
+
+use it_question::file_is_one;
+
+/// What holds at every polymatroid that meets a question with copies holds wherever the question's own entropies have such copies.
+pub fn yes_by_copies()
+    ensures { YesByCopies }
+{}
+
+/// A question has one extension by some copies, or one reason against them, and not both.
+pub fn copies_are_determined()
+    ensures extension { OneExtension }
+    ensures misfit { OneMisfit }
+    ensures either { ExtensionOrMisfit }
+{}
+
+/// A file with a head has at most one reading, or has at most one first fault, and not both.
+pub fn heads_are_one()
+    ensures one { CopyFileIsOne }
+    ensures fault { CopyFaultIsOne }
+    ensures either { CopyFileOrFault }
+{
+    file_is_one();
+}

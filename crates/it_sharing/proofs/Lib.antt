@@ -1,0 +1,15 @@
+pub mod Members
+pub mod SecretEntropies
+pub mod AccessLemmas
+pub mod VanishingLemmas
+pub mod PerfectLemmas
+pub mod Perfection
+pub mod QualifiedLemmas
+pub mod BoundTraces
+pub mod SecretNames
+pub mod SharingTraces
+pub mod SharingAnswers
+pub mod SharingPuts
+pub mod SharingFileLemmas
+pub mod SharingLimits
+pub mod QuestionLimits

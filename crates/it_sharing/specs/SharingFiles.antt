@@ -1,0 +1,35 @@
+-- What a sharing file says, and the first fault of one that has no reading.
+use Rattle.std.specs.Prelude.{◌≡◌, ℕ, List, ◌⊎◌}
+use Rattle.it_syntax.specs.declared.types.Code.{Code}
+use Rattle.it_question.specs.declared.types.FileFault.{FileFault}
+use Rattle.it_question.specs.WholeFiles.{SaysWhole, WholeFaultAt, IsFirstWholeFault}
+use Rattle.it_sharing.specs.Sharings.{SharingView}
+use Rattle.it_sharing.specs.WrittenSharings.{spell_sharing_file, sharing_of}
+
+-- the bytes say so
+abbrev pub IsSharingFile : List ℕ → SharingView → Type 0
+IsSharingFile bytes x = SaysWhole spell_sharing_file (λ lines. sharing_of) bytes x
+
+-- Of these bytes the first fault is `code`, at this line and column.
+abbrev pub SharingFaultAt : List ℕ → ℕ → ℕ → Code → Type 0
+SharingFaultAt bytes line column code = WholeFaultAt spell_sharing_file bytes line column code
+
+-- of an error: memory ran out, or it is the first fault
+abbrev pub IsFirstSharingFault : List ℕ → FileFault → Type 0
+IsFirstSharingFault bytes fault = IsFirstWholeFault spell_sharing_file bytes fault
+
+-- a file says one thing at most
+abbrev pub SharingIsOne : Type 0
+SharingIsOne = (bytes : List ℕ) (x y : SharingView) → IsSharingFile bytes x → IsSharingFile bytes y → x ≡ y
+
+-- and has one first fault at most, with its place and its code
+abbrev pub SharingFaultIsOne : Type 0
+SharingFaultIsOne = (bytes : List ℕ) (line column row place : ℕ) (c d : Code) → SharingFaultAt bytes line column c → SharingFaultAt bytes row place d → (line ≡ row) × (column ≡ place) × (c ≡ d)
+
+-- and not both
+abbrev pub SharingOrFault : Type 0
+SharingOrFault = (bytes : List ℕ) (x : SharingView) (line column : ℕ) (c : Code) → IsSharingFile bytes x → SharingFaultAt bytes line column c → ⊥
+
+-- A file has a reading or a first fault.
+abbrev pub SharingHasOne : Type 0
+SharingHasOne = (bytes : List ℕ) → ((x : SharingView) × IsSharingFile bytes x) ⊎ ((line : ℕ) × (column : ℕ) × (c : Code) × SharingFaultAt bytes line column c)

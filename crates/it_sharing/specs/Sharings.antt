@@ -1,0 +1,65 @@
+-- What a sharing file says, as contracts compare it, and the question that is made of it.
+use Rattle.std.specs.Prelude.{◌≡◌, ℕ, ◌<◌, ◌≤◌, Bool, true, false, List, [], ◌∷◌, ◌++◌, length, map, All}
+use Rattle.it_syntax.specs.declared.types.Atom.{Atom}
+use Rattle.it_syntax.specs.declared.types.Atom.TheVariants.{Nothing, Entropy, Mutual}
+use Rattle.it_syntax.specs.declared.types.Sign.TheVariants.{AtLeast, Equal}
+use Rattle.it_syntax.specs.NamesViews.{NamesView}
+use Rattle.it_syntax.specs.Meaning.{RelationView, relation_view}
+use Rattle.it_syntax.specs.Givens.{GivenView, Relation, IsRelationOf}
+use Rattle.it_question.specs.Questions.{Prove, QuestionView}
+use Rattle.it_sharing.specs.declared.types.Sharing.{Sharing}
+use Rattle.it_sharing.specs.AccessStructures.{secret, IsPartySet, minimal_sets, maximal_sets}
+
+-- the names, the listed sets in order, whether the least factor is asked for, and the relation
+pub record SharingView : Type 0 where
+  pub names : NamesView
+  pub qualified : List ℕ
+  pub best : Bool
+  pub relation : RelationView
+
+-- what contracts see of it
+abbrev pub sharing_view : Sharing → SharingView
+sharing_view x = record { names = x.names; qualified = x.qualified.items; best = x.best; relation = relation_view x.relation }
+
+-- 1 to 8 parties beside the secret, no rates, 1 to 64 listed sets, each a nonempty one of parties, and a relation of the variables
+pub record IsSharing (x : SharingView) : Type 0 where
+  pub some : 2 ≤ length x.names.variables
+  pub few : length x.names.variables ≤ 9
+  pub no_rates : x.names.rates ≡ []
+  pub some_listed : 1 ≤ length x.qualified
+  pub few_listed : length x.qualified ≤ 64
+  pub nonempty : All (λ s. 0 < s) x.qualified
+  pub parties : All (IsPartySet (length x.names.variables)) x.qualified
+  pub relation : IsRelationOf (length x.names.variables) 0 x.relation
+
+-- the least factor is asked for of a relation with `>=`
+abbrev pub IsBestOfBound : SharingView → Type 0
+IsBestOfBound x = x.best ≡ true → x.relation.sign ≡ AtLeast
+
+-- the relation that an entropy or an information is 0
+abbrev pub vanishing_relation : Atom → RelationView
+vanishing_relation atom = record { left = record { negative = false; number = 1; denominator = 1; atom = atom } ∷ []; sign = Equal; right = record { negative = false; number = 0; denominator = 1; atom = Nothing } ∷ [] }
+
+-- the `given` line with this relation
+abbrev pub vanishing : Atom → GivenView
+vanishing atom = Relation (vanishing_relation atom)
+
+-- `H(s|A) = 0`: the parties of A know the secret
+abbrev pub knows : ℕ → GivenView
+knows a = vanishing (Entropy secret a)
+
+-- `I(s;B) = 0`: the parties of B know nothing of it
+abbrev pub knows_nothing : ℕ → GivenView
+knows_nothing b = vanishing (Mutual secret b 0)
+
+-- the parties of each minimal set know the secret, and those of each maximal unqualified set nothing of it
+unfoldable pub made_givens : ℕ → List ℕ → List GivenView
+made_givens n listed = map knows (minimal_sets listed) ++ map knows_nothing (maximal_sets n listed)
+
+-- whether the relation of a sharing file holds under some givens
+abbrev pub question_under : SharingView → List GivenView → QuestionView
+question_under x givens = record { body = record { names = x.names; lines = record { givens = givens; rows = [] }; verb = Prove x.relation }; text = [] }
+
+-- the question that is made: whether the relation holds wherever the secret is shared so
+unfoldable pub made_question : SharingView → QuestionView
+made_question x = question_under x (made_givens (length x.names.variables) x.qualified)

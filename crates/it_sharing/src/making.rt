@@ -1,0 +1,162 @@
+//! The question that is made of a sharing file.
+ghost use Rattle.std.specs.Prelude.{◌≡◌, ◌≤◌, ◌<◌, ◌+◌, ◌++◌, [], ◌∷◌, false, length, map, IfOk, OnOk, IfErr};
+ghost use Rattle.it_syntax.specs.Givens.{given_view};
+ghost use Rattle.it_question.specs.Questions.{question_view, question_body};
+ghost use Rattle.it_question.specs.Limits.{IsQuestion};
+ghost use Rattle.it_sharing.specs.declared.types.MadeFault.TheVariants.{Many};
+ghost use Rattle.it_sharing.specs.AccessStructures.{minimal_sets, maximal_sets};
+ghost use Rattle.it_sharing.specs.Sharings.{sharing_view, IsSharing, vanishing, knows, knows_nothing, made_question, question_under};
+
+use crate::sets::{maximal_sets, minimal_sets};
+use crate::types::{Made, MadeFault, Sharing};
+use it_question::types::{OwnLines, Question, Verb};
+use it_space::VarSet;
+use it_syntax::types::{Atom, Expr, Given, Relation, Sign, Term};
+use std::alloc::{AllocError, Global};
+
+/// The most givens of a question.
+const MOST_GIVENS: usize = 64;
+
+/// One term as a side of a relation.
+fn side(alloc: Global, number: u64, atom: Atom) -> Result<Expr, AllocError>
+    ensures { IfOk result (λ e. e.terms.items ≡ (record { negative = false; number = number; denominator = 1; atom = atom } ∷ [])) }
+{
+    let mut terms = Vec::new(alloc);
+    terms.push(Term {
+        negative: false,
+        number,
+        denominator: 1,
+        atom,
+    })?;
+    Ok(Expr { terms })
+}
+
+/// The `given` line that says that an entropy or an information is 0.
+fn vanishing(alloc: Global, atom: Atom) -> Result<Given, AllocError>
+    ensures { IfOk result (λ g. given_view g ≡ vanishing atom) }
+{
+    let left = side(alloc, 1, atom)?;
+    let right = side(alloc, 0, Atom::Nothing)?;
+    Ok(Given::Relation(Relation {
+        left,
+        sign: Sign::Equal,
+        right,
+    }))
+}
+
+/// That the parties of a set know the secret.
+fn knows(alloc: Global, set: VarSet) -> Result<Given, AllocError>
+    ensures { IfOk result (λ g. given_view g ≡ knows set) }
+{
+    vanishing(
+        alloc,
+        Atom::Entropy {
+            of: VarSet::single(0),
+            given: set,
+        },
+    )
+}
+
+/// That the parties of a set know nothing of the secret.
+fn knows_nothing(alloc: Global, set: VarSet) -> Result<Given, AllocError>
+    ensures { IfOk result (λ g. given_view g ≡ knows_nothing set) }
+{
+    vanishing(
+        alloc,
+        Atom::Mutual {
+            left: VarSet::single(0),
+            right: set,
+            given: VarSet::empty(),
+        },
+    )
+}
+
+/// Puts a given after the others.
+fn add(givens: &mut Vec<Given>, given: Given) -> Result<(), AllocError>
+    ensures { OnOk result (map given_view givens.new.items ≡ map given_view givens.old.items ++ given_view given ∷ []) }
+{
+    // a match, so that each case is a goal of its own
+    match givens.push(given) {
+        Ok(()) => Ok(()),
+        Err(_) => Err(AllocError),
+    }
+}
+
+/// Adds that the parties of each of these sets know the secret.
+fn add_known(alloc: Global, sets: &[VarSet], givens: &mut Vec<Given>) -> Result<(), AllocError>
+    ensures { OnOk result (map given_view givens.new.items ≡ map given_view givens.old.items ++ map knows sets.now) }
+{
+    for set in sets {
+        let given = knows(alloc, *set)?;
+        add(givens, given)?;
+    }
+    Ok(())
+}
+
+/// Adds that the parties of each of these sets know nothing of the secret.
+fn add_hidden(alloc: Global, sets: &[VarSet], givens: &mut Vec<Given>) -> Result<(), AllocError>
+    ensures { OnOk result (map given_view givens.new.items ≡ map given_view givens.old.items ++ map knows_nothing sets.now) }
+{
+    for set in sets {
+        let given = knows_nothing(alloc, *set)?;
+        add(givens, given)?;
+    }
+    Ok(())
+}
+
+/// That each of the minimal sets knows the secret, and each of the maximal ones nothing of it.
+fn made_givens(
+    alloc: Global,
+    minimal: &[VarSet],
+    maximal: &[VarSet],
+) -> Result<Vec<Given>, AllocError>
+    ensures { IfOk result (λ v. map given_view v.items ≡ map knows minimal.now ++ map knows_nothing maximal.now) }
+{
+    let mut givens = Vec::new(alloc);
+    add_known(alloc, minimal, &mut givens)?;
+    add_hidden(alloc, maximal, &mut givens)?;
+    Ok(givens)
+}
+
+/// The question whether the relation holds under some givens.
+fn question(alloc: Global, from: &Sharing, givens: Vec<Given>) -> Result<Question, AllocError>
+    ensures { IfOk result (λ q. question_view q ≡ question_under (sharing_view from.now) (map given_view givens.items)) }
+{
+    let names = from.names.copy()?;
+    let relation = from.relation.copy()?;
+    Ok(Question {
+        names,
+        text: Vec::new(alloc),
+        lines: OwnLines {
+            givens,
+            rows: Vec::new(alloc),
+        },
+        verb: Verb::Prove(relation),
+    })
+}
+
+/// The question whether the relation of a sharing file holds wherever the secret is shared perfectly: under `H(s|A) = 0`
+/// for each minimal qualified set A, and then `I(s;B) = 0` for each maximal unqualified set B.
+pub fn made(alloc: Global, from: &Sharing) -> Result<Made, MadeFault>
+    requires { IsSharing (sharing_view from.now) }
+    ensures question { IfOk result (λ m. question_view m.question ≡ made_question (sharing_view from.now)) }
+    ensures minimal { IfOk result (λ m. m.minimal ≡ length (minimal_sets from.now.qualified.items)) }
+    ensures maximal { IfOk result (λ m. m.maximal ≡ length (maximal_sets (length from.now.names.variables) from.now.qualified.items)) }
+    ensures few { IfOk result (λ m. m.minimal + m.maximal ≤ 64) }
+    ensures limits { IfOk result (λ m. IsQuestion (question_body m.question)) }
+    ensures many { IfErr result (λ e. e ≡ Many → 64 < length (minimal_sets from.now.qualified.items) + length (maximal_sets (length from.now.names.variables) from.now.qualified.items)) }
+{
+    let listed = from.qualified.as_slice();
+    let minimal = minimal_sets(alloc, listed)?;
+    let maximal = maximal_sets(alloc, from.names.space().variables, listed)?;
+    if minimal.len() + maximal.len() > MOST_GIVENS {
+        return Err(MadeFault::Many);
+    }
+    let givens = made_givens(alloc, minimal.as_slice(), maximal.as_slice())?;
+    let question = question(alloc, from, givens)?;
+    Ok(Made {
+        question,
+        minimal: minimal.len() as u32,
+        maximal: maximal.len() as u32,
+    })
+}

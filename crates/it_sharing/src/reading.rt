@@ -1,0 +1,90 @@
+//! The reader of sharing files.
+ghost use Rattle.std.specs.Prelude.{◌≡◌, ◌≤◌, length, OnOk, IfOk, IfErr};
+ghost use Rattle.it_syntax.specs.Gives.{GivesBy};
+ghost use Rattle.it_question.specs.Cursors.{letters_left};
+ghost use Rattle.it_question.specs.NewNames.{no_names};
+ghost use Rattle.it_sharing.specs.Sharings.{sharing_view, IsSharing, IsBestOfBound};
+ghost use Rattle.it_sharing.specs.SharingFiles.{IsSharingFile, IsFirstSharingFault};
+ghost use Rattle.it_sharing.specs.SharingReading.{read_secret, read_parties, read_sharing};
+
+use crate::aims::aim;
+use crate::lists::lists;
+use crate::types::Sharing;
+use it_question::readers::{
+    Cursor, NameSort, file_end, file_lines, line_end, names_to_end, new_name, stop_fault, word,
+};
+use it_question::types::FileFault;
+use it_syntax::Names;
+use it_syntax::rest::Stop;
+use std::alloc::Global;
+
+/// Before the name of the secret.
+const SECRET: &[u8] = b"secret";
+
+/// Before the names of the parties.
+const PARTIES: &[u8] = b"parties";
+
+/// The most parties.
+const MOST_PARTIES: usize = 8;
+
+/// The line of the secret.
+#[tactic(auto, unfolding(crate::specs::SharingReading::read_secret, it_syntax::specs::Lines::to_end))]
+fn secret(cursor: &mut Cursor<'_>, names: &mut Names) -> Result<(), Stop>
+    requires { names.old ≡ no_names }
+    ensures gives { GivesBy (λ x. names.new) result (letters_left cursor.new) (read_secret (letters_left cursor.old)) }
+    ensures room { OnOk result (length names.new.variables ≤ 1) }
+{
+    word(cursor, SECRET)?;
+    new_name(cursor, names, NameSort::Variable, 1)?;
+    line_end(cursor)
+}
+
+/// The line of the parties.
+#[tactic(auto, unfolding(crate::specs::SharingReading::read_parties))]
+fn parties(cursor: &mut Cursor<'_>, names: &mut Names) -> Result<(), Stop>
+    requires { length names.old.variables ≤ 1 }
+    ensures { GivesBy (λ x. names.new) result (letters_left cursor.new) (read_parties names.old (letters_left cursor.old)) }
+{
+    word(cursor, PARTIES)?;
+    names_to_end(cursor, names, NameSort::Variable, MOST_PARTIES)
+}
+
+/// What a file says, up to its end.
+#[tactic(auto, unfolding(crate::specs::SharingReading::read_sharing))]
+fn whole(alloc: Global, cursor: &mut Cursor<'_>) -> Result<Sharing, Stop>
+    ensures { GivesBy sharing_view result (letters_left cursor.new) (read_sharing (letters_left cursor.old)) }
+{
+    let mut names = Names::new(alloc);
+    secret(cursor, &mut names)?;
+    parties(cursor, &mut names)?;
+    let qualified = lists(alloc, cursor, &names)?;
+    let (best, relation) = aim(alloc, cursor, &names)?;
+    file_end(cursor)?;
+    Ok(Sharing {
+        names,
+        qualified,
+        best,
+        relation,
+    })
+}
+
+/// What a sharing file says. Its lines are `secret` and a name, `parties` and 1 to 8 names, 1 to 64 times `qualified` and a
+/// list of parties, and `prove` and a relation, or `best` and a relation with `>=`.
+///
+/// The fault is the first one at which no rule of the language goes on, with the codes and the places of question files:
+/// `Name` also at the secret in a list of parties, `Many` at a ninth party and at the 65th `qualified`, `Word` at another
+/// sign after `best` and at what stands after the last line, `Unfinished` at the file's end before it.
+pub fn sharing(alloc: Global, bytes: &[u8]) -> Result<Sharing, FileFault>
+    requires { length bytes.now ≤ 1048576 }
+    ensures read { IfOk result (λ s. IsSharingFile bytes.now (sharing_view s)) }
+    ensures limits { IfOk result (λ s. IsSharing (sharing_view s)) }
+    ensures bound { IfOk result (λ s. IsBestOfBound (sharing_view s)) }
+    ensures fault { IfErr result (IsFirstSharingFault bytes.now) }
+{
+    let lines = file_lines(alloc, bytes)?;
+    let mut cursor = Cursor::at(lines.as_slice());
+    match whole(alloc, &mut cursor) {
+        Ok(sharing) => Ok(sharing),
+        Err(stop) => Err(stop_fault(lines.as_slice(), cursor, stop)),
+    }
+}
