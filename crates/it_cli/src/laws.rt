@@ -13,8 +13,8 @@ use it_gen::generated_is_file;
 use it_question::file_is_one;
 use it_report::{each_line_is_judged, verdict_is_one};
 
-/// What a call that is done has written: in each mode with an input the whole output for all that the source gave, so in mode `check`
-/// the verdicts on it, and in mode `bench` the counts of right answers to a generated file.
+/// What a call that is done has written: in each mode with an input the whole output for all that the source gave; in mode `check` this
+/// is the verdict on each line. In mode `bench`: the counts of right answers to a generated file.
 pub fn headline()
     ensures output { Headline }
     ensures verdicts { VerdictsAreWritten }
