@@ -10,16 +10,17 @@ use Rattle.it_copy.specs.Points.{ExtensionOrMisfit, OneExtension, OneMisfit}
 use Rattle.it_contain.specs.Proposals.{Plan, plan_after_all}
 use Rattle.it_answer.specs.Replies.{Reply}
 use Rattle.it_answer.specs.RightAnswers.{OneRightAnswer}
+use Rattle.it_factor.specs.RightReplies.{OneRightReply}
 use Rattle.it_report.specs.Meaning as reports
 use Rattle.it_settings.specs.declared.types.Format.{Format}
-use Rattle.it_settings.specs.declared.types.Settings.TheVariants.{Answer, Check, Bench, Copy}
+use Rattle.it_settings.specs.declared.types.Settings.TheVariants.{Answer, Check, Bench, Copy, Best}
 use Rattle.it_answer.specs.declared.types.Budgets.{Budgets}
 use Rattle.it_gen.specs.GeneratedFiles.{generated_file}
 use Rattle.it_cli.specs.Copies.{CopyQuestion, CopyReply, Extended, IsRightCopy, IsRightProof, Misfit, steps_alone, with_copies}
 use Rattle.it_cli.specs.Counts.{AreCounted, IsBenchLine, bench_line, no_counts}
 use Rattle.it_cli.specs.Laws.{ModesAreDetermined, OneOutput}
 use Rattle.it_cli.specs.Modes.{IsDetermined, Mode, Replies, WholeOutput}
-use Rattle.it_cli.specs.Outputs.{answer_mode, bench_mode, check_mode, copy_mode, mode_of}
+use Rattle.it_cli.specs.Outputs.{answer_mode, bench_mode, best_mode, check_mode, copy_mode, mode_of}
 use Rattle.it_cli.specs.Right.{budgets_of}
 use Rattle.it_cli.specs.declared.status.Status.{Status}
 use Rattle.it_cli.proofs.CountLemmas.{one_count}
@@ -103,12 +104,21 @@ module _ (one_answer : OneRightAnswer) (one : CopiesAreOne) where
     one_reply = λ s x a b f g. one_copy pivots x a b f g;
   }
 
-module _ (one_answer : OneRightAnswer) (one_file : FileIsOne) (one_fault : FileFaultIsOne) (apart : FileOrFault) (one_verdict : reports.OneVerdict) (copies : CopiesAreOne) where
+factors_are_one : FileIsOne → FileFaultIsOne → FileOrFault → OneRightReply → (pivots : Option ℕ) → IsDetermined (best_mode pivots)
+factors_are_one one_file one_fault apart one_reply pivots = record {
+  one_reading = one_file;
+  one_fault = one_fault;
+  apart = apart;
+  one_reply = λ s x a b f g. one_reply pivots x.body a b f g;
+}
+
+module _ (one_answer : OneRightAnswer) (one_file : FileIsOne) (one_fault : FileFaultIsOne) (apart : FileOrFault) (one_verdict : reports.OneVerdict) (copies : CopiesAreOne) (one_factor : OneRightReply) where
   pub modes_are_determined : ModesAreDetermined
   modes_are_determined plans (Answer format pivots rows tries) = answers_are_one one_answer one_file one_fault apart (budgets_of pivots rows tries) plans format
   modes_are_determined plans Check = verdicts_are_one one_verdict
   modes_are_determined plans (Bench seed count pivots rows tries) = counts_are_one one_answer one_file one_fault apart (budgets_of pivots rows tries) plans seed count
   modes_are_determined plans (Copy pivots) = copies_are_one one_answer copies pivots
+  modes_are_determined plans (Best pivots) = factors_are_one one_file one_fault apart one_factor pivots
 
 pub one_output : ModesAreDetermined → OneOutput
 one_output determined plans settings bytes out other s t a b = one_whole (mode_of plans settings) (determined plans settings) bytes out other s t a b

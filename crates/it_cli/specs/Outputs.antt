@@ -3,7 +3,7 @@ use Rattle.std.specs.Prelude.{◌≡◌, ℕ, List, [], ◌∷◌, Bool, true, f
 use Rattle.it_outside.specs.Traffic.{IsFront}
 use Rattle.it_settings.specs.declared.types.Format.{Format}
 use Rattle.it_settings.specs.declared.types.Settings.{Settings}
-use Rattle.it_settings.specs.declared.types.Settings.TheVariants.{Answer, Check, Bench, Copy}
+use Rattle.it_settings.specs.declared.types.Settings.TheVariants.{Answer, Check, Bench, Copy, Best}
 use Rattle.it_question.specs.Files.{FileFaultAt, IsFile}
 use Rattle.it_question.specs.Lines.{split_lines}
 use Rattle.it_question.specs.Questions.{QuestionView}
@@ -13,7 +13,10 @@ use Rattle.it_answer.specs.declared.types.Budgets.{Budgets}
 use Rattle.it_answer.specs.Replies.{Reply}
 use Rattle.it_report.specs.Judging.{IsVerdict}
 use Rattle.it_report.specs.LineVerdicts.{LineVerdict, is_invalid, verdict_line}
-use Rattle.it_cli.specs.Right.{Context, IsRightAfter, after_answer, answer_lines, budgets_of}
+use Rattle.it_factor.specs.Lines.{reply_line}
+use Rattle.it_factor.specs.Replies.{ReplyView}
+use Rattle.it_factor.specs.RightReplies.{IsRightReply}
+use Rattle.it_cli.specs.Right.{Context, IsRightAfter, after_answer, answer_lines, budgets_of, question_origins}
 use Rattle.it_cli.specs.Counts.{IsBenchLine}
 use Rattle.it_cli.specs.Copies.{AsksWithCopies, CopyQuestion, CopyReply, IsRightCopy, copy_text}
 use Rattle.it_cli.specs.Modes.{FirstOutput, Mode, OutputInPart, Replies, WholeOutput}
@@ -26,6 +29,7 @@ most_bytes (Answer format pivots rows tries) = Some 1048576
 most_bytes Check = Some 67108864
 most_bytes (Bench seed count pivots rows tries) = None
 most_bytes (Copy pivots) = Some 1048576
+most_bytes (Best pivots) = Some 1048576
 
 -- ---- the modes
 
@@ -94,12 +98,28 @@ copy_mode pivots = record {
   status = λ s. Done;
 }
 
+-- one right reply to each question of a file that asks for factors
+abbrev pub best_mode : Option ℕ → Mode
+best_mode pivots = record {
+  Item = QuestionView;
+  Reply = ReplyView;
+  State = Unit {0};
+  Asks = IsFile;
+  FaultAt = FileFaultAt;
+  start = tt;
+  IsRight = λ s q reply. IsRightReply pivots q.body reply;
+  after = λ s q reply. tt;
+  text = λ k q reply. reply_line k q.body (question_origins q.body) reply;
+  status = λ s. Done;
+}
+
 -- the mode that the words ask for; the boxes had these plans
 abbrev pub mode_of : List Plan → Settings → Mode
 mode_of plans (Answer format pivots rows tries) = answer_mode (budgets_of pivots rows tries) plans format
 mode_of plans Check = check_mode
 mode_of plans (Bench seed count pivots rows tries) = bench_mode (budgets_of pivots rows tries) plans seed count
 mode_of plans (Copy pivots) = copy_mode pivots
+mode_of plans (Best pivots) = best_mode pivots
 
 -- ---- its output
 

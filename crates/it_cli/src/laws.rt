@@ -56,6 +56,7 @@ pub fn modes_are_determined()
     verdict_is_one();
     heads_are_one();
     copies_are_determined();
+    replies_are_determined();
 }
 
 /// What modes `check` and `bench` have written of an output in part is a front of a whole output.

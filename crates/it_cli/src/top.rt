@@ -11,6 +11,7 @@ use crate::answering::answer_file;
 use crate::benching::bench;
 use crate::checking::check_report;
 use crate::copying::answer_with_copies;
+use crate::factoring::find_factors;
 use crate::refusals::LONG;
 use crate::status::Status;
 use crate::telling::tell;
@@ -23,7 +24,7 @@ use std::alloc::Global;
 
 /// The line that is written where the words have no reading.
 const USAGE: &[u8] =
-    b"usage: itip answer|check|bench|copy [--format text|json|proof] [--pivots N] [--rows N] [--tries N] [--seed N] [--count N]\n";
+    b"usage: itip answer|check|bench|copy|best [--format text|json|proof] [--pivots N] [--rows N] [--tries N] [--seed N] [--count N]\n";
 
 /// All that the program does: `words` are those of the command line after the program's name, `proposers` the boxes that
 /// containments are looked for with. The input is read whole before the first line of output. The lines of one question, or the
@@ -105,6 +106,7 @@ fn limit(settings: Settings) -> Option<usize>
         Settings::Check => Some(67108864),
         Settings::Bench { .. } => None,
         Settings::Copy { .. } => Some(1048576),
+        Settings::Best { .. } => Some(1048576),
     }
 }
 
@@ -154,5 +156,6 @@ fn reply<K: Sink>(
             bench(alloc, seed, count, budgets, boxes, sink)
         }
         Settings::Copy { pivots } => answer_with_copies(alloc, pivots, bytes, sink),
+        Settings::Best { pivots } => find_factors(alloc, pivots, bytes, sink),
     }
 }

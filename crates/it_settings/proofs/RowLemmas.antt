@@ -3,7 +3,7 @@ use Rattle.std.proofs.Common.{refl}
 use Rattle.clap.proofs.OnLiterals.{clap_on_literals}
 use Rattle.it_settings.specs.App.{option_rule, mode_rule, bare_app, with_option, itip_app}
 use Rattle.it_settings.specs.Settings.{settings_of, settings_by, answer_of, check_of, bench_of, steps_of, number_of, pivots_of, format_of}
-use Rattle.it_settings.specs.Rows.{ModesAreRead, FormsAreRead, NumbersAreRead, BenchIsRead, CopyIsRead, OtherModesAreRead}
+use Rattle.it_settings.specs.Rows.{ModesAreRead, FormsAreRead, NumbersAreRead, BenchIsRead, CopyIsRead, BestIsRead, SharingIsRead, OtherModesAreRead}
 
 pub modes_are_read : ModesAreRead
 unfolding clap_on_literals settings_of settings_by answer_of check_of bench_of number_of pivots_of format_of itip_app with_option bare_app mode_rule option_rule
@@ -120,6 +120,36 @@ other_modes_are_read = record {
 pub copy_is_read : CopyIsRead
 unfolding clap_on_literals settings_of settings_by answer_of check_of bench_of steps_of number_of pivots_of format_of itip_app with_option bare_app mode_rule option_rule
 copy_is_read = record {
+  alone = refl;
+  pivots = refl;
+  pivots_without = refl;
+  pivots_more = refl;
+  format = refl;
+  rows = refl;
+  tries = refl;
+  seed = refl;
+  count = refl;
+  two_modes = refl;
+}
+
+pub best_is_read : BestIsRead
+unfolding clap_on_literals settings_of settings_by answer_of check_of bench_of steps_of number_of pivots_of format_of itip_app with_option bare_app mode_rule option_rule
+best_is_read = record {
+  alone = refl;
+  pivots = refl;
+  pivots_without = refl;
+  pivots_more = refl;
+  format = refl;
+  rows = refl;
+  tries = refl;
+  seed = refl;
+  count = refl;
+  two_modes = refl;
+}
+
+pub sharing_is_read : SharingIsRead
+unfolding clap_on_literals settings_of settings_by answer_of check_of bench_of steps_of number_of pivots_of format_of itip_app with_option bare_app mode_rule option_rule
+sharing_is_read = record {
   alone = refl;
   pivots = refl;
   pivots_without = refl;

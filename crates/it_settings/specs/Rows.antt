@@ -1,5 +1,5 @@
 -- Command lines and what they are read as.
-use Rattle.std.specs.Prelude.{ℕ, ◌≡◌, List, [], ◌∷◌, Some, None, codes}
+use Rattle.std.specs.Prelude.{Option, ℕ, ◌≡◌, List, [], ◌∷◌, Some, None, codes}
 use Rattle.it_settings.specs.declared.types.Format.TheVariants as formats
 use Rattle.it_settings.specs.declared.types.Settings.{Settings}
 use Rattle.it_settings.specs.declared.types.Settings.TheVariants as settings
@@ -115,15 +115,27 @@ pub record OtherModesAreRead : Type 0 where
   pub check_pivots_without : HaveNoReading (codes "check" ∷ codes "--pivots" ∷ codes "none" ∷ [])
   pub bench_format : HaveNoReading (codes "bench" ∷ codes "--format" ∷ codes "text" ∷ [])
 
--- mode `copy`, which takes a budget of steps and no other option
-pub record CopyIsRead : Type 0 where
-  pub alone : AreReadAs (codes "copy" ∷ []) (settings.Copy (Some 20000))
-  pub pivots : AreReadAs (codes "copy" ∷ codes "--pivots" ∷ codes "5" ∷ []) (settings.Copy (Some 5))
-  pub pivots_without : AreReadAs (codes "--pivots=none" ∷ codes "copy" ∷ []) (settings.Copy None)
-  pub pivots_more : HaveNoReading (codes "copy" ∷ codes "--pivots" ∷ codes "1000001" ∷ [])
-  pub format : HaveNoReading (codes "copy" ∷ codes "--format" ∷ codes "text" ∷ [])
-  pub rows : HaveNoReading (codes "copy" ∷ codes "--rows" ∷ codes "512" ∷ [])
-  pub tries : HaveNoReading (codes "copy" ∷ codes "--tries" ∷ codes "256" ∷ [])
-  pub seed : HaveNoReading (codes "copy" ∷ codes "--seed" ∷ codes "1" ∷ [])
-  pub count : HaveNoReading (codes "copy" ∷ codes "--count" ∷ codes "1" ∷ [])
-  pub two_modes : HaveNoReading (codes "copy" ∷ codes "answer" ∷ [])
+-- a mode that takes a budget of steps and no other option
+pub record IsReadWithSteps (mode : List ℕ) (read : Option ℕ → Settings) : Type 0 where
+  pub alone : AreReadAs (mode ∷ []) (read (Some 20000))
+  pub pivots : AreReadAs (mode ∷ codes "--pivots" ∷ codes "5" ∷ []) (read (Some 5))
+  pub pivots_without : AreReadAs (codes "--pivots=none" ∷ mode ∷ []) (read None)
+  pub pivots_more : HaveNoReading (mode ∷ codes "--pivots" ∷ codes "1000001" ∷ [])
+  pub format : HaveNoReading (mode ∷ codes "--format" ∷ codes "text" ∷ [])
+  pub rows : HaveNoReading (mode ∷ codes "--rows" ∷ codes "512" ∷ [])
+  pub tries : HaveNoReading (mode ∷ codes "--tries" ∷ codes "256" ∷ [])
+  pub seed : HaveNoReading (mode ∷ codes "--seed" ∷ codes "1" ∷ [])
+  pub count : HaveNoReading (mode ∷ codes "--count" ∷ codes "1" ∷ [])
+  pub two_modes : HaveNoReading (mode ∷ codes "answer" ∷ [])
+
+-- mode `copy`
+abbrev pub CopyIsRead : Type 0
+CopyIsRead = IsReadWithSteps (codes "copy") settings.Copy
+
+-- mode `best`
+abbrev pub BestIsRead : Type 0
+BestIsRead = IsReadWithSteps (codes "best") settings.Best
+
+-- mode `sharing`
+abbrev pub SharingIsRead : Type 0
+SharingIsRead = IsReadWithSteps (codes "sharing") settings.Sharing

@@ -96,7 +96,9 @@ settings_in v mode =
     if bytes_eq mode (codes "answer") then answer_of v else
     if bytes_eq mode (codes "check") then check_of v else
     if bytes_eq mode (codes "bench") then bench_of v else
-    if bytes_eq mode (codes "copy") then option_map settings.Copy (steps_of v) else None
+    if bytes_eq mode (codes "copy") then option_map settings.Copy (steps_of v) else
+    if bytes_eq mode (codes "best") then option_map settings.Best (steps_of v) else
+    if bytes_eq mode (codes "sharing") then option_map settings.Sharing (steps_of v) else None
 
 -- the settings by the texts that were given; without a mode there are none
 unfoldable pub settings_by : ValuesView → Option Settings
@@ -141,3 +143,5 @@ AreInRange (settings.Answer format pivots rows tries) = AreFew rows tries
 AreInRange settings.Check = Unit {0}
 AreInRange (settings.Bench seed count pivots rows tries) = (seed < 2 ^ 31) × ((1 ≤ count) × (count ≤ 1000)) × AreFew rows tries
 AreInRange (settings.Copy pivots) = Unit {0}
+AreInRange (settings.Best pivots) = Unit {0}
+AreInRange (settings.Sharing pivots) = Unit {0}

@@ -1,5 +1,5 @@
 //! What command lines are read as, each table as the contract of a function.
-ghost use Rattle.it_settings.specs.Rows.{ModesAreRead, FormsAreRead, NumbersAreRead, BenchIsRead, CopyIsRead, OtherModesAreRead};
+ghost use Rattle.it_settings.specs.Rows.{ModesAreRead, FormsAreRead, NumbersAreRead, BenchIsRead, CopyIsRead, BestIsRead, SharingIsRead, OtherModesAreRead};
 
 /// The word for the mode, alone and among others.
 #[tactic(auto, using(crate::proofs::RowLemmas::modes_are_read))]
@@ -25,10 +25,12 @@ pub fn bench_is_read()
     ensures { BenchIsRead }
 {}
 
-/// Mode `copy`, which takes a budget of steps and no other option.
-#[tactic(auto, using(crate::proofs::RowLemmas::copy_is_read))]
-pub fn copy_is_read()
-    ensures { CopyIsRead }
+/// The modes that take a budget of steps and no other option.
+#[tactic(auto, using(crate::proofs::RowLemmas::copy_is_read, crate::proofs::RowLemmas::best_is_read, crate::proofs::RowLemmas::sharing_is_read))]
+pub fn modes_with_steps_are_read()
+    ensures copy { CopyIsRead }
+    ensures best { BestIsRead }
+    ensures sharing { SharingIsRead }
 {}
 
 /// Options of another mode have no reading.

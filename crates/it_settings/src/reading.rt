@@ -121,6 +121,24 @@ fn copy(values: Values) -> Option<Settings>
     Some(Settings::Copy { pivots })
 }
 
+/// The settings of mode `best`.
+fn best(values: Values) -> Option<Settings>
+    ensures reads { result ≡ option_map settings.Best (steps_of (values_view values.entry)) }
+    ensures ranges { IfSome result AreInRange }
+{
+    let pivots = steps(values)?;
+    Some(Settings::Best { pivots })
+}
+
+/// The settings of mode `sharing`.
+fn sharing(values: Values) -> Option<Settings>
+    ensures reads { result ≡ option_map settings.Sharing (steps_of (values_view values.entry)) }
+    ensures ranges { IfSome result AreInRange }
+{
+    let pivots = steps(values)?;
+    Some(Settings::Sharing { pivots })
+}
+
 /// The settings by the mode's word.
 #[tactic(auto, unfolding(crate::specs::Settings::settings_by))]
 fn settings_by_mode(values: Values) -> Option<Settings>
@@ -132,6 +150,8 @@ fn settings_by_mode(values: Values) -> Option<Settings>
         Some("check") => check(values),
         Some("bench") => bench(values),
         Some("copy") => copy(values),
+        Some("best") => best(values),
+        Some("sharing") => sharing(values),
         _ => None,
     }
 }

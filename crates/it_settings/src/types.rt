@@ -39,6 +39,16 @@ pub enum Settings {
         /// As in mode `answer`.
         pivots: Option<u32>,
     },
+    /// Find the best factors between the sides of a file's relations.
+    Best {
+        /// The most steps of each of the three runs about a relation.
+        pivots: Option<u32>,
+    },
+    /// Answer what is asked of a secret sharing file.
+    Sharing {
+        /// As in mode `answer`, or as in mode `best` where the file asks for a factor.
+        pivots: Option<u32>,
+    },
 }
 
 /// The words have no reading, or memory is wanted.

@@ -29,7 +29,7 @@ use Rattle.it_question.specs.Reading.{after_word, read_word, read_new, read_new_
 use Rattle.it_question.proofs.NameLimits.{ended_sure, IsGrown, new_names_sure}
 use Rattle.it_question.proofs.LineLimits.{sure_if}
 use Rattle.it_sharing.specs.AccessStructures.{IsPartySet}
-use Rattle.it_sharing.specs.Sharings.{SharingView, IsSharing, IsBestOfBound}
+use Rattle.it_sharing.specs.Sharings.{SharingView, IsSharing, IsBoundWhereBest}
 use Rattle.it_sharing.specs.WrittenSharings.{secret_keyword, parties_keyword, qualified_keyword, best_keyword, most_parties, most_qualified, unless_secret, party_env}
 use Rattle.it_sharing.specs.SharingReading.{read_at_least, read_bound, qualified_then, if_qualified, read_qualified, Aim, read_aim, read_secret, read_parties, read_lists, read_sharing}
 use Rattle.it_sharing.proofs.SecretNames.{IsOne, secret_sure}
@@ -208,7 +208,7 @@ even_party : (n s : ℕ) → IsListed n s → IsPartySet n s
 even_party n s h = (h.0.0, ap (λ (b : ℕ). nat_eq b 1) h.0.1)
 
 abbrev Keeps : SharingView × List Letter → Type 0
-Keeps x = IsSharing x.0 × IsBestOfBound x.0
+Keeps x = IsSharing x.0 × IsBoundWhereBest x.0
 
 sharing_sure : (ls : List Letter) → Sure Keeps (read_sharing ls)
 unfolding read_sharing
@@ -232,5 +232,5 @@ sharing_sure ls =
       ha.1,
     ))))))
 
-pub sharing_limited : (ls r : List Letter) (y : SharingView) → read_sharing ls ≡ Ok (y, r) → IsSharing y × IsBestOfBound y
+pub sharing_limited : (ls r : List Letter) (y : SharingView) → read_sharing ls ≡ Ok (y, r) → IsSharing y × IsBoundWhereBest y
 sharing_limited ls r y e = subst (Sure Keeps) e (sharing_sure ls)

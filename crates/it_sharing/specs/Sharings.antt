@@ -33,8 +33,8 @@ pub record IsSharing (x : SharingView) : Type 0 where
   pub relation : IsRelationOf (length x.names.variables) 0 x.relation
 
 -- the least factor is asked for of a relation with `>=`
-abbrev pub IsBestOfBound : SharingView → Type 0
-IsBestOfBound x = x.best ≡ true → x.relation.sign ≡ AtLeast
+abbrev pub IsBoundWhereBest : SharingView → Type 0
+IsBoundWhereBest x = x.best ≡ true → x.relation.sign ≡ AtLeast
 
 -- the relation that an entropy or an information is 0
 abbrev pub vanishing_relation : Atom → RelationView

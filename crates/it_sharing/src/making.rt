@@ -136,7 +136,9 @@ fn question(alloc: Global, from: &Sharing, givens: Vec<Given>) -> Result<Questio
 }
 
 /// The question whether the relation of a sharing file holds wherever the secret is shared perfectly: under `H(s|A) = 0`
-/// for each minimal qualified set A, and then `I(s;B) = 0` for each maximal unqualified set B.
+/// for each minimal qualified set A, in the order of the file, and then `I(s;B) = 0` for each maximal unqualified set B, by number. Its
+/// verb is `prove`, also where the least factor is asked for; it has no rows and no text. `Many` comes exactly where the sets are
+/// more than 64 together.
 pub fn made(alloc: Global, from: &Sharing) -> Result<Made, MadeFault>
     requires { IsSharing (sharing_view from.now) }
     ensures question { IfOk result (λ m. question_view m.question ≡ made_question (sharing_view from.now)) }

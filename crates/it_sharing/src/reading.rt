@@ -3,7 +3,7 @@ ghost use Rattle.std.specs.Prelude.{◌≡◌, ◌≤◌, length, OnOk, IfOk, If
 ghost use Rattle.it_syntax.specs.Gives.{GivesBy};
 ghost use Rattle.it_question.specs.Cursors.{letters_left};
 ghost use Rattle.it_question.specs.NewNames.{no_names};
-ghost use Rattle.it_sharing.specs.Sharings.{sharing_view, IsSharing, IsBestOfBound};
+ghost use Rattle.it_sharing.specs.Sharings.{sharing_view, IsSharing, IsBoundWhereBest};
 ghost use Rattle.it_sharing.specs.SharingFiles.{IsSharingFile, IsFirstSharingFault};
 ghost use Rattle.it_sharing.specs.SharingReading.{read_secret, read_parties, read_sharing};
 
@@ -78,7 +78,7 @@ pub fn sharing(alloc: Global, bytes: &[u8]) -> Result<Sharing, FileFault>
     requires { length bytes.now ≤ 1048576 }
     ensures read { IfOk result (λ s. IsSharingFile bytes.now (sharing_view s)) }
     ensures limits { IfOk result (λ s. IsSharing (sharing_view s)) }
-    ensures bound { IfOk result (λ s. IsBestOfBound (sharing_view s)) }
+    ensures bound { IfOk result (λ s. IsBoundWhereBest (sharing_view s)) }
     ensures fault { IfErr result (IsFirstSharingFault bytes.now) }
 {
     let lines = file_lines(alloc, bytes)?;

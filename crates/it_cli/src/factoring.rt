@@ -1,0 +1,74 @@
+//! Mode `best`: a question file, and the best factors between the sides of its relations.
+ghost use Rattle.std.specs.Prelude.{◌≡◌, ◌≤◌, All, IfOk, length, map};
+ghost use Rattle.it_question.specs.Limits.{IsQuestion};
+ghost use Rattle.it_question.specs.Questions.{question_body, question_view};
+ghost use Rattle.it_cli.specs.InnerEnds.{EndOfBytes, EndOfItems, IsTextOf};
+ghost use Rattle.it_cli.specs.Outputs.{best_mode};
+
+use crate::answering::tell_fault;
+use crate::status::Status;
+use it_factor::{reply, reply_line};
+use it_outside::{Sink, write_all};
+use it_question::questions;
+use it_question::types::{FileFault, Question};
+use std::alloc::{AllocError, Global};
+
+/// What is done for the bytes of a question file.
+pub fn find_factors<K: Sink>(
+    alloc: Global,
+    pivots: Option<u32>,
+    bytes: &[u8],
+    sink: &mut K,
+) -> Status
+    requires { length bytes.now ≤ 1048576 }
+    ensures { EndOfBytes (best_mode pivots) (K.taken sink.old) (K.taken sink.new) (K.faults sink.old) (K.faults sink.new) bytes.now result }
+{
+    match questions(alloc, bytes) {
+        Ok(questions) => reply_all(alloc, pivots, questions.as_slice(), sink),
+        Err(FileFault::Fault { line, column, code }) => tell_fault(alloc, line, column, code, sink),
+        Err(FileFault::Memory) => Status::Memory,
+    }
+}
+
+/// Writes the line of each question, as soon as it is there.
+fn reply_all<K: Sink>(
+    alloc: Global,
+    pivots: Option<u32>,
+    questions: &[Question],
+    sink: &mut K,
+) -> Status
+    requires { All (λ q. IsQuestion (question_body q)) questions.now }
+    ensures { EndOfItems (best_mode pivots) (K.taken sink.old) (K.taken sink.new) (K.faults sink.old) (K.faults sink.new) (map question_view questions.now) result }
+{
+    for (i, question) in questions.iter().enumerate() {
+        let Ok(text) = line(alloc, pivots, i + 1, question) else {
+            return Status::Memory;
+        };
+        let Ok(()) = write_all(sink, text.as_slice()) else {
+            return Status::WriteFault;
+        };
+    }
+    Status::Done
+}
+
+/// The line of the right reply to question k, counted from 1.
+fn line(
+    alloc: Global,
+    pivots: Option<u32>,
+    k: usize,
+    question: &Question,
+) -> Result<Vec<u8>, AllocError>
+    requires { IsQuestion (question_body question.now) }
+    ensures { IfOk result (λ text. IsTextOf (best_mode pivots) tt k (question_view question.now) text.items) }
+{
+    let replied = reply(alloc, question, pivots)?;
+    // named before it is answered, so that the contract of the call stands at the answer
+    let text = reply_line(
+        alloc,
+        k,
+        question,
+        replied.problem.constraints.as_slice(),
+        &replied.reply,
+    )?;
+    Ok(text)
+}
