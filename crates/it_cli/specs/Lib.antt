@@ -4,6 +4,7 @@ pub mod Counts
 pub mod Modes
 pub mod Misfits
 pub mod Copies
+pub mod SharingReplies
 pub mod Outputs
 pub mod Ends
 pub mod Shown

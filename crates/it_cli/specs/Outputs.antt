@@ -3,7 +3,7 @@ use Rattle.std.specs.Prelude.{◌≡◌, ℕ, List, [], ◌∷◌, Bool, true, f
 use Rattle.it_outside.specs.Traffic.{IsFront}
 use Rattle.it_settings.specs.declared.types.Format.{Format}
 use Rattle.it_settings.specs.declared.types.Settings.{Settings}
-use Rattle.it_settings.specs.declared.types.Settings.TheVariants.{Answer, Check, Bench, Copy, Best}
+use Rattle.it_settings.specs.declared.types.Settings.TheVariants.{Answer, Check, Bench, Copy, Best, Sharing}
 use Rattle.it_question.specs.Files.{FileFaultAt, IsFile}
 use Rattle.it_question.specs.Lines.{split_lines}
 use Rattle.it_question.specs.Questions.{QuestionView}
@@ -19,6 +19,9 @@ use Rattle.it_factor.specs.RightReplies.{IsRightReply}
 use Rattle.it_cli.specs.Right.{Context, IsRightAfter, after_answer, answer_lines, budgets_of, question_origins}
 use Rattle.it_cli.specs.Counts.{IsBenchLine}
 use Rattle.it_cli.specs.Copies.{AsksWithCopies, CopyQuestion, CopyReply, IsRightCopy, copy_text}
+use Rattle.it_sharing.specs.SharingFiles.{SharingFaultAt}
+use Rattle.it_sharing.specs.Sharings.{SharingView}
+use Rattle.it_cli.specs.SharingReplies.{AsksOfSharing, IsRightSharing, SharingReply, sharing_text}
 use Rattle.it_cli.specs.Modes.{FirstOutput, Mode, OutputInPart, Replies, WholeOutput}
 use Rattle.it_cli.specs.declared.status.Status.{Status}
 use Rattle.it_cli.specs.declared.status.Status.TheVariants.{Done, Invalid}
@@ -30,6 +33,7 @@ most_bytes Check = Some 67108864
 most_bytes (Bench seed count pivots rows tries) = None
 most_bytes (Copy pivots) = Some 1048576
 most_bytes (Best pivots) = Some 1048576
+most_bytes (Sharing pivots) = Some 1048576
 
 -- ---- the modes
 
@@ -113,6 +117,21 @@ best_mode pivots = record {
   status = λ s. Done;
 }
 
+-- one right reply to what a sharing file asks
+abbrev pub sharing_mode : Option ℕ → Mode
+sharing_mode pivots = record {
+  Item = SharingView;
+  Reply = SharingReply;
+  State = Unit {0};
+  Asks = AsksOfSharing;
+  FaultAt = SharingFaultAt;
+  start = tt;
+  IsRight = λ s x reply. IsRightSharing pivots x reply;
+  after = λ s x reply. tt;
+  text = λ k x reply. sharing_text x reply;
+  status = λ s. Done;
+}
+
 -- the mode that the words ask for; the boxes had these plans
 abbrev pub mode_of : List Plan → Settings → Mode
 mode_of plans (Answer format pivots rows tries) = answer_mode (budgets_of pivots rows tries) plans format
@@ -120,6 +139,7 @@ mode_of plans Check = check_mode
 mode_of plans (Bench seed count pivots rows tries) = bench_mode (budgets_of pivots rows tries) plans seed count
 mode_of plans (Copy pivots) = copy_mode pivots
 mode_of plans (Best pivots) = best_mode pivots
+mode_of plans (Sharing pivots) = sharing_mode pivots
 
 -- ---- its output
 

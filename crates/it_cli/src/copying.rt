@@ -140,7 +140,7 @@ fn reply(
 {
     match extend(alloc, question, copies) {
         Ok(extended) => {
-            let text = extended_lines(alloc, pivots, k, &extended)?;
+            let text = proof_lines(alloc, pivots, k, &extended)?;
             Ok(text)
         }
         Err(fault) => {
@@ -150,8 +150,8 @@ fn reply(
     }
 }
 
-/// The lines of a right answer to a question with copies.
-fn extended_lines(
+/// The lines of a right answer to a question about a relation.
+pub fn proof_lines(
     alloc: Global,
     pivots: Option<u32>,
     k: usize,

@@ -41,7 +41,7 @@ fn reply_all<K: Sink>(
     ensures { EndOfItems (best_mode pivots) (K.taken sink.old) (K.taken sink.new) (K.faults sink.old) (K.faults sink.new) (map question_view questions.now) result }
 {
     for (i, question) in questions.iter().enumerate() {
-        let Ok(text) = line(alloc, pivots, i + 1, question) else {
+        let Ok(text) = factor_line(alloc, pivots, i + 1, question) else {
             return Status::Memory;
         };
         let Ok(()) = write_all(sink, text.as_slice()) else {
@@ -52,7 +52,7 @@ fn reply_all<K: Sink>(
 }
 
 /// The line of the right reply to question k, counted from 1.
-fn line(
+pub fn factor_line(
     alloc: Global,
     pivots: Option<u32>,
     k: usize,

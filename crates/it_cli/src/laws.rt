@@ -9,9 +9,11 @@ ghost use Rattle.it_cli.specs.Shown.{AnswersShow};
 use it_answer::answers_are_determined;
 use it_certificate::answers_read_back;
 use it_copy::{copies_are_determined, heads_are_one, yes_by_copies};
+use it_factor::replies_are_determined;
 use it_gen::generated_is_file;
 use it_question::file_is_one;
 use it_report::{each_line_is_judged, verdict_is_one};
+use it_sharing::sharing_is_one;
 
 /// What a call that is done has written: in each mode with an input the whole output for all that the source gave; in mode `check` this
 /// is the verdict on each line. In mode `bench`: the counts of right answers to a generated file.
@@ -57,6 +59,7 @@ pub fn modes_are_determined()
     heads_are_one();
     copies_are_determined();
     replies_are_determined();
+    sharing_is_one();
 }
 
 /// What modes `check` and `bench` have written of an output in part is a front of a whole output.

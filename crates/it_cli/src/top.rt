@@ -13,6 +13,7 @@ use crate::checking::check_report;
 use crate::copying::answer_with_copies;
 use crate::factoring::find_factors;
 use crate::refusals::LONG;
+use crate::sharing::answer_sharing;
 use crate::status::Status;
 use crate::telling::tell;
 use it_answer::Budgets;
@@ -24,7 +25,7 @@ use std::alloc::Global;
 
 /// The line that is written where the words have no reading.
 const USAGE: &[u8] =
-    b"usage: itip answer|check|bench|copy|best [--format text|json|proof] [--pivots N] [--rows N] [--tries N] [--seed N] [--count N]\n";
+    b"usage: itip answer|check|bench|copy|best|sharing [--format text|json|proof] [--pivots N] [--rows N] [--tries N] [--seed N] [--count N]\n";
 
 /// All that the program does: `words` are those of the command line after the program's name, `proposers` the boxes that
 /// containments are looked for with. The input is read whole before the first line of output. The lines of one question, or the
@@ -107,6 +108,7 @@ fn limit(settings: Settings) -> Option<usize>
         Settings::Bench { .. } => None,
         Settings::Copy { .. } => Some(1048576),
         Settings::Best { .. } => Some(1048576),
+        Settings::Sharing { .. } => Some(1048576),
     }
 }
 
@@ -157,5 +159,6 @@ fn reply<K: Sink>(
         }
         Settings::Copy { pivots } => answer_with_copies(alloc, pivots, bytes, sink),
         Settings::Best { pivots } => find_factors(alloc, pivots, bytes, sink),
+        Settings::Sharing { pivots } => answer_sharing(alloc, pivots, bytes, sink),
     }
 }

@@ -9,4 +9,8 @@ returns c = proof.modes_are_determined c.answers_are_determined.ensures.one c.fi
   extension = c.copies_are_determined.ensures.extension;
   misfit = c.copies_are_determined.ensures.misfit;
   either = c.copies_are_determined.ensures.either;
-}) c.replies_are_determined.ensures.one
+}) c.replies_are_determined.ensures.one (record {
+  file = c.sharing_is_one.ensures.one;
+  fault = c.sharing_is_one.ensures.fault;
+  apart = c.sharing_is_one.ensures.either;
+})

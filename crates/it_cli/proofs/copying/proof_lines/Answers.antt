@@ -2,7 +2,7 @@ use Rattle.it_question.specs.Questions.{question_body, question_view}
 use Rattle.it_space.specs.Answers.{answer_view}
 use Rattle.it_cli.proofs.CopyLemmas.{right_alone}
 use Rattle.it_cli.proofs.LineLemmas.{few_constraints, right_is_printable, text_by_places}
-use Rattle.it_cli.proofs.copying.extended_lines.Goals as goal
+use Rattle.it_cli.proofs.copying.proof_lines.Goals as goal
 
 pub text_lines-requires-clause-printable : goal.text_lines-requires-clause-printable
 text_lines-requires-clause-printable c =

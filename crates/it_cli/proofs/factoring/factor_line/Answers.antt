@@ -4,7 +4,7 @@ use Rattle.it_canon.specs.QuestionDemands.{question_demands}
 use Rattle.it_factor.specs.Lines.{reply_line}
 use Rattle.it_factor.specs.Replies.{reply_view}
 use Rattle.it_cli.proofs.LineLemmas.{origins_same}
-use Rattle.it_cli.proofs.factoring.line.Goals as goal
+use Rattle.it_cli.proofs.factoring.factor_line.Goals as goal
 
 pub returns : goal.returns
 returns c = let q = question_body c.args.question.now in record {

@@ -1,0 +1,48 @@
+-- What mode `sharing` replies to a file: a right answer to the question that it makes, or that its sets are too many.
+use Rattle.std.specs.Prelude.{◌≡◌, ℕ, ◌+◌, ◌<◌, ◌≤◌, true, false, List, [], ◌∷◌, ◌++◌, length, Option, codes, decimal}
+use Rattle.it_space.specs.Answers.{AnswerView}
+use Rattle.it_print.specs.Lines.{answer_line}
+use Rattle.it_factor.specs.Lines.{reply_line}
+use Rattle.it_factor.specs.Replies.{ReplyView}
+use Rattle.it_factor.specs.RightReplies.{IsRightReply}
+use Rattle.it_sharing.specs.AccessStructures.{maximal_sets, minimal_sets}
+use Rattle.it_sharing.specs.SharingFiles.{IsSharingFile}
+use Rattle.it_sharing.specs.Sharings.{SharingView, made_question}
+use Rattle.it_cli.specs.Copies.{IsRightProof}
+use Rattle.it_cli.specs.Right.{question_origins}
+
+-- the bytes are a sharing file, which asks for one thing
+pub record AsksOfSharing (bytes : List ℕ) (items : List SharingView) : Type 0 where
+  pub file : SharingView
+  pub read : IsSharingFile bytes file
+  pub is : items ≡ file ∷ []
+
+-- that the minimal and the maximal sets are too many, or an answer to the question that is made, or what is found of its factors
+pub data SharingReply : Type 0 where
+  Many : SharingReply
+  Answered : (answer : AnswerView) → SharingReply
+  Factored : (reply : ReplyView) → SharingReply
+
+-- how many minimal qualified sets there are
+abbrev pub minimal_count : SharingView → ℕ
+minimal_count x = length (minimal_sets x.qualified)
+
+-- how many maximal unqualified sets there are
+abbrev pub maximal_count : SharingView → ℕ
+maximal_count x = length (maximal_sets (length x.names.variables) x.qualified)
+
+-- a right reply: many where these are more than 64 together, else a right one to the made question, by what the file asks for
+abbrev pub IsRightSharing : Option ℕ → SharingView → SharingReply → Type 0
+IsRightSharing pivots x Many = 64 < minimal_count x + maximal_count x
+IsRightSharing pivots x (Answered answer) = (minimal_count x + maximal_count x ≤ 64) × (x.best ≡ false) × IsRightProof pivots (made_question x).body answer
+IsRightSharing pivots x (Factored reply) = (minimal_count x + maximal_count x ≤ 64) × (x.best ≡ true) × IsRightReply pivots (made_question x).body reply
+
+-- the line with both numbers
+unfoldable pub sharing_heading : ℕ → ℕ → List ℕ
+sharing_heading minimal maximal = codes "sharing " ++ decimal minimal ++ codes " " ++ decimal maximal ++ codes "\n"
+
+-- the lines of a reply
+abbrev pub sharing_text : SharingView → SharingReply → List ℕ
+sharing_text x Many = codes "misfit many\n"
+sharing_text x (Answered answer) = sharing_heading (minimal_count x) (maximal_count x) ++ answer_line 1 (made_question x).body (question_origins (made_question x).body) answer
+sharing_text x (Factored reply) = sharing_heading (minimal_count x) (maximal_count x) ++ reply_line 1 (made_question x).body (question_origins (made_question x).body) reply

@@ -1,0 +1,123 @@
+//! Mode `sharing`: a file that tells who may know a secret, and the answer to what it asks.
+ghost use Rattle.std.specs.Prelude.{◌≡◌, ◌+◌, ◌<◌, ◌≤◌, ◌∷◌, ◌++◌, [], false, true, codes, length, IfOk};
+ghost use Rattle.it_question.specs.Limits.{IsQuestion};
+ghost use Rattle.it_question.specs.Questions.{question_body, question_view};
+ghost use Rattle.it_sharing.specs.Sharings.{IsSharing, made_question, sharing_view};
+ghost use Rattle.it_cli.specs.InnerEnds.{EndOfBytes, EndOfItems, IsTextOf};
+ghost use Rattle.it_cli.specs.Outputs.{sharing_mode};
+ghost use Rattle.it_cli.specs.SharingReplies.{maximal_count, minimal_count, sharing_heading};
+
+use crate::answering::tell_fault;
+use crate::copying::proof_lines;
+use crate::factoring::factor_line;
+use crate::status::Status;
+use crate::telling::tell;
+use it_outside::Sink;
+use it_print::write_number;
+use it_question::types::FileFault;
+use it_sharing::types::{Made, MadeFault, Sharing};
+use it_sharing::{made, sharing};
+use std::alloc::{AllocError, Global};
+
+/// The line where the minimal and the maximal sets are too many.
+const MANY: &[u8] = b"misfit many\n";
+
+/// What is done for the bytes of a sharing file.
+pub fn answer_sharing<K: Sink>(
+    alloc: Global,
+    pivots: Option<u32>,
+    bytes: &[u8],
+    sink: &mut K,
+) -> Status
+    requires { length bytes.now ≤ 1048576 }
+    ensures { EndOfBytes (sharing_mode pivots) (K.taken sink.old) (K.taken sink.new) (K.faults sink.old) (K.faults sink.new) bytes.now result }
+{
+    match sharing(alloc, bytes) {
+        Ok(sharing) => reply(alloc, pivots, &sharing, sink),
+        Err(FileFault::Fault { line, column, code }) => tell_fault(alloc, line, column, code, sink),
+        Err(FileFault::Memory) => Status::Memory,
+    }
+}
+
+/// Writes the lines for what a sharing file asks.
+fn reply<K: Sink>(alloc: Global, pivots: Option<u32>, sharing: &Sharing, sink: &mut K) -> Status
+    requires { IsSharing (sharing_view sharing.now) }
+    ensures { EndOfItems (sharing_mode pivots) (K.taken sink.old) (K.taken sink.new) (K.faults sink.old) (K.faults sink.new) (sharing_view sharing.now ∷ []) result }
+{
+    match lines(alloc, pivots, sharing) {
+        Ok(text) => tell(sink, text.as_slice(), Status::Done),
+        Err(_) => Status::Memory,
+    }
+}
+
+/// The lines of the right reply to what a sharing file asks.
+fn lines(alloc: Global, pivots: Option<u32>, sharing: &Sharing) -> Result<Vec<u8>, AllocError>
+    requires { IsSharing (sharing_view sharing.now) }
+    ensures { IfOk result (λ text. IsTextOf (sharing_mode pivots) tt 1 (sharing_view sharing.now) text.items) }
+{
+    match made(alloc, sharing) {
+        Ok(made) => {
+            let text = made_lines(alloc, pivots, sharing, &made)?;
+            Ok(text)
+        }
+        Err(MadeFault::Many) => {
+            let text = many_line(alloc)?;
+            Ok(text)
+        }
+        Err(MadeFault::Memory) => Err(AllocError),
+    }
+}
+
+/// The line where the sets are too many.
+fn many_line(alloc: Global) -> Result<Vec<u8>, AllocError>
+    ensures { IfOk result (λ text. text.items ≡ codes "misfit many\n") }
+{
+    let mut text = Vec::new(alloc);
+    text.extend_from_slice(MANY)?;
+    Ok(text)
+}
+
+/// The lines of the right reply to the question that a sharing file makes.
+fn made_lines(
+    alloc: Global,
+    pivots: Option<u32>,
+    sharing: &Sharing,
+    made: &Made,
+) -> Result<Vec<u8>, AllocError>
+    requires question { question_view made.now.question ≡ made_question (sharing_view sharing.now) }
+    requires limits { IsQuestion (question_body made.now.question) }
+    requires minimal { made.now.minimal ≡ minimal_count (sharing_view sharing.now) }
+    requires maximal { made.now.maximal ≡ maximal_count (sharing_view sharing.now) }
+    requires few { made.now.minimal + made.now.maximal ≤ 64 }
+    ensures { IfOk result (λ text. IsTextOf (sharing_mode pivots) tt 1 (sharing_view sharing.now) text.items) }
+{
+    if sharing.best {
+        let line = factor_line(alloc, pivots, 1, &made.question)?;
+        let text = with_heading(alloc, made.minimal, made.maximal, line.as_slice())?;
+        Ok(text)
+    } else {
+        let lines = proof_lines(alloc, pivots, 1, &made.question)?;
+        let text = with_heading(alloc, made.minimal, made.maximal, lines.as_slice())?;
+        Ok(text)
+    }
+}
+
+/// The line with the numbers of minimal and maximal sets, and further lines after it.
+#[tactic(auto, unfolding(crate::specs::SharingReplies::sharing_heading))]
+fn with_heading(
+    alloc: Global,
+    minimal: u32,
+    maximal: u32,
+    lines: &[u8],
+) -> Result<Vec<u8>, AllocError>
+    ensures { IfOk result (λ text. text.items ≡ sharing_heading minimal maximal ++ lines.now) }
+{
+    let mut text = Vec::new(alloc);
+    text.extend_from_slice(b"sharing ")?;
+    write_number(&mut text, minimal as usize)?;
+    text.extend_from_slice(b" ")?;
+    write_number(&mut text, maximal as usize)?;
+    text.extend_from_slice(b"\n")?;
+    text.extend_from_slice(lines)?;
+    Ok(text)
+}
