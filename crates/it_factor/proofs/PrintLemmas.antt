@@ -1,10 +1,12 @@
 -- What was found of a question's factors can be printed: its generators are there, and its points are of the question's names.
-use Rattle.std.proofs.Common.{◌≡◌, ◌+◌, ◌^◌, ◌<◌, ◌≤◌, ℕ, ℤ, List, length, All, length-append, length-map, ap, arith}
+use Rattle.std.proofs.Common.{◌≡◌, ◌+◌, ◌^◌, ◌<◌, ◌≤◌, ℕ, ℤ, List, length, All, Option, Some, None, length-append, length-map, ap, subst, arith}
 use Rattle.std.proofs.lemmas.List.Elements.{All-weaker}
 use Rattle.std.proofs.lemmas.Nat.{pow_pos}
 use Rattle.std.proofs.Math.Pow.{pow_mono}
 use Rattle.it_space.specs.declared.answers.Certificate.{Certificate}
+use Rattle.it_space.specs.declared.problems.Constraint.{Constraint}
 use Rattle.it_space.specs.Answers.{certificate_view}
+use Rattle.it_space.specs.Problems.{ProblemView}
 use Rattle.it_space.specs.Spaces.{size_of}
 use Rattle.it_polymatroid.specs.Certificates.{Form}
 use Rattle.it_polymatroid.specs.Elementals.{elementals}
@@ -13,20 +15,28 @@ use Rattle.it_syntax.specs.NamesViews.{NamesView}
 use Rattle.it_question.specs.Limits.{IsQuestion}
 use Rattle.it_question.specs.Questions.{BodyView, VerbView, Prove}
 use Rattle.it_question.specs.Tables.{problem_names, problem_names_by}
-use Rattle.it_demand.specs.Demands.{LineDemand}
+use Rattle.it_demand.specs.Demands.{LineDemand, States}
+use Rattle.it_demand.proofs.ZipLemmas.{zip-length}
 use Rattle.it_demand.specs.LineDemands.{space_of}
-use Rattle.it_canon.specs.QuestionDemands.{question_demands, variables_of}
+use Rattle.it_canon.specs.QuestionDemands.{IsProblemOf, question_demands, variables_of}
 use Rattle.it_answer.specs.Forms.{CertifiesForm, MayStand, all_demands}
 use Rattle.it_best.specs.declared.types.Best.{Best}
 use Rattle.it_best.specs.declared.types.Best.TheVariants as answers
 use Rattle.it_best.specs.BestViews.{best_view}
 use Rattle.it_best.specs.Factors.{IsPoint}
-use Rattle.it_factor.specs.Lines.{AreValuesOf, IsBestPrintable, IsThere}
-use Rattle.it_factor.specs.RightReplies.{ShowsFactor, question_ground}
+use Rattle.it_factor.specs.declared.types.Reply.{Reply}
+use Rattle.it_factor.specs.declared.types.Reply.TheVariants as replies
+use Rattle.it_factor.specs.Lines.{AreValuesOf, IsBestPrintable, IsPrintable, IsThere}
+use Rattle.it_factor.specs.Replies.{reply_view}
+use Rattle.it_factor.specs.RightReplies.{IsRightReply, IsRightReplyTo, ShowsFactor, asked_by, at_least, question_ground}
 
 length-demands : (n : ℕ) (ds : List LineDemand) → length (all_demands n ds) ≡ length (elementals n) + length ds
 unfolding all_demands
 length-demands n ds = simp (length-append, length-map)
+
+-- there is a constraint for each demand
+pub constraint_count : (q : BodyView) (p : ProblemView) → IsProblemOf q p → length p.constraints ≡ length (question_demands q)
+constraint_count q p posed = zip-length (λ (d : LineDemand) (c : Constraint). States p.space d.origin d.demand c) (question_demands q) p.constraints posed.constraints
 
 module _ (q : BodyView) (m : ℕ) (count : m ≡ length (question_demands q)) where
   generators_there : (f : Form) (w : Certificate) → CertifiesForm q f (certificate_view w) → IsThere (variables_of q) m w
@@ -39,8 +49,8 @@ module _ (q : BodyView) (m : ℕ) (count : m ≡ length (question_demands q)) wh
     omega (arith, i.complete, pow_mono {i = variables_of q} {j = 10} few, few_rates),
   )
 
-  pub best_printable : (r : RelationView) (best : Best) → IsQuestion q → q.verb ≡ Prove r → ShowsFactor q r (best_view best) → IsBestPrintable (problem_names q) m best
-  best_printable r best k verb shown = by_best best shown
+  best_printable : (r s : RelationView) (best : Best) → IsQuestion q → q.verb ≡ Prove s → ShowsFactor q r (best_view best) → IsBestPrintable (problem_names q) m best
+  best_printable r s best k verb shown = by_best best shown
     where
       names_are : problem_names q ≡ q.names
       names_are = ap (problem_names_by q.names) verb
@@ -56,3 +66,12 @@ module _ (q : BodyView) (m : ℕ) (count : m ≡ length (question_demands q)) wh
       by_best (answers.Never point) s = values_of_names point few few_rates s.point
       by_best (answers.Unbounded num den proof below) s = (generators_there _ proof s.factor.certified, generators_there _ below s.at_most_zero)
       by_best (answers.Undecided cause) s = tt
+
+  -- what is printed of a reply is there
+  pub reply_printable : (budget : Option ℕ) (r : RelationView) (reply : Reply) → IsQuestion q → q.verb ≡ Prove r → IsRightReply budget q (reply_view reply) → IsPrintable q m reply
+  reply_printable budget r reply k verb right = by_asked (at_least r.sign r) reply (subst (λ (asked : Option RelationView). IsRightReplyTo budget q asked (reply_view reply)) (ap asked_by verb) right)
+    where
+      by_asked : (asked : Option RelationView) (reply : Reply) → IsRightReplyTo budget q asked (reply_view reply) → IsPrintable q m reply
+      by_asked (Some s) (replies.Found best) h = best_printable s r best k verb h.shows
+      by_asked None (replies.Found best) h = absurd h
+      by_asked asked replies.Other h = tt

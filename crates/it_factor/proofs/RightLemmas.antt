@@ -14,8 +14,6 @@ use Rattle.it_polymatroid.proofs.Forms.{value_linear}
 use Rattle.it_elemental.specs.Generators.{generators, generators_of, generator_at, forms_of}
 use Rattle.it_elemental.proofs.GeneratorLemmas.{rows_of_space}
 use Rattle.it_syntax.specs.Meaning.{RelationView}
-use Rattle.it_syntax.specs.declared.types.Sign.{Sign}
-use Rattle.it_syntax.specs.declared.types.Sign.TheVariants.{AtLeast}
 use Rattle.it_question.specs.Questions.{BodyView, VerbView, Prove}
 use Rattle.it_question.specs.Tables.{problem_lines, problem_names}
 use Rattle.it_demand.specs.Canonical.{IsRowOf}
@@ -30,7 +28,7 @@ use Rattle.it_best.specs.Factors.{IsRightBest, IsFactor, IsPoint, factor_form, g
 use Rattle.it_best.proofs.CertificateLemmas.{linear-factor, linear-neg}
 use Rattle.it_factor.specs.Replies.{ReplyView, Found, Other}
 use Rattle.it_factor.specs.RightReplies.{IsRightFactor, IsRightReply, IsRightReplyTo, ShowsFactor, asked_by, at_least, question_ground}
-use Rattle.it_factor.specs.RowReplies.{IsFoundByRows}
+use Rattle.it_factor.specs.RowReplies.{IsFoundByRows, IsReplyByRows}
 
 module _ (q : BodyView) (p : ProblemView) (posed : IsProblemOf q p) where
   in_question_space : (P : Space → Type 0) → P p.space → P (space_of (problem_names q))
@@ -95,14 +93,16 @@ module _ (q : BodyView) (p : ProblemView) (posed : IsProblemOf q p) where
         due = record { problem = p; is_problem = posed; left = f.left; left_is = left_is; right = f.right; right_is = right_is; ends = f.ends };
       }
 
--- ---- by the verb and the sign
+  right_by_asked : (budget : Option ℕ) (asked : Option RelationView) (reply : ReplyView) → IsReplyByRows p budget asked reply → IsRightReplyTo budget q asked reply
+  right_by_asked budget (Some r) (Found best) f = right_factor budget r best f
+  right_by_asked budget (Some r) Other f = absurd f
+  right_by_asked budget None (Found best) f = absurd f
+  right_by_asked budget None Other f = tt
 
-pub found_is_right : (budget : Option ℕ) (q : BodyView) (r : RelationView) (best : BestView) → q.verb ≡ Prove r → r.sign ≡ AtLeast → IsRightFactor budget q r best → IsRightReply budget q (Found best)
-found_is_right budget q r best verb sign right =
-    subst (λ (asked : Option RelationView). IsRightReplyTo budget q asked (Found best)) (sym (ap asked_by verb ∙ ap (λ s. at_least s r) sign)) right
+  -- the reply by rows is right
+  pub right_reply : (budget : Option ℕ) (r : RelationView) (reply : ReplyView) → q.verb ≡ Prove r → IsReplyByRows p budget (at_least r.sign r) reply → IsRightReply budget q reply
+  right_reply budget r reply verb f = subst (λ (asked : Option RelationView). IsRightReplyTo budget q asked reply) (sym (ap asked_by verb)) (right_by_asked budget (at_least r.sign r) reply f)
 
-pub other_is_right : (budget : Option ℕ) (q : BodyView) → asked_by q.verb ≡ None → IsRightReply budget q Other
-other_is_right budget q none = subst (λ (asked : Option RelationView). IsRightReplyTo budget q asked Other) (sym none) tt
-
-pub other_by_sign : (q : BodyView) (r : RelationView) (s : Sign) → q.verb ≡ Prove r → r.sign ≡ s → at_least s r ≡ None → asked_by q.verb ≡ None
-other_by_sign q r s verb sign none = ap asked_by verb ∙ ap (λ s. at_least s r) sign ∙ none
+-- a question that asks for no factor has the other reply
+pub other_is_right : (budget : Option ℕ) (q : BodyView) (verb : VerbView) → q.verb ≡ verb → asked_by verb ≡ None → IsRightReply budget q Other
+other_is_right budget q verb is none = subst (λ (asked : Option RelationView). IsRightReplyTo budget q asked Other) (sym (ap asked_by is ∙ none)) tt

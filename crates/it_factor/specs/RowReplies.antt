@@ -1,5 +1,5 @@
 -- What is found by the rows of a relation's sides; no public clause cites it.
-use Rattle.std.specs.Prelude.{ℕ, Option}
+use Rattle.std.specs.Prelude.{ℕ, Option, Some, None}
 use Rattle.it_space.specs.Problems.{ProblemView}
 use Rattle.it_space.specs.Rows.{Terms, value}
 use Rattle.it_syntax.specs.Meaning.{RelationView}
@@ -8,6 +8,7 @@ use Rattle.it_canon.specs.Sides.{left_form, right_form}
 use Rattle.it_best.specs.BestViews.{BestView}
 use Rattle.it_best.specs.Ends.{EndsWith}
 use Rattle.it_best.specs.Factors.{IsRightBest, ground_of}
+use Rattle.it_factor.specs.Replies.{ReplyView, Found, Other}
 
 -- the runs about rows of both sides under a problem end with it, and it is right of the rows
 pub record IsFoundByRows (p : ProblemView) (budget : Option ℕ) (r : RelationView) (best : BestView) : Type 0 where
@@ -17,3 +18,10 @@ pub record IsFoundByRows (p : ProblemView) (budget : Option ℕ) (r : RelationVi
   pub right_is : IsRowOf p.space (right_form p.space.variables r) right
   pub ends : EndsWith p left right budget best
   pub right_of_rows : IsRightBest (ground_of p) (value left) (value right) best
+
+-- the reply about this relation, or about none
+abbrev pub IsReplyByRows : ProblemView → Option ℕ → Option RelationView → ReplyView → Type 0
+IsReplyByRows p budget (Some r) (Found best) = IsFoundByRows p budget r best
+IsReplyByRows p budget (Some r) Other = ⊥
+IsReplyByRows p budget None (Found best) = ⊥
+IsReplyByRows p budget None Other = Unit {0}

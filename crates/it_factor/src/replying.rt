@@ -10,9 +10,10 @@ ghost use Rattle.it_demand.specs.Demands.{AreStated};
 ghost use Rattle.it_demand.specs.LineDemands.{space_of};
 ghost use Rattle.it_canon.specs.QuestionDemands.{IsProblemOf, question_demands};
 ghost use Rattle.it_best.specs.BestViews.{best_view};
+ghost use Rattle.it_factor.specs.Lines.{IsPrintable};
 ghost use Rattle.it_factor.specs.Replies.{reply_view};
-ghost use Rattle.it_factor.specs.RightReplies.{IsRightReply};
-ghost use Rattle.it_factor.specs.RowReplies.{IsFoundByRows};
+ghost use Rattle.it_factor.specs.RightReplies.{IsRightReply, at_least};
+ghost use Rattle.it_factor.specs.RowReplies.{IsFoundByRows, IsReplyByRows};
 
 use crate::types::{RepliedProblem, Reply};
 use it_best::best;
@@ -35,6 +36,7 @@ pub fn reply(
     ensures space { IfOk result (λ a. a.problem.space ≡ space_of (problem_names (question_body question.now))) }
     ensures problem { IfOk result (λ a. AreStated a.problem.space (question_demands (question_body question.now)) a.problem.constraints.items) }
     ensures right { IfOk result (λ a. IsRightReply pivots (question_body question.now) (reply_view a.reply)) }
+    ensures printable { IfOk result (λ a. IsPrintable (question_body question.now) (length a.problem.constraints.items) a.reply) }
 {
     let problem = problem(alloc, question)?;
     let reply = reply_under(alloc, question, &problem, budget_of(pivots))?;
@@ -60,17 +62,34 @@ fn reply_under(
 ) -> Result<Reply, AllocError>
     requires limits { IsQuestion (question_body question.now) }
     requires problem { IsProblemOf (question_body question.now) (problem_view problem.now) }
-    ensures { IfOk result (λ r. IsRightReply budget (question_body question.now) (reply_view r)) }
+    ensures right { IfOk result (λ r. IsRightReply budget (question_body question.now) (reply_view r)) }
+    ensures printable { IfOk result (IsPrintable (question_body question.now) (length problem.now.constraints.items)) }
 {
     match &question.verb {
-        Verb::Prove(relation) => match relation.sign {
-            Sign::AtLeast => {
-                let found = factors(alloc, problem, relation, budget)?;
-                Ok(Reply::Found(found))
-            }
-            Sign::AtMost | Sign::Equal => Ok(Reply::Other),
-        },
-        Verb::Eliminate(_) | Verb::Contain { .. } => Ok(Reply::Other),
+        Verb::Prove(relation) => relation_reply(alloc, problem, relation, budget),
+        Verb::Eliminate(_) => Ok(Reply::Other),
+        Verb::Contain { .. } => Ok(Reply::Other),
+    }
+}
+
+/// The reply about a relation under a problem, by its sign.
+fn relation_reply(
+    alloc: Global,
+    problem: &Problem,
+    relation: &Relation,
+    budget: Budget,
+) -> Result<Reply, AllocError>
+    requires problem { IsProblem (problem_view problem.now) }
+    requires relation { IsRelationOf problem.now.space.variables problem.now.space.rates (relation_view relation.now) }
+    ensures { IfOk result (λ r. IsReplyByRows (problem_view problem.now) budget (at_least (relation_view relation.now).sign (relation_view relation.now)) (reply_view r)) }
+{
+    match relation.sign {
+        Sign::AtLeast => {
+            let found = factors(alloc, problem, relation, budget)?;
+            Ok(Reply::Found(found))
+        }
+        Sign::AtMost => Ok(Reply::Other),
+        Sign::Equal => Ok(Reply::Other),
     }
 }
 

@@ -1,0 +1,36 @@
+use Rattle.std.proofs.Common.{length, refl, ap}
+use Rattle.it_space.specs.Problems.{problem_view}
+use Rattle.it_syntax.specs.Meaning.{relation_view}
+use Rattle.it_question.specs.Questions.{question_body, verb_view}
+use Rattle.it_run.proofs.AnswerLemmas.{if_ok}
+use Rattle.it_factor.specs.Lines.{IsPrintable}
+use Rattle.it_factor.specs.Replies.{reply_view}
+use Rattle.it_factor.specs.RightReplies.{IsRightReply, at_least}
+use Rattle.it_factor.specs.RowReplies.{IsReplyByRows}
+use Rattle.it_factor.proofs.PrintLemmas.{constraint_count, reply_printable}
+use Rattle.it_factor.proofs.RightLemmas.{other_is_right, right_reply}
+use Rattle.it_factor.proofs.replying.reply_under.Goals as goal
+
+pub returns-in-Prove-clause-right : goal.returns-in-Prove-clause-right
+returns-in-Prove-clause-right g c =
+    let q = question_body c.args.question.now in
+    let p = problem_view c.args.problem.now in
+    let r = relation_view c.in-Prove.relation in
+    if_ok c.relation_reply.result (λ x. IsReplyByRows p c.args.budget (at_least r.sign r) (reply_view x)) (λ x. IsRightReply c.args.budget q (reply_view x)) c.relation_reply.ensures
+    (λ x by_rows. right_reply q p c.requires.problem c.args.budget r (reply_view x) (ap verb_view c.in-Prove.is) by_rows)
+
+pub returns-in-Prove-clause-printable : goal.returns-in-Prove-clause-printable
+returns-in-Prove-clause-printable g c =
+    let q = question_body c.args.question.now in
+    let p = problem_view c.args.problem.now in
+    let r = relation_view c.in-Prove.relation in
+    let m = length c.args.problem.now.constraints.items in
+    if_ok c.relation_reply.result (λ x. IsReplyByRows p c.args.budget (at_least r.sign r) (reply_view x)) (IsPrintable q m) c.relation_reply.ensures
+    (λ x by_rows. reply_printable q m (constraint_count q p c.requires.problem) c.args.budget r x c.requires.limits (ap verb_view c.in-Prove.is)
+    (right_reply q p c.requires.problem c.args.budget r (reply_view x) (ap verb_view c.in-Prove.is) by_rows))
+
+pub returns-in-Eliminate-clause-right : goal.returns-in-Eliminate-clause-right
+returns-in-Eliminate-clause-right g c = other_is_right c.args.budget (question_body c.args.question.now) _ (ap verb_view c.in-Eliminate.is) refl
+
+pub returns-in-Contain-clause-right : goal.returns-in-Contain-clause-right
+returns-in-Contain-clause-right g c = other_is_right c.args.budget (question_body c.args.question.now) _ (ap verb_view c.in-Contain.is) refl
