@@ -14,7 +14,6 @@ ghost use Rattle.it_copy.specs.Equations.{copy_equations};
 ghost use Rattle.it_copy.specs.Extensions.{IsExtension, IsMisfit, equations_of, extended, first_unplaced, named_parts, placed, set_with, unless_member, with_copies};
 ghost use Rattle.it_copy.specs.ExtensionSteps.{IsLarge, IsLargeBy, IsPastLimits, IsUnplaced};
 
-use crate::duplicates;
 use crate::equations::add_equations;
 use crate::types::{CopyFault, CopyLine};
 use it_canon::problem;
@@ -22,6 +21,7 @@ use it_closure::size;
 use it_question::types::{OwnLines, Question, Verb};
 use it_space::{Problem, VarSet};
 use it_syntax::Names;
+use it_syntax::copies;
 use it_syntax::types::{Given, Relation};
 use std::alloc::{AllocError, Global};
 
@@ -191,13 +191,13 @@ fn copied(
     ensures first { IfErr result (IsUnplaced (question_body question.now).names (map copy_view lines.now)) }
 {
     let mut names = question.names.copy()?;
-    let mut givens = duplicates::givens(alloc, question.lines.givens.as_slice())?;
+    let mut givens = copies::givens(alloc, question.lines.givens.as_slice())?;
     match add_copies(alloc, &mut names, &mut givens, lines) {
         Ok(()) => {}
         Err(fault) => return Err(fault),
     }
-    let rows = duplicates::relations(alloc, question.lines.rows.as_slice())?;
-    let relation = duplicates::relation(relation)?;
+    let rows = copies::relations(alloc, question.lines.rows.as_slice())?;
+    let relation = relation.copy()?;
     Ok(Question {
         names,
         text: Vec::new(alloc),
