@@ -1,14 +1,13 @@
 -- The loop over the lines of a file, up to the end of its head.
-use Rattle.std.proofs.Common.{◌≡◌, ℕ, ◌+◌, ◌-◌, ◌<◌, ◌≤◌, ◌==◌, true, List, [], ◌∷◌, ◌++◌, length, drop, map, inl, inr, ◌⊎◌, refl, sym, ap, subst, ◌∙◌, arith, append_assoc, append-nil, length-append}
-use Rattle.std.proofs.lemmas.Bool.{eqb-true}
-use Rattle.std.proofs.lemmas.List.{drop-drop, nil_from_length}
+use Rattle.std.proofs.Common.{◌≡◌, ℕ, ◌+◌, ◌-◌, ◌<◌, ◌≤◌, List, [], ◌∷◌, ◌++◌, length, drop, inl, inr, refl, sym, ap, subst, ◌∙◌, arith, append_assoc, append-nil, length-append}
+use Rattle.std.proofs.lemmas.List.{drop-drop}
 use Rattle.it_syntax.specs.declared.types.Code.{Code}
 use Rattle.it_syntax.specs.declared.types.LineTokens.{LineTokens}
 use Rattle.it_question.specs.declared.types.FileFault.{FileFault}
 use Rattle.it_question.specs.declared.types.FileFault.TheVariants.{Memory, Fault}
 use Rattle.it_question.specs.Lines.{plain_text, split_lines}
 use Rattle.it_copy.specs.CopyLines.{CopyView}
-use Rattle.it_copy.specs.Heads.{AreTokensOf, BeginsQuestions, HasHeadFault, HasNoTokens, IsFirstHeadFault, IsHead, IsHeadOf}
+use Rattle.it_copy.specs.Heads.{AreTokensOf, BeginsQuestions, HasHeadFault, IsFirstHeadFault, IsHead, IsHeadOf}
 use Rattle.it_copy.specs.HeadSteps.{AddsLine, IsLineFault}
 
 -- these copies are asked for by the first n lines, and these bytes are left

@@ -1,5 +1,5 @@
 -- Questions with copies keep the limits.
-use Rattle.std.proofs.Common.{◌≡◌, ℕ, ◌+◌, ◌-◌, ◌<◌, ◌≤◌, ◌^◌, List, [], ◌∷◌, ◌++◌, length, map, filter, All, Option, Some, None, bit_or, refl, sym, ap, subst, ◌∙◌, arith, length-append}
+use Rattle.std.proofs.Common.{◌≡◌, ℕ, ◌+◌, ◌-◌, ◌<◌, ◌≤◌, ◌^◌, List, [], ◌∷◌, length, filter, All, Option, None, bit_or, refl, sym, ap, subst, arith, length-append}
 use Rattle.std.proofs.Math.Pow.{ones_lt, pow-lt}
 use Rattle.std.proofs.lemmas.List.Elements.{All-nil, All-cons, All-append, All-filter, All-map, All-weaker}
 use Rattle.it_polymatroid.proofs.Spans.{get_or-span, length-span}
@@ -8,7 +8,7 @@ use Rattle.it_polymatroid.specs.Elementals.{span}
 use Rattle.it_syntax.specs.declared.types.Term.{Term}
 use Rattle.it_syntax.specs.declared.types.Atom.TheVariants.{Nothing, Entropy, Mutual}
 use Rattle.it_syntax.specs.NamesViews.{NamesView}
-use Rattle.it_syntax.specs.Meaning.{RelationView, IsAtomOf}
+use Rattle.it_syntax.specs.Meaning.{IsAtomOf}
 use Rattle.it_syntax.specs.Givens.{GivenView, IsGivenOf, IsRelationOf}
 use Rattle.it_question.specs.Questions.{BodyView, VerbView, Prove, Eliminate, Contain}
 use Rattle.it_question.specs.Limits.{IsQuestion, IsVerbOver}
@@ -18,7 +18,7 @@ use Rattle.it_demand.proofs.LimitLemmas.{wider_given, wider_relation}
 use Rattle.it_copy.specs.CopyLines.{CopyView}
 use Rattle.it_copy.specs.Equations.{apart_equation, copy_equations, inside_equation, inside_equations, is_part, term_of}
 use Rattle.it_copy.specs.Extensions.{CanBeMade, IsProof, equations_in, equations_of, extended, first_unplaced, placed, with_copies, with_copy}
-use Rattle.it_copy.proofs.PlaceLemmas.{HasPlace, first_has_place, place_told}
+use Rattle.it_copy.proofs.PlaceLemmas.{first_has_place, place_told}
 
 -- ---- the equations of one copy
 

@@ -1,13 +1,12 @@
 -- A question has one extension by some copies, or one reason against them.
-use Rattle.std.proofs.Common.{◌≡◌, ℕ, ◌<◌, ◌≤◌, length, List, Option, Some, None, refl, sym, ap, subst, ◌∙◌, arith}
+use Rattle.std.proofs.Common.{◌≡◌, ℕ, ◌<◌, ◌≤◌, length, List, Some, refl, sym, ap, subst, ◌∙◌, arith}
 use Rattle.it_space.proofs.OptionLemmas.{some_same}
 use Rattle.it_question.specs.Questions.{BodyView}
 use Rattle.it_question.specs.WrittenQuestions.{most_lines}
 use Rattle.it_question.specs.Tables.{HasSmallTable}
-use Rattle.it_copy.specs.declared.types.CopyFault.{CopyFault}
 use Rattle.it_copy.specs.declared.types.CopyFault.TheVariants.{Memory, Verb, Copy, Many, Large}
 use Rattle.it_copy.specs.CopyLines.{CopyView}
-use Rattle.it_copy.specs.Extensions.{CanBeMade, IsExtension, IsMisfit, extended, first_unplaced}
+use Rattle.it_copy.specs.Extensions.{CanBeMade, first_unplaced}
 use Rattle.it_copy.specs.Points.{ExtensionOrMisfit, OneExtension, OneMisfit}
 
 pub one_extension : OneExtension

@@ -1,12 +1,10 @@
 -- What holds with copies holds without them.
-use Rattle.std.proofs.Common.{◌≡◌, ℕ, ℤ, length, sym, subst}
-use Rattle.it_polymatroid.specs.Polymatroid.{IsPolymatroid}
+use Rattle.std.proofs.Common.{ℕ, ℤ, length, sym, subst}
 use Rattle.it_syntax.specs.Givens.{IsRelationOf}
-use Rattle.it_question.specs.Questions.{BodyView, Prove}
-use Rattle.it_question.specs.Limits.{IsQuestion, IsVerbOver}
+use Rattle.it_question.specs.Limits.{IsVerbOver}
 use Rattle.it_canon.specs.Agreement.{AgreeOnCommon}
 use Rattle.it_canon.proofs.AgreeLemmas.{holds_same}
-use Rattle.it_copy.specs.Points.{HasCopies, YesByCopies}
+use Rattle.it_copy.specs.Points.{YesByCopies}
 
 -- the map and its image agree the other way too
 turned : (common rates n m : ℕ) (p image : ℕ → ℤ) → AgreeOnCommon common rates n m p image → AgreeOnCommon common rates m n image p

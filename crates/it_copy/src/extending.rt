@@ -20,9 +20,8 @@ use it_canon::problem;
 use it_closure::size;
 use it_question::types::{OwnLines, Question, Verb};
 use it_space::{Problem, VarSet};
-use it_syntax::Names;
-use it_syntax::copies;
 use it_syntax::types::{Given, Relation};
+use it_syntax::{Names, copies};
 use std::alloc::{AllocError, Global};
 
 /// The most variables of a question.
@@ -73,7 +72,11 @@ fn set_of(names: &Names, over: &[Vec<u8>]) -> Option<VarSet>
 fn unless_member(old: u8, over: VarSet) -> Option<(u8, VarSet)>
     ensures { result ≡ unless_member old over }
 {
-    if over.has(old) { None } else { Some((old, over)) }
+    if over.has(old) {
+        None
+    } else {
+        Some((old, over))
+    }
 }
 
 /// The variable and the set of these names, if they are apart.
@@ -220,11 +223,7 @@ fn judge_limits(alloc: Global, question: &Question) -> Result<(), CopyFault>
 }
 
 /// A question about a relation with copies of variables added, each with its equations as further constraints.
-pub fn extend(
-    alloc: Global,
-    question: &Question,
-    lines: &[CopyLine],
-) -> Result<Question, CopyFault>
+pub fn extend(alloc: Global, question: &Question, lines: &[CopyLine]) -> Result<Question, CopyFault>
     requires limits { IsQuestion (question_body question.now) }
     requires names { AreNamed lines.now }
     requires few { length lines.now ≤ 4 }

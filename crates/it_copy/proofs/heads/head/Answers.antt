@@ -1,7 +1,6 @@
 use Rattle.std.proofs.Common.{List, ℕ, ◌+◌, length, map, sym, subst, ◌∙◌}
 use Rattle.std.proofs.lemmas.Bool.{eqb-true}
 use Rattle.std.proofs.lemmas.List.{nil_from_length}
-use Rattle.it_syntax.specs.declared.types.LineTokens.{LineTokens}
 use Rattle.std.proofs.lemmas.List.{length-map}
 use Rattle.it_question.specs.Lines.{plain_text}
 use Rattle.it_copy.specs.CopyLines.{copy_view}
