@@ -43,6 +43,24 @@ fn divided(z: i64, k: u64) -> i64 {
     if z < 0 { -size } else { size }
 }
 
+// 2^32 over k, rounded down, and 1 more
+fn reciprocal(k: u64) -> u64 {
+    (1 << 32) / k + 1
+}
+
+// the quotient, where it is whole and the reciprocal of k tells it, as it does for numbers below 2^32
+fn whole_quotient(size: u64, k: u64, reciprocal: u64) -> Option<u64> {
+    let quotient = size.wrapping_mul(reciprocal) >> 32;
+    (quotient.checked_mul(k) == Some(size)).then_some(quotient)
+}
+
+// as divided, without a division where the reciprocal gives the quotient
+fn divided_quickly(z: i64, k: u64, reciprocal: u64) -> i64 {
+    let size = z.unsigned_abs();
+    let quotient = whole_quotient(size, k, reciprocal).unwrap_or_else(|| size / k) as i64;
+    if z < 0 { -quotient } else { quotient }
+}
+
 fn sum_within(x: u64, a: u64, y: u64, b: u64, limit: u64) -> Option<u64> {
     let sum = x.checked_mul(a)?.checked_add(y.checked_mul(b)?)?;
     (sum <= limit).then_some(sum)
@@ -51,17 +69,22 @@ fn sum_within(x: u64, a: u64, y: u64, b: u64, limit: u64) -> Option<u64> {
 impl Row {
     fn shorten(&mut self) {
         let mut shared = self.bottom;
+        let mut inverse = reciprocal(shared);
         for z in &self.numbers {
             if shared == 1 {
                 return;
             }
-            shared = gcd(z.unsigned_abs(), shared);
+            let size = z.unsigned_abs();
+            if whole_quotient(size, shared, inverse).is_none() {
+                shared = gcd(size, shared);
+                inverse = reciprocal(shared);
+            }
         }
         if shared == 1 {
             return;
         }
         for z in &mut self.numbers {
-            *z = divided(*z, shared);
+            *z = divided_quickly(*z, shared, inverse);
         }
         self.bottom /= shared;
         self.most = greatest(&self.numbers);
@@ -95,8 +118,7 @@ impl Row {
         true
     }
 
-    fn update(&mut self, own: &Row, next: &[usize], column: &Column, pivot: i64, limit: u64) -> bool {
-        let entry = column.price(self);
+    fn update(&mut self, own: &Row, next: &[usize], entry: i64, pivot: i64, limit: u64) -> bool {
         if entry == 0 {
             return true;
         }
@@ -123,6 +145,8 @@ struct Engine {
     basis: Vec<usize>,
     // for each place the next one where the leaving row isn't 0
     next: Vec<usize>,
+    // the entries of the rows at the column that enters
+    entries: Vec<i64>,
     limit: u64,
 }
 
@@ -158,14 +182,14 @@ impl Engine {
         let most = greatest(&cost);
         rows.push(Row { numbers: cost, bottom: 1, most });
         let basis = (columns.len()..columns.len() + height).collect();
-        Engine { columns, rows, basis, next: vec![0; height + 2], limit: i64::MAX as u64 / norm }
+        Engine { columns, rows, basis, next: vec![0; height + 2], entries: vec![0; height + 1], limit: i64::MAX as u64 / norm }
     }
 
-    fn leaving(&self, column: &Column) -> Option<usize> {
+    fn leaving(&self) -> Option<usize> {
         let last = self.basis.len();
         let mut best: Option<(usize, i64)> = None;
         for i in 0..last {
-            let entry = column.price(&self.rows[i]);
+            let entry = self.entries[i];
             if entry <= 0 {
                 continue;
             }
@@ -187,10 +211,13 @@ impl Engine {
         let Some(column) = self.columns.iter().position(|c| c.price(&self.rows[last]) < 0) else {
             return Some(false);
         };
-        let r = self.leaving(&self.columns[column])?;
+        for (entry, row) in self.entries.iter_mut().zip(&self.rows) {
+            *entry = self.columns[column].price(row);
+        }
+        let r = self.leaving()?;
         let empty = Row { numbers: Vec::new(), bottom: 1, most: 0 };
         let mut own = std::mem::replace(&mut self.rows[r], empty);
-        own.bottom = self.columns[column].price(&own).unsigned_abs();
+        own.bottom = self.entries[r].unsigned_abs();
         own.shorten();
         own.most = greatest(&own.numbers);
         let pivot = own.bottom as i64;
@@ -201,7 +228,7 @@ impl Engine {
             self.next[k] = if own.numbers[k] != 0 { k } else { self.next[k + 1] };
         }
         for (i, row) in self.rows.iter_mut().enumerate() {
-            if i != r && !row.update(&own, &self.next, &self.columns[column], pivot, self.limit) {
+            if i != r && !row.update(&own, &self.next, self.entries[i], pivot, self.limit) {
                 return None;
             }
         }
