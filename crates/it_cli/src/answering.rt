@@ -174,7 +174,13 @@ fn proof_lines(
 }
 
 /// Writes the line of the file's first fault.
-pub fn tell_fault<K: Sink>(alloc: Global, line: u32, column: u32, code: Code, sink: &mut K) -> Status
+pub fn tell_fault<K: Sink>(
+    alloc: Global,
+    line: u32,
+    column: u32,
+    code: Code,
+    sink: &mut K,
+) -> Status
     ensures { EndOfLineOrMemory (K.taken sink.old) (K.taken sink.new) (K.faults sink.old) (K.faults sink.new) (fault_line line column code) Status.Refused result }
 {
     match fault_line(alloc, line, column, code) {
