@@ -1,5 +1,5 @@
 -- What mode `copy` reads and writes, and what a yes with copies says.
-use Rattle.std.proofs.Common.{◌≡◌, ℕ, ◌+◌, ◌<◌, ◌≤◌, ◌^◌, ℤ, List, [], drop, length, map, get_or, inl, inr, Option, refl, sym, ap, subst, ◌∙◌, arith}
+use Rattle.std.proofs.Common.{◌≡◌, ℕ, ◌+◌, ◌<◌, ◌≤◌, ◌^◌, ℤ, List, [], drop, length, map, get_or, inl, inr, refl, sym, ap, subst, ◌∙◌, arith}
 use Rattle.std.proofs.lemmas.List.{length-map, get_or-map}
 use Rattle.it_space.specs.Answers.{AnswerView}
 use Rattle.it_polymatroid.specs.Polymatroid.{IsPolymatroid}
@@ -13,7 +13,7 @@ use Rattle.it_question.specs.Questions.{BodyView, QuestionView, question_view, V
 use Rattle.it_question.specs.Tables.{problem_lines_by, problem_names_by}
 use Rattle.it_canon.specs.QuestionDemands.{AreTrueAt}
 use Rattle.it_copy.specs.CopyLines.{CopyView}
-use Rattle.it_copy.specs.Extensions.{IsExtension, IsProof}
+use Rattle.it_copy.specs.Extensions.{IsProof}
 use Rattle.it_copy.specs.Files.{CopyFileFaultAt, IsCopyFile}
 use Rattle.it_copy.specs.Heads.{IsFirstHeadFault, IsHead}
 use Rattle.it_copy.specs.Points.{YesByCopies}
