@@ -19,3 +19,4 @@ pub mod FeedLemmas
 pub mod AcceptLemmas
 pub mod ShortTexts
 pub mod AcceptedOutput
+pub mod SharingVerdictLemmas

@@ -8,3 +8,4 @@ pub mod InnerEnds
 pub mod Laws
 pub mod Numbers
 pub mod Accepted
+pub mod SharingVerdicts
