@@ -21,3 +21,4 @@ pub mod FeedLemmas
 pub mod AcceptLemmas
 pub mod ShortTexts
 pub mod AcceptedOutput
+pub mod SharingVerdictLemmas

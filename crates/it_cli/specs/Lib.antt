@@ -12,3 +12,4 @@ pub mod InnerEnds
 pub mod Laws
 pub mod Numbers
 pub mod Accepted
+pub mod SharingVerdicts

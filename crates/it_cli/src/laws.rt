@@ -4,6 +4,7 @@ ghost use Rattle.it_answer.specs.RightAnswers.{AYesAscends, NoStepIsZero, OneRig
 ghost use Rattle.it_cli.specs.Accepted.{OutputIsAccepted, ReportsAreAccepted};
 ghost use Rattle.it_cli.specs.Copies.{AYesWithCopiesIsTrue};
 ghost use Rattle.it_cli.specs.Laws.{BenchReadsNothing, CountsAddUp, CountsAreFront, CountsAreWritten, FaultIsDue, Headline, IsComplete, LongIsDue, ModesAreDetermined, NoLineIsOutOfSteps, OneOutput, SureEnds, UsageIsDue, VerdictsAreFront, VerdictsAreWritten};
+ghost use Rattle.it_cli.specs.SharingVerdicts.{AYesHoldsWherePerfect, ANoSharesPerfectly};
 ghost use Rattle.it_cli.specs.Shown.{AnswersShow};
 
 use it_answer::answers_are_determined;
@@ -144,3 +145,10 @@ pub fn output_is_accepted()
 {
     answers_read_back();
 }
+
+/// What an answer to the question that is made of a sharing file means, where it shows what it says: by a yes the relation holds
+/// wherever a polymatroid shares the secret perfectly, and the values of a no are such a polymatroid at which it doesn't.
+pub fn sharing_verdicts_are_true()
+    ensures yes { AYesHoldsWherePerfect }
+    ensures no { ANoSharesPerfectly }
+{}
