@@ -12,6 +12,7 @@ pub mod OutputLemmas
 pub mod FrontLemmas
 pub mod CheckLemmas
 pub mod CopyLemmas
+pub mod SharingLemmas
 pub mod JsonLemmas
 pub mod ContainedFits
 pub mod DataLemmas

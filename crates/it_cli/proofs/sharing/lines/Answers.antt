@@ -1,0 +1,5 @@
+use Rattle.it_cli.specs.SharingReplies.{Many}
+use Rattle.it_cli.proofs.sharing.lines.Goals as goal
+
+pub returns-in_ok-text-in-Err-Many : goal.returns-in_ok-text-in-Err-Many
+returns-in_ok-text-in-Err-Many c = ?
