@@ -31,7 +31,7 @@ abbrev pub LeastIsLeast : Type 0
 LeastIsLeast = (q : ProblemView) (left right : Terms) (num den : ℤ) (proof : CertificateView) (values : List ℤ) → IsProblem q → IsUpTo (size_of q.space) left → IsUpTo (size_of q.space) right
     → IsLeastFactor (ground_of q) (value left) (value right) num den proof values
     → HoldsFactor (ground_of q) (value left) (value right) num den
-        × ((a b : ℤ) → pos 1 ≤ℤ b → HoldsFactor (ground_of q) (value left) (value right) a b → (num *ℤ b) ≤ℤ (a *ℤ den))
+    × ((a b : ℤ) → pos 1 ≤ℤ b → HoldsFactor (ground_of q) (value left) (value right) a b → (num *ℤ b) ≤ℤ (a *ℤ den))
 
 -- at a point at which the left side is 0 and the right one above it no factor holds
 abbrev pub NeverIsNever : Type 0

@@ -20,9 +20,9 @@ use crate::systems::{
 };
 use crate::types::{Best, BestCause};
 use crate::unknowns::{Unknown, columns, equations};
+use it_columns::opposite_row;
 use it_elemental::generator_count;
 use it_fraction::Fraction;
-use it_columns::opposite_row;
 use it_simplex::{Budget, Solved, solve};
 use it_space::{Problem, Row, RowFault};
 use std::alloc::{AllocError, Global};

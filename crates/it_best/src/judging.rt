@@ -16,8 +16,8 @@ ghost use Rattle.it_best.specs.Numbers.{turned_numbers, weights_certificate};
 
 use crate::numbers::{certificate, turned_point, whole_point};
 use it_check::{Verdict, check_no, check_yes};
-use it_fraction::{Fraction, Wide, difference, signed_product};
 use it_columns::{opposite_row, push_some};
+use it_fraction::{Fraction, Wide, difference, signed_product};
 use it_space::{Certificate, Point, Problem, Row, RowFault, value};
 use std::alloc::{AllocError, Global};
 

@@ -14,8 +14,8 @@ ghost use Rattle.it_best.specs.Parts.{unknown_views};
 ghost use Rattle.it_columns.specs.Columns.{count_by};
 
 use crate::unknowns::Unknown;
-use it_fraction::{Fraction, Wide};
 use it_columns::{common_scale, push_some, scaled_values};
+use it_fraction::{Fraction, Wide};
 use it_space::{Certificate, Kind, Point, RowFault, Space};
 use std::alloc::{AllocError, Global};
 
@@ -43,11 +43,7 @@ fn width(kind: Kind) -> usize
 }
 
 /// The number of an unknown whose first column is given: the second column's weight counts against the first one's.
-fn number_of(
-    weights: &[(usize, Fraction)],
-    kind: Kind,
-    column: usize,
-) -> Result<Fraction, Wide>
+fn number_of(weights: &[(usize, Fraction)], kind: Kind, column: usize) -> Result<Fraction, Wide>
     requires ordered { AreWeights field_ℚ (2 ^ 63) 0 weights.now }
     requires few { column < 2 ^ 62 }
     ensures { OkIff result (NumberFits kind (column_weight weights.now) column) (number_by kind (column_weight weights.now) column) }

@@ -9,8 +9,8 @@ ghost use Rattle.it_elemental.specs.Generators.{Generator, generators, generator
 ghost use Rattle.it_best.specs.Parts.{coordinate_row, coordinate_terms, coordinate_unknown, counterweight, first_part, free_unknown, left_equation, right_equation, slack_by, slacks, third_part, unknown_view, unknown_views};
 
 use crate::unknowns::Unknown;
-use it_elemental::{generator_count, kind_at};
 use it_columns::{generator_row, opposite_row, push_some};
+use it_elemental::{generator_count, kind_at};
 use it_space::{Kind, Problem, Row};
 use std::alloc::{AllocError, Global};
 

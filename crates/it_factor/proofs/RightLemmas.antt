@@ -51,9 +51,9 @@ module _ (q : BodyView) (p : ProblemView) (posed : IsProblemOf q p) where
   point_by_text values i = record {
     complete = in_question_space (λ s. length values ≡ size_of s) i.complete;
     holds = (
-        in_question_space (λ s. IsPolymatroid s.variables (map_of values)) i.holds.0,
-        in_question_space (λ s. AreTrueAt s.variables (map_of values) (problem_lines q)) ((question_met q p.space p.constraints posed.space posed.constraints (map_of values) refl).0 i.holds.1),
-      );
+      in_question_space (λ s. IsPolymatroid s.variables (map_of values)) i.holds.0,
+      in_question_space (λ s. AreTrueAt s.variables (map_of values) (problem_lines q)) ((question_met q p.space p.constraints posed.space posed.constraints (map_of values) refl).0 i.holds.1),
+    );
   }
 
   module _ (left right : Form) (l r : Terms) (left_is : IsRowOf p.space left l) (right_is : IsRowOf p.space right r) where

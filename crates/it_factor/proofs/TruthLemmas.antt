@@ -19,8 +19,7 @@ certified_holds q left right num den w f p together = form_at_least_zero q p tog
 pub least_is_true : LeastIsTrue
 least_is_true q r num den proof values s =
     let left = left_form (variables_of q) r in
-    let right = right_form (variables_of q) r in
-    (
+    let right = right_form (variables_of q) r in (
       certified_holds q left right num den proof s.factor,
       λ a b one holds. no_smaller num den a b (left (map_of values)) (right (map_of values)) s.some s.factor.from_one s.equal (holds (map_of values) s.point.holds),
     )
