@@ -15,7 +15,7 @@ const ROOM: usize = 32_768;
 const WHOLE: usize = 2_000_000;
 
 const USAGE: &[u8] =
-    b"usage: itip answer|check|bench|copy [--format text|json|proof] [--pivots N] [--rows N] [--tries N] [--seed N] [--count N]\n";
+    b"usage: itip answer|check|bench|copy|best|sharing [--format text|json|proof] [--pivots N] [--rows N] [--tries N] [--seed N] [--count N]\n";
 
 const MUTUAL: &[u8] = b"vars X, Y\nprove I(X;Y) >= 0\n";
 
