@@ -1,10 +1,13 @@
 -- What answers to the question that is made of a sharing file say of perfect secret sharing.
-use Rattle.std.specs.Prelude.{ℕ, Bool, ℤ, List, length}
+use Rattle.std.specs.Prelude.{ℕ, Bool, ℤ, pos, ◌≤ℤ◌, List, length, ◌↔◌}
 use Rattle.it_space.specs.Answers.{CertificateView}
 use Rattle.it_space.specs.Answers.AnswerView.{Yes, No}
 use Rattle.it_space.specs.Rows.{map_of}
 use Rattle.it_syntax.specs.Meaning.{Holds}
 use Rattle.it_answer.specs.Shows.{Shows}
+use Rattle.it_canon.specs.Sides.{left_form, right_form}
+use Rattle.it_best.specs.Factors.{factor_form}
+use Rattle.it_factor.specs.RightReplies.{HoldsFor}
 use Rattle.it_sharing.specs.Sharings.{SharingView, IsSharing, made_question}
 use Rattle.it_sharing.specs.PerfectSharing.{SharesPerfectly}
 
@@ -17,3 +20,8 @@ AYesHoldsWherePerfect = (x : SharingView) (ws : List CertificateView) → IsShar
 abbrev pub ANoSharesPerfectly : Type 0
 ANoSharesPerfectly = (x : SharingView) (is_back : Bool) (values : List ℤ) → IsSharing x → Shows (made_question x).body (No is_back values)
     → SharesPerfectly x (map_of values) × (Holds (length x.names.variables) (map_of values) x.relation → ⊥)
+
+-- a factor holds for the made question exactly where it holds at all such polymatroids
+abbrev pub FactorsHoldWherePerfect : Type 0
+FactorsHoldWherePerfect = (x : SharingView) (num den : ℤ) → IsSharing x → HoldsFor (made_question x).body x.relation num den
+    ↔ ((h : ℕ → ℤ) → SharesPerfectly x h → pos 0 ≤ℤ factor_form (left_form (length x.names.variables) x.relation) (right_form (length x.names.variables) x.relation) num den h)

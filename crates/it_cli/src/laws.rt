@@ -1,10 +1,11 @@
 //! Theorems on how a call ends and on what it writes, each as the contract of a function.
 ghost use Rattle.it_answer.specs.Shows.{AContainmentIsTrue, ANoIsTrue, ARegionIsTrue, AYesIsTrue, NeededRowsAreNeeded, NeverYesAndNo};
 ghost use Rattle.it_answer.specs.RightAnswers.{AYesAscends, NoStepIsZero, OneRightAnswer};
+ghost use Rattle.it_factor.specs.RightReplies.{LeastIsTrue, NeverIsTrue, UnboundedIsTrue};
 ghost use Rattle.it_cli.specs.Accepted.{OutputIsAccepted, ReportsAreAccepted};
 ghost use Rattle.it_cli.specs.Copies.{AYesWithCopiesIsTrue};
 ghost use Rattle.it_cli.specs.Laws.{BenchReadsNothing, CountsAddUp, CountsAreFront, CountsAreWritten, FaultIsDue, Headline, IsComplete, LongIsDue, ModesAreDetermined, NoLineIsOutOfSteps, OneOutput, SureEnds, UsageIsDue, VerdictsAreFront, VerdictsAreWritten};
-ghost use Rattle.it_cli.specs.SharingVerdicts.{AYesHoldsWherePerfect, ANoSharesPerfectly};
+ghost use Rattle.it_cli.specs.SharingVerdicts.{AYesHoldsWherePerfect, ANoSharesPerfectly, FactorsHoldWherePerfect};
 ghost use Rattle.it_cli.specs.Shown.{AnswersShow};
 
 use it_answer::answers_are_determined;
@@ -99,6 +100,16 @@ pub fn copies_are_true()
     yes_by_copies();
 }
 
+/// What a reply in mode `best` means that shows what it says. A least factor holds wherever the question's lines are true, and no
+/// smaller one does; where none is told, none holds; where no least one is told, the one that is told and all smaller ones hold.
+pub fn factors_are_true()
+    ensures least { LeastIsTrue }
+    ensures never { NeverIsTrue }
+    ensures unbounded { UnboundedIsTrue }
+{
+    it_factor::factors_are_true();
+}
+
 /// For given budgets and boxes a question has one right answer, whose certificates list their generators in ascending order, and so
 /// an input has one output.
 pub fn output_is_determined()
@@ -147,8 +158,10 @@ pub fn output_is_accepted()
 }
 
 /// What an answer to the question that is made of a sharing file means, where it shows what it says: by a yes the relation holds
-/// wherever a polymatroid shares the secret perfectly, and the values of a no are such a polymatroid at which it doesn't.
+/// wherever a polymatroid shares the secret perfectly, and the values of a no are such a polymatroid at which it doesn't. A factor
+/// holds for that question exactly where it holds at all such polymatroids.
 pub fn sharing_verdicts_are_true()
     ensures yes { AYesHoldsWherePerfect }
     ensures no { ANoSharesPerfectly }
+    ensures factors { FactorsHoldWherePerfect }
 {}
