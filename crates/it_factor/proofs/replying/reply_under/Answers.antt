@@ -12,7 +12,7 @@ use Rattle.it_factor.proofs.RightLemmas.{other_is_right, right_reply}
 use Rattle.it_factor.proofs.replying.reply_under.Goals as goal
 
 pub returns-in-Prove-clause-right : goal.returns-in-Prove-clause-right
-returns-in-Prove-clause-right g c =
+returns-in-Prove-clause-right c =
     let q = question_body c.args.question.now in
     let p = problem_view c.args.problem.now in
     let r = relation_view c.in-Prove.relation in
@@ -20,7 +20,7 @@ returns-in-Prove-clause-right g c =
     (λ x by_rows. right_reply q p c.requires.problem c.args.budget r (reply_view x) (ap verb_view c.in-Prove.is) by_rows)
 
 pub returns-in-Prove-clause-printable : goal.returns-in-Prove-clause-printable
-returns-in-Prove-clause-printable g c =
+returns-in-Prove-clause-printable c =
     let q = question_body c.args.question.now in
     let p = problem_view c.args.problem.now in
     let r = relation_view c.in-Prove.relation in
@@ -30,7 +30,7 @@ returns-in-Prove-clause-printable g c =
     (right_reply q p c.requires.problem c.args.budget r (reply_view x) (ap verb_view c.in-Prove.is) by_rows))
 
 pub returns-in-Eliminate-clause-right : goal.returns-in-Eliminate-clause-right
-returns-in-Eliminate-clause-right g c = other_is_right c.args.budget (question_body c.args.question.now) _ (ap verb_view c.in-Eliminate.is) refl
+returns-in-Eliminate-clause-right c = other_is_right c.args.budget (question_body c.args.question.now) _ (ap verb_view c.in-Eliminate.is) refl
 
 pub returns-in-Contain-clause-right : goal.returns-in-Contain-clause-right
-returns-in-Contain-clause-right g c = other_is_right c.args.budget (question_body c.args.question.now) _ (ap verb_view c.in-Contain.is) refl
+returns-in-Contain-clause-right c = other_is_right c.args.budget (question_body c.args.question.now) _ (ap verb_view c.in-Contain.is) refl
