@@ -8,6 +8,7 @@ dozens of lists.
 """
 
 import re
+from itertools import combinations
 from random import Random
 
 from answers import outcome
@@ -327,7 +328,9 @@ class Case:
         return self.random.choices(parties, k=2) if self.chance(0.05) else self.random.sample(parties, min(len(parties), self.pick(sizes)))
 
     def dozens(self, parties):
-        """Lists of about one size, or so many that there is hardly room for one more."""
+        """Lists of one size, sometimes so many that there is hardly room for one more."""
         size = self.pick([2, 3, 3, 4, 4, 5])
         count = self.near(LINES) if self.chance(0.2) else self.random.randint(12, 60)
-        return [self.listed(parties, [size] * 9 + [size + 1]) for _ in range(count)]
+        lists = [list(of) for of in combinations(parties, size)]
+        lists = self.random.sample(lists, min(count, len(lists)))
+        return lists + [self.listed(parties, [size, size + 1]) for _ in range(count - len(lists) if self.chance(0.5) else 1)]
