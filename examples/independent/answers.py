@@ -1,4 +1,5 @@
-"""What the program has to write for the words of a call and an input: answers in each format, best factors, verdicts on a report, refusals."""
+"""What the program has to write for the words of a call and an input: answers in each format, best factors, bounds of secret
+sharing, verdicts on a report, refusals."""
 
 import re
 import shlex
@@ -7,6 +8,7 @@ import best
 import contain
 import defined
 import eliminate
+import sharing
 from contain import Containment
 from copies import Misfit, extended, read_with_head
 from generate import generated_file
@@ -45,10 +47,19 @@ class Answers:
         end, found, self.steps = defined.prove(question, self.pivots)
         return end, found
 
+    def asks_factor(self, question):
+        return self.mode == "best" or isinstance(question, sharing.Made) and question.least
+
     def lines(self, number, question):
         if isinstance(question, Misfit):
             return [f"{number} misfit {question}"]
-        if self.mode == "best":
+        if isinstance(question, sharing.TooMany):
+            return ["misfit many"]
+        heading = [f"sharing {question.minimal} {question.maximal}"] if isinstance(question, sharing.Made) else []
+        return heading + self.lines_of_answer(number, question)
+
+    def lines_of_answer(self, number, question):
+        if self.asks_factor(question):
             return [best.line(number, question, self.pivots)]
         end, found = self.answer(question)
         if self.format == "json":
@@ -68,7 +79,9 @@ class Answers:
 
 def asked(words, text):
     """The questions of a file that are answered in the mode of these words; in mode `copy` with the copies of the file's head, or the
-    reason against them. `Fault` where the file has no reading."""
+    reason against them; in mode `sharing` the one that is made of the file. `Fault` where the file has no reading."""
+    if "sharing" in words:
+        return [sharing.made(text)]
     if "copy" not in words:
         return read(text)
 

@@ -3,10 +3,12 @@
 `valid` files are right, `broken` ones have a few tokens, lines or bytes changed; `limits` are at a limit or just past it; `wide` ones
 have numbers near 2**64 and denominators near 2**32; `large` ones have nine or ten variables; `reports` are right and damaged lines.
 `copies` are files with a head, right ones, broken ones, and ones whose questions can't have the copies. `factors` are right files whose
-questions ask for factors, most of them `prove E >= F`, in mode `best`.
+questions ask for factors, most of them `prove E >= F`, in mode `best`. `sharing` are sharing files, right ones, broken ones, and ones with
+dozens of lists.
 """
 
 import re
+from itertools import combinations
 from random import Random
 
 from answers import outcome
@@ -15,7 +17,7 @@ from generate import Damage, Generator
 from questions import ENTRIES, LINES, read
 
 # of each sixty cases
-SHARES = {"valid": 17, "broken": 18, "limits": 5, "wide": 4, "large": 1, "reports": 5, "copies": 5, "factors": 5}
+SHARES = {"valid": 14, "broken": 16, "limits": 5, "wide": 4, "large": 1, "reports": 5, "copies": 5, "factors": 5, "sharing": 5}
 KINDS = [kind for kind, share in SHARES.items() for _ in range(share)]
 
 BUDGETS = ["--pivots", "60", "--rows", "40", "--tries", "8"]
@@ -29,11 +31,12 @@ WORDS = {
     "large": [["answer", *FEW], ["answer", "--format", "json", *FEW], ["answer", "--format", "proof", *FEW]],
     "reports": [["check"]],
     "factors": [["best"], ["best", "--pivots", "none"], ["best", "--pivots", "4"]],
+    "sharing": [["sharing"], ["sharing", "--pivots", "60"], ["sharing", "--pivots", "none"], ["--pivots=4", "sharing"]],
     "copies": [["copy", "--pivots", "60"], ["copy", "--pivots", "60"], ["copy", "--pivots=300"], ["--pivots", "2", "copy"]],
 }
 TOKENS = re.compile(r"[A-Za-z0-9_]+|->|>=|<=|:=|\s|.", re.DOTALL)
 PIECES = """H I ( ) , ; | + - -> >= <= = := / 0 1 2 00 1/2 /0 /3 1/0 0/5 18446744073709551615 18446744073709551616 4294967296 4294967297
-X Y Z W R0 R1 U V foo H_ of markov indep func vars rates given row region aux try prove eliminate contain copy over $ : < > é # _
+X Y Z W R0 R1 U V foo H_ of markov indep func vars rates given row region aux try prove eliminate contain copy over secret parties qualified best $ : < > é # _
 aaaaaaaaaaaaaaaa aaaaaaaaaaaaaaaaa""".split() + ["\n", "\r", "\t", " ", "", "\r\n"]
 NAMES = ["A", "B", "C", "D", "E", "F", "G", "J", "K", "L", "M", "N"]
 
@@ -297,3 +300,37 @@ class Case:
         self.generator.names = names
         lines = ["vars " + ", ".join(names), *self.functions(names), *["given H(X) >= 0"] * self.pick([0, 0, 0, 40, 52, 56])]
         return "\n".join([*lines, f"prove {self.generator.relation([])}"]) + "\n"
+
+    # Sharing files
+
+    def sharing(self):
+        """A third of the files have dozens of lists. Half of the files are changed."""
+        many = self.chance(1 / 3)
+        count = self.pick([5, 6, 7, 7, 8, 8, 8]) if many else self.pick([1, 2, 2, 3, 3, 4, 4])
+        if many:
+            self.words = ["sharing", "--pivots", "20"]
+        names = self.random.sample(["s", "secret", "parties", "qualified", "best", "prove", "S_1", *NAMES], count + 1)
+        if self.chance(0.05):
+            names += ["T", "T", "H", names[0]][: self.pick([1, 2, 3, 4])]
+        secret, *parties = names
+        lists = self.dozens(parties) if many else [self.listed(parties, [1, 2, 2, 3]) for _ in range(self.pick([1, 2, 3, 3, 4, 5, 6]))]
+        self.generator.names = names[:4] if many else names
+        verb, signs = self.pick([("prove", (">=", "<=", "=")), ("prove", (">=", "<=", "=")), ("best", (">=",)), ("best", (">=",) * 9 + ("=",))])
+        relation = self.pick([self.generator.relation([], signs), f"{self.generator.side([])} >= H({secret})"])
+        lines = [f"secret {secret}", "parties " + ", ".join(parties), *[f"qualified {', '.join(of)}" for of in lists], f"{verb} {relation}"]
+        text = self.loose("\n".join(lines) + "\n")
+        if self.chance(0.5):
+            return text
+        pieces = TOKENS.findall(text)
+        return "".join(self.changed(pieces) or ["\n"])
+
+    def listed(self, parties, sizes):
+        return self.random.choices(parties, k=2) if self.chance(0.05) else self.random.sample(parties, min(len(parties), self.pick(sizes)))
+
+    def dozens(self, parties):
+        """Lists of one size, sometimes so many that there is hardly room for one more."""
+        size = self.pick([2, 3, 3, 4, 4, 5])
+        count = self.near(LINES) if self.chance(0.2) else self.random.randint(12, 60)
+        lists = [list(of) for of in combinations(parties, size)]
+        lists = self.random.sample(lists, min(count, len(lists)))
+        return lists + [self.listed(parties, [size, size + 1]) for _ in range(count - len(lists) if self.chance(0.5) else 1)]

@@ -271,11 +271,11 @@ class Line:
                 return terms
             sign = self.next()
 
-    def relation(self, rates):
+    def relation(self, rates, signs=SIGNS):
         """The row that is at least 0, or 0, and whether it is an equation. All is multiplied by the least common multiple of the
         denominators as they are written, those of both sides."""
         left = self.side(rates)
-        self.rule(self.peek() in SIGNS, "word")
+        self.rule(self.peek() in signs, "word")
         sign = self.next()
         right = self.side(rates)
         self.end()
