@@ -1,5 +1,6 @@
 -- Each mode is determined, and so an input has one output.
-use Rattle.std.proofs.Common.{◌≡◌, ℕ, ◌+◌, List, [], ◌∷◌, ◌++◌, map, Option, refl, sym, ap, ap₂, subst, ◌∙◌, arith, false≢true}
+use Rattle.std.proofs.Common.{◌≡◌, ℕ, ◌+◌, List, [], ◌∷◌, ◌++◌, map, Option, refl, sym, ap, ap₂, subst, ◌∙◌, arith}
+use Rattle.std.proofs.lemmas.Bool.{false≢true}
 use Rattle.it_outside.specs.Groups.{Groups}
 use Rattle.it_space.specs.Answers.{AnswerView}
 use Rattle.it_question.specs.Questions.{BodyView, QuestionView}

@@ -93,12 +93,12 @@ fn made_lines(
 {
     if sharing.best {
         let line = factor_line(alloc, pivots, 1, &made.question)?;
-        let text = with_heading(alloc, made.minimal, made.maximal, line.as_slice())?;
+        let text = with_heading(alloc, made.minimal, made.maximal, line)?;
         Ok(text)
     } else {
         let lines = proof_lines(alloc, pivots, 1, &made.question)?;
-        let text = with_heading(alloc, made.minimal, made.maximal, lines.as_slice())?;
-        Ok(text)
+        let whole = with_heading(alloc, made.minimal, made.maximal, lines)?;
+        Ok(whole)
     }
 }
 
@@ -108,9 +108,9 @@ fn with_heading(
     alloc: Global,
     minimal: u32,
     maximal: u32,
-    lines: &[u8],
+    lines: Vec<u8>,
 ) -> Result<Vec<u8>, AllocError>
-    ensures { IfOk result (λ text. text.items ≡ sharing_heading minimal maximal ++ lines.now) }
+    ensures { IfOk result (λ text. text.items ≡ sharing_heading minimal maximal ++ lines.items) }
 {
     let mut text = Vec::new(alloc);
     text.extend_from_slice(b"sharing ")?;
@@ -118,6 +118,6 @@ fn with_heading(
     text.extend_from_slice(b" ")?;
     write_number(&mut text, maximal as usize)?;
     text.extend_from_slice(b"\n")?;
-    text.extend_from_slice(lines)?;
+    text.extend_from_slice(lines.as_slice())?;
     Ok(text)
 }

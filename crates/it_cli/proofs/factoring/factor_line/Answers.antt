@@ -1,6 +1,7 @@
 use Rattle.std.proofs.Common.{ap, ◌∙◌}
 use Rattle.it_question.specs.Questions.{question_body, question_view}
 use Rattle.it_canon.specs.QuestionDemands.{question_demands}
+use Rattle.it_print.specs.Lines.{origins_of}
 use Rattle.it_factor.specs.Lines.{reply_line}
 use Rattle.it_factor.specs.Replies.{reply_view}
 use Rattle.it_cli.proofs.LineLemmas.{origins_same}
@@ -10,6 +11,6 @@ pub returns : goal.returns
 returns c = let q = question_body c.args.question.now in record {
   reply = reply_view c.in_ok-replied.replied.reply;
   right = c.in_ok-replied.ensures.right;
-  is = c.in_ok-text.ensures ∙ ap (λ xs. reply_line c.args.k q xs (reply_view c.in_ok-replied.replied.reply))
+  is = c.in_ok-text.ensures ∙ ap (λ cs. reply_line c.args.k q (origins_of cs) (reply_view c.in_ok-replied.replied.reply)) c.as_slice.ensures.value ∙ ap (λ xs. reply_line c.args.k q xs (reply_view c.in_ok-replied.replied.reply))
       (origins_same c.in_ok-replied.replied.problem.space (question_demands q) c.in_ok-replied.replied.problem.constraints.items c.in_ok-replied.ensures.problem);
 }
