@@ -1,5 +1,6 @@
--- The equations of a copy: it has with each part of the set the entropy of its original with that part, and is independent, given
--- the set, of all variables before it that aren't in the set.
+-- The equations of a copy (Zhang and Yeung, "On characterization of entropy function via information inequalities", 1998): it has
+-- with each part of the set the entropy of its original with that part, and is independent, given the set, of all variables
+-- before it that aren't in the set.
 use Rattle.std.specs.Prelude.{ℕ, ◌+◌, ◌-◌, ◌^◌, ◌==◌, Bool, false, List, [], ◌∷◌, ◌++◌, map, filter, bit_and, bit_or}
 use Rattle.it_polymatroid.specs.Elementals.{span}
 use Rattle.it_syntax.specs.declared.types.Sign.TheVariants.{Equal}

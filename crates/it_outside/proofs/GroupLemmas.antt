@@ -1,9 +1,9 @@
 -- Groups of lines that are written one after the other: the invariant of the loop that writes them, and its steps.
-use Rattle.std.proofs.Common.{◌≡◌, ℕ, zero, suc, ◌+◌, ◌<◌, ◌≤◌, inl, inr, List, [], ◌∷◌, ◌++◌, length, take, drop, get_or, Option, refl, sym, ap, subst, ◌∙◌, arith, append_assoc, append-nil}
+use Rattle.std.proofs.Common.{◌≡◌, ℕ, suc, ◌+◌, ◌<◌, ◌≤◌, List, [], ◌∷◌, ◌++◌, length, take, get_or, Option, refl, sym, ap, subst, ◌∙◌, arith, append_assoc, append-nil}
 use Rattle.std.proofs.lemmas.Grind.{take_at_read}
 use Rattle.std.proofs.lemmas.List.{take_all, length-take-le}
-use Rattle.it_outside.specs.Groups.{Groups, IsBegun, GroupsInPart}
-use Rattle.it_outside.specs.Traffic.{Gains, TookFront, IsFront}
+use Rattle.it_outside.specs.Groups.{Groups}
+use Rattle.it_outside.specs.Traffic.{Gains}
 use Rattle.it_outside.proofs.Moved.{Gains-trans, Gains-nil}
 
 module _ {Q A S : Type 0} (right : S → Q → A → Type 0) (after : S → Q → A → S) (text : ℕ → Q → A → List ℕ) where
@@ -54,52 +54,3 @@ module _ {Q A S : Type 0} (right : S → Q → A → Type 0) (after : S → Q �
   pub under_way_done : (a b : Option (List ℕ)) (s : S) (qs : List Q) (i : ℕ) (t : S) → (u : UnderWay a b s qs i t) → length qs ≤ i
       → Groups right after text 1 s qs t u.out
   under_way_done a b s qs i t u all = subst (λ ys. Groups right after text 1 s ys t u.out) (take_all i qs all) u.groups
-
-  IsBegun-nil : (k : ℕ) (t : S) (qs : List Q) → IsBegun right text k t qs []
-  IsBegun-nil k t [] = refl
-  IsBegun-nil k t (q ∷ qs) = inl refl
-
-  -- the next group isn't begun
-  pub under_way_waits : (a b : Option (List ℕ)) (s : S) (qs : List Q) (i : ℕ) (t : S) → (u : UnderWay a b s qs i t) → GroupsInPart right after text 1 s qs u.out
-  under_way_waits a b s qs i t u = record {
-    count = i;
-    state = t;
-    whole = u.out;
-    part = [];
-    few = u.few;
-    first = u.groups;
-    next = IsBegun-nil (1 + i) t (drop i qs);
-    is = sym (append-nil u.out);
-  }
-
-  IsBegun-front : (k : ℕ) (t : S) (qs : List Q) (i : ℕ) (q : Q) (answer : A) (part : List ℕ) → i < length qs → get_or qs i q ≡ q → right t q answer
-      → IsFront part (text k q answer) → IsBegun right text k t (drop i qs) part
-  IsBegun-front k t [] i q answer part within read is_right front = absurd (omega arith)
-  IsBegun-front k t (x ∷ xs) zero q answer part within read is_right front =
-      inr (answer, subst (λ y. right t y answer) (sym read) is_right, subst (λ y. IsFront part (text k y answer)) (sym read) front)
-  IsBegun-front k t (x ∷ xs) (suc i) q answer part within read is_right front = IsBegun-front k t xs i q answer part (omega arith) read is_right front
-
-  -- what stands in the sink after a write that failed
-  pub record Stopped (old new : Option (List ℕ)) (s : S) (qs : List Q) : Type 0 where
-    pub out : List ℕ
-    pub groups : GroupsInPart right after text 1 s qs out
-    pub wrote : Gains old new out
-
-  -- the write of the next group failed
-  pub under_way_stops : (a b c : Option (List ℕ)) (s : S) (qs : List Q) (i : ℕ) (t : S) (q : Q) (answer : A) (bytes : List ℕ) → UnderWay a b s qs i t
-      → i < length qs → get_or qs i q ≡ q → right t q answer → bytes ≡ text (i + 1) q answer → TookFront b c bytes → Stopped a c s qs
-  under_way_stops a b c s qs i t q answer bytes u within read is_right is wrote = record {
-    out = u.out ++ wrote.part;
-    wrote = Gains-trans a b c u.out wrote.part u.wrote wrote.taken;
-    groups = record {
-      count = i;
-      state = t;
-      whole = u.out;
-      part = wrote.part;
-      few = u.few;
-      first = u.groups;
-      is = refl;
-      next = IsBegun-front (1 + i) t qs i q answer wrote.part within read is_right
-          (subst (IsFront wrote.part) (is ∙ ap (λ n. text n q answer) (let e : i + 1 ≡ 1 + i = omega arith in e)) wrote.front);
-    };
-  }

@@ -90,10 +90,8 @@ fn front(body: &[u8]) -> Result<(TokenKind, usize), Code>
     }
 }
 
-/// How many tokens a line is given room for at once; more of them take more room as they come.
-fn expected_tokens(line: &[u8]) -> usize {
-    (line.len() / 3).min(64)
-}
+/// How many tokens a line has room for at first, unless it has fewer bytes.
+const FIRST_TOKENS: usize = 32;
 
 /// The tokens of a line that has neither a comment nor tabs, up to its first misspelling: a byte that begins no token, a
 /// word of more than 16 bytes, or a number of more than 2^64 - 1. Spaces stand between tokens.
@@ -102,7 +100,7 @@ pub fn line_tokens(alloc: Global, line: &[u8]) -> Result<LineTokens, AllocError>
     ensures read { IfOk result (λ ts. SpellsUntil 0 line.now ts.tokens.items ts.misspelling) }
     ensures inside { IfOk result (λ ts. InLine line.now ts.tokens.items) }
 {
-    let mut tokens = Vec::with_capacity(alloc, expected_tokens(line))?;
+    let mut tokens = Vec::with_capacity(alloc, line.len().min(FIRST_TOKENS))?;
     let mut at: u32 = 0;
     let mut rest = line;
     loop {
