@@ -1,13 +1,22 @@
 // The run of the simplex method on whole numbers in plain Rust, as it_engine makes it, for bench/run simplex.
 // usage: simplex BUDGET TURNS < SYSTEM, where the first line of SYSTEM is the number of rows, the second the target, and each other
 // a column, as pairs of a coordinate from 1 on and a coefficient. It prints the number of columns, of rows and of steps, how the
-// run ends, and the greatest number of a row that it met.
+// run ends, the greatest number of a row that it met, and in which width the run was made.
 use std::io::Read;
+use std::rc::Rc;
+
+// the numbers of a row, in 32 or in 64 bits
+enum Numbers {
+    Narrow(Vec<i32>),
+    Wide(Vec<i64>),
+}
 
 struct Row {
-    numbers: Vec<i64>,
+    numbers: Numbers,
     bottom: u64,
     most: u64,
+    // whether few numbers are other than 0
+    sparse: bool,
 }
 
 struct Column {
@@ -29,9 +38,16 @@ fn greatest(numbers: &[i64]) -> u64 {
     numbers.iter().map(|z| z.unsigned_abs()).max().unwrap_or(0)
 }
 
+fn greatest_narrow(numbers: &[i32]) -> u64 {
+    numbers.iter().map(|z| z.unsigned_abs()).max().unwrap_or(0).into()
+}
+
 impl Column {
     fn price(&self, row: &Row) -> i64 {
-        self.terms.iter().map(|&(k, x)| x * row.numbers[k]).sum()
+        match &row.numbers {
+            Numbers::Narrow(numbers) => self.terms.iter().map(|&(k, x)| x * i64::from(numbers[k])).sum(),
+            Numbers::Wide(numbers) => self.terms.iter().map(|&(k, x)| x * numbers[k]).sum(),
+        }
     }
 }
 
@@ -66,59 +82,163 @@ fn sum_within(x: u64, a: u64, y: u64, b: u64, limit: u64) -> Option<u64> {
     (sum <= limit).then_some(sum)
 }
 
-impl Row {
-    fn shorten(&mut self) {
-        let mut shared = self.bottom;
-        let mut inverse = reciprocal(shared);
-        for z in &self.numbers {
-            if shared == 1 {
-                return;
-            }
-            let size = z.unsigned_abs();
-            if whole_quotient(size, shared, inverse).is_none() {
-                shared = gcd(size, shared);
-                inverse = reciprocal(shared);
-            }
-        }
+// the greatest common divisor of sizes and a denominator, with its reciprocal
+fn shared_divisor(sizes: impl Iterator<Item = u64>, bottom: u64) -> (u64, u64) {
+    let mut shared = bottom;
+    let mut inverse = reciprocal(shared);
+    for size in sizes {
         if shared == 1 {
-            return;
+            break;
         }
-        for z in &mut self.numbers {
+        if whole_quotient(size, shared, inverse).is_none() {
+            shared = gcd(size, shared);
+            inverse = reciprocal(shared);
+        }
+    }
+    (shared, inverse)
+}
+
+fn shorten_wide(numbers: &mut [i64], bottom: u64) -> u64 {
+    let (shared, inverse) = shared_divisor(numbers.iter().map(|z| z.unsigned_abs()), bottom);
+    if shared != 1 {
+        for z in numbers {
             *z = divided_quickly(*z, shared, inverse);
         }
-        self.bottom /= shared;
-        self.most = greatest(&self.numbers);
     }
+    bottom / shared
+}
 
-    fn combine(&mut self, own: &Row, next: &[usize], a: i64, b: i64, limit: u64) -> bool {
-        let (x, y) = (a.unsigned_abs(), b.unsigned_abs());
-        let bound = sum_within(self.most, x, own.most, y, limit)
-            .or_else(|| sum_within(greatest(&self.numbers), x, own.most, y, limit));
-        let Some(most) = bound else {
-            for (z, &w) in self.numbers.iter_mut().zip(&own.numbers) {
-                let number = i128::from(*z) * i128::from(a) - i128::from(w) * i128::from(b);
-                if number.unsigned_abs() > u128::from(limit) {
-                    return false;
-                }
-                *z = number as i64;
-            }
-            self.most = limit;
-            return true;
-        };
-        if a == 1 {
-            let mut k = next[0];
-            while k < own.numbers.len() {
-                self.numbers[k] -= own.numbers[k] * b;
-                k = next[k + 1];
-            }
-        } else {
-            self.numbers.iter_mut().zip(&own.numbers).for_each(|(z, w)| *z = *z * a - w * b);
+fn shorten_narrow(numbers: &mut [i32], bottom: u64) -> u64 {
+    let (shared, inverse) = shared_divisor(numbers.iter().map(|z| z.unsigned_abs().into()), bottom);
+    if shared != 1 {
+        for z in numbers {
+            *z = divided_quickly(i64::from(*z), shared, inverse) as i32;
         }
-        self.most = most;
-        true
+    }
+    bottom / shared
+}
+
+// for each place the next one where the row isn't 0, and whether these are few
+fn note_places<T: Copy + PartialEq + From<bool>>(numbers: &[T], next: &mut [usize]) {
+    let mut k = numbers.len();
+    next[k] = k;
+    while k > 0 {
+        k -= 1;
+        next[k] = if numbers[k] != T::from(false) { k } else { next[k + 1] };
+    }
+}
+
+fn combine_wide(row: &mut [i64], by: &[i64], next: &[usize], a: i64, b: i64, most: u64, most_by: u64, limit: u64) -> Option<u64> {
+    let (x, y) = (a.unsigned_abs(), b.unsigned_abs());
+    let bound = sum_within(most, x, most_by, y, limit).or_else(|| sum_within(greatest(row), x, most_by, y, limit));
+    let Some(most) = bound else {
+        for (z, &w) in row.iter_mut().zip(by) {
+            let number = i128::from(*z) * i128::from(a) - i128::from(w) * i128::from(b);
+            if number.unsigned_abs() > u128::from(limit) {
+                return None;
+            }
+            *z = number as i64;
+        }
+        return Some(limit);
+    };
+    if a == 1 {
+        let mut k = next[0];
+        while k < by.len() {
+            row[k] -= by[k] * b;
+            k = next[k + 1];
+        }
+    } else {
+        row.iter_mut().zip(by).for_each(|(z, w)| *z = *z * a - w * b);
+    }
+    Some(most)
+}
+
+// None where the bounds don't show that all numbers stay within the limit
+fn combine_narrow(row: &mut [i32], by: &[i32], next: &[usize], sparse: bool, a: i64, b: i64, most: u64, most_by: u64, limit: u64) -> Option<u64> {
+    let (a, b) = (i32::try_from(a).ok()?, i32::try_from(b).ok()?);
+    let (x, y) = (u64::from(a.unsigned_abs()), u64::from(b.unsigned_abs()));
+    let most = sum_within(most, x, most_by, y, limit)
+        .or_else(|| sum_within(greatest_narrow(row), x, most_by, y, limit))?;
+    if a != 1 {
+        row.iter_mut().zip(by).for_each(|(z, w)| *z = *z * a - w * b);
+    } else if sparse {
+        let mut k = next[0];
+        while k < by.len() {
+            row[k] -= by[k] * b;
+            k = next[k + 1];
+        }
+    } else {
+        row.iter_mut().zip(by).for_each(|(z, w)| *z -= w * b);
+    }
+    Some(most)
+}
+
+// the same in 64 bits, in room, and a common divisor with the denominator is divided away; the denominator that is left
+fn combine_in_room(row: &mut [i32], by: &[i32], room: &mut [i64], a: i64, b: i64, most_by: u64, bottom: u64, limit: u64) -> Option<u64> {
+    sum_within(greatest_narrow(row), a.unsigned_abs(), most_by, b.unsigned_abs(), i64::MAX as u64)?;
+    for ((space, &z), &w) in room.iter_mut().zip(&*row).zip(by) {
+        *space = i64::from(z) * a - i64::from(w) * b;
+    }
+    let bottom = shorten_wide(room, bottom);
+    for (z, &number) in row.iter_mut().zip(&*room) {
+        if number.unsigned_abs() > limit {
+            return None;
+        }
+        *z = number as i32;
+    }
+    Some(bottom)
+}
+
+impl Row {
+    fn wide(numbers: Vec<i64>) -> Row {
+        let most = greatest(&numbers);
+        Row { numbers: Numbers::Wide(numbers), bottom: 1, most, sparse: false }
     }
 
-    fn update(&mut self, own: &Row, next: &[usize], entry: i64, pivot: i64, limit: u64) -> bool {
+    fn narrowed(&self, limit: u64) -> Option<Row> {
+        let Numbers::Wide(numbers) = &self.numbers else { return None };
+        let numbers: Option<Vec<i32>> =
+            numbers.iter().map(|&z| (z.unsigned_abs() <= limit).then_some(z as i32)).collect();
+        Some(Row { numbers: Numbers::Narrow(numbers?), bottom: self.bottom, most: self.most, sparse: false })
+    }
+
+    fn number(&self, k: usize) -> i64 {
+        match &self.numbers {
+            Numbers::Narrow(numbers) => numbers[k].into(),
+            Numbers::Wide(numbers) => numbers[k],
+        }
+    }
+
+    fn greatest(&self) -> u64 {
+        match &self.numbers {
+            Numbers::Narrow(numbers) => greatest_narrow(numbers),
+            Numbers::Wide(numbers) => greatest(numbers),
+        }
+    }
+
+    fn shorten(&mut self) {
+        let bottom = match &mut self.numbers {
+            Numbers::Narrow(numbers) => shorten_narrow(numbers, self.bottom),
+            Numbers::Wide(numbers) => shorten_wide(numbers, self.bottom),
+        };
+        if bottom != self.bottom {
+            self.bottom = bottom;
+            self.most = self.greatest();
+        }
+    }
+
+    // the leaving row after a step
+    fn divided_by(mut self, pivot: i64) -> Row {
+        self.bottom = pivot.unsigned_abs();
+        self.shorten();
+        self.most = self.greatest();
+        if let Numbers::Narrow(numbers) = &self.numbers {
+            self.sparse = numbers.iter().filter(|z| **z != 0).count() < numbers.len() / 5;
+        }
+        self
+    }
+
+    fn update(&mut self, own: &Row, next: &[usize], room: &mut [i64], entry: i64, pivot: i64, limit: u64) -> bool {
         if entry == 0 {
             return true;
         }
@@ -128,11 +248,31 @@ impl Row {
             Some(bottom) if bottom < 1 << 63 => bottom,
             _ => return false,
         };
-        if !self.combine(own, next, a, b, limit) {
-            return false;
-        }
+        let (most, large) = match (&mut self.numbers, &own.numbers) {
+            (Numbers::Narrow(row), Numbers::Narrow(by)) => {
+                match combine_narrow(row, by, next, own.sparse, a, b, self.most, own.most, limit) {
+                    Some(most) => (most, 1 << 12),
+                    None => match combine_in_room(row, by, room, a, b, own.most, bottom, limit) {
+                        Some(left) => {
+                            self.bottom = left;
+                            self.most = greatest_narrow(row);
+                            return true;
+                        }
+                        None => return false,
+                    },
+                }
+            }
+            (Numbers::Wide(row), Numbers::Wide(by)) => {
+                match combine_wide(row, by, next, a, b, self.most, own.most, limit) {
+                    Some(most) => (most, 1 << 16),
+                    None => return false,
+                }
+            }
+            _ => return false,
+        };
         self.bottom = bottom;
-        if self.bottom > 1 << 16 {
+        self.most = most;
+        if self.bottom > large {
             self.shorten();
         }
         true
@@ -140,11 +280,13 @@ impl Row {
 }
 
 struct Engine {
-    columns: Vec<Column>,
+    columns: Rc<Vec<Column>>,
     rows: Vec<Row>,
     basis: Vec<usize>,
     // for each place the next one where the leaving row isn't 0
     next: Vec<usize>,
+    // room for a row of 64 bits
+    room: Vec<i64>,
     // the entries of the rows at the column that enters
     entries: Vec<i64>,
     limit: u64,
@@ -176,13 +318,23 @@ impl Engine {
             numbers[k] = 1;
             numbers[height] = signs[k] * right[k];
             cost[height] -= numbers[height];
-            let most = greatest(&numbers);
-            rows.push(Row { numbers, bottom: 1, most });
+            rows.push(Row::wide(numbers));
         }
-        let most = greatest(&cost);
-        rows.push(Row { numbers: cost, bottom: 1, most });
+        rows.push(Row::wide(cost));
         let basis = (columns.len()..columns.len() + height).collect();
-        Engine { columns, rows, basis, next: vec![0; height + 2], entries: vec![0; height + 1], limit: i64::MAX as u64 / norm }
+        Engine::of(Rc::new(columns), rows, basis, i64::MAX as u64 / norm)
+    }
+
+    fn of(columns: Rc<Vec<Column>>, rows: Vec<Row>, basis: Vec<usize>, limit: u64) -> Engine {
+        let height = basis.len();
+        Engine { columns, rows, basis, next: vec![0; height + 2], room: vec![0; height + 1], entries: vec![0; height + 1], limit }
+    }
+
+    // the same engine with rows in 32 bits
+    fn narrowed(&self) -> Option<Engine> {
+        let limit = self.limit.min(i32::MAX as u64);
+        let rows: Option<Vec<Row>> = self.rows.iter().map(|row| row.narrowed(limit)).collect();
+        Some(Engine::of(self.columns.clone(), rows?, self.basis.clone(), limit))
     }
 
     fn leaving(&self) -> Option<usize> {
@@ -197,8 +349,8 @@ impl Engine {
                 best = Some((i, entry));
                 continue;
             };
-            let left = i128::from(self.rows[i].numbers[last]) * i128::from(least);
-            let right = i128::from(self.rows[k].numbers[last]) * i128::from(entry);
+            let left = i128::from(self.rows[i].number(last)) * i128::from(least);
+            let right = i128::from(self.rows[k].number(last)) * i128::from(entry);
             if left < right || left == right && self.basis[i] < self.basis[k] {
                 best = Some((i, entry));
             }
@@ -215,20 +367,14 @@ impl Engine {
             *entry = self.columns[column].price(row);
         }
         let r = self.leaving()?;
-        let empty = Row { numbers: Vec::new(), bottom: 1, most: 0 };
-        let mut own = std::mem::replace(&mut self.rows[r], empty);
-        own.bottom = self.entries[r].unsigned_abs();
-        own.shorten();
-        own.most = greatest(&own.numbers);
+        let own = std::mem::replace(&mut self.rows[r], Row::wide(Vec::new())).divided_by(self.entries[r]);
         let pivot = own.bottom as i64;
-        let mut k = own.numbers.len();
-        self.next[k] = k;
-        while k > 0 {
-            k -= 1;
-            self.next[k] = if own.numbers[k] != 0 { k } else { self.next[k + 1] };
+        match &own.numbers {
+            Numbers::Narrow(numbers) => note_places(numbers, &mut self.next),
+            Numbers::Wide(numbers) => note_places(numbers, &mut self.next),
         }
         for (i, row) in self.rows.iter_mut().enumerate() {
-            if i != r && !row.update(&own, &self.next, self.entries[i], pivot, self.limit) {
+            if i != r && !row.update(&own, &self.next, &mut self.room, self.entries[i], pivot, self.limit) {
                 return None;
             }
         }
@@ -243,10 +389,10 @@ impl Engine {
         let mut most = 0;
         for k in 0..=budget {
             if look {
-                let here = self.rows.iter().map(|row| greatest(&row.numbers)).max();
+                let here = self.rows.iter().map(|row| row.greatest()).max();
                 most = most.max(here.unwrap_or(0));
             }
-            if self.rows[last].numbers[last] == 0 {
+            if self.rows[last].number(last) == 0 {
                 return ("weights", k, most);
             }
             if k == budget {
@@ -263,6 +409,19 @@ impl Engine {
     }
 }
 
+// the run in 32 bits, and where that gives up, in 64; how it ends, after how many steps, the greatest number met where that is wanted,
+// and in which width
+fn run_by_width(start: &mut Engine, budget: u32, look: bool) -> (&'static str, u32, u64, &'static str) {
+    if let Some(mut narrow) = start.narrowed() {
+        let (name, steps, most) = narrow.run(budget, look);
+        if name != "lost" {
+            return (name, steps, most, "narrow");
+        }
+    }
+    let (name, steps, most) = start.run(budget, look);
+    (name, steps, most, "wide")
+}
+
 fn main() {
     let words: Vec<u32> = std::env::args().skip(1).map(|w| w.parse().unwrap()).collect();
     let (budget, turns) = (words[0], words[1]);
@@ -277,16 +436,14 @@ fn main() {
         })
         .collect();
     let target = forms.remove(0);
-    let mut end = ("", 0);
+    let mut end = "";
     for _ in 0..turns {
-        let mut engine = Engine::start(height, &target, &forms);
-        let (name, steps, _) = engine.run(budget, false);
-        end = (name, steps);
+        end = run_by_width(&mut Engine::start(height, &target, &forms), budget, false).0;
     }
     if turns == 0 {
-        let (name, steps, most) = Engine::start(height, &target, &forms).run(budget, true);
-        println!("{} {height} {steps} {name} {most}", forms.len());
+        let (name, steps, most, width) = run_by_width(&mut Engine::start(height, &target, &forms), budget, true);
+        println!("{} {height} {steps} {name} {most} {width}", forms.len());
     } else {
-        println!("{}", end.0);
+        println!("{end}");
     }
 }

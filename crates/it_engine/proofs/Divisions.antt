@@ -1,8 +1,10 @@
 -- Common divisors of the numbers of a row.
-use Rattle.std.proofs.Common.{◌≡◌, ◌⊎◌, inl, inr, ℕ, ◌+◌, ◌*◌, ◌/◌, ◌<◌, ℤ, pos, ◌*ℤ◌, unsigned_abs, List, sym, ap, subst, ◌∙◌, arith}
+use Rattle.std.proofs.Common.{◌≡◌, ◌⊎◌, inl, inr, ℕ, ◌+◌, ◌*◌, ◌/◌, ◌<◌, ◌≤◌, ℤ, pos, negsuc, ◌*ℤ◌, unsigned_abs, List, sym, ap, subst, ◌∙◌, FitsSigned, w32, arith}
 use Rattle.std.proofs.lemmas.Nat.Gcd.{dvd_trans, dvd_refl, dvd_antisymm}
-use Rattle.std.proofs.Math.Nat.{dvd-mul_left, mul-div_cancel}
+use Rattle.std.proofs.Math.Nat.{dvd-mul_left, le-mul_of_pos_right, mul-div_cancel}
 use Rattle.std.proofs.lemmas.Bool.{cases_eq}
+use Rattle.std.proofs.lemmas.Int.{ints, unsigned_abs-mul}
+use Rattle.it_number.proofs.Integers.{zring}
 use Rattle.it_number.specs.Gcd.{gcd}
 use Rattle.it_number.specs.Division.{int_quotient}
 use Rattle.it_number.proofs.SignedDivisors.{over_back}
@@ -39,3 +41,19 @@ gcd_of_multiple q k size e = dvd_antisymm (gcd_is size k).1 ((gcd_is size k).2 k
 -- and the factor is the quotient
 pub factor_is_quotient : (q k size : ℕ) → 0 < k → q * k ≡ size → q ≡ size / k
 factor_is_quotient q k size h e = sym (mul-div_cancel q h) ∙ ap (λ n. n / k) e
+
+-- a quotient of a number in 32 bits fits 32 bits
+pub quotient_fits : (q z : ℤ) (d : ℕ) → 0 < d → q *ℤ pos d ≡ z → FitsSigned w32 z → FitsSigned w32 q
+quotient_fits q z d h e f = by_signs q z e f (size_at_most q z e)
+  where
+    size_at_most : (q z : ℤ) → q *ℤ pos d ≡ z → unsigned_abs q ≤ unsigned_abs z
+    size_at_most q z e = let s : unsigned_abs q * d ≡ unsigned_abs z = sym (unsigned_abs-mul q (pos d)) ∙ ap unsigned_abs e in omega (arith, s, le-mul_of_pos_right (unsigned_abs q) h)
+
+    product : (n : ℕ) → pos (n * d) ≡ pos n *ℤ pos d
+    product n = omega (arith, zring)
+
+    by_signs : (q z : ℤ) → q *ℤ pos d ≡ z → FitsSigned w32 z → unsigned_abs q ≤ unsigned_abs z → FitsSigned w32 q
+    by_signs (pos n) (pos m) e f l = record { sfits = let s : m < 2147483648 = f.sfits in omega (arith, s, l) }
+    by_signs (pos n) (negsuc m) e f l = let a : pos (n * d) ≡ negsuc m = product n ∙ e in absurd (omega (arith, ints, a))
+    by_signs (negsuc n) (pos m) e f l = record { sfits = let s : m < 2147483648 = f.sfits in omega (arith, s, l) }
+    by_signs (negsuc n) (negsuc m) e f l = record { sfits = let s : m < 2147483648 = f.sfits in omega (arith, s, l) }

@@ -18,3 +18,11 @@ set_done now k x P h done e j l = by_cases (cases_eq j k)
 
 pub set_rest : (now old : List ℤ) (k : ℕ) (x : ℤ) → ((j : ℕ) → k ≤ j → number_at now j ≡ number_at old j) → (j : ℕ) → k + 1 ≤ j → number_at (slice_set now k x) j ≡ number_at old j
 set_rest now old k x rest j l = get_or-set_other now k j x (pos 0) (λ e. omega arith) ∙ rest j (omega arith)
+
+-- what holds of the numbers below k and of k holds of those below the next
+pub below_more : (P : ℕ → Type 0) (k : ℕ) → ((j : ℕ) → j < k → P j) → P k → (j : ℕ) → j < k + 1 → P j
+below_more P k done here j l = by_cases (cases_eq j k)
+  where
+    by_cases : (j ≡ k) ⊎ (j ≡ k → ⊥) → P j
+    by_cases (inl e) = subst P (sym e) here
+    by_cases (inr d) = done j (omega (arith, l, d))

@@ -1,14 +1,13 @@
 -- What is read off the engine is what is read off the table that it shows.
-use Rattle.std.proofs.Common.{◌≡◌, ◌≢◌, ℕ, suc, ◌+◌, ◌-◌, ◌<◌, ◌≤◌, ◌++◌, ℤ, pos, List, [], ◌∷◌, length, slice_index_or, refl, sym, ap, ap₂, ◌∙◌, arith}
+use Rattle.std.proofs.Common.{◌≡◌, ◌≢◌, ℕ, suc, ◌+◌, ◌-◌, ◌<◌, ◌≤◌, ◌++◌, ℤ, pos, List, [], ◌∷◌, length, slice_index_or, refl, sym, ap, ◌∙◌, arith}
 use Rattle.std.proofs.lemmas.List.{append_assoc, append-nil}
 use Rattle.it_rational.specs.Rational.{Rational, quotient, integer, times, IsRatio}
 use Rattle.it_rational.proofs.Names.{quotient_names, same_value}
 use Rattle.it_rational.proofs.Field.{field_ℚ}
 use Rattle.it_space.specs.Rows.{Terms}
-use Rattle.it_tableau.specs.TableauViews.{TableauView, height}
-use Rattle.it_tableau.specs.SimplexTables.{SimplexTable, FeasibilityProblem}
+use Rattle.it_tableau.specs.Problems.{feasibility_problem}
+use Rattle.it_tableau.specs.SimplexTables.{SimplexTable, FeasibilityProblem, sign}
 use Rattle.it_run.specs.Readings.{weight, weights, weights_from_column, point_value, point_from_row, point}
-use Rattle.it_run.specs.Answers.{HasSigns, sign_number}
 use Rattle.it_run.proofs.FillingLemmas.{AreWeightsSoFar, weights_skip_null, weights_with_next}
 use Rattle.it_run.proofs.Reading.{weight_found, weight_none}
 use Rattle.it_engine.specs.Choosing.{right_side_of}
@@ -44,23 +43,25 @@ weights_none columns rows basis out j l n h = λ p t limit s. weights_skip_null 
     (weight_none field_ℚ (length basis) (length columns) t j (λ i k e. n i k (sym (s.shows.basis_is i k) ∙ e))) (h p t limit s)
 
 -- the point's values so far
-abbrev pub PointSoFar : TableauView → List WholeRowView → List ℕ → List Rational → ℕ → Type 0
-PointSoFar first rows basis out k = (p : FeasibilityProblem Rational) (t : SimplexTable Rational) (columns : List Terms) (limit : ℕ) → HasSigns first p → StandsFor p t columns limit rows basis
-    → out ++ point_from_row field_ℚ (length basis) (length columns) p t k (length basis - k) ≡ point field_ℚ (length basis) (length columns) p t
+abbrev pub PointSoFar : List ℕ → Terms → List WholeRowView → List ℕ → List Rational → ℕ → Type 0
+PointSoFar coordinates target rows basis out k = (generators : List Terms) (t : SimplexTable Rational) (columns : List Terms) (limit : ℕ)
+    → StandsFor (feasibility_problem coordinates generators target) t columns limit rows basis
+    → out ++ point_from_row field_ℚ (length basis) (length columns) (feasibility_problem coordinates generators target) t k (length basis - k) ≡ point field_ℚ (length basis) (length columns) (feasibility_problem coordinates generators target) t
 
-pub point_more : (first : TableauView) (rows : List WholeRowView) (basis : List ℕ) (out : List Rational) (k : ℕ) (x : Rational) → k < length basis → length basis ≡ height first
-    → x ≡ times (sign_number first k) (quotient (right_side_of k rows (length basis)) (whole_row_at rows (length basis)).bottom)
-    → PointSoFar first rows basis out k → PointSoFar first rows basis (out ++ x ∷ []) (k + 1)
-point_more first rows basis out k x l m e h = λ p t columns limit sg s.
+pub point_more : (coordinates : List ℕ) (target : Terms) (rows : List WholeRowView) (basis : List ℕ) (out : List Rational) (k : ℕ) (x : Rational) → k < length basis
+    → x ≡ times (sign field_ℚ (feasibility_problem coordinates [] target) k) (quotient (right_side_of k rows (length basis)) (whole_row_at rows (length basis)).bottom)
+    → PointSoFar coordinates target rows basis out k → PointSoFar coordinates target rows basis (out ++ x ∷ []) (k + 1)
+point_more coordinates target rows basis out k x l e h = λ generators t columns limit s.
+    let p = feasibility_problem coordinates generators target in
     let r = s.shows.row (length basis) (omega arith) in
     let here : length basis - k ≡ suc (length basis - (k + 1)) = omega (arith, l) in
     let there : suc k ≡ k + 1 = omega arith in
     append_assoc out (x ∷ []) (point_from_row field_ℚ (length basis) (length columns) p t (k + 1) (length basis - (k + 1)))
     ∙ ap (λ y. out ++ y ∷ point_from_row field_ℚ (length basis) (length columns) p t (k + 1) (length basis - (k + 1)))
-    (e ∙ ap₂ times (sg k (omega (arith, l, m))) (quotient_named (t.entry (length basis) (length columns + k)) (right_side_of k rows (length basis)) (whole_row_at rows (length basis)).bottom r.some (r.named k (omega (arith, l)))))
+    (e ∙ ap (times (sign field_ℚ p k)) (quotient_named (t.entry (length basis) (length columns + k)) (right_side_of k rows (length basis)) (whole_row_at rows (length basis)).bottom r.some (r.named k (omega (arith, l)))))
     ∙ ap (λ xs. out ++ xs) (sym (ap (point_from_row field_ℚ (length basis) (length columns) p t k) here
     ∙ ap (λ i. point_value field_ℚ (length basis) (length columns) p t k ∷ point_from_row field_ℚ (length basis) (length columns) p t i (length basis - (k + 1))) there))
-    ∙ h p t columns limit sg s
+    ∙ h generators t columns limit s
 
 -- all weights, all values
 pub weights_all : (columns : List Terms) (rows : List WholeRowView) (basis : List ℕ) (out : List (ℕ × Rational)) (j : ℕ) → length columns ≤ j → WeightsSoFar columns rows basis out j
@@ -68,6 +69,7 @@ pub weights_all : (columns : List Terms) (rows : List WholeRowView) (basis : Lis
 weights_all columns rows basis out j l h p t limit s = let none : length columns - j ≡ 0 = omega (arith, l) in
     sym (append-nil out) ∙ ap (λ k. out ++ weights_from_column field_ℚ (length basis) (length columns) t j k) (sym none) ∙ h p t limit s
 
-pub point_all : (first : TableauView) (rows : List WholeRowView) (basis : List ℕ) (out : List Rational) (k : ℕ) → length basis ≤ k → PointSoFar first rows basis out k → IsPointOf first rows basis out
-point_all first rows basis out k l h = λ p t columns limit sg s. let none : length basis - k ≡ 0 = omega (arith, l) in
-    sym (append-nil out) ∙ ap (λ i. out ++ point_from_row field_ℚ (length basis) (length columns) p t k i) (sym none) ∙ h p t columns limit sg s
+pub point_all : (coordinates : List ℕ) (target : Terms) (rows : List WholeRowView) (basis : List ℕ) (out : List Rational) (k : ℕ) → length basis ≤ k → PointSoFar coordinates target rows basis out k
+    → IsPointOf coordinates target rows basis out
+point_all coordinates target rows basis out k l h = λ generators t columns limit s. let none : length basis - k ≡ 0 = omega (arith, l) in
+    sym (append-nil out) ∙ ap (λ i. out ++ point_from_row field_ℚ (length basis) (length columns) (feasibility_problem coordinates generators target) t k i) (sym none) ∙ h generators t columns limit s

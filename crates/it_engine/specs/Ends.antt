@@ -3,10 +3,10 @@ use Rattle.std.specs.Prelude.{◌≡◌, ℕ, ◌<◌, List, length, slice_index
 use Rattle.it_rational.specs.Rational.{Rational, quotient}
 use Rattle.it_rational.proofs.Field.{field_ℚ}
 use Rattle.it_space.specs.Rows.{Terms}
-use Rattle.it_tableau.specs.TableauViews.{TableauView}
+use Rattle.it_tableau.specs.Problems.{feasibility_problem}
 use Rattle.it_tableau.specs.SimplexTables.{SimplexTable, FeasibilityProblem}
 use Rattle.it_run.specs.Readings.{weights, point}
-use Rattle.it_run.specs.Answers.{end_of_answer, HasSigns}
+use Rattle.it_run.specs.Answers.{end_of_answer}
 use Rattle.it_run.specs.Solving.{RunsTo}
 use Rattle.it_run.specs.declared.answering.Solved.{Solved}
 use Rattle.it_engine.specs.Choosing.{right_side_of}
@@ -24,11 +24,13 @@ pub record IsWeightOf (rows : List WholeRowView) (basis : List ℕ) (j : ℕ) (w
 abbrev pub AreWeightsOf : List Terms → List WholeRowView → List ℕ → List (ℕ × Rational) → Type 0
 AreWeightsOf columns rows basis ws = (p : FeasibilityProblem Rational) (t : SimplexTable Rational) (limit : ℕ) → StandsFor p t columns limit rows basis → ws ≡ weights field_ℚ (length basis) (length columns) t
 
--- and its point, with the signs of the start
-abbrev pub IsPointOf : TableauView → List WholeRowView → List ℕ → List Rational → Type 0
-IsPointOf first rows basis q = (p : FeasibilityProblem Rational) (t : SimplexTable Rational) (columns : List Terms) (limit : ℕ) → HasSigns first p → StandsFor p t columns limit rows basis → q ≡ point field_ℚ (length basis) (length columns) p t
+-- and its point, whichever columns the table has besides the artificial ones
+abbrev pub IsPointOf : List ℕ → Terms → List WholeRowView → List ℕ → List Rational → Type 0
+IsPointOf coordinates target rows basis q = (generators : List Terms) (t : SimplexTable Rational) (columns : List Terms) (limit : ℕ)
+    → StandsFor (feasibility_problem coordinates generators target) t columns limit rows basis → q ≡ point field_ℚ (length basis) (length columns) (feasibility_problem coordinates generators target) t
 
 -- the answer to the question whose start the engine shows
-abbrev pub AnswersQuestion : TableauView → List Terms → ℕ → List WholeRowView → List ℕ → Option ℕ → Solved → Type 0
-AnswersQuestion first columns limit rows basis budget answer = (p : FeasibilityProblem Rational) (t : SimplexTable Rational) → HasSigns first p → StandsFor p t columns limit rows basis
-    → RunsTo (length basis) (length columns) p budget t (end_of_answer answer)
+abbrev pub AnswersQuestion : List ℕ → Terms → List Terms → ℕ → List WholeRowView → List ℕ → Option ℕ → Solved → Type 0
+AnswersQuestion coordinates target columns limit rows basis budget answer = (generators : List Terms) (t : SimplexTable Rational)
+    → StandsFor (feasibility_problem coordinates generators target) t columns limit rows basis
+    → RunsTo (length basis) (length columns) (feasibility_problem coordinates generators target) budget t (end_of_answer answer)

@@ -1,44 +1,41 @@
--- No public clause cites this module: what the engine reads off the start of a run.
-use Rattle.std.specs.Prelude.{◌≡◌, ◌≢◌, ◌⊎◌, ℕ, ◌+◌, ◌<◌, ◌≤◌, ◌^◌, ◌++◌, ◌∷◌, ℤ, pos, unsigned_abs, List, [], length, slice_index_or, All}
-use Rattle.it_rational.specs.Rational.{Rational, times, integer}
+-- No public clause cites this module: what the engine reads off the rows of a question.
+use Rattle.std.specs.Prelude.{◌≡◌, ◌≢◌, ◌⊎◌, ℕ, zero, suc, ◌+◌, ◌<◌, ◌≤◌, ◌^◌, ◌++◌, ◌∷◌, Bool, ℤ, neg_ℤ, cond, unsigned_abs, List, [], length, slice_index_or, All}
+use Rattle.it_rational.specs.Rational.{Rational, is_at_least_zero, times, integer}
 use Rattle.it_rational.proofs.RationalLaws.{ring_ℚ}
-use Rattle.it_space.specs.Rows.{Terms, row_mass}
-use Rattle.it_tableau.specs.SparseRows.{RowTerms}
-use Rattle.it_tableau.specs.SparseRows as sparse
-use Rattle.it_tableau.specs.TableauViews.{TableauView, height, table}
+use Rattle.it_space.specs.Rows.{Terms, coefficient, row_mass}
+use Rattle.it_tableau.specs.Problems.{start_of}
 use Rattle.it_tableau.specs.Sums.{sum_to}
 use Rattle.it_run.specs.RowValues.{rational_value}
 use Rattle.it_space.specs.Sums.{number_at}
 use Rattle.it_engine.specs.Whole.{whole_row_at, WholeRowView}
 
--- a whole number within a bound
-pub record IsShortWhole (limit : ℕ) (q : Rational) (z : ℤ) : Type 0 where
-  pub value_is : q ≡ integer z
-  pub small : unsigned_abs z ≤ limit
+-- whether row k keeps its sign: the target's coefficient isn't below 0
+abbrev pub keeps_sign : List ℕ → Terms → ℕ → Bool
+keeps_sign coordinates target k = is_at_least_zero (integer (coefficient target (slice_index_or coordinates k 0)))
+
+-- a number with the sign of row k
+abbrev pub signed : List ℕ → Terms → ℕ → ℤ → ℤ
+signed coordinates target k z = cond (keeps_sign coordinates target k) z (neg_ℤ z)
+
+-- the entry of row k at the column of these terms
+abbrev pub signed_coefficient : List ℕ → Terms → Terms → ℕ → ℤ
+signed_coefficient coordinates target terms k = signed coordinates target k (coefficient terms (slice_index_or coordinates k 0))
+
+-- the number z at coordinate c is put after a column's terms, in the coordinate's row and with its sign, if it has a row
+abbrev pub IsTermPut : List ℕ → Terms → ℕ → ℤ → Terms → Terms → Type 0
+IsTermPut coordinates target c z old new =
+    ((k : ℕ) × (k < length coordinates) × (slice_index_or coordinates k 0 ≡ c) × (new ≡ old ++ (k, signed coordinates target k z) ∷ []))
+    ⊎ (((k : ℕ) → k < length coordinates → slice_index_or coordinates k 0 ≢ c) × (new ≡ old))
 
 -- the terms of a column whose first m entries are f
-pub record IsReadColumn (m : ℕ) (f : ℕ → Rational) (terms : Terms) : Type 0 where
-  pub value_is : (g : ℕ → Rational) → sum_to ring_ℚ m (λ k. times (g k) (f k)) ≡ rational_value terms g
+pub record IsReadColumn (m : ℕ) (f : ℕ → ℤ) (terms : Terms) : Type 0 where
+  pub value_is : (g : ℕ → Rational) → sum_to ring_ℚ m (λ k. times (g k) (integer (f k))) ≡ rational_value terms g
   pub within : All (λ t. t.0 < m) terms
 
--- the columns but the artificial ones, so many
-abbrev pub AreReadColumns : TableauView → ℕ → List Terms → Type 0
-AreReadColumns t count columns = (length columns ≡ count) × ((j : ℕ) → j < count → IsReadColumn (height t) (λ k. (table t).entry k j) (slice_index_or columns j []))
-
--- column c has a term more, and the others stay
-pub record IsTermPushed (old : List Terms) (c k : ℕ) (z : ℤ) (new : List Terms) : Type 0 where
-  pub same_length : length new ≡ length old
-  pub own : slice_index_or new c [] ≡ slice_index_or old c [] ++ (k, z) ∷ []
-  pub others : (j : ℕ) → j ≢ c → slice_index_or new j [] ≡ slice_index_or old j []
-
--- the number of row k is put after a column's terms, unless it is 0
-abbrev pub IsTermRead : ℕ → Rational → Terms → Terms → Type 0
-IsTermRead k q old new = ((q ≡ integer (pos 0)) × (new ≡ old)) ⊎ ((z : ℤ) × (q ≡ integer z) × (new ≡ old ++ (k, z) ∷ []))
-
--- the numbers of row k are put after their columns' terms
-pub record IsRowRead (k : ℕ) (terms : RowTerms) (old new : List Terms) : Type 0 where
-  pub same_length : length new ≡ length old
-  pub each : (j : ℕ) → j < length old → IsTermRead k (sparse.entry_in terms j) (slice_index_or old j []) (slice_index_or new j [])
+-- the columns but the artificial ones
+abbrev pub AreReadColumns : List ℕ → List Terms → Terms → List Terms → Type 0
+AreReadColumns coordinates generators target columns = (length columns ≡ length generators)
+    × ((j : ℕ) → j < length generators → IsReadColumn (length coordinates) (signed_coefficient coordinates target (slice_index_or generators j [])) (slice_index_or columns j []))
 
 -- no column weighs more
 pub record IsNorm (columns : List Terms) (norm : ℕ) : Type 0 where
@@ -46,15 +43,27 @@ pub record IsNorm (columns : List Terms) (norm : ℕ) : Type 0 where
   pub short : norm < 2 ^ 63
   pub bounds : (j : ℕ) → j < length columns → row_mass (slice_index_or columns j []) ≤ norm
 
--- the first count numbers of row i at the artificial columns and the right side
-pub record IsReadRow (t : TableauView) (limit i count : ℕ) (numbers : List ℤ) : Type 0 where
-  pub length_is : length numbers ≡ count
-  pub each : (k : ℕ) → k < count → IsShortWhole limit ((table t).entry i (t.generator_columns + k)) (number_at numbers k)
+-- the right side of row k, without its sign
+abbrev pub right_size : List ℕ → Terms → ℕ → ℕ
+right_size coordinates target k = unsigned_abs (coefficient target (slice_index_or coordinates k 0))
+
+-- the sum of the first k right sides
+abbrev pub right_sum : List ℕ → Terms → ℕ → ℕ
+right_sum coordinates target zero = 0
+right_sum coordinates target (suc k) = right_size coordinates target k + right_sum coordinates target k
+
+-- a whole number within a bound
+pub record IsShortWhole (limit : ℕ) (q : Rational) (z : ℤ) : Type 0 where
+  pub value_is : q ≡ integer z
+  pub small : unsigned_abs z ≤ limit
+
+-- row i of the start at the artificial columns and the right side, whichever the other columns are
+pub record IsReadRow (coordinates : List ℕ) (target : Terms) (limit i : ℕ) (row : WholeRowView) : Type 0 where
+  pub length_is : length row.numbers ≡ length coordinates + 1
+  pub each : (generators : List Terms) (k : ℕ) → k < length coordinates + 1
+      → IsShortWhole limit ((start_of coordinates generators target).entry i (length generators + k)) (number_at row.numbers k)
+  pub bottom_is : row.bottom ≡ 1
 
 -- the first count rows, whole numbers within the limit
-abbrev pub AreReadRows : TableauView → ℕ → ℕ → List WholeRowView → Type 0
-AreReadRows t limit count rows = (length rows ≡ count) × ((i : ℕ) → i < count → IsReadRow t limit i (height t + 1) (whole_row_at rows i).numbers × ((whole_row_at rows i).bottom ≡ 1))
-
--- the basic columns of the first count rows
-abbrev pub IsReadBasis : TableauView → ℕ → List ℕ → Type 0
-IsReadBasis t count basis = (length basis ≡ count) × ((i : ℕ) → i < count → (table t).basis i ≡ slice_index_or basis i 0)
+abbrev pub AreReadRows : List ℕ → Terms → ℕ → ℕ → List WholeRowView → Type 0
+AreReadRows coordinates target limit count rows = (length rows ≡ count) × ((i : ℕ) → i < count → IsReadRow coordinates target limit i (whole_row_at rows i))

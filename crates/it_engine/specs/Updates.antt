@@ -59,6 +59,13 @@ pub record IsShortened (old new : WholeRowView) : Type 0 where
   pub entries : (k : ℕ) → k < length old.numbers → number_at new.numbers k *ℤ pos shared ≡ number_at old.numbers k
   pub bottom_is : new.bottom * shared ≡ old.bottom
 
+-- the numbers of a row times a, less those of another times b, which are at most 2 ^ 63 - 1 in absolute value, over a denominator;
+-- and then a common divisor is divided away
+pub record IsCombinedAndShortened (width : ℕ) (row by : List ℤ) (a b : ℤ) (bottom : ℕ) (new : WholeRowView) : Type 0 where
+  pub numbers : List ℤ
+  pub combined : IsCombined width 9223372036854775807 row by a b numbers
+  pub shortened : IsShortened record { numbers = numbers; bottom = bottom } new
+
 -- the row over its entry p, with the least denominator
 abbrev pub IsQuotient : WholeRowView → ℤ → WholeRowView → Type 0
 IsQuotient old p new = IsShortened record { numbers = old.numbers; bottom = unsigned_abs p } new

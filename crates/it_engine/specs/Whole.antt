@@ -34,6 +34,10 @@ whole_row_at rows i = slice_index_or rows i record { numbers = []; bottom = 1 }
 abbrev pub AreAtMost : List ℤ → ℕ → Type 0
 AreAtMost numbers most = (k : ℕ) → k < length numbers → unsigned_abs (number_at numbers k) ≤ most
 
+-- no number of any row is greater
+abbrev pub AreAllAtMost : ℕ → List WholeRowView → Type 0
+AreAllAtMost most rows = (i : ℕ) → i < length rows → AreAtMost (whole_row_at rows i).numbers most
+
 -- the first numbers of a row, each a whole number over one denominator, and within a bound
 pub record IsRow (width limit : ℕ) (f : ℕ → Rational) (row : List ℤ) (bottom : ℕ) : Type 0 where
   pub length_is : length row ≡ width

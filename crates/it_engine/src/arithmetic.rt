@@ -1,5 +1,6 @@
 //! Operations on single whole numbers.
 ghost use Rattle.std.specs.Prelude.{◌≡◌, ◌+◌, ◌*◌, ◌<◌, ◌≤◌, ◌^◌, ◌+ℤ◌, ◌*ℤ◌, neg_ℤ, unsigned_abs, SomeIff};
+ghost use Rattle.std.specs.Option.{IfNone, IfSome};
 ghost use Rattle.it_number.specs.Division.{int_quotient};
 ghost use Rattle.it_number.specs.Gcd.{gcd};
 ghost use Rattle.it_rational.specs.Rational.{sign_least};
@@ -145,4 +146,13 @@ pub fn short_sum(a: u64, b: u64) -> Option<u64>
 {
     let sum = a.checked_add(b)?;
     if sum < 1 << 63 { Some(sum) } else { None }
+}
+
+/// The sum x a + y b, where that is at most the limit.
+pub fn sum_within(x: u64, a: u64, y: u64, b: u64, limit: u64) -> Option<u64>
+    ensures some { IfSome result (λ s. (s ≡ x * a + y * b) × (s ≤ limit)) }
+    ensures none { IfNone result (¬ (x * a + y * b ≤ limit)) }
+{
+    let sum = x.checked_mul(a)?.checked_add(y.checked_mul(b)?)?;
+    if sum <= limit { Some(sum) } else { None }
 }

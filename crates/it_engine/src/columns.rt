@@ -6,7 +6,9 @@ ghost use Rattle.it_engine.specs.Updates.{IsPriced, Suits};
 ghost use Rattle.it_space.specs.Sums.{number_at};
 
 use crate::arithmetic::{plus_product, short_sum};
-use crate::rows::WholeRow;
+use crate::narrow::NarrowRow;
+use crate::rows::{AnyRow, WholeRow};
+use crate::wide::WideRow;
 use std::alloc::{AllocError, Global};
 use std::marker::Model;
 
@@ -80,7 +82,7 @@ impl Column {
 
     /// The sum with one more term.
     #[inline]
-    fn add_term(&self, row: &WholeRow, i: usize, sum: i64) -> i64
+    fn add_narrow_term(&self, row: &NarrowRow, i: usize, sum: i64) -> i64
         requires suits { Suits self.now row.now.numbers }
         requires place { i < length self.now }
         requires priced { IsPriced self.now row.now.numbers i sum }
@@ -89,17 +91,54 @@ impl Column {
         plus_product(sum, self.factor(i), row.number(self.place(i)))
     }
 
-    /// The entry of a row at this column, over the row's denominator.
+    /// The entry of a row in 32 bits at this column, over the row's denominator.
     #[inline]
     #[tactic(auto, using(crate::proofs::Pricing::priced_none, crate::proofs::Pricing::priced_all))]
-    pub fn price(&self, row: &WholeRow) -> i64
+    fn price_narrow(&self, row: &NarrowRow) -> i64
         requires suits { Suits self.now row.now.numbers }
         ensures { result ≡ value self.now (number_at row.now.numbers) }
     {
         let mut sum: i64 = 0;
         for i in 0..self.size() {
-            sum = self.add_term(row, i, sum);
+            sum = self.add_narrow_term(row, i, sum);
         }
         sum
+    }
+
+    /// The sum with one more term.
+    #[inline]
+    fn add_wide_term(&self, row: &WideRow, i: usize, sum: i64) -> i64
+        requires suits { Suits self.now row.now.numbers }
+        requires place { i < length self.now }
+        requires priced { IsPriced self.now row.now.numbers i sum }
+        ensures { IsPriced self.now row.now.numbers (i + 1) result }
+    {
+        plus_product(sum, self.factor(i), row.number(self.place(i)))
+    }
+
+    /// The entry of a row in 64 bits at this column, over the row's denominator.
+    #[inline]
+    #[tactic(auto, using(crate::proofs::Pricing::priced_none, crate::proofs::Pricing::priced_all))]
+    fn price_wide(&self, row: &WideRow) -> i64
+        requires suits { Suits self.now row.now.numbers }
+        ensures { result ≡ value self.now (number_at row.now.numbers) }
+    {
+        let mut sum: i64 = 0;
+        for i in 0..self.size() {
+            sum = self.add_wide_term(row, i, sum);
+        }
+        sum
+    }
+
+    /// The entry of a row at this column, over the row's denominator.
+    #[inline]
+    pub fn price(&self, row: &WholeRow) -> i64
+        requires suits { Suits self.now row.now.numbers }
+        ensures { result ≡ value self.now (number_at row.now.numbers) }
+    {
+        match row.any_width() {
+            AnyRow::Narrow(row) => self.price_narrow(row),
+            AnyRow::Wide(row) => self.price_wide(row),
+        }
     }
 }

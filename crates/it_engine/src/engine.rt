@@ -1,16 +1,16 @@
 //! The engine and its run.
-ghost use Rattle.std.specs.Prelude.{◌≡◌, ◌+◌, ◌<◌, ℕ, length, pos, None, Some};
+ghost use Rattle.std.specs.Prelude.{◌≡◌, ◌+◌, ◌<◌, ℕ, ◌^◌, length, pos, None, Some, IfOk};
 ghost use Rattle.std.specs.Bool.{OnFalse, OnTrue};
 ghost use Rattle.std.specs.Option.{IfNone, IfSome};
 ghost use Rattle.it_engine.specs.Choosing.{first_negative_cost, right_side_of};
 ghost use Rattle.it_engine.specs.Engine.{IsFinished, IsSafe, IsEngineStepOrStuck, StandsForSome};
-ghost use Rattle.it_engine.specs.Whole.{whole_row_at};
+ghost use Rattle.it_engine.specs.Whole.{AreAllAtMost, AreAtMost, whole_row_at};
 
 use crate::choice::entering_column;
 use crate::columns::Column;
 use crate::pivots::enter;
 use crate::rows::WholeRow;
-use std::alloc::Global;
+use std::alloc::{AllocError, Global};
 use std::marker::Model;
 
 /// How a run ended.
@@ -33,6 +33,8 @@ pub struct Engine {
     basis: Vec<usize>,
     // room for a pivot's notes on the leaving row
     next: Vec<usize>,
+    // room for a row of 64 bits
+    room: Vec<i64>,
     // room for the entries of the rows at the column that enters
     entries: Vec<i64>,
 }
@@ -45,30 +47,40 @@ impl Model for Engine {
 
     ghost view = { λ e. record { rows = e.rows.items; basis = e.basis.items } };
 
-    ghost invariant = { λ e. (length e.next.items ≡ length e.basis.items + 2) × (length e.entries.items ≡ length e.basis.items + 1) };
+    ghost invariant = { λ e. (length e.next.items ≡ length e.basis.items + 2) × (length e.room.items ≡ length e.basis.items + 1) × (length e.entries.items ≡ length e.basis.items + 1) };
 }
 
 impl Engine {
-    /// An engine, with room for two numbers more than there are basic columns, and for an entry of each row.
-    pub fn new(
-        alloc: Global,
-        rows: Vec<WholeRow>,
-        basis: Vec<usize>,
-        next: Vec<usize>,
-        entries: Vec<i64>,
-    ) -> Engine
-        requires next { length next.items ≡ length basis.items + 2 }
-        requires entries { length entries.items ≡ length basis.items + 1 }
-        ensures rows { result.rows ≡ rows.items }
-        ensures basis { result.basis ≡ basis.items }
+    /// An engine with these rows and basic columns.
+    pub fn new(alloc: Global, rows: Vec<WholeRow>, basis: Vec<usize>) -> Result<Engine, AllocError>
+        ensures rows { IfOk result (λ engine. engine.rows ≡ rows.items) }
+        ensures basis { IfOk result (λ engine. engine.basis ≡ basis.items) }
     {
-        Engine {
+        let height = basis.len();
+        let next = Vec::from_elem(alloc, 0, height + 2)?;
+        let room = Vec::from_elem(alloc, 0, height + 1)?;
+        let entries = Vec::from_elem(alloc, 0, height + 1)?;
+        Ok(Engine {
             alloc,
             rows,
             basis,
             next,
+            room,
             entries,
-        }
+        })
+    }
+
+    /// The same engine with rows in 32 bits, where no number is above the limit.
+    pub fn narrowed(&self, limit: u64) -> Result<Option<Engine>, AllocError>
+        requires limit { limit < 2 ^ 31 }
+        ensures engine { IfOk result (λ o. IfSome o (λ engine. engine ≡ self.now)) }
+        ensures small { IfOk result (λ o. IfSome o (λ engine. AreAllAtMost limit self.now.rows)) }
+    {
+        let Some(rows) = narrowed_rows(self.alloc, self.rows.as_slice(), limit)? else {
+            return Ok(None);
+        };
+        let basis = self.basis.clone()?;
+        Ok(Some(Engine::new(self.alloc, rows, basis)?))
     }
 
     /// The rows, the cost row last.
@@ -126,6 +138,7 @@ impl Engine {
             self.rows.as_mut_slice(),
             self.basis.as_slice(),
             self.next.as_mut_slice(),
+            self.room.as_mut_slice(),
             self.entries.as_mut_slice(),
             &columns[column],
             limit,
@@ -184,6 +197,42 @@ impl Engine {
             None => self.run_on(columns, limit),
         }
     }
+}
+
+/// The same rows in 32 bits, where no number is above the limit.
+fn narrowed_rows(
+    alloc: Global,
+    rows: &[WholeRow],
+    limit: u64,
+) -> Result<Option<Vec<WholeRow>>, AllocError>
+    requires limit { limit < 2 ^ 31 }
+    ensures rows { IfOk result (λ o. IfSome o (λ narrow. narrow.items ≡ rows.now)) }
+    ensures small { IfOk result (λ o. IfSome o (λ narrow. AreAllAtMost limit rows.now)) }
+{
+    let mut narrow = Vec::with_capacity(alloc, rows.len())?;
+    // by index, since the invariant speaks of the first k rows
+    for k in 0..rows.len() {
+        let Some(row) = narrowed_row(alloc, rows, k, limit)? else {
+            return Ok(None);
+        };
+        narrow.push(row)?;
+    }
+    Ok(Some(narrow))
+}
+
+/// Row k in 32 bits, where no number is above the limit.
+fn narrowed_row(
+    alloc: Global,
+    rows: &[WholeRow],
+    k: usize,
+    limit: u64,
+) -> Result<Option<WholeRow>, AllocError>
+    requires row { k < length rows.now }
+    requires limit { limit < 2 ^ 31 }
+    ensures row { IfOk result (λ o. IfSome o (λ row. row ≡ whole_row_at rows.now k)) }
+    ensures small { IfOk result (λ o. IfSome o (λ row. AreAtMost (whole_row_at rows.now k).numbers limit)) }
+{
+    rows[k].narrowed(alloc, limit)
 }
 
 /// The row of this number, which is the last one.

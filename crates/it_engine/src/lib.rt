@@ -3,7 +3,8 @@
 //! Of a table of fractions the engine keeps the artificial columns and the right side alone, as whole numbers over one
 //! denominator for each row. The entry of any other column in a row is the sum of the column's terms at these numbers. While all
 //! numbers stay below 2^63 in absolute value no step of the exact table is wide, so the engine makes the same run without a test
-//! for it, and gives up where a number would be 2^63 or more.
+//! for it, and gives up where a number would be 2^63 or more. It tries first with rows in 32 bits, of which a step forms
+//! several numbers at once, and where a row doesn't fit these, with rows in 64 bits from the start.
 #![tactic(auto)]
 
 mod arithmetic;
@@ -12,10 +13,13 @@ mod columns;
 mod divisors;
 mod engine;
 mod loading;
+mod narrow;
+mod narrow_numbers;
 mod numbers;
 mod pivots;
 mod reading;
 mod rows;
 mod whole;
+mod wide;
 
 pub use whole::whole_run;

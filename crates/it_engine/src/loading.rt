@@ -1,111 +1,118 @@
-//! The engine of the start of a run.
+//! The engine of the start of a run, read off the rows of a question.
 //! The loops go by index, since their invariants speak of what the first ones come to.
-ghost use Rattle.std.specs.Prelude.{◌≡◌, ◌+◌, ◌<◌, ◌^◌, ◌++◌, ◌∷◌, ℕ, [], false, length, IfOk, OnOk};
+ghost use Rattle.std.specs.Prelude.{◌≡◌, ◌+◌, ◌<◌, ◌≤◌, ◌^◌, ◌++◌, ◌∷◌, [], cond, neg_ℤ, pos, unsigned_abs, length, replicate, slice_index_or, IfOk, OnOk};
 ghost use Rattle.std.specs.Bool.{OnTrue};
 ghost use Rattle.std.specs.Option.{IfSome};
-ghost use Rattle.it_tableau.specs.Gathering.{AreEmpty};
-ghost use Rattle.it_tableau.specs.Merging.{column_at, number_of_term};
-ghost use Rattle.it_tableau.specs.SparseRows.{Climbs};
-ghost use Rattle.it_tableau.specs.TableauViews.{height, table};
-ghost use Rattle.it_engine.specs.Loading.{AreReadColumns, AreReadRows, IsNorm, IsTermPushed, IsReadBasis, IsReadRow, IsRowRead, IsShortWhole};
+ghost use Rattle.it_space.specs.Rows.{coefficient};
+ghost use Rattle.it_tableau.specs.Problems.{IsAscending};
+ghost use Rattle.it_engine.specs.Loading.{right_size, right_sum, signed_coefficient, AreReadColumns, AreReadRows, IsNorm, IsReadColumn, IsReadRow, IsTermPut};
 
-use crate::arithmetic::narrow;
+use crate::arithmetic::{narrow, short_sum};
 use crate::columns::Column;
 use crate::rows::WholeRow;
-use it_fraction::Fraction;
-use it_tableau::Tableau;
+use it_space::Row;
+use it_tableau::{keeps_sign, place_of};
 use std::alloc::{AllocError, Global};
 
 /// The largest number of the engine, 2^63 - 1.
 const LARGEST: u64 = i64::MAX as u64;
 
-/// The number where it is whole and within a bound.
-fn whole_number(value: Fraction, limit: u64) -> Option<i64>
+/// The number, negated unless the sign is kept, where it is within a bound.
+fn signed_number(number: i128, kept: bool, limit: u64) -> Option<i64>
     requires { limit < 2 ^ 63 }
-    ensures { IfSome result (λ z. IsShortWhole limit value z) }
+    ensures { IfSome result (λ z. (z ≡ cond kept number (neg_ℤ number)) × (unsigned_abs z ≤ limit)) }
 {
-    if value.den() == 1 {
-        narrow(value.num(), limit)
-    } else {
-        None
-    }
+    let short = narrow(number, limit)?;
+    if kept { Some(short) } else { Some(-short) }
 }
 
-/// The column of term i.
-fn column_of(terms: &[(usize, Fraction)], i: usize) -> usize
+/// The coordinate of term i.
+fn coordinate_at(terms: &[(u32, i128)], i: usize) -> u32
     requires { i < length terms.now }
-    ensures { result ≡ column_at terms.now i }
+    ensures { result ≡ (slice_index_or terms.now i (0, pos 0)).0 }
 {
     terms[i].0
 }
 
-/// The number of term i.
-fn value_of(terms: &[(usize, Fraction)], i: usize) -> Fraction
+/// The coefficient of term i.
+fn coefficient_at(terms: &[(u32, i128)], i: usize) -> i128
     requires { i < length terms.now }
-    ensures { result ≡ number_of_term terms.now i }
+    ensures { result ≡ (slice_index_or terms.now i (0, pos 0)).1 }
 {
     terms[i].1
 }
 
-/// Puts an entry after those of a column.
-fn push_entry(
-    columns: &mut Vec<Column>,
-    column: usize,
-    row: usize,
-    number: i64,
-) -> Result<(), AllocError>
-    requires { column < length columns.old.items }
-    ensures { OnOk result (IsTermPushed columns.old.items column row number columns.new.items) }
-{
-    columns[column].push_entry(row, number)?;
-    Ok(())
-}
-
-/// Puts the terms of a row after those of their columns, up to the first artificial column. False where a number isn't
-/// whole or is too large.
-fn read_terms(
-    columns: &mut Vec<Column>,
-    terms: &[(usize, Fraction)],
-    row: usize,
+/// Puts a coefficient into the row of its coordinate, with the row's sign, if there is such a row. False where it is too
+/// large.
+fn put_term(
+    column: &mut Column,
+    coordinates: &[u32],
+    target: &Row,
+    coordinate: u32,
+    number: i128,
 ) -> Result<bool, AllocError>
-    requires { (width : ℕ) × Climbs 0 width terms.now }
-    ensures { IfOk result (λ whole. OnTrue whole (IsRowRead row terms.now columns.old.items columns.new.items)) }
+    requires { IsAscending coordinates.now }
+    ensures { IfOk result (λ short. OnTrue short (IsTermPut coordinates.now target.now coordinate number column.old column.new)) }
 {
-    for i in 0..terms.len() {
-        let column = column_of(terms, i);
-        if column >= columns.len() {
-            return Ok(true);
-        }
-        let Some(number) = whole_number(value_of(terms, i), LARGEST) else {
-            return Ok(false);
-        };
-        push_entry(columns, column, row, number)?;
-    }
+    let Some(row) = place_of(coordinates, coordinate) else {
+        return Ok(true);
+    };
+    let Some(short) = signed_number(number, keeps_sign(target, coordinate), LARGEST) else {
+        return Ok(false);
+    };
+    column.push_entry(row, short)?;
     Ok(true)
 }
 
-/// So many columns without entries.
-fn empty_columns(alloc: Global, count: usize) -> Result<Vec<Column>, AllocError>
-    ensures { IfOk result (λ columns. AreEmpty count columns.items) }
+/// The terms of generator j.
+fn terms_of(generators: &[Row], j: usize) -> &[(u32, i128)]
+    requires { j < length generators.now }
+    ensures { result.now ≡ slice_index_or generators.now j [] }
 {
-    let mut columns = Vec::with_capacity(alloc, count)?;
-    for _ in 0..count {
-        columns.push(Column::empty(alloc))?;
-    }
-    Ok(columns)
+    generators[j].terms()
 }
 
-/// The columns that aren't artificial, row by row. None where a number isn't whole or is too large.
-pub fn columns(alloc: Global, tableau: &Tableau) -> Result<Option<Vec<Column>>, AllocError>
-    requires usable { tableau.now.spent ≡ false }
-    ensures { IfOk result (λ o. IfSome o (λ columns. AreReadColumns tableau.now tableau.now.generator_columns columns.items)) }
+/// The column of a generator's coefficients. None where one is too large.
+fn read_column(
+    alloc: Global,
+    coordinates: &[u32],
+    generators: &[Row],
+    target: &Row,
+    j: usize,
+) -> Result<Option<Column>, AllocError>
+    requires ascending { IsAscending coordinates.now }
+    requires generator { j < length generators.now }
+    ensures { IfOk result (λ o. IfSome o (λ column. IsReadColumn (length coordinates.now) (signed_coefficient coordinates.now target.now (slice_index_or generators.now j [])) column)) }
 {
-    let mut columns = empty_columns(alloc, tableau.generator_columns())?;
-    for k in 0..tableau.rows() {
-        let whole = read_terms(&mut columns, tableau.terms(k), k)?;
-        if !whole {
+    let terms = terms_of(generators, j);
+    let mut column = Column::empty(alloc);
+    for i in 0..terms.len() {
+        let coordinate = coordinate_at(terms, i);
+        let number = coefficient_at(terms, i);
+        let short = put_term(&mut column, coordinates, target, coordinate, number)?;
+        if !short {
             return Ok(None);
         }
+    }
+    Ok(Some(column))
+}
+
+/// The columns that aren't artificial. None where a number is too large.
+pub fn columns(
+    alloc: Global,
+    coordinates: &[u32],
+    generators: &[Row],
+    target: &Row,
+) -> Result<Option<Vec<Column>>, AllocError>
+    requires { IsAscending coordinates.now }
+    ensures { IfOk result (λ o. IfSome o (λ columns. AreReadColumns coordinates.now generators.now target.now columns.items)) }
+{
+    let mut columns = Vec::with_capacity(alloc, generators.len())?;
+    for j in 0..generators.len() {
+        let Some(column) = read_column(alloc, coordinates, generators, target, j)? else {
+            return Ok(None);
+        };
+        columns.push(column)?;
     }
     Ok(Some(columns))
 }
@@ -124,91 +131,118 @@ pub fn norm(columns: &[Column]) -> Option<u64>
     Some(norm)
 }
 
-/// The entry of row i at the artificial column k, or after these the right side. The cost row is the last row.
-fn kept_entry(tableau: &Tableau, i: usize, k: usize) -> Fraction
-    requires usable { tableau.now.spent ≡ false }
-    requires row { i < height tableau.now + 1 }
-    requires place { k < height tableau.now + 1 }
-    ensures { result ≡ (table tableau.now).entry i (tableau.now.generator_columns + k) }
+/// The right side of a row, which is the target's coefficient without its sign, where it is within a bound.
+fn right_side(coordinates: &[u32], target: &Row, k: usize, limit: u64) -> Option<u64>
+    requires row { k < length coordinates.now }
+    requires limit { limit < 2 ^ 63 }
+    ensures { IfSome result (λ right. (right ≡ right_size coordinates.now target.now k) × (right ≤ limit)) }
 {
-    let rows = tableau.rows();
-    let artificials = tableau.columns() - rows;
-    if k < rows {
-        if i < rows {
-            tableau.entry(i, artificials + k)
-        } else {
-            tableau.cost(artificials + k)
-        }
-    } else {
-        if i < rows {
-            tableau.rhs(i)
-        } else {
-            tableau.cost_rhs()
-        }
+    let size = narrow(target.coefficient(coordinates[k]), limit)?;
+    Some(size.unsigned_abs())
+}
+
+/// The sum of the right sides, where it is within a bound.
+fn sum_of_rights(coordinates: &[u32], target: &Row, limit: u64) -> Option<u64>
+    requires { limit < 2 ^ 63 }
+    ensures { IfSome result (λ sum. (sum ≡ right_sum coordinates.now target.now (length coordinates.now)) × (sum ≤ limit)) }
+{
+    let mut sum: u64 = 0;
+    for k in 0..coordinates.len() {
+        sum = short_sum(right_side(coordinates, target, k, limit)?, sum)?;
     }
+    if sum <= limit { Some(sum) } else { None }
 }
 
-/// Puts a number after the others.
-fn push_number(numbers: &mut Vec<i64>, number: i64) -> Result<(), AllocError>
-    ensures { OnOk result (numbers.new.items ≡ numbers.old.items ++ number ∷ []) }
+/// So many numbers, all equal.
+fn equal_numbers(alloc: Global, number: i64, count: usize) -> Result<Vec<i64>, AllocError>
+    ensures { IfOk result (λ v. v.items ≡ replicate count number) }
 {
-    numbers.push(number)?;
-    Ok(())
+    let numbers = Vec::from_elem(alloc, number, count)?;
+    Ok(numbers)
 }
 
-/// A row's numbers at the artificial columns, and after them its right side. None where one isn't whole or is above the
-/// limit.
-fn read_row(
+/// A number as one with a sign.
+fn signed(size: u64) -> i64
+    requires { size < 2 ^ 63 }
+    ensures { result ≡ pos size }
+{
+    size as i64
+}
+
+/// Its negation.
+fn negated(size: u64) -> i64
+    requires { size < 2 ^ 63 }
+    ensures { result ≡ neg_ℤ (pos size) }
+{
+    -(size as i64)
+}
+
+/// Row k of the start: 1 at its artificial column, and its right side.
+fn unit_row(
     alloc: Global,
-    tableau: &Tableau,
-    i: usize,
+    coordinates: &[u32],
+    target: &Row,
+    k: usize,
     limit: u64,
 ) -> Result<Option<WholeRow>, AllocError>
-    requires usable { tableau.now.spent ≡ false }
-    requires row { i < height tableau.now + 1 }
-    requires height { height tableau.now < 2 ^ 16 }
+    requires row { k < length coordinates.now }
     requires limit { limit < 2 ^ 63 }
-    ensures { IfOk result (λ o. IfSome o (λ row. IsReadRow tableau.now limit i (height tableau.now + 1) row.numbers × (row.bottom ≡ 1))) }
+    requires some { 1 ≤ limit }
+    ensures { IfOk result (λ o. IfSome o (λ row. IsReadRow coordinates.now target.now limit k row)) }
 {
-    let mut numbers = Vec::with_capacity(alloc, tableau.rows() + 1)?;
-    for k in 0..tableau.rows() + 1 {
-        let Some(number) = whole_number(kept_entry(tableau, i, k), limit) else {
-            return Ok(None);
-        };
-        push_number(&mut numbers, number)?;
-    }
+    let Some(right) = right_side(coordinates, target, k, limit) else {
+        return Ok(None);
+    };
+    let last = signed(right);
+    let mut numbers = equal_numbers(alloc, 0, coordinates.len() + 1)?;
+    numbers[k] = 1;
+    numbers[coordinates.len()] = last;
     Ok(Some(WholeRow::from_numbers(numbers)))
 }
 
-/// The rows and the cost row.
+/// The cost row of the start: -1 at each artificial column, and the negated sum of the right sides.
+fn cost_row(
+    alloc: Global,
+    coordinates: &[u32],
+    target: &Row,
+    sum: u64,
+    limit: u64,
+) -> Result<WholeRow, AllocError>
+    requires sum { sum ≡ right_sum coordinates.now target.now (length coordinates.now) }
+    requires within { sum ≤ limit }
+    requires limit { limit < 2 ^ 63 }
+    requires some { 1 ≤ limit }
+    ensures { IfOk result (λ row. IsReadRow coordinates.now target.now limit (length coordinates.now) row) }
+{
+    let last = negated(sum);
+    let mut numbers = equal_numbers(alloc, -1, coordinates.len() + 1)?;
+    numbers[coordinates.len()] = last;
+    Ok(WholeRow::from_numbers(numbers))
+}
+
+/// The rows and the cost row. None where one of their numbers is above the limit.
 pub fn rows(
     alloc: Global,
-    tableau: &Tableau,
+    coordinates: &[u32],
+    target: &Row,
     limit: u64,
 ) -> Result<Option<Vec<WholeRow>>, AllocError>
-    requires usable { tableau.now.spent ≡ false }
-    requires height { height tableau.now < 2 ^ 16 }
+    requires height { length coordinates.now < 2 ^ 16 }
     requires limit { limit < 2 ^ 63 }
-    ensures { IfOk result (λ o. IfSome o (λ rows. AreReadRows tableau.now limit (height tableau.now + 1) rows.items)) }
+    requires some { 1 ≤ limit }
+    ensures rows { IfOk result (λ o. IfSome o (λ rows. AreReadRows coordinates.now target.now limit (length coordinates.now + 1) rows.items)) }
+    ensures rights { IfOk result (λ o. IfSome o (λ rows. right_sum coordinates.now target.now (length coordinates.now) ≤ limit)) }
 {
-    let mut rows = Vec::with_capacity(alloc, tableau.rows() + 1)?;
-    for i in 0..tableau.rows() + 1 {
-        let Some(row) = read_row(alloc, tableau, i, limit)? else {
+    let Some(sum) = sum_of_rights(coordinates, target, limit) else {
+        return Ok(None);
+    };
+    let mut rows = Vec::with_capacity(alloc, coordinates.len() + 1)?;
+    for k in 0..coordinates.len() {
+        let Some(row) = unit_row(alloc, coordinates, target, k, limit)? else {
             return Ok(None);
         };
         rows.push(row)?;
     }
+    rows.push(cost_row(alloc, coordinates, target, sum, limit)?)?;
     Ok(Some(rows))
-}
-
-/// The basic columns.
-pub fn basis(alloc: Global, tableau: &Tableau) -> Result<Vec<usize>, AllocError>
-    requires usable { tableau.now.spent ≡ false }
-    ensures { IfOk result (λ basis. IsReadBasis tableau.now (height tableau.now) basis.items) }
-{
-    let mut basis = Vec::with_capacity(alloc, tableau.rows())?;
-    for i in 0..tableau.rows() {
-        basis.push(tableau.basic(i))?;
-    }
-    Ok(basis)
 }

@@ -8,7 +8,7 @@ ghost use Rattle.it_engine.specs.Updates.{AreShort, AreNextPlaces, DividesAll, I
 ghost use Rattle.it_space.specs.Sums.{number_at};
 ghost use Rattle.it_engine.specs.Whole.{AreAtMost};
 
-use crate::arithmetic::narrow_difference;
+use crate::arithmetic::{narrow_difference, sum_within};
 use crate::divisors::Divisor;
 
 /// The number at place k.
@@ -68,15 +68,6 @@ pub fn greatest_size(row: &[i64]) -> u64
     most
 }
 
-/// The sum x a + y b, where that is at most the limit.
-fn sum_within(x: u64, a: u64, y: u64, b: u64, limit: u64) -> Option<u64>
-    ensures some { IfSome result (λ s. (s ≡ x * a + y * b) × (s ≤ limit)) }
-    ensures none { IfNone result (¬ (x * a + y * b ≤ limit)) }
-{
-    let sum = x.checked_mul(a)?.checked_add(y.checked_mul(b)?)?;
-    if sum <= limit { Some(sum) } else { None }
-}
-
 /// A bound on each number times a less another, which is at most y, times b: with most for the numbers, and where that is
 /// above the limit, with the greatest of them. None where that is above it too.
 fn bound(row: &[i64], most: u64, a: u64, y: u64, b: u64, limit: u64) -> Option<u64>
@@ -109,7 +100,7 @@ fn minus(x: i64, y: i64) -> i64
 
 /// x a - y b, where no part needs a test.
 #[inline]
-fn plain_difference(x: i64, a: i64, y: i64, b: i64) -> i64
+pub fn plain_difference(x: i64, a: i64, y: i64, b: i64) -> i64
     requires { unsigned_abs (x *ℤ a) + unsigned_abs (y *ℤ b) < 2 ^ 63 }
     ensures { result ≡ x *ℤ a +ℤ neg_ℤ (y *ℤ b) }
 {

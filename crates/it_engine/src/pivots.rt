@@ -13,24 +13,27 @@ use crate::rows::WholeRow;
 use std::alloc::Global;
 
 /// Makes the column at which the rows have these entries basic in row r; false where a number would be too large, and then nothing
-/// is known of the rows. Next is room for a number for each place of a row and one more.
+/// is known of the rows. Next is room for a number for each place of a row and one more, room is room for a row.
 fn pivot(
     alloc: Global,
     rows: &mut [WholeRow],
     next: &mut [usize],
+    room: &mut [i64],
     entries: &[i64],
     r: usize,
     limit: u64,
 ) -> bool
     requires row { r < length rows.old }
     requires rows { AreUsable (length rows.old) limit rows.old }
-    requires room { length next.old ≡ length rows.old + 1 }
+    requires next { length next.old ≡ length rows.old + 1 }
+    requires room { length room.old ≡ length rows.old }
     requires entries { length entries.now ≡ length rows.old }
     requires short { AreShort entries.now }
     requires positive { pos 1 ≤ℤ number_at entries.now r }
     requires limit { limit < 2 ^ 63 }
     ensures pivoted { OnTrue result (AreWholeRowsPivoted (length rows.old) limit rows.old (number_at entries.now) r rows.new) }
-    ensures room { length next.new ≡ length next.old }
+    ensures next { length next.new ≡ length next.old }
+    ensures room { length room.new ≡ length room.old }
 {
     let taken = std::mem::replace(&mut rows[r], WholeRow::empty(alloc));
     // Divided first, so that it is in lowest terms: then the factors of most other rows are 1, and their numbers stay small.
@@ -40,7 +43,7 @@ fn pivot(
     // by index, since the invariant speaks of the rows before i and of those from i on
     for i in 0..rows.len() {
         if i != r {
-            if !rows[i].update(&own, next, read(entries, i), p, limit) {
+            if !rows[i].update(&own, next, room, read(entries, i), p, limit) {
                 return false;
             }
         }
@@ -50,13 +53,14 @@ fn pivot(
 }
 
 /// Makes the column basic in the row that leaves, and tells that row; None where none leaves, or where a number would be too large,
-/// and then nothing is known of the rows. Next is room for a number for each place of a row and one more, entries for one for each
-/// row.
+/// and then nothing is known of the rows. Next is room for a number for each place of a row and one more, room is room for a row,
+/// and entries for a number for each row.
 pub fn enter(
     alloc: Global,
     rows: &mut [WholeRow],
     basis: &[usize],
     next: &mut [usize],
+    room: &mut [i64],
     entries: &mut [i64],
     column: &Column,
     limit: u64,
@@ -64,6 +68,7 @@ pub fn enter(
     requires height { length rows.old ≡ length basis.now + 1 }
     requires rows { AreUsable (length rows.old) limit rows.old }
     requires next { length next.old ≡ length rows.old + 1 }
+    requires room { length room.old ≡ length rows.old }
     requires entries { length entries.old ≡ length rows.old }
     requires column { IsFitting (length rows.old) limit column.now }
     requires limit { limit < 2 ^ 63 }
@@ -71,11 +76,12 @@ pub fn enter(
     ensures within { IfSome result (λ r. r < length basis.now) }
     ensures pivoted { IfSome result (λ r. AreWholeRowsPivoted (length rows.old) limit rows.old (entry_of column.now rows.old) r rows.new) }
     ensures next { length next.new ≡ length next.old }
+    ensures room { length room.new ≡ length room.old }
     ensures entries { length entries.new ≡ length entries.old }
 {
     note_entries(column, rows, entries);
     let row = leaving_row(entries, rows, basis)?;
-    if pivot(alloc, rows, next, entries, row, limit) {
+    if pivot(alloc, rows, next, room, entries, row, limit) {
         Some(row)
     } else {
         None

@@ -1,8 +1,7 @@
 //! What is read off the engine at the end of a run.
-ghost use Rattle.std.specs.Prelude.{◌≡◌, ◌≢◌, ◌<◌, [], ℕ, false, pos, negsuc, if◌then◌else◌, length, slice_index_or, IfOk};
+ghost use Rattle.std.specs.Prelude.{◌≡◌, ◌≢◌, ◌<◌, [], ℕ, cond, pos, length, slice_index_or, IfOk};
 ghost use Rattle.std.specs.Option.{IfNone, IfSome};
-ghost use Rattle.it_rational.specs.Rational.{quotient, times, integer};
-ghost use Rattle.it_tableau.specs.TableauViews.{height};
+ghost use Rattle.it_rational.specs.Rational.{quotient, times, minus, integer};
 ghost use Rattle.it_engine.specs.Choosing.{right_side_of};
 ghost use Rattle.it_engine.specs.Engine.{IsSafe};
 ghost use Rattle.it_engine.specs.Ends.{AreWeightsOf, IsPointOf, IsWeightOf};
@@ -12,7 +11,8 @@ ghost use Rattle.it_engine.specs.Whole.{whole_row_at};
 use crate::columns::Column;
 use crate::rows::WholeRow;
 use it_fraction::Fraction;
-use it_tableau::Tableau;
+use it_space::Row;
+use it_tableau::keeps_sign;
 use std::alloc::{AllocError, Global};
 
 /// The number at place k over the row's denominator.
@@ -70,29 +70,29 @@ pub fn weights(
     Ok(out)
 }
 
-/// The value, or its negation.
-fn signed_value(value: Fraction, negated: bool) -> Fraction
-    ensures { result ≡ times (integer (if negated then negsuc 0 else pos 1)) value }
+/// The value with the sign of a row: negated unless the sign is kept.
+fn signed_value(value: Fraction, kept: bool) -> Fraction
+    ensures { result ≡ times (cond kept (integer (pos 1)) (minus (integer (pos 1)))) value }
 {
-    if negated { value.neg() } else { value }
+    if kept { value } else { value.neg() }
 }
 
 /// The point, by rows, with the signs of the start.
 pub fn point(
     alloc: Global,
-    first: &Tableau,
+    coordinates: &[u32],
+    target: &Row,
     rows: &[WholeRow],
     basis: &[usize],
 ) -> Result<Vec<Fraction>, AllocError>
-    requires usable { first.now.spent ≡ false }
-    requires height { length basis.now ≡ height first.now }
+    requires height { length basis.now ≡ length coordinates.now }
     requires engine { (limit : ℕ) × IsSafe [] limit rows.now basis.now }
-    ensures { IfOk result (λ out. IsPointOf first.now rows.now basis.now out.items) }
+    ensures { IfOk result (λ out. IsPointOf coordinates.now target.now rows.now basis.now out.items) }
 {
     let mut out = Vec::with_capacity(alloc, basis.len())?;
     for k in 0..basis.len() {
         let cost = fraction_at(rows, basis.len(), k);
-        out.push(signed_value(cost, first.sign(k) < 0))?;
+        out.push(signed_value(cost, keeps_sign(target, coordinates[k])))?;
     }
     Ok(out)
 }

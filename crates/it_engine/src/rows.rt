@@ -1,44 +1,50 @@
-//! Rows of whole numbers over one denominator.
-ghost use Rattle.std.specs.Prelude.{◌≡◌, ◌+◌, ◌<◌, ◌^◌, ◌≤ℤ◌, [], unsigned_abs, length, pos};
+//! Rows of whole numbers over one denominator, in 32 or in 64 bits.
+ghost use Rattle.std.specs.Prelude.{◌≡◌, ◌+◌, ◌<◌, ◌^◌, ◌≤ℤ◌, [], unsigned_abs, length, pos, IfOk};
 ghost use Rattle.std.specs.Bool.{OnTrue};
+ghost use Rattle.std.specs.Option.{IfSome};
 ghost use Rattle.it_space.specs.Sums.{number_at};
-ghost use Rattle.it_engine.specs.Updates.{AreNextPlaces, AreShort, IsWholeRowReduced, IsQuotient, IsShortened, IsUpdated, IsUsable};
+ghost use Rattle.it_engine.specs.Whole.{AreAtMost};
+ghost use Rattle.it_engine.specs.Updates.{AreNextPlaces, AreShort, IsQuotient, IsUpdated, IsUsable};
+ghost use Rattle.it_engine.specs.Widths.{row_of};
 
-use crate::arithmetic::{common_divisor, quotient, short_product};
-use crate::numbers::{combine, divide, divisor, greatest_size, note_places};
-use std::alloc::Global;
+use crate::narrow::NarrowRow;
+use crate::wide::WideRow;
+use std::alloc::{AllocError, Global};
 use std::marker::Model;
+
+/// A row in either width.
+#[derive(Drop)]
+pub enum AnyRow {
+    /// In 32 bits.
+    Narrow(NarrowRow),
+    /// In 64 bits.
+    Wide(WideRow),
+}
 
 /// Whole numbers over one denominator, not in lowest terms.
 #[derive(Drop)]
 pub struct WholeRow {
-    numbers: Vec<i64>,
-    bottom: u64,
-    // no number is greater in absolute value; kept, so that a step mostly needs no pass over the numbers for it
-    most: u64,
+    row: AnyRow,
 }
 
 impl Model for WholeRow {
-    ghost use Rattle.it_engine.specs.Whole.{AreAtMost, WholeRowView};
+    ghost use Rattle.it_engine.specs.Whole.{WholeRowView};
 
     ghost Value = { WholeRowView };
 
-    ghost view = { λ r. record { numbers = r.numbers.items; bottom = r.bottom } };
+    ghost use Rattle.it_engine.specs.Widths.{row_of};
 
-    ghost invariant = { λ r. AreAtMost r.numbers.items r.most };
+    ghost view = { λ r. row_of r.row };
 }
 
 impl WholeRow {
-    /// A row of whole numbers.
+    /// A row of whole numbers in 64 bits.
     pub fn from_numbers(numbers: Vec<i64>) -> WholeRow
         ensures numbers { result.numbers ≡ numbers.items }
         ensures bottom { result.bottom ≡ 1 }
     {
-        let most = greatest_size(numbers.as_slice());
         WholeRow {
-            numbers,
-            bottom: 1,
-            most,
+            row: AnyRow::Wide(WideRow::from_numbers(numbers)),
         }
     }
 
@@ -48,10 +54,35 @@ impl WholeRow {
         ensures bottom { result.bottom ≡ 1 }
     {
         WholeRow {
-            numbers: Vec::new(alloc),
-            bottom: 1,
-            most: 0,
+            row: AnyRow::Wide(WideRow::empty(alloc)),
         }
+    }
+
+    /// The same row in 32 bits, where no number is above the limit. A row in 32 bits is given no second time.
+    pub fn narrowed(&self, alloc: Global, limit: u64) -> Result<Option<WholeRow>, AllocError>
+        requires { limit < 2 ^ 31 }
+        ensures row { IfOk result (λ o. IfSome o (λ row. row ≡ self.now)) }
+        ensures small { IfOk result (λ o. IfSome o (λ row. AreAtMost self.now.numbers limit)) }
+    {
+        match &self.row {
+            AnyRow::Narrow(_) => Ok(None),
+            AnyRow::Wide(row) => {
+                match NarrowRow::from_numbers(alloc, row.numbers(), row.bottom(), limit)? {
+                    Some(row) => Ok(Some(WholeRow {
+                        row: AnyRow::Narrow(row),
+                    })),
+                    None => Ok(None),
+                }
+            }
+        }
+    }
+
+    /// The row in its width.
+    #[inline]
+    pub fn any_width(&self) -> &AnyRow
+        ensures { row_of result.now ≡ self.now }
+    {
+        &self.row
     }
 
     /// The number at place k, before it is divided.
@@ -60,14 +91,20 @@ impl WholeRow {
         requires { k < length self.now.numbers }
         ensures { result ≡ number_at self.now.numbers k }
     {
-        self.numbers[k]
+        match &self.row {
+            AnyRow::Narrow(row) => row.number(k),
+            AnyRow::Wide(row) => row.number(k),
+        }
     }
 
     /// The denominator.
     pub fn bottom(&self) -> u64
         ensures { result ≡ self.now.bottom }
     {
-        self.bottom
+        match &self.row {
+            AnyRow::Narrow(row) => row.bottom(),
+            AnyRow::Wide(row) => row.bottom(),
+        }
     }
 
     /// What stands for 1 in the row: its denominator.
@@ -75,7 +112,7 @@ impl WholeRow {
         requires { self.now.bottom < 2 ^ 63 }
         ensures { result ≡ pos self.now.bottom }
     {
-        self.bottom as i64
+        self.bottom() as i64
     }
 
     /// Notes for each place the next one where the row isn't 0.
@@ -83,83 +120,20 @@ impl WholeRow {
         requires { length next.old ≡ length self.now.numbers + 1 }
         ensures { AreNextPlaces self.now.numbers next.new }
     {
-        note_places(self.numbers.as_slice(), next);
-    }
-
-    /// The same row, with an exact bound on its numbers.
-    fn with_exact_bound(self) -> WholeRow
-        ensures { result ≡ self }
-    {
-        let most = greatest_size(self.numbers.as_slice());
-        WholeRow {
-            numbers: self.numbers,
-            bottom: self.bottom,
-            most,
-        }
-    }
-
-    /// The same row over the least denominator.
-    fn shorten(&mut self)
-        requires some { 0 < self.old.bottom }
-        requires short { AreShort self.old.numbers }
-        ensures { IsShortened self.old self.new }
-    {
-        let shared = divisor(self.numbers.as_slice(), self.bottom);
-        if shared.is_one() {
-            return;
-        }
-        divide(self.numbers.as_mut_slice(), &shared);
-        self.bottom = shared.size_quotient(self.bottom);
-        self.most = greatest_size(self.numbers.as_slice());
-    }
-
-    /// Takes off as much of the leaving row as makes the entry at the column 0; false where a number would be too large, and then
-    /// nothing is known of the row.
-    fn reduce(&mut self, own: &WholeRow, next: &[usize], entry: i64, pivot: i64, limit: u64) -> bool
-        requires row { IsUsable (length own.now.numbers) limit self.old }
-        requires own { IsUsable (length own.now.numbers) limit own.now }
-        requires places { AreNextPlaces own.now.numbers next.now }
-        requires entry { unsigned_abs entry < 2 ^ 63 }
-        requires pivot { pos 1 ≤ℤ pivot }
-        requires limit { limit < 2 ^ 63 }
-        ensures less { OnTrue result (IsWholeRowReduced (length own.now.numbers) limit self.old own.now entry pivot self.new) }
-        ensures usable { OnTrue result (IsUsable (length own.now.numbers) limit self.new) }
-    {
-        let shared = common_divisor(pivot.unsigned_abs(), entry.unsigned_abs());
-        let a = quotient(pivot, shared);
-        let b = quotient(entry, shared);
-        let Some(bottom) = short_product(self.bottom, a.unsigned_abs()) else {
-            return false;
-        };
-        match combine(
-            self.numbers.as_mut_slice(),
-            own.numbers.as_slice(),
-            next,
-            a,
-            b,
-            self.most,
-            own.most,
-            limit,
-        ) {
-            Some(most) => {
-                self.bottom = bottom;
-                self.most = most;
-                true
-            }
-            None => {
-                self.most = greatest_size(self.numbers.as_slice());
-                false
-            }
+        match &self.row {
+            AnyRow::Narrow(row) => row.note_places(next),
+            AnyRow::Wide(row) => row.note_places(next),
         }
     }
 
     /// The row, which has this entry at the column, after a step in which another row leaves, whose entry there is the pivot; false
-    /// where a number would be larger than the limit, and then nothing is known of the row. Next has the next places where the
-    /// leaving row isn't 0.
+    /// where a number would be larger than the limit or the other row is of another width, and then nothing is known of the row. Next
+    /// has the next places where the leaving row isn't 0, and room is room for a row.
     pub fn update(
         &mut self,
         own: &WholeRow,
         next: &[usize],
+        room: &mut [i64],
         entry: i64,
         pivot: i64,
         limit: u64,
@@ -167,21 +141,25 @@ impl WholeRow {
         requires row { IsUsable (length own.now.numbers) limit self.old }
         requires own { IsUsable (length own.now.numbers) limit own.now }
         requires places { AreNextPlaces own.now.numbers next.now }
+        requires room { length room.old ≡ length own.now.numbers }
         requires entry { unsigned_abs entry < 2 ^ 63 }
         requires pivot { pos 1 ≤ℤ pivot }
         requires limit { limit < 2 ^ 63 }
-        ensures { OnTrue result (IsUpdated (length own.now.numbers) limit self.old own.now entry pivot self.new) }
+        ensures room { length room.new ≡ length room.old }
+        ensures updated { OnTrue result (IsUpdated (length own.now.numbers) limit self.old own.now entry pivot self.new) }
     {
-        if entry == 0 {
-            return true;
+        match &own.row {
+            AnyRow::Narrow(own) => match &mut self.row {
+                AnyRow::Narrow(row) => {
+                    limit < 1 << 31 && row.update(own, next, room, entry, pivot, limit)
+                }
+                AnyRow::Wide(_) => false,
+            },
+            AnyRow::Wide(own) => match &mut self.row {
+                AnyRow::Narrow(_) => false,
+                AnyRow::Wide(row) => row.update(own, next, entry, pivot, limit),
+            },
         }
-        if !self.reduce(own, next, entry, pivot, limit) {
-            return false;
-        }
-        if is_large(self.bottom) {
-            self.shorten();
-        }
-        true
     }
 
     /// The leaving row after a step: it is divided by its entry at the column, over the least denominator.
@@ -190,17 +168,13 @@ impl WholeRow {
         requires short { AreShort self.numbers }
         ensures { IsQuotient self pivot result }
     {
-        let mut row = WholeRow {
-            numbers: self.numbers,
-            bottom: pivot.unsigned_abs(),
-            most: self.most,
-        };
-        row.shorten();
-        row.with_exact_bound()
+        match self.row {
+            AnyRow::Narrow(row) => WholeRow {
+                row: AnyRow::Narrow(row.divided_by(pivot)),
+            },
+            AnyRow::Wide(row) => WholeRow {
+                row: AnyRow::Wide(row.divided_by(pivot)),
+            },
+        }
     }
-}
-
-/// Whether a denominator is large. A gcd of a whole row is dear, so that a row gets its least one only there.
-fn is_large(bottom: u64) -> bool {
-    bottom > 1 << 16
 }

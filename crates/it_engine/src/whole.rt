@@ -1,21 +1,27 @@
 //! The run from a start.
-ghost use Rattle.std.specs.Prelude.{◌≡◌, ◌<◌, false, length, IfOk};
+ghost use Rattle.std.specs.Prelude.{◌≡◌, ◌<◌, ◌≤◌, ◌^◌, length, IfOk};
 ghost use Rattle.std.specs.Option.{IfSome};
-ghost use Rattle.it_run.specs.Answers.{HasProblem, RunsFrom};
-ghost use Rattle.it_tableau.specs.TableauViews.{height};
+ghost use Rattle.it_engine.specs.Answers.{RunsFromStart};
 ghost use Rattle.it_engine.specs.Engine.{IsSafe, StandsForSome};
 ghost use Rattle.it_engine.specs.Ends.{AnswersQuestion};
 
 use crate::columns::Column;
 use crate::engine::{Engine, EngineEnd};
-use crate::loading::{basis, columns, norm, rows};
+use crate::loading::{columns, norm, rows};
 use crate::reading::{point, weights};
 use it_run::Solved;
-use it_tableau::Tableau;
+use it_space::Row;
+use it_tableau::{artificials, ascends};
 use std::alloc::{AllocError, Global};
 
 /// The largest number of the engine, 2^63 - 1.
 const LARGEST: u64 = i64::MAX as u64;
+
+/// The largest number in 32 bits, 2^31 - 1.
+const LARGEST_NARROW: u64 = i32::MAX as u64;
+
+/// With fewer rows than this a run in 32 bits gains nothing.
+const FEW_ROWS: usize = 64;
 
 /// The most rows of a table, the cost row among them. All are full, so that a table with more of them would take more memory
 /// than the sparse table of fractions.
@@ -24,17 +30,17 @@ const MOST_ROWS: usize = 1 << 12;
 /// The run, and what is read off its end.
 fn answer(
     alloc: Global,
-    start: &Tableau,
+    coordinates: &[u32],
+    target: &Row,
     columns: &[Column],
     limit: u64,
     engine: Engine,
     budget: Option<u32>,
 ) -> Result<Option<Solved>, AllocError>
-    requires usable { start.now.spent ≡ false }
-    requires height { length engine.basis ≡ height start.now }
+    requires height { length engine.basis ≡ length coordinates.now }
     requires engine { IsSafe columns.now limit engine.rows engine.basis }
     requires stands { StandsForSome columns.now limit engine.rows engine.basis }
-    ensures { IfOk result (λ o. IfSome o (λ solved. AnswersQuestion start.now columns.now limit engine.rows engine.basis budget solved)) }
+    ensures { IfOk result (λ o. IfSome o (λ solved. AnswersQuestion coordinates.now target.now columns.now limit engine.rows engine.basis budget solved)) }
 {
     let mut engine = engine;
     match engine.run(columns, limit, budget) {
@@ -46,7 +52,8 @@ fn answer(
         )?))),
         Some(EngineEnd::Point) => Ok(Some(Solved::Point(point(
             alloc,
-            start,
+            coordinates,
+            target,
             engine.rows(),
             engine.basis(),
         )?))),
@@ -55,33 +62,99 @@ fn answer(
     }
 }
 
-/// The run from a start, with a budget of steps or without one, and what is read off its last table. None where it can't be made
-/// on whole numbers below 2^63: where the start has others, or a step would form one, or the table has too many rows.
-pub fn whole_run(
+/// The limit, or the largest number in 32 bits where that is less.
+fn narrow_limit(limit: u64) -> u64
+    ensures below { result ≤ limit }
+    ensures narrow { result < 2 ^ 31 }
+{
+    if limit < LARGEST_NARROW {
+        limit
+    } else {
+        LARGEST_NARROW
+    }
+}
+
+/// The run in 32 bits, and what is read off its end. None where a number would be larger, or where the rows are so few that rows
+/// in 64 bits are as fast.
+fn narrow_answer(
     alloc: Global,
-    start: &Tableau,
+    coordinates: &[u32],
+    target: &Row,
+    columns: &[Column],
+    limit: u64,
+    engine: &Engine,
     budget: Option<u32>,
 ) -> Result<Option<Solved>, AllocError>
-    requires usable { start.now.spent ≡ false }
-    requires start { HasProblem start.now }
-    ensures { IfOk result (λ o. IfSome o (λ solved. RunsFrom start.now budget solved)) }
+    requires height { length engine.now.basis ≡ length coordinates.now }
+    requires engine { IsSafe columns.now limit engine.now.rows engine.now.basis }
+    requires stands { StandsForSome columns.now limit engine.now.rows engine.now.basis }
+    ensures { IfOk result (λ o. IfSome o (λ solved. AnswersQuestion coordinates.now target.now columns.now limit engine.now.rows engine.now.basis budget solved)) }
 {
-    if start.rows() >= MOST_ROWS {
+    if engine.basis().len() < FEW_ROWS {
         return Ok(None);
     }
-    let Some(columns) = columns(alloc, start)? else {
+    let lower = narrow_limit(limit);
+    match engine.narrowed(lower)? {
+        Some(narrow) => answer(alloc, coordinates, target, columns, lower, narrow, budget),
+        None => Ok(None),
+    }
+}
+
+/// The run in 32 bits, and where that gives up, in 64, and what is read off its end.
+fn answer_by_width(
+    alloc: Global,
+    coordinates: &[u32],
+    target: &Row,
+    columns: &[Column],
+    limit: u64,
+    engine: Engine,
+    budget: Option<u32>,
+) -> Result<Option<Solved>, AllocError>
+    requires height { length engine.basis ≡ length coordinates.now }
+    requires engine { IsSafe columns.now limit engine.rows engine.basis }
+    requires stands { StandsForSome columns.now limit engine.rows engine.basis }
+    ensures { IfOk result (λ o. IfSome o (λ solved. AnswersQuestion coordinates.now target.now columns.now limit engine.rows engine.basis budget solved)) }
+{
+    match narrow_answer(alloc, coordinates, target, columns, limit, &engine, budget)? {
+        Some(solved) => Ok(Some(solved)),
+        None => answer(alloc, coordinates, target, columns, limit, engine, budget),
+    }
+}
+
+/// The run from the start of a question, with a budget of steps or without one, and what is read off its last table. None where
+/// it can't be made on whole numbers below 2^63: where the start has others, or a step would form one, or the table has too many
+/// rows, or the coordinates don't ascend.
+pub fn whole_run(
+    alloc: Global,
+    coordinates: &[u32],
+    generators: &[Row],
+    target: &Row,
+    budget: Option<u32>,
+) -> Result<Option<Solved>, AllocError>
+    ensures { IfOk result (λ o. IfSome o (RunsFromStart coordinates.now generators.now target.now budget)) }
+{
+    if coordinates.len() >= MOST_ROWS || !ascends(coordinates) {
+        return Ok(None);
+    }
+    let Some(columns) = columns(alloc, coordinates, generators, target)? else {
         return Ok(None);
     };
     let Some(norm) = norm(columns.as_slice()) else {
         return Ok(None);
     };
     let limit = LARGEST / norm;
-    let Some(rows) = rows(alloc, start, limit)? else {
+    let Some(rows) = rows(alloc, coordinates, target, limit)? else {
         return Ok(None);
     };
-    let basis = basis(alloc, start)?;
-    let next = Vec::from_elem(alloc, 0, basis.len() + 2)?;
-    let entries = Vec::from_elem(alloc, 0, basis.len() + 1)?;
-    let engine = Engine::new(alloc, rows, basis, next, entries);
-    answer(alloc, start, columns.as_slice(), limit, engine, budget)
+    let basis = artificials(alloc, generators.len(), coordinates.len())?;
+    let engine = Engine::new(alloc, rows, basis)?;
+    answer_by_width(
+        alloc,
+        coordinates,
+        target,
+        columns.as_slice(),
+        limit,
+        engine,
+        budget,
+    )
 }

@@ -1,5 +1,5 @@
--- From a run on a tableau to the answer of a question.
-use Rattle.std.proofs.Common.{◌≡◌, inl, inr, ℕ, pos, negsuc, if◌then◌else◌, Bool, true, false, not, cond, List, length, slice_index_or, Option, Some, None, refl, sym, ap, ap₂, subst, ◌∙◌, arith}
+-- From a run to the answer of a question.
+use Rattle.std.proofs.Common.{◌≡◌, inl, inr, ℕ, zero, pos, negsuc, if◌then◌else◌, Bool, true, false, not, cond, List, length, slice_index_or, Option, Some, None, refl, sym, ap, ap₂, subst, ◌∙◌, arith}
 use Rattle.std.specs.Option.{IfNone}
 use Rattle.it_rational.specs.Rational.{Rational, integer, minus, is_at_least_zero}
 use Rattle.it_rational.proofs.Field.{field_ℚ}
@@ -12,13 +12,21 @@ use Rattle.it_run.specs.Answers.{end_of_answer, HasSigns, IsStartOf, RunsFrom}
 use Rattle.it_run.specs.Choice.{next, IsDone, IsStuck}
 use Rattle.it_run.specs.Readings.{weights, point}
 use Rattle.it_run.specs.Runs.{RunEndView, IsWithinBudget}
+use Rattle.it_run.specs.Runs.RunEndView.{Weights, Point, Pivots, Width}
 use Rattle.it_run.specs.Solving.{RunsTo, StepFits}
 use Rattle.it_run.specs.declared.answering.Solved.{Solved}
-use Rattle.it_run.specs.declared.answering.Solved.TheVariants.{Weights, Point, Pivots, Width}
+use Rattle.it_run.specs.declared.answering.Solved.TheVariants as answers
 use Rattle.it_run.proofs.BudgetLemmas.{one_end_by, right_by, within_budget}
 use Rattle.it_run.proofs.RunLemmas.{EndIsRight}
 use Rattle.it_run.proofs.SignLemmas.{minus_one}
 use Rattle.it_simplex.specs.Answers.{IsRightSolved, Solves}
+
+-- an end at which weights or a point are read off
+abbrev IsReading : RunEndView (List (ℕ × Rational)) (List Rational) → Type 0
+IsReading (Weights ws) = Unit {0}
+IsReading (Point q) = Unit {0}
+IsReading (Pivots k) = ⊥
+IsReading (Width k) = ⊥
 
 module _ (cs : List ℕ) (columns : List Terms) (target : Terms) (t : TableauView) (s : IsStart cs columns target t) where
   -- what is said of the start's sizes and table, and of the tableau's
@@ -47,14 +55,21 @@ module _ (cs : List ℕ) (columns : List Terms) (target : Terms) (t : TableauVie
   pub run_solves : (budget : Option ℕ) (a : Solved) → StartFits (length cs) (length columns) (feasibility_problem cs columns target) → RunsFrom t budget a → Solves cs columns target budget (end_of_answer a)
   run_solves budget a f r = inr (f, run_from_start budget a r)
 
-  pub answer_is_right : (budget : Option ℕ) (a : Solved) → RunsFrom t budget a → IsRightSolved cs columns target a
-  answer_is_right budget a r = from_end a (right_by field_ℚ (length cs) (length columns) (StepFits (length cs) (length columns)) (feasibility_problem cs columns target) budget (end_of_answer a) (run_from_start budget a r))
-    where
-      from_end : (a : Solved) → EndIsRight field_ℚ (length cs) (length columns) (feasibility_problem cs columns target) (end_of_answer a) → IsRightSolved cs columns target a
-      from_end (Weights ws) x = x
-      from_end (Point q) x = x
-      from_end (Pivots k) x = tt
-      from_end (Width k) x = tt
+pub answer_is_right : (cs : List ℕ) (columns : List Terms) (target : Terms) (budget : Option ℕ) (a : Solved) → Solves cs columns target budget (end_of_answer a) → IsRightSolved cs columns target a
+answer_is_right cs columns target budget a (inl s) = without_start a s.1
+  where
+    without_start : (a : Solved) → end_of_answer a ≡ Width zero → IsRightSolved cs columns target a
+    without_start (answers.Weights ws) e = absurd (subst IsReading e tt)
+    without_start (answers.Point q) e = absurd (subst IsReading e tt)
+    without_start (answers.Pivots k) e = tt
+    without_start (answers.Width k) e = tt
+answer_is_right cs columns target budget a (inr s) = from_end a (right_by field_ℚ (length cs) (length columns) (StepFits (length cs) (length columns)) (feasibility_problem cs columns target) budget (end_of_answer a) s.1)
+  where
+    from_end : (a : Solved) → EndIsRight field_ℚ (length cs) (length columns) (feasibility_problem cs columns target) (end_of_answer a) → IsRightSolved cs columns target a
+    from_end (answers.Weights ws) x = x
+    from_end (answers.Point q) x = x
+    from_end (answers.Pivots k) x = tt
+    from_end (answers.Width k) x = tt
 
 pub if_none : (o : Option ℕ) (P : Type 0) → (o ≡ None → P) → IfNone o P
 if_none None P f = f refl

@@ -1,7 +1,7 @@
 //! The answer to a question.
-ghost use Rattle.std.specs.Prelude.{◌≡◌, false, IfOk};
+ghost use Rattle.std.specs.Prelude.{IfOk};
 ghost use Rattle.std.specs.Option.{IfNone};
-ghost use Rattle.it_run.specs.Answers.{end_of_answer, HasProblem, RunsFrom};
+ghost use Rattle.it_run.specs.Answers.{end_of_answer};
 ghost use Rattle.it_run.specs.Runs.{IsWithinBudget};
 ghost use Rattle.it_simplex.specs.Answers.{IsRightSolved, Solves};
 
@@ -12,15 +12,36 @@ use it_space::{Row, RowFault};
 use it_tableau::Tableau;
 use std::alloc::{AllocError, Global};
 
-/// The run by whole numbers, and where these give up by fractions from the start.
-fn run_answer(alloc: Global, start: Tableau, budget: Option<u32>) -> Result<Solved, AllocError>
-    requires usable { start.spent ≡ false }
-    requires start { HasProblem start }
-    ensures { IfOk result (λ solved. RunsFrom start budget solved) }
+/// The run by fractions from the start.
+fn exact_answer(
+    alloc: Global,
+    coordinates: &[u32],
+    columns: &[Row],
+    target: &Row,
+    budget: Budget,
+) -> Result<Solved, AllocError>
+    ensures { IfOk result (λ solved. Solves coordinates.now columns.now target.now budget (end_of_answer solved)) }
 {
-    match whole_run(alloc, &start, budget)? {
+    match Tableau::start(alloc, coordinates, columns, target) {
+        Ok(start) => exact_run(alloc, start, budget.steps()),
+        Err(RowFault::Wide) => Ok(Solved::Width(0)),
+        Err(RowFault::Memory) => Err(AllocError),
+    }
+}
+
+/// The run by whole numbers, and where these give up by fractions from the start.
+fn run_answer(
+    alloc: Global,
+    coordinates: &[u32],
+    columns: &[Row],
+    target: &Row,
+    budget: Budget,
+) -> Result<Solved, AllocError>
+    ensures { IfOk result (λ solved. Solves coordinates.now columns.now target.now budget (end_of_answer solved)) }
+{
+    match whole_run(alloc, coordinates, columns, target, budget.steps())? {
         Some(solved) => Ok(solved),
-        None => exact_run(alloc, start, budget),
+        None => exact_answer(alloc, coordinates, columns, target, budget),
     }
 }
 
@@ -38,9 +59,7 @@ pub fn solve(
     ensures unbound { IfNone budget (IfOk result (λ solved. IsWithinBudget (end_of_answer solved))) }
     ensures right { IfOk result (λ solved. IsRightSolved coordinates.now columns.now target.now solved) }
 {
-    match Tableau::start(alloc, coordinates, columns, target) {
-        Ok(start) => run_answer(alloc, start, budget.steps()),
-        Err(RowFault::Wide) => Ok(Solved::Width(0)),
-        Err(RowFault::Memory) => Err(AllocError),
-    }
+    // named before it is answered, so that the contract of the call stands at the answer
+    let solved = run_answer(alloc, coordinates, columns, target, budget)?;
+    Ok(solved)
 }

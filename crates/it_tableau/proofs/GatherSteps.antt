@@ -13,9 +13,9 @@ use Rattle.it_fraction.specs.Fits.{IsNarrow}
 use Rattle.it_fraction.proofs.ZeroLemmas.{product-zero, top_of_zero}
 use Rattle.it_space.specs.Rows.{Terms, coefficient, Ascends}
 use Rattle.it_space.proofs.CanonicalRows.{here_is, none_below, other_is}
-use Rattle.it_tableau.specs.Gathering.{row_terms_at, start_number, AreAppended, AreGathered, IsAscending, IsEntryPut, IsListTaken}
+use Rattle.it_tableau.specs.Gathering.{row_terms_at, start_number, AreAppended, AreGathered, IsEntryPut, IsListTaken}
 use Rattle.it_tableau.specs.Merging.{IsAppended}
-use Rattle.it_tableau.specs.Problems.{feasibility_problem}
+use Rattle.it_tableau.specs.Problems.{feasibility_problem, IsAscending}
 use Rattle.it_tableau.specs.Rows.{IsWholeNumber, ListsValues, dense_row}
 use Rattle.it_tableau.specs.SparseRows.{RowTerms, Climbs, ListsEntries}
 use Rattle.it_tableau.specs.StartRows.{AreStartRows}

@@ -8,10 +8,6 @@ use Rattle.it_tableau.specs.Problems.{feasibility_problem}
 use Rattle.it_tableau.specs.SparseRows.{RowTerms, ListsEntries}
 use Rattle.it_tableau.specs.SimplexTables.{start_row}
 
--- each coordinate is below all later ones
-abbrev pub IsAscending : List ℕ → Type 0
-IsAscending coordinates = (i k : ℕ) → i < k → k < length coordinates → slice_index_or coordinates i 0 < slice_index_or coordinates k 0
-
 -- the terms of row k, none past the end
 abbrev pub row_terms_at : List RowTerms → ℕ → RowTerms
 row_terms_at lists k = slice_index_or lists k []

@@ -1,9 +1,13 @@
 -- The problem of sparse rows: the coordinates are the table's rows, each row of the list is a column.
-use Rattle.std.specs.Prelude.{ℕ, List, [], length, slice_index_or}
+use Rattle.std.specs.Prelude.{ℕ, ◌<◌, List, [], length, slice_index_or}
 use Rattle.it_rational.specs.Rational.{Rational, integer}
 use Rattle.it_rational.proofs.Field.{field_ℚ}
 use Rattle.it_space.specs.Rows.{Terms, coefficient}
 use Rattle.it_tableau.specs.SimplexTables.{FeasibilityProblem, SimplexTable, start}
+
+-- each coordinate is below all later ones
+abbrev pub IsAscending : List ℕ → Type 0
+IsAscending coordinates = (i k : ℕ) → i < k → k < length coordinates → slice_index_or coordinates i 0 < slice_index_or coordinates k 0
 
 -- the coefficients of the rows at the coordinates, as rational numbers
 abbrev pub feasibility_problem : List ℕ → List Terms → Terms → FeasibilityProblem Rational

@@ -3,8 +3,9 @@ ghost use Rattle.std.specs.Prelude.{◌≡◌, ◌+◌, ◌<◌, [], ℕ, length
 ghost use Rattle.std.specs.Bool.{OnFalse, OnTrue};
 ghost use Rattle.std.specs.Option.{IfNone, IfSome};
 ghost use Rattle.it_space.specs.Rows.{IsCanonical};
-ghost use Rattle.it_tableau.specs.Gathering.{row_terms_at, start_number, AreAppended, AreEmpty, AreGathered, IsAscending, IsEntryPut, IsListTaken};
+ghost use Rattle.it_tableau.specs.Gathering.{row_terms_at, start_number, AreAppended, AreEmpty, AreGathered, IsEntryPut, IsListTaken};
 ghost use Rattle.it_tableau.specs.Merging.{IsAppended};
+ghost use Rattle.it_tableau.specs.Problems.{IsAscending};
 ghost use Rattle.it_tableau.specs.Rows.{IsWholeNumber, ListsValues};
 ghost use Rattle.it_tableau.specs.SparseRows.{ListsEntries};
 ghost use Rattle.it_tableau.specs.StartRows.{AreStartRows};
@@ -71,7 +72,7 @@ pub fn ascends(coordinates: &[u32]) -> bool
 }
 
 /// The row of a coordinate, if it has one.
-fn place_of(coordinates: &[u32], coordinate: u32) -> Option<usize>
+pub fn place_of(coordinates: &[u32], coordinate: u32) -> Option<usize>
     requires { IsAscending coordinates.now }
     ensures some { IfSome result (λ k. (k < length coordinates.now) × (slice_index_or coordinates.now k 0 ≡ coordinate)) }
     ensures none { IfNone result ((k : ℕ) → k < length coordinates.now → ¬ (slice_index_or coordinates.now k 0 ≡ coordinate)) }

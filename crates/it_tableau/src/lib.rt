@@ -10,5 +10,7 @@ mod sparse_rows;
 mod start;
 mod tableau;
 
+pub use gathering::{ascends, place_of};
 pub use laws::{pivots_combine_start, pivots_keep_invariants, start_has_invariants};
+pub use start::{artificials, keeps_sign};
 pub use tableau::Tableau;

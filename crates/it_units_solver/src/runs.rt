@@ -8,7 +8,6 @@ use it_engine::whole_run;
 use it_fraction::Fraction;
 use it_simplex::{Budget, Solved, solve};
 use it_space::Row;
-use it_tableau::Tableau;
 use std::alloc::{AllocError, Global};
 use std::test::Fail;
 
@@ -145,19 +144,6 @@ fn answer(alloc: Global, system: &System, budget: Budget) -> Result<Solved, Allo
 }
 
 // the answer on whole numbers alone, where there is one
-fn whole_end(
-    alloc: Global,
-    coordinates: &[u32],
-    columns: &[Row],
-    target: &Row,
-    budget: Option<u32>,
-) -> Result<Option<Solved>, AllocError> {
-    match Tableau::start(alloc, coordinates, columns, target) {
-        Ok(start) => whole_run(alloc, &start, budget),
-        Err(_) => Ok(None),
-    }
-}
-
 fn whole_answer(
     alloc: Global,
     system: &System,
@@ -166,7 +152,7 @@ fn whole_answer(
     let columns = columns_of(alloc, system)?;
     let target = row_of(alloc, system.target)?;
     let count = system.target.len().min(6);
-    whole_end(
+    whole_run(
         alloc,
         &COORDINATES[..count],
         columns.as_slice(),

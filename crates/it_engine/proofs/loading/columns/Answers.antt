@@ -1,15 +1,17 @@
-use Rattle.std.proofs.Common.{◌≡◌, Bool, subst, arith}
-use Rattle.std.specs.Bool.{OnTrue}
-use Rattle.it_tableau.specs.TableauViews.{height}
-use Rattle.it_engine.specs.Loading.{IsRowRead}
-use Rattle.it_engine.proofs.ColumnSteps.{columns_are_read, row_read}
+use Rattle.std.proofs.Common.{◌+◌, List, [], length, slice_index_or, sym, subst}
+use Rattle.it_space.specs.Rows.{Terms}
+use Rattle.it_engine.specs.Loading.{signed_coefficient, IsReadColumn}
+use Rattle.it_engine.proofs.Answers.{of_some}
+use Rattle.it_engine.proofs.LoadLemmas.{columns_more, AreReadUpTo}
 use Rattle.it_engine.proofs.loading.columns.Goals as goal
 
-pub loop-k-preserved : goal.loop-k-preserved
-loop-k-preserved c = row_read c.args.tableau.now c.loop-k.k c.terms.result.now c.terms.ensures c.loop-k.columns.items c.read_terms.new.columns.items
-    (subst (λ (b : Bool). OnTrue b (IsRowRead c.loop-k.k c.terms.result.now c.loop-k.columns.items c.read_terms.new.columns.items)) c.if-not-whole.false c.in_ok-whole.ensures) c.loop-k.invariant
-
-pub returns : goal.returns
-returns c =
-    let all : c.loop-k.k ≡ height c.args.tableau.now = omega (arith, c.loop-k-test.false, c.loop-k.auto.k-end, c.rows-k-end.ensures) in
-    columns_are_read c.args.tableau.now c.loop-k.k c.loop-k.columns.items all c.loop-k.invariant
+pub loop-j-preserved : goal.loop-j-preserved
+loop-j-preserved c =
+    let cs = c.args.coordinates.now in
+    let target = c.args.target.now in
+    let generators = c.args.generators.now in
+    let j = c.loop-j.j in
+    subst (λ (columns : List Terms). AreReadUpTo cs generators target (j + 1) columns) (sym c.in_ok-push.ensures.items)
+    (columns_more cs generators target j c.loop-j.columns.items c.in-Some.column
+    (of_some c.in_ok-column.field-0 c.in-Some.column (IsReadColumn (length cs) (signed_coefficient cs target (slice_index_or generators j []))) c.in-Some.is c.in_ok-column.ensures)
+    c.loop-j.invariant)

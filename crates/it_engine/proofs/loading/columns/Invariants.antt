@@ -1,5 +1,5 @@
-use Rattle.it_engine.proofs.ColumnSteps.{AreReadUpTo}
+use Rattle.it_engine.proofs.LoadLemmas.{AreReadUpTo}
 use Rattle.it_engine.proofs.loading.columns.Given as goal
 
-abbrev pub invariant-loop-k : goal.invariant-loop-k
-invariant-loop-k l = AreReadUpTo l.tableau l.k l.columns.items
+abbrev pub invariant-loop-j : goal.invariant-loop-j
+invariant-loop-j l = AreReadUpTo l.coordinates l.generators l.target l.j l.columns.items

@@ -1,10 +1,13 @@
-use Rattle.std.proofs.Common.{◌∙◌, if◌then◌else◌, ap, sym}
-use Rattle.it_rational.specs.Rational.{minus}
-use Rattle.it_run.proofs.SignLemmas.{signed_is}
+use Rattle.std.proofs.Common.{◌∙◌, ◌∷◌, [], pos, cond, refl, ap, sym}
+use Rattle.it_number.proofs.Ring.{ring, v, times, minus, one}
+use Rattle.it_rational.specs.Rational.{integer}
+use Rattle.it_rational.specs.Rational as Q
+use Rattle.it_rational.proofs.RationalLaws.{ring_ℚ}
 use Rattle.it_engine.proofs.reading.signed_value.Goals as goal
 
-pub returns-then-negated : goal.returns-then-negated
-returns-then-negated c = c.neg.ensures ∙ ap (λ b. if b then minus c.args.value else c.args.value) (sym c.if-negated.true) ∙ signed_is c.args.negated c.args.value
+pub returns-then-kept : goal.returns-then-kept
+returns-then-kept c = sym (ring_ℚ.unit-mul c.args.value) ∙ ap (λ b. Q.times (cond b (integer (pos 1)) (Q.minus (integer (pos 1)))) c.args.value) (sym c.if-kept.true)
 
-pub returns-else-negated : goal.returns-else-negated
-returns-else-negated c = ap (λ b. if b then minus c.args.value else c.args.value) (sym c.if-negated.false) ∙ signed_is c.args.negated c.args.value
+pub returns-else-kept : goal.returns-else-kept
+returns-else-kept c = c.neg.ensures ∙ ring ring_ℚ (c.args.value ∷ []) (minus (v 0)) (times (minus one) (v 0)) refl
+    ∙ ap (λ b. Q.times (cond b (integer (pos 1)) (Q.minus (integer (pos 1)))) c.args.value) (sym c.if-kept.false)

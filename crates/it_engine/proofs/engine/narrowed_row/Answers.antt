@@ -1,0 +1,15 @@
+use Rattle.std.proofs.Common.{◌≡◌, [], subst, IfOk}
+use Rattle.std.specs.Option.{IfSome}
+use Rattle.it_engine.specs.Whole.{AreAtMost, whole_row_at, WholeRowView}
+use Rattle.it_engine.proofs.Items.{item_by_default}
+use Rattle.it_engine.proofs.engine.narrowed_row.Goals as goal
+use Rattle.it_engine.proofs.engine.narrowed_row.Goals.{After-index-rows-k}
+
+row_is : (c : After-index-rows-k) → c.index-rows-k.result ≡ whole_row_at c.args.rows.now c.args.k
+row_is c = item_by_default c.args.rows.now c.args.k c.index-rows-k.result record { numbers = []; bottom = 1 } c.requires.row c.index-rows-k.is
+
+pub returns-clause-row : goal.returns-clause-row
+returns-clause-row c = subst (λ (r : WholeRowView). IfOk c.narrowed.result (λ o. IfSome o (λ row. row ≡ r))) (row_is (goal.at.returns-clause-row c).After-index-rows-k) c.narrowed.ensures.row
+
+pub returns-clause-small : goal.returns-clause-small
+returns-clause-small c = subst (λ (r : WholeRowView). IfOk c.narrowed.result (λ o. IfSome o (λ row. AreAtMost r.numbers c.args.limit))) (row_is (goal.at.returns-clause-small c).After-index-rows-k) c.narrowed.ensures.small
