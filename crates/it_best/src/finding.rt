@@ -1,5 +1,5 @@
 //! The best factor.
-ghost use Rattle.std.specs.Prelude.{◌≡◌, ◌<◌, ◌≤◌, ◌^◌, ◌+◌, List, ℕ, length, IfErr, IfOk, OnOk};
+ghost use Rattle.std.specs.Prelude.{◌≡◌, ◌<◌, ◌≤◌, ◌^◌, ◌+◌, List, ℕ, IfErr, IfOk, OnOk};
 ghost use Rattle.it_rational.specs.Rational.{Rational};
 ghost use Rattle.it_space.specs.Problems.{IsProblem, problem_view};
 ghost use Rattle.it_space.specs.Rows.{IsUpTo, negated_terms, value};
@@ -8,7 +8,7 @@ ghost use Rattle.it_run.specs.Answers.{end_of_answer};
 ghost use Rattle.it_run.specs.Runs.{RunEndView};
 ghost use Rattle.it_elemental.specs.Generators.{generators};
 ghost use Rattle.it_best.specs.BestViews.{Never, best_view};
-ghost use Rattle.it_best.specs.Ends.{EndsWith, FirstFollows, LeastFits, NeverFits, OrScale, PartEnds, PartSeparates, PartSums, SecondFollows, ThirdFollows, UnboundedFits, first, least_view, never_values, third, unbounded_view};
+ghost use Rattle.it_best.specs.Ends.{EndsWith, LeastFits, NeverFits, OrScale, PartEnds, PartSeparates, PartSums, SecondFollows, ThirdFollows, UnboundedFits, first, least_view, never_values, third, unbounded_view};
 ghost use Rattle.it_best.specs.Factors.{IsRightBest, ground_of};
 ghost use Rattle.it_best.specs.Parts.{right_equation, third_target, unknown_views};
 

@@ -1,15 +1,14 @@
 //! What is found, scaled and checked.
 ghost use Rattle.std.specs.Prelude.{◌≡◌, ◌<◌, ◌≤◌, ◌^◌, ◌+◌, ◌++◌, ℕ, ◌-ℤ◌, ◌*ℤ◌, ◌≤ℤ◌, ℤ, pos, neg_ℤ, length, IfErr, IfOk, OkIff, OnOk};
 ghost use Rattle.it_number.specs.Limit.{IsWithin};
-ghost use Rattle.it_rational.specs.Rational.{Rational};
 ghost use Rattle.it_space.specs.Answers.{certificate_view};
 ghost use Rattle.it_space.specs.Problems.{IsProblem, problem_view};
-ghost use Rattle.it_space.specs.Rows.{IsUpTo, ValueFits, coefficient, map_of, negated_terms, single_term, value};
+ghost use Rattle.it_space.specs.Rows.{IsUpTo, ValueFits, coefficient, map_of, single_term, value};
 ghost use Rattle.it_space.specs.Spaces.{size_of};
 ghost use Rattle.it_polymatroid.specs.Certificates.{IsCertificate};
 ghost use Rattle.it_elemental.specs.Generators.{generators, generators_of};
 ghost use Rattle.it_check.specs.Meaning.{CertificateFits, CertifiesRow, PointFits};
-ghost use Rattle.it_columns.specs.Scaling.{NumbersFit, scaled_point};
+ghost use Rattle.it_columns.specs.Scaling.{scaled_point};
 ghost use Rattle.it_best.specs.Ends.{BelowFits, DifferenceOfProductsFits, FactorFits, LeastPointFits, NeverFits, factor_coefficient, factor_row};
 ghost use Rattle.it_best.specs.Factors.{HasNoFactor, IsFactor, IsPoint, ground_of};
 ghost use Rattle.it_best.specs.Numbers.{turned_numbers, weights_certificate};
@@ -19,7 +18,7 @@ use it_check::{Verdict, check_no, check_yes};
 use it_columns::{opposite_row, push_some};
 use it_fraction::{Fraction, Wide, difference, signed_product};
 use it_space::{Certificate, Point, Problem, Row, RowFault, value};
-use std::alloc::{AllocError, Global};
+use std::alloc::Global;
 
 /// A coefficient of `num` times the left side less `den` times the right one.
 fn factor_coefficient(

@@ -2,11 +2,11 @@
 ghost use Rattle.std.specs.Prelude.{◌≡◌, ◌≢◌, ◌<◌, ◌≤◌, ◌+◌, ◌^◌, ◌++◌, ◌∷◌, [], ℕ, ℤ, pos, List, length, map, All, IfOk, OnOk};
 ghost use Rattle.it_number.specs.Limit.{IsWithin};
 ghost use Rattle.it_space.specs.Problems.{IsProblem, problem_view};
-ghost use Rattle.it_space.specs.Rows.{IsUpTo, coefficient, negated_terms};
+ghost use Rattle.it_space.specs.Rows.{IsUpTo, coefficient};
 ghost use Rattle.it_space.specs.Spaces.{size_of};
 ghost use Rattle.it_polymatroid.specs.Elementals.{span};
 ghost use Rattle.it_elemental.specs.Generators.{Generator, generators, generator_at};
-ghost use Rattle.it_best.specs.Parts.{coordinate_row, coordinate_terms, coordinate_unknown, counterweight, first_part, free_unknown, left_equation, right_equation, slack_by, slacks, third_part, unknown_view, unknown_views};
+ghost use Rattle.it_best.specs.Parts.{coordinate_row, coordinate_terms, coordinate_unknown, counterweight, first_part, left_equation, right_equation, slack_by, slacks, third_part, unknown_view, unknown_views};
 
 use crate::unknowns::Unknown;
 use it_columns::{generator_row, opposite_row, push_some};

@@ -8,20 +8,19 @@ use Rattle.it_question.specs.Files.{FileFaultAt, IsFile}
 use Rattle.it_question.specs.Lines.{split_lines}
 use Rattle.it_question.specs.Questions.{QuestionView}
 use Rattle.it_copy.specs.Files.{CopyFileFaultAt}
+use Rattle.it_syntax.specs.declared.types.Code.{Code}
 use Rattle.it_contain.specs.Proposals.{Plan}
 use Rattle.it_answer.specs.declared.types.Budgets.{Budgets}
 use Rattle.it_answer.specs.Replies.{Reply}
 use Rattle.it_report.specs.Judging.{IsVerdict}
 use Rattle.it_report.specs.LineVerdicts.{LineVerdict, is_invalid, verdict_line}
 use Rattle.it_factor.specs.Lines.{reply_line}
-use Rattle.it_factor.specs.Replies.{ReplyView}
 use Rattle.it_factor.specs.RightReplies.{IsRightReply}
 use Rattle.it_cli.specs.Right.{Context, IsRightAfter, after_answer, answer_lines, budgets_of, question_origins}
 use Rattle.it_cli.specs.Counts.{IsBenchLine}
-use Rattle.it_cli.specs.Copies.{AsksWithCopies, CopyQuestion, CopyReply, IsRightCopy, copy_text}
+use Rattle.it_cli.specs.Copies.{AsksWithCopies, IsRightCopy, copy_text}
 use Rattle.it_sharing.specs.SharingFiles.{SharingFaultAt}
-use Rattle.it_sharing.specs.Sharings.{SharingView}
-use Rattle.it_cli.specs.SharingReplies.{AsksOfSharing, IsRightSharing, SharingReply, sharing_text}
+use Rattle.it_cli.specs.SharingReplies.{AsksOfSharing, IsRightSharing, sharing_text}
 use Rattle.it_cli.specs.Modes.{FirstOutput, Mode, OutputInPart, Replies, WholeOutput}
 use Rattle.it_cli.specs.declared.status.Status.{Status}
 use Rattle.it_cli.specs.declared.status.Status.TheVariants.{Done, Invalid}
@@ -72,65 +71,37 @@ check_mode = record {
   status = verdict_status;
 }
 
--- the line of the counts for a generated file, which is one item; nothing is asked of an input
-abbrev pub bench_mode : Budgets → List Plan → ℕ → ℕ → Mode
-bench_mode budgets plans seed count = record {
-  Item = Unit {0};
-  Reply = List ℕ;
+-- a mode whose right replies to an item are the same in each place, and whose status is always that all is done
+abbrev pub mode_without_state : {Item Reply : Type 0} → (List ℕ → List Item → Type 0) → (List ℕ → ℕ → ℕ → Code → Type 0) → (Item → Reply → Type 0) → (ℕ → Item → Reply → List ℕ) → Mode
+mode_without_state {Item} {Reply} asks fault_at is_right text = record {
+  Item = Item;
+  Reply = Reply;
   State = Unit {0};
-  Asks = λ bytes items. items ≡ tt ∷ [];
-  FaultAt = λ bytes line column code. ⊥;
+  Asks = asks;
+  FaultAt = fault_at;
   start = tt;
-  IsRight = λ s item line. IsBenchLine budgets plans seed count line;
-  after = λ s item line. tt;
-  text = λ k item line. line;
+  IsRight = λ s x reply. is_right x reply;
+  after = λ s x reply. tt;
+  text = text;
   status = λ s. Done;
 }
+
+-- the line of the counts for a generated file, which is one item; nothing is asked of an input
+abbrev pub bench_mode : Budgets → List Plan → ℕ → ℕ → Mode
+bench_mode budgets plans seed count =
+    mode_without_state (λ bytes items. items ≡ tt {0} ∷ []) (λ bytes line column code. ⊥) (λ item line. IsBenchLine budgets plans seed count line) (λ k item line. line)
 
 -- one right reply to each question of a file with a head
 abbrev pub copy_mode : Option ℕ → Mode
-copy_mode pivots = record {
-  Item = CopyQuestion;
-  Reply = CopyReply;
-  State = Unit {0};
-  Asks = AsksWithCopies;
-  FaultAt = CopyFileFaultAt;
-  start = tt;
-  IsRight = λ s x reply. IsRightCopy pivots x reply;
-  after = λ s x reply. tt;
-  text = λ k x reply. copy_text k reply;
-  status = λ s. Done;
-}
+copy_mode pivots = mode_without_state AsksWithCopies CopyFileFaultAt (IsRightCopy pivots) (λ k x reply. copy_text k reply)
 
 -- one right reply to each question of a file that asks for factors
 abbrev pub best_mode : Option ℕ → Mode
-best_mode pivots = record {
-  Item = QuestionView;
-  Reply = ReplyView;
-  State = Unit {0};
-  Asks = IsFile;
-  FaultAt = FileFaultAt;
-  start = tt;
-  IsRight = λ s q reply. IsRightReply pivots q.body reply;
-  after = λ s q reply. tt;
-  text = λ k q reply. reply_line k q.body (question_origins q.body) reply;
-  status = λ s. Done;
-}
+best_mode pivots = mode_without_state IsFile FileFaultAt (λ q reply. IsRightReply pivots q.body reply) (λ k q reply. reply_line k q.body (question_origins q.body) reply)
 
 -- one right reply to what a sharing file asks
 abbrev pub sharing_mode : Option ℕ → Mode
-sharing_mode pivots = record {
-  Item = SharingView;
-  Reply = SharingReply;
-  State = Unit {0};
-  Asks = AsksOfSharing;
-  FaultAt = SharingFaultAt;
-  start = tt;
-  IsRight = λ s x reply. IsRightSharing pivots x reply;
-  after = λ s x reply. tt;
-  text = λ k x reply. sharing_text x reply;
-  status = λ s. Done;
-}
+sharing_mode pivots = mode_without_state AsksOfSharing SharingFaultAt (IsRightSharing pivots) (λ k x reply. sharing_text x reply)
 
 -- the mode that the words ask for; the boxes had these plans
 abbrev pub mode_of : List Plan → Settings → Mode

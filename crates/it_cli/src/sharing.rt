@@ -1,5 +1,5 @@
 //! Mode `sharing`: a file that tells who may know a secret, and the answer to what it asks.
-ghost use Rattle.std.specs.Prelude.{◌≡◌, ◌+◌, ◌<◌, ◌≤◌, ◌∷◌, ◌++◌, [], false, true, codes, length, IfOk};
+ghost use Rattle.std.specs.Prelude.{◌≡◌, ◌+◌, ◌<◌, ◌≤◌, ◌∷◌, ◌++◌, [], codes, length, IfOk};
 ghost use Rattle.it_question.specs.Limits.{IsQuestion};
 ghost use Rattle.it_question.specs.Questions.{question_body, question_view};
 ghost use Rattle.it_sharing.specs.Sharings.{IsSharing, made_question, sharing_view};
@@ -93,11 +93,11 @@ fn made_lines(
 {
     if sharing.best {
         let line = factor_line(alloc, pivots, 1, &made.question)?;
-        let text = with_heading(alloc, made.minimal, made.maximal, line)?;
+        let text = with_heading(alloc, made.minimal, made.maximal, line.as_slice())?;
         Ok(text)
     } else {
         let lines = proof_lines(alloc, pivots, 1, &made.question)?;
-        let whole = with_heading(alloc, made.minimal, made.maximal, lines)?;
+        let whole = with_heading(alloc, made.minimal, made.maximal, lines.as_slice())?;
         Ok(whole)
     }
 }
@@ -108,9 +108,9 @@ fn with_heading(
     alloc: Global,
     minimal: u32,
     maximal: u32,
-    lines: Vec<u8>,
+    lines: &[u8],
 ) -> Result<Vec<u8>, AllocError>
-    ensures { IfOk result (λ text. text.items ≡ sharing_heading minimal maximal ++ lines.items) }
+    ensures { IfOk result (λ text. text.items ≡ sharing_heading minimal maximal ++ lines.now) }
 {
     let mut text = Vec::new(alloc);
     text.extend_from_slice(b"sharing ")?;
@@ -118,6 +118,6 @@ fn with_heading(
     text.extend_from_slice(b" ")?;
     write_number(&mut text, maximal as usize)?;
     text.extend_from_slice(b"\n")?;
-    text.extend_from_slice(lines.as_slice())?;
+    text.extend_from_slice(lines)?;
     Ok(text)
 }

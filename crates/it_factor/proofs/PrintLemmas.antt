@@ -1,5 +1,5 @@
 -- What was found of a question's factors can be printed: its generators are there, and its points are of the question's names.
-use Rattle.std.proofs.Common.{◌≡◌, ◌+◌, ◌^◌, ◌<◌, ◌≤◌, ℕ, ℤ, List, length, All, Option, Some, None, length-append, ap, subst, arith}
+use Rattle.std.proofs.Common.{◌≡◌, ◌+◌, ◌^◌, ◌<◌, ◌≤◌, ℕ, ℤ, List, length, Option, Some, None, length-append, ap, subst, arith}
 use Rattle.std.proofs.lemmas.List.{length-map}
 use Rattle.std.proofs.lemmas.List.Elements.{All-weaker}
 use Rattle.std.proofs.lemmas.Nat.{pow_pos}
@@ -8,17 +8,15 @@ use Rattle.it_space.specs.declared.answers.Certificate.{Certificate}
 use Rattle.it_space.specs.declared.problems.Constraint.{Constraint}
 use Rattle.it_space.specs.Answers.{certificate_view}
 use Rattle.it_space.specs.Problems.{ProblemView}
-use Rattle.it_space.specs.Spaces.{size_of}
 use Rattle.it_polymatroid.specs.Certificates.{Form}
 use Rattle.it_polymatroid.specs.Elementals.{elementals}
 use Rattle.it_syntax.specs.Meaning.{RelationView}
 use Rattle.it_syntax.specs.NamesViews.{NamesView}
 use Rattle.it_question.specs.Limits.{IsQuestion}
-use Rattle.it_question.specs.Questions.{BodyView, VerbView, Prove}
+use Rattle.it_question.specs.Questions.{BodyView, Prove}
 use Rattle.it_question.specs.Tables.{problem_names, problem_names_by}
 use Rattle.it_demand.specs.Demands.{LineDemand, States}
 use Rattle.it_demand.proofs.ZipLemmas.{zip-length}
-use Rattle.it_demand.specs.LineDemands.{space_of}
 use Rattle.it_canon.specs.QuestionDemands.{IsProblemOf, question_demands, variables_of}
 use Rattle.it_answer.specs.Forms.{CertifiesForm, MayStand, all_demands}
 use Rattle.it_best.specs.declared.types.Best.{Best}

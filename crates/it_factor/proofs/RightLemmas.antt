@@ -27,7 +27,7 @@ use Rattle.it_best.specs.BestViews.{BestView, Least, Never, Unbounded, Undecided
 use Rattle.it_best.specs.Factors.{IsRightBest, IsFactor, IsPoint, factor_form, ground_of}
 use Rattle.it_best.proofs.CertificateLemmas.{linear-factor, linear-neg}
 use Rattle.it_factor.specs.Replies.{ReplyView, Found, Other}
-use Rattle.it_factor.specs.RightReplies.{IsRightFactor, IsRightReply, IsRightReplyTo, ShowsFactor, asked_by, at_least, question_ground}
+use Rattle.it_factor.specs.RightReplies.{IsRightFactor, IsRightReply, IsRightReplyTo, asked_by, at_least, question_ground}
 use Rattle.it_factor.specs.RowReplies.{IsFoundByRows, IsReplyByRows}
 
 module _ (q : BodyView) (p : ProblemView) (posed : IsProblemOf q p) where

@@ -1,9 +1,8 @@
 -- What it means that a reply shows what it says.
-use Rattle.std.proofs.Common.{◌≡◌, ℕ, ℤ, pos, neg_ℤ, ◌≤ℤ◌, List}
+use Rattle.std.proofs.Common.{◌≡◌, ℤ, neg_ℤ, ◌≤ℤ◌}
 use Rattle.it_space.specs.Answers.{CertificateView}
 use Rattle.it_space.specs.Rows.{map_of}
 use Rattle.it_polymatroid.specs.Certificates.{Form}
-use Rattle.it_syntax.specs.Meaning.{RelationView}
 use Rattle.it_question.specs.Questions.{BodyView}
 use Rattle.it_canon.specs.QuestionDemands.{variables_of}
 use Rattle.it_canon.specs.Sides.{left_form, right_form}

@@ -10,7 +10,6 @@ use Rattle.it_space.specs.Rows.{Terms, IsUpTo, coefficient, single_term}
 use Rattle.it_closure.specs.declared.dependences.Dependence.{Dependence}
 use Rattle.it_closure.specs.Collapse.{CollapseFits, IsCollapseOf}
 use Rattle.it_elemental.specs.Generators.{Generator, generators, generator_at}
-use Rattle.it_elemental.proofs.GeneratorLemmas.{length-listed, few_elementals}
 use Rattle.it_space.specs.declared.spaces.Space.{Space}
 use Rattle.it_space.specs.Spaces.{size_of}
 use Rattle.std.proofs.lemmas.Nat.{pow_pos}

@@ -6,26 +6,23 @@ use Rattle.std.proofs.lemmas.Nat.{pow_pos}
 use Rattle.it_number.specs.Limit.{IsWithin}
 use Rattle.it_number.proofs.Ring.{ring, v, nil}
 use Rattle.it_number.proofs.Ring as S
-use Rattle.std.proofs.lemmas.Int.{ints}
 use Rattle.std.proofs.lemmas.List.{get_or-map, get_or_default, length-map}
 use Rattle.std.proofs.Math.IntN.{+ℤ_idl, +ℤ_idr}
 use Rattle.it_rational.specs.Rational.{Rational, integer, times, is_at_least_zero}
 use Rattle.it_rational.proofs.RationalLaws.{ring_ℚ}
 use Rattle.it_rational.proofs.Field.{field_ℚ}
-use Rattle.it_space.specs.declared.problems.Kind.{Kind}
-use Rattle.it_space.specs.declared.problems.Kind.TheVariants.{Inequality, Equation}
 use Rattle.it_space.specs.declared.spaces.Space.{Space}
 use Rattle.it_space.specs.Problems.{ProblemView, IsProblem, Meets}
-use Rattle.it_space.specs.Rows.{Terms, Ascends, IsUpTo, coefficient, map_of, value, negated_terms, single_term}
+use Rattle.it_space.specs.Rows.{Terms, Ascends, IsUpTo, coefficient, map_of, value, single_term}
 use Rattle.it_space.specs.Spaces.{size_of}
-use Rattle.it_space.proofs.EveryLemmas.{every_of, all_of, every-flat_map, every_flat_mapped, every-same, every-map, every_mapped, every_all}
+use Rattle.it_space.proofs.EveryLemmas.{every_of, all_of, every-same, every-map, every_mapped, every_all}
 use Rattle.it_polymatroid.specs.Elementals.{span}
 use Rattle.it_polymatroid.proofs.Spans.{get_or-span, length-span}
 use Rattle.it_tableau.specs.Problems.{feasibility_problem}
 use Rattle.it_run.specs.Readings.{Separates}
 use Rattle.it_run.specs.RowValues.{rational_value}
 use Rattle.it_run.proofs.RowValues.{point_separates}
-use Rattle.it_elemental.specs.Generators.{Generator, generators}
+use Rattle.it_elemental.specs.Generators.{generators}
 use Rattle.it_check.specs.Meaning.{RefutesRow}
 use Rattle.it_check.proofs.NoMeaning.{listed_met}
 use Rattle.it_elemental.proofs.GeneratorLemmas.{rows_of_space}
@@ -33,7 +30,7 @@ use Rattle.it_closure.specs.declared.dependences.Dependence.{Dependence}
 use Rattle.it_closure.specs.Collapse.{place, spread_out}
 use Rattle.it_closure.specs.Coordinates.{RiseTo}
 use Rattle.it_closure.specs.Reading.{dependences_of}
-use Rattle.it_columns.specs.Columns.{columns_by, columns_of, columns}
+use Rattle.it_columns.specs.Columns.{columns}
 use Rattle.it_prove.specs.Closed.{collapsed_row, collapsed_generator, closed_places, closed_generators, closed_target, spread_values, spread_point}
 use Rattle.it_prove.specs.Steps.{terms_of_places}
 use Rattle.it_columns.specs.Scaling.{scale_of, scaled_number, scaled_point}
@@ -44,7 +41,7 @@ use Rattle.it_prove.proofs.ClosedRows.{rise_low, rise_apart, coords_rise, collap
 use Rattle.it_prove.proofs.LiftLemmas.{coefficients_within, dependences_sound, below_size}
 use Rattle.it_columns.proofs.Wholes.{whole_scaled, least_scaled, below_scaled}
 use Prim.Native.Nat.{◌∣◌}
-use Rattle.it_space.proofs.TermLemmas.{ascends-single_term, ascends_lower, value-negated_terms, coefficient-append, coefficient-single_term}
+use Rattle.it_space.proofs.TermLemmas.{ascends-single_term, ascends_lower, coefficient-append, coefficient-single_term}
 
 -- ---- a point's values by coordinate
 

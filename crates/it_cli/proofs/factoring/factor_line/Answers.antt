@@ -1,5 +1,5 @@
 use Rattle.std.proofs.Common.{ap, ◌∙◌}
-use Rattle.it_question.specs.Questions.{question_body, question_view}
+use Rattle.it_question.specs.Questions.{question_body}
 use Rattle.it_canon.specs.QuestionDemands.{question_demands}
 use Rattle.it_print.specs.Lines.{origins_of}
 use Rattle.it_factor.specs.Lines.{reply_line}
