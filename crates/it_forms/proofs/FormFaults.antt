@@ -1,0 +1,78 @@
+-- A form's reading gives what is written, or the first fault.
+use Rattle.std.proofs.Common.{◌≡◌, List, [], ◌∷◌, ◌++◌, Some, Ok, Err, refl, sym, ap, ◌∙◌, subst, inl, inr, ◌⊎◌}
+use Rattle.std.proofs.lemmas.List.{append_cancel_right}
+use Rattle.it_syntax.specs.declared.types.Code.{Code}
+use Rattle.it_syntax.specs.Letters.{Letter, MarkedLetters, letters, without_marks}
+use Rattle.it_syntax.specs.FirstFault.{head, own_code, MarkedAt}
+use Rattle.it_syntax.specs.MeasureReading.{Fault, Reads}
+use Rattle.it_syntax.proofs.Traces.{Why}
+use Rattle.it_syntax.proofs.SpelledIsRead.{Answers, Marks}
+use Rattle.it_syntax.proofs.FirstFaults.{letters_after, letters_cleaned, clean_is_clean}
+use Rattle.it_forms.specs.Forms.{Form, Spells}
+use Rattle.it_forms.specs.FormReading.{read}
+use Rattle.it_forms.specs.FormTexts.{Says, Written, IsFirstFault}
+use Rattle.it_forms.proofs.FormTraces.{Went, Stuck, By}
+use Rattle.it_forms.proofs.Outlines.{Outline, Has}
+use Rattle.it_forms.proofs.FormFound.{reading_tells}
+use Rattle.it_forms.proofs.FormWritten.{written_is_read}
+
+mark_place : (m : MarkedLetters) (f : Fault) (front q : List Letter) (c : Code) → Marks m f → f ≡ (c, q) → letters m ≡ front ++ q → MarkedAt m front c
+mark_place m f front q c k e h =
+    let q-is : q ≡ k.letter ∷ letters k.rest = sym (ap (λ (t : Fault). t.1) e) ∙ k.left in
+    let same : k.front ++ q ≡ front ++ q = ap (λ (t : List Letter). k.front ++ t) q-is ∙ sym (letters_after k.front ((k.letter, Some f.0) ∷ k.rest)) ∙ sym (ap letters k.is) ∙ h in
+    let front-is : k.front ≡ front = append_cancel_right k.front front q same in
+    (k.letter, k.rest, k.is ∙ ap (λ (t : List Letter). without_marks t ++ ((k.letter, Some f.0) ∷ k.rest)) front-is ∙ ap (λ (t : Fault). without_marks front ++ ((k.letter, Some t.0) ∷ k.rest)) e)
+
+abbrev err_of : {A : Type 0} → Fault → Reads A
+err_of f = Err f
+
+err_is : {A : Type 0} (f g : Fault) → err_of {A = A} f ≡ err_of {A = A} g → f ≡ g
+err_is f g e = cc
+
+each_marked : {A : Type 0} (f : Form A) (o : Outline) → Has f o → (front : List Letter) (c : Code) (q : List Letter) → read f (front ++ q) ≡ Err (c, q) → (x : Written f) → letters x.1 ≡ front ++ q → MarkedAt x.1 front c
+each_marked {A} f o s front c q e x h = by_answer (written_is_read f o s x.0 x.1 [] x.2 tt)
+  where
+    here : read f (letters x.1) ≡ Err (c, q)
+    here = ap (read f) h ∙ e
+
+    by_answer : Answers (read f (letters x.1)) x.1 x.0 [] → MarkedAt x.1 front c
+    by_answer (inl a) = let t = here in let u = a.0 in absurd cc
+    by_answer (inr b) = mark_place x.1 b.0 front q c b.1.1 (err_is {A = A} b.0 (c, q) (sym b.1.0 ∙ here)) h
+
+why_code : {A : Type 0} (f : Form A) (x : Written f) (q : MarkedLetters) (c : Code) (front r : List Letter) → x.1 ≡ without_marks front ++ q → Why q c r
+    → (own_code r ≡ c) ⊎ ((x : Written f) × (q : List Letter) × ((head q ≡ head r) × (letters x.1 ≡ front ++ q)))
+why_code f x q c front r h (inl o) = inl o
+why_code f x q c front r h (inr w) = inr (x, letters q, (ap head (ap letters w.2.0) ∙ sym w.2.1, ap letters h ∙ letters_after front q))
+
+-- where the reading stops is the first fault
+pub first_fault : {A : Type 0} (f : Form A) (o : Outline) → Has f o → (ls : List Letter) (c : Code) (r : List Letter) → read f ls ≡ Err (c, r) → IsFirstFault f ls c r
+first_fault {A} f o s ls c r e =
+    let w : Stuck (read f) (Spells f) ls c r = subst (λ (t : Reads A). By (read f) (Spells f) ls t) e (reading_tells f o s ls) in
+    let q = w.spells [] in
+    record {
+      front = w.front;
+      parts = w.parts;
+      tree = (w.value, without_marks w.front ++ q.0, q.1);
+      more = q.0;
+      viable = refl;
+      each = λ x t same h. each_marked f o s w.front c t (w.stays t same) x h;
+      code = why_code f (w.value, without_marks w.front ++ q.0, q.1) q.0 c w.front r refl q.2;
+    }
+
+append_none : {X : Type 0} (xs : List X) → xs ++ [] ≡ xs
+append_none [] = refl
+append_none (x ∷ xs) = ap (λ (t : List _). x ∷ t) (append_none xs)
+
+-- what is read is written
+pub read_is_said : {A : Type 0} (f : Form A) (o : Outline) → Has f o → (ls : List Letter) (y : A) → read f ls ≡ Ok (y, []) → Says f ls y
+read_is_said {A} f o s ls y e =
+    let w : Went (read f) (Spells f) ls y [] = subst (λ (t : Reads A). By (read f) (Spells f) ls t) e (reading_tells f o s ls) in
+    subst (λ (m : MarkedLetters). Spells f y m []) (append_none (without_marks w.front) ∙ ap without_marks (sym (append_none w.front)) ∙ ap without_marks (sym w.parts)) (w.spells [])
+
+-- what is written is read
+pub said_is_read : {A : Type 0} (f : Form A) (o : Outline) → Has f o → (ls : List Letter) (y : A) → Says f ls y → read f ls ≡ Ok (y, [])
+said_is_read {A} f o s ls y e = by_answer (written_is_read f o s y (without_marks ls) [] e tt)
+  where
+    by_answer : Answers (read f (letters (without_marks ls))) (without_marks ls) y [] → read f ls ≡ Ok (y, [])
+    by_answer (inl a) = sym (ap (read f) (letters_cleaned ls)) ∙ a.0
+    by_answer (inr b) = absurd (clean_is_clean ls b.1.1.front b.0.0 (b.1.1.letter, b.1.1.rest, b.1.1.is))

@@ -1,0 +1,133 @@
+-- The words in which tables of forms are written.
+use Rattle.std.specs.Prelude.{ℕ, List, [], ◌∷◌, ◌++◌, Option, Some, None}
+use Rattle.it_syntax.specs.declared.types.Symbol.{Symbol}
+use Rattle.it_syntax.specs.declared.types.Code.{Code}
+use Rattle.it_syntax.specs.Letters.{Letter, Word, Number}
+use Rattle.it_question.specs.WrittenLines.{limit_mark}
+use Rattle.it_forms.specs.Forms.{Kind, Keyword, Punctuation, WordBut, Zero, Positive, LineEnd, FileEnd, Terminal, Form, Give, Take, Then, If, While}
+
+-- one form after the other
+infixl 10 ◌>>=◌ ◌>>◌
+abbrev pub ◌>>=◌ : {A B : Type 0} → Form A → (A → Form B) → Form B
+f >>= g = Then f g
+
+-- the same, where what the first one says counts for nothing
+abbrev pub ◌>>◌ : {A B : Type 0} → Form A → Form B → Form B
+f >> g = Then f (λ a. g)
+
+-- letters of these kinds, against which nothing is ever said
+abbrev pub just : {A : Type 0} → List Kind → A → Terminal A
+just ks a = record { kinds = ks; says = λ l. (None, a) }
+
+-- a symbol
+abbrev pub symbol : Symbol → Terminal (Unit {0})
+symbol s = just (Punctuation s ∷ []) tt
+
+-- a word
+abbrev pub word : List ℕ → Terminal (Unit {0})
+word w = just (Keyword w ∷ []) tt
+
+-- a word, with this mark
+abbrev pub marked_word : List ℕ → Option Code → Terminal (Unit {0})
+marked_word w mark = record { kinds = Keyword w ∷ []; says = λ l. (mark, tt) }
+
+-- the text of a word
+abbrev pub text_of : Letter → List ℕ
+text_of (Word w) = w
+text_of l = []
+
+-- the value of a number
+abbrev pub number_of : Letter → ℕ
+number_of (Number n) = n
+number_of l = 0
+
+-- a word other than these, by what is said against it and what it says
+abbrev pub word_but : {A : Type 0} → List (List ℕ) → (List ℕ → Option Code × A) → Terminal A
+word_but ts judge = record { kinds = WordBut ts ∷ []; says = λ l. judge (text_of l) }
+
+-- any word
+abbrev pub any_word : {A : Type 0} → (List ℕ → Option Code × A) → Terminal A
+any_word judge = word_but [] judge
+
+-- the number 0
+abbrev pub zero_alone : Terminal (Unit {0})
+zero_alone = just (Zero ∷ []) tt
+
+-- a number other than 0
+abbrev pub positive : Terminal ℕ
+positive = record { kinds = Positive ∷ []; says = λ l. (None, number_of l) }
+
+-- a number, by what is said against it
+abbrev pub number : (ℕ → Option Code) → Terminal ℕ
+number judge = record { kinds = Zero ∷ Positive ∷ []; says = λ l. (judge (number_of l), number_of l) }
+
+-- the line's end
+abbrev pub line_end : Form (Unit {0})
+line_end = Take (just (LineEnd ∷ []) tt)
+
+-- the file's end
+abbrev pub file_end : Form (Unit {0})
+file_end = Take (just (FileEnd ∷ []) tt)
+
+-- a form, up to the line's end
+abbrev pub to_end : {A : Type 0} → Form A → Form A
+to_end f = do
+  x ← f
+  line_end
+  Give x
+
+-- as often as a terminal of these kinds stands, it and a form, whose value is put to the others
+abbrev pub each : {A B C : Type 0} → List Kind → (A → Letter → Option Code × B) → (A → B → Form C) → (A → C → A) → A → Form A
+each ks says item put a = While ks says (λ a b. Then (item a b) (λ c. Give (put a c))) a
+
+-- the same after a symbol
+abbrev pub each_after : {A C : Type 0} → Symbol → (A → Form C) → (A → C → A) → A → Form A
+each_after s item put a = each (Punctuation s ∷ []) (λ a l. (None, tt {0})) (λ a u. item a) put a
+
+-- the same after a word, which may be marked
+abbrev pub each_marked : {A C : Type 0} → List ℕ → (A → Option Code) → (A → Form C) → (A → C → A) → A → Form A
+each_marked w mark item put a = each (Keyword w ∷ []) (λ a l. (mark a, tt {0})) (λ a u. item a) put a
+
+-- what is said already, or else what else is said
+abbrev pub or_mark : Option Code → Option Code → Option Code
+or_mark None m = m
+or_mark (Some c) None = Some c
+or_mark (Some c) (Some d) = Some d
+
+-- the terminal, with this mark where nothing else is said
+abbrev pub marked_terminal : {A : Type 0} → Option Code → Terminal A → Terminal A
+marked_terminal o t = record { kinds = t.kinds; says = λ l. (or_mark o (t.says l).0, (t.says l).1) }
+
+-- the form, with this mark against its first letter where nothing else is said
+unfoldable pub marked : {A : Type 0} → Option Code → Form A → Form A
+marked o (Give a) = Give a
+marked o (Take t) = Take (marked_terminal o t)
+marked o (Then f g) = Then (marked o f) g
+marked o (If t g h) = If (marked_terminal o t) g (marked o h)
+marked o (While ks says step a) = While ks says step a
+
+-- the form, where n more are allowed
+abbrev pub allowed : {A : Type 0} → ℕ → Form A → Form A
+allowed n f = marked (limit_mark n) f
+
+-- the kind without these words
+abbrev pub without : List (List ℕ) → Kind → Kind
+without ts (WordBut us) = WordBut (ts ++ us)
+without ts k = k
+
+-- each of the kinds without these words
+abbrev pub all_without : List (List ℕ) → List Kind → List Kind
+all_without ts [] = []
+all_without ts (k ∷ ks) = without ts k ∷ all_without ts ks
+
+-- the terminal without these words
+abbrev pub terminal_but : {A : Type 0} → List (List ℕ) → Terminal A → Terminal A
+terminal_but ts t = record { kinds = all_without ts t.kinds; says = t.says }
+
+-- the form, with none of these words in front
+unfoldable pub but : {A : Type 0} → List (List ℕ) → Form A → Form A
+but ts (Give a) = Give a
+but ts (Take t) = Take (terminal_but ts t)
+but ts (Then f g) = Then (but ts f) g
+but ts (If t g h) = If (terminal_but ts t) g (but ts h)
+but ts (While ks says step a) = While ks says step a
