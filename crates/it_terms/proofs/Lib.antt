@@ -1,0 +1,7 @@
+pub mod Moves
+pub mod JudgedTexts
+pub mod SumLemmas
+pub mod EquationLemmas
+pub mod SameProofs
+pub mod TargetLemmas
+pub mod ToldProofs

@@ -1,0 +1,14 @@
+//! What told texts are good for, each theorem as the contract of a function.
+ghost use Rattle.it_terms.specs.Tells.{TextsMove};
+ghost use Rattle.it_terms.specs.Proofs.{ToldProves};
+
+/// A text that is a relation is the same one after whatever stands before it in a line.
+#[tactic(auto, using(crate::proofs::Moves::texts_move))]
+pub fn texts_move()
+    ensures { TextsMove }
+{}
+
+/// A target that a text tells a proof of is at least 0 wherever the question's lines are true.
+pub fn told_proves()
+    ensures { ToldProves }
+{}

@@ -1,0 +1,23 @@
+//! Rows and proofs in the field's notation, as texts that are read back and judged before they are handed out.
+#![tactic(auto)]
+
+mod constraints;
+mod drafts;
+mod equations;
+mod finding;
+mod joining;
+mod judging;
+mod laws;
+mod measures;
+mod proof_judging;
+mod proving;
+mod reading;
+mod sums;
+mod telling;
+mod untold;
+mod writing;
+
+pub use judging::tells;
+pub use laws::{texts_move, told_proves};
+pub use proving::{told_form, told_proof};
+pub use telling::told_row;

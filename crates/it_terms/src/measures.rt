@@ -1,0 +1,140 @@
+//! The entropies and mutual informations that a question's text has, each as its author spelled it.
+ghost use Rattle.std.specs.Prelude.{◌<◌, ◌≤◌, length};
+
+use crate::reading::relation_text;
+use it_canon::canon;
+use it_space::Row;
+use it_syntax::Names;
+use it_syntax::types::{Atom, Relation};
+use std::alloc::{AllocError, Global};
+
+/// An entropy or a mutual information, its spelling without blanks, and its row.
+#[derive(Debug, Drop)]
+pub struct Measure {
+    pub atom: Atom,
+    pub spelling: Vec<u8>,
+    pub row: Row,
+}
+
+/// What stands after a measure that is read by itself.
+const AT_LEAST_ZERO: &[u8] = b" >= 0";
+
+/// Whether a byte may stand in a word.
+fn is_word_byte(byte: u8) -> bool {
+    byte.is_ascii_alphanumeric() || byte == b'_'
+}
+
+/// Whether a byte is a blank.
+fn is_blank(byte: u8) -> bool {
+    byte == b' ' || byte == b'\t'
+}
+
+/// Whether a word may begin at a place: the byte before it is none of a word.
+fn begins_word(text: &[u8], at: usize) -> bool {
+    at == 0 || at > text.len() || !is_word_byte(text[at - 1])
+}
+
+/// The place of the first byte from a place on that is no blank.
+fn after_blanks(text: &[u8], from: usize) -> usize {
+    for at in from..text.len() {
+        if !is_blank(text[at]) {
+            return at;
+        }
+    }
+    text.len()
+}
+
+/// Whether this byte stands at a place.
+fn stands(text: &[u8], at: usize, byte: u8) -> bool {
+    at < text.len() && text[at] == byte
+}
+
+/// Whether an entropy or a mutual information begins at a place.
+fn begins_measure(text: &[u8], at: usize) -> bool
+    requires { at < length text.now }
+{
+    if stands(text, at, b'H') || stands(text, at, b'I') {
+        begins_word(text, at) && stands(text, after_blanks(text, at + 1), b'(')
+    } else {
+        false
+    }
+}
+
+/// The bytes from a place up to the next right parenthesis, without blanks.
+fn spelling_at(alloc: Global, text: &[u8], from: usize) -> Result<Vec<u8>, AllocError> {
+    let mut spelling = Vec::new(alloc);
+    for at in from..text.len() {
+        if !is_blank(text[at]) {
+            spelling.push(text[at])?;
+        }
+        if text[at] == b')' {
+            return Ok(spelling);
+        }
+    }
+    Ok(spelling)
+}
+
+/// The first atom of a relation's left side.
+fn first_atom(relation: &Relation) -> Atom {
+    match relation.left.terms.as_slice() {
+        [term, ..] => term.atom,
+        [] => Atom::Nothing,
+    }
+}
+
+/// The measure of this spelling, None where it isn't read as one under these names.
+fn measure_of(
+    alloc: Global,
+    spelling: Vec<u8>,
+    names: &Names,
+) -> Result<Option<Measure>, AllocError>
+    requires { 1 ≤ length names.now.variables }
+{
+    let mut text = Vec::new(alloc);
+    text.extend_from_slice(spelling.as_slice())?;
+    text.extend_from_slice(AT_LEAST_ZERO)?;
+    let Some(relation) = relation_text(alloc, text.as_slice(), names)? else {
+        return Ok(None);
+    };
+    let row = canon(alloc, &relation, names.space())?;
+    Ok(Some(Measure {
+        atom: first_atom(&relation),
+        spelling,
+        row,
+    }))
+}
+
+/// Whether a measure is among others.
+fn is_among(measures: &[Measure], atom: Atom) -> bool {
+    for measure in measures {
+        if measure.atom == atom {
+            return true;
+        }
+    }
+    false
+}
+
+/// Puts a measure after the others, unless it is there.
+fn put_new(measures: &mut Vec<Measure>, found: Option<Measure>) -> Result<(), AllocError> {
+    if let Some(measure) = found {
+        if !is_among(measures.as_slice(), measure.atom) {
+            measures.push(measure)?;
+        }
+    }
+    Ok(())
+}
+
+/// The measures of a question's text that are read under these names, each once, in order of the text.
+pub fn measures(alloc: Global, text: &[u8], names: &Names) -> Result<Vec<Measure>, AllocError>
+    requires { 1 ≤ length names.now.variables }
+{
+    let mut measures = Vec::new(alloc);
+    for at in 0..text.len() {
+        if begins_measure(text, at) {
+            let spelling = spelling_at(alloc, text, at)?;
+            let found = measure_of(alloc, spelling, names)?;
+            put_new(&mut measures, found)?;
+        }
+    }
+    Ok(measures)
+}

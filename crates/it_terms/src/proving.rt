@@ -1,0 +1,385 @@
+//! The line of a proof, judged before it is handed out.
+ghost use Rattle.std.specs.Prelude.{◌≤◌, ◌<◌, IfOk, IfSome, length, map};
+ghost use Rattle.it_space.specs.Rows.{value};
+ghost use Rattle.it_polymatroid.specs.Elementals.{elementals};
+ghost use Rattle.it_elemental.specs.Generators.{forms_of, of_constraint};
+ghost use Rattle.it_question.specs.Limits.{IsQuestion};
+ghost use Rattle.it_question.specs.Questions.{question_body};
+ghost use Rattle.it_terms.specs.Proofs.{TellsForm, TellsProof, TellsTarget};
+
+use crate::constraints::{put_constraint, put_relation, put_terms};
+use crate::drafts::row_terms;
+use crate::finding::{joint_sum, own_sum, product, turned};
+use crate::joining::{add_term, joined_terms};
+use crate::measures::{Measure, measures};
+use crate::proof_judging::{Proposal, tells_proof};
+use crate::telling::names_of;
+use crate::untold::Untold;
+use crate::writing::{Draft, draft_text};
+use it_canon::{problem, target_rows};
+use it_elemental::{Elemental, count, parts};
+use it_question::types::{Question, Verb};
+use it_space::{Certificate, Constraint, Row, VarSet};
+use it_syntax::Names;
+use it_syntax::types::{Atom, Relation, Sign, Term};
+use std::alloc::{AllocError, Global};
+
+/// The terms of a target, and how often they have it.
+#[derive(Debug, Drop)]
+struct Goal {
+    terms: Vec<Term>,
+    factor: i128,
+}
+
+/// What a certificate sums up: terms over sets, the terms of constraints, and the weights of these.
+#[derive(Debug, Drop)]
+struct Summands {
+    shannon: Vec<Term>,
+    rest: Vec<Term>,
+    weights: Vec<(u32, i128)>,
+}
+
+/// The set of one variable.
+fn variable(i: u8) -> VarSet {
+    if i < 16 {
+        VarSet::single(i)
+    } else {
+        VarSet::empty()
+    }
+}
+
+/// The set of the first n variables.
+fn first_variables(n: u8) -> VarSet
+    requires { n ≤ 10 }
+{
+    VarSet::from_number((1u16 << n) - 1)
+}
+
+/// An elemental inequality as an atom.
+fn elemental_atom(n: u8, index: u32) -> Atom
+    requires some { 1 ≤ n }
+    requires few { n ≤ 10 }
+    requires listed { index < length (elementals n) }
+{
+    match parts(n, index) {
+        Elemental::Conditional { of } => {
+            let of = variable(of);
+            let given = first_variables(n).minus(of);
+            Atom::Entropy { of, given }
+        }
+        Elemental::Mutual { left, right, given } => Atom::Mutual {
+            left: variable(left),
+            right: variable(right),
+            given,
+        },
+    }
+}
+
+/// Adds an elemental inequality so many times.
+fn put_elemental(shannon: &mut Vec<Term>, n: u8, index: u32, times: i128) -> Result<(), Untold>
+    requires some { 1 ≤ n }
+    requires few { n ≤ 10 }
+    requires listed { index < length (elementals n) }
+{
+    match u64::try_from(times) {
+        Ok(number) => Ok(add_term(shannon, number, elemental_atom(n, index))?),
+        Err(_) => Err(Untold::NotFound),
+    }
+}
+
+/// Adds a constraint by its number so many times.
+fn put_weighted(
+    summands: &mut Summands,
+    question: &Question,
+    constraints: &[Constraint],
+    index: u32,
+    times: i128,
+) -> Result<(), Untold> {
+    if index as usize >= constraints.len() {
+        return Err(Untold::NotFound);
+    }
+    let origin = constraints[index as usize].origin;
+    put_constraint(&mut summands.rest, question, origin, times)?;
+    summands.weights.push((index, times))?;
+    Ok(())
+}
+
+/// What a certificate sums up, so many times.
+fn summed_up(
+    alloc: Global,
+    question: &Question,
+    n: u8,
+    constraints: &[Constraint],
+    certificate: &Certificate,
+    factor: i128,
+) -> Result<Summands, Untold>
+    requires some { 1 ≤ n }
+    requires few { n ≤ 10 }
+{
+    let mut summands = Summands {
+        shannon: Vec::new(alloc),
+        rest: Vec::new(alloc),
+        weights: Vec::new(alloc),
+    };
+    let elementals = count(n);
+    for weight in certificate.weights.as_slice() {
+        let times = product(weight.1, factor)?;
+        if weight.0 < elementals {
+            put_elemental(&mut summands.shannon, n, weight.0, times)?;
+        } else {
+            put_weighted(
+                &mut summands,
+                question,
+                constraints,
+                weight.0 - elementals,
+                times,
+            )?;
+        }
+    }
+    Ok(summands)
+}
+
+/// The proposal of a proof: an equation between a goal, as often as the scale says, and terms over sets with those of
+/// constraints.
+fn proposal(
+    alloc: Global,
+    measures: &[Measure],
+    names: &Names,
+    goal: &Goal,
+    scale: i128,
+    shannon: &[Term],
+    summands: &Summands,
+) -> Result<Proposal, Untold> {
+    let mut left = Vec::new(alloc);
+    put_terms(&mut left, goal.terms.as_slice(), scale)?;
+    let mut right = Vec::new(alloc);
+    right.extend_from_slice(shannon)?;
+    right.extend_from_slice(summands.rest.as_slice())?;
+    // a side without terms is written and read as `0`
+    let shannon = if right.is_empty() { 1 } else { shannon.len() };
+    let draft = Draft {
+        left,
+        sign: Sign::Equal,
+        right,
+    };
+    let mut weights = Vec::new(alloc);
+    weights.extend_from_slice(summands.weights.as_slice())?;
+    Ok(Proposal {
+        text: draft_text(alloc, measures, names, &draft)?,
+        shannon,
+        target: (0, product(scale, goal.factor)?),
+        weights,
+    })
+}
+
+/// The text of a proposal, where there is one and it tells a proof of the target.
+fn judged(
+    alloc: Global,
+    names: &Names,
+    target: &Row,
+    constraints: &[Constraint],
+    proposal: Result<Proposal, Untold>,
+) -> Result<Option<Vec<u8>>, AllocError>
+    requires { 1 ≤ length names.now.variables }
+    ensures { IfOk result (λ o. IfSome o (λ text. TellsProof names.now (value target.now) (forms_of (map of_constraint constraints.now)) text.items)) }
+{
+    let proposal = match proposal {
+        Ok(proposal) => proposal,
+        Err(Untold::Memory) => return Err(AllocError),
+        Err(Untold::NotFound) => return Ok(None),
+    };
+    let tells = tells_proof(alloc, names, target, constraints, &proposal)?;
+    if tells {
+        Ok(Some(proposal.text))
+    } else {
+        Ok(None)
+    }
+}
+
+/// The text of a proof by what a certificate sums up: with the terms over sets joined, else with each elemental inequality.
+fn text_by(
+    alloc: Global,
+    measures: &[Measure],
+    names: &Names,
+    target: &Row,
+    constraints: &[Constraint],
+    goal: &Goal,
+    scale: i128,
+    summands: &Summands,
+) -> Result<Option<Vec<u8>>, AllocError>
+    requires { 1 ≤ length names.now.variables }
+    ensures { IfOk result (λ o. IfSome o (λ text. TellsProof names.now (value target.now) (forms_of (map of_constraint constraints.now)) text.items)) }
+{
+    let plain = summands.shannon.as_slice();
+    let joined = joined_terms(alloc, plain)?;
+    let short = proposal(
+        alloc,
+        measures,
+        names,
+        goal,
+        scale,
+        joined.as_slice(),
+        summands,
+    );
+    if let Some(text) = judged(alloc, names, target, constraints, short)? {
+        return Ok(Some(text));
+    }
+    let long = proposal(alloc, measures, names, goal, scale, plain, summands);
+    judged(alloc, names, target, constraints, long)
+}
+
+/// The text of a proof of a target from constraints.
+fn proof_text(
+    alloc: Global,
+    question: &Question,
+    measures: &[Measure],
+    names: &Names,
+    target: &Row,
+    constraints: &[Constraint],
+    goal: Result<Goal, Untold>,
+    certificate: &Certificate,
+) -> Result<Option<Vec<u8>>, AllocError>
+    requires { 1 ≤ length names.now.variables }
+    ensures { IfOk result (λ o. IfSome o (λ text. TellsProof names.now (value target.now) (forms_of (map of_constraint constraints.now)) text.items)) }
+{
+    let goal = match goal {
+        Ok(goal) => goal,
+        Err(Untold::Memory) => return Err(AllocError),
+        Err(Untold::NotFound) => return Ok(None),
+    };
+    let n = names.space().variables;
+    match summed_up(alloc, question, n, constraints, certificate, goal.factor) {
+        Ok(summands) => text_by(
+            alloc,
+            measures,
+            names,
+            target,
+            constraints,
+            &goal,
+            certificate.scale,
+            &summands,
+        ),
+        Err(Untold::Memory) => Err(AllocError),
+        Err(Untold::NotFound) => Ok(None),
+    }
+}
+
+/// The text of a proof of a target from the lines of a question.
+fn form_text(
+    alloc: Global,
+    question: &Question,
+    measures: &[Measure],
+    target: &Row,
+    goal: Result<Goal, Untold>,
+    certificate: &Certificate,
+) -> Result<Option<Vec<u8>>, AllocError>
+    requires { IsQuestion (question_body question.now) }
+    ensures { IfOk result (λ o. IfSome o (λ text. TellsForm (question_body question.now) (value target.now) text.items)) }
+{
+    let names = names_of(question);
+    let posed = problem(alloc, question)?;
+    let text = proof_text(
+        alloc,
+        question,
+        measures,
+        names,
+        target,
+        posed.constraints.as_slice(),
+        goal,
+        certificate,
+    )?;
+    Ok(text)
+}
+
+/// A row as a goal, in measures where it is a sum of these, else in joint entropies.
+fn row_goal(alloc: Global, measures: &[Measure], names: &Names, row: &Row) -> Result<Goal, Untold> {
+    let space = names.space();
+    let found = match own_sum(alloc, measures, row, space) {
+        Ok(found) => found,
+        Err(Untold::NotFound) => joint_sum(alloc, row, space)?,
+        Err(Untold::Memory) => return Err(Untold::Memory),
+    };
+    let terms = row_terms(alloc, row, &found, space)?;
+    Ok(Goal {
+        terms,
+        factor: found.scale,
+    })
+}
+
+/// A target of a relation as a goal, in the relation's own terms.
+fn relation_goal(alloc: Global, relation: &Relation, target: usize) -> Result<Goal, Untold> {
+    let mut terms = Vec::new(alloc);
+    put_relation(&mut terms, relation, turned(1, target == 1)?)?;
+    Ok(Goal { terms, factor: 1 })
+}
+
+/// The text of the proof of a row from the lines of a question, by a certificate: an equation between a multiple of the row
+/// and a sum of terms over sets and of multiples of the question's constraints; None where none was found.
+pub fn told_form(
+    alloc: Global,
+    question: &Question,
+    target: &Row,
+    certificate: &Certificate,
+) -> Result<Option<Vec<u8>>, AllocError>
+    requires { IsQuestion (question_body question.now) }
+    ensures { IfOk result (λ o. IfSome o (λ text. TellsForm (question_body question.now) (value target.now) text.items)) }
+{
+    let names = names_of(question);
+    let measures = measures(alloc, question.text.as_slice(), names)?;
+    let goal = row_goal(alloc, measures.as_slice(), names, target);
+    form_text(
+        alloc,
+        question,
+        measures.as_slice(),
+        target,
+        goal,
+        certificate,
+    )
+}
+
+/// The same of a target of the relation that the question asks for.
+fn target_text(
+    alloc: Global,
+    question: &Question,
+    relation: &Relation,
+    target: usize,
+    row: &Row,
+    certificate: &Certificate,
+) -> Result<Option<Vec<u8>>, AllocError>
+    requires { IsQuestion (question_body question.now) }
+    ensures { IfOk result (λ o. IfSome o (λ text. TellsForm (question_body question.now) (value row.now) text.items)) }
+{
+    let names = names_of(question);
+    let measures = measures(alloc, question.text.as_slice(), names)?;
+    let goal = relation_goal(alloc, relation, target);
+    form_text(alloc, question, measures.as_slice(), row, goal, certificate)
+}
+
+/// The text of the proof of one target of the relation that a question asks for, by its place: 0, and 1 for the second half
+/// of an equation; None where none was found.
+pub fn told_proof(
+    alloc: Global,
+    question: &Question,
+    target: usize,
+    certificate: &Certificate,
+) -> Result<Option<Vec<u8>>, AllocError>
+    requires { IsQuestion (question_body question.now) }
+    ensures { IfOk result (λ o. IfSome o (λ text. TellsTarget (question_body question.now) target text.items)) }
+{
+    let Verb::Prove(relation) = &question.verb else {
+        return Ok(None);
+    };
+    let rows = target_rows(alloc, relation, question.names.space())?;
+    if target >= rows.len() {
+        return Ok(None);
+    }
+    let text = target_text(
+        alloc,
+        question,
+        relation,
+        target,
+        &rows[target],
+        certificate,
+    )?;
+    Ok(text)
+}
