@@ -1,0 +1,124 @@
+-- What a call that is done has written, that each line has a telling, and that what is told is true.
+use Rattle.std.proofs.Common.{◌≡◌, ℕ, ◌+◌, ℤ, inl, inr, List, [], ◌∷◌, ◌++◌, ◌⊎◌, length, Bool, true, false, Option, Some, codes, refl, sym, subst, ◌∙◌}
+use Rattle.std.specs.List.{zip}
+use Rattle.std.proofs.lemmas.Bool.{true≢false}
+use Rattle.it_outside.specs.Groups.{Groups}
+use Rattle.it_outside.specs.Traffic.{Gains, Gave}
+use Rattle.it_outside.proofs.LawLemmas.{end_comes_last}
+use Rattle.it_space.specs.declared.answers.Mark.{Mark}
+use Rattle.it_space.specs.declared.problems.Kind.TheVariants.{Inequality}
+use Rattle.it_space.specs.Answers.{AnswerView, CertificateView}
+use Rattle.it_space.specs.Answers.AnswerView.{Yes, No, Undecided, Region, Contained, Open}
+use Rattle.it_space.specs.Rows.{Terms}
+use Rattle.it_polymatroid.specs.Certificates.{Form}
+use Rattle.it_syntax.specs.NamesViews.{NamesView}
+use Rattle.it_question.specs.Questions.{BodyView, QuestionView, VerbView, Prove, Eliminate, Contain}
+use Rattle.it_question.specs.Tables.{problem_names}
+use Rattle.it_certificate.specs.Reports.{ReadsReport}
+use Rattle.it_check.specs.declared.verdicts.Verdict.{Verdict}
+use Rattle.it_check.specs.declared.verdicts.Verdict.TheVariants.{Valid}
+use Rattle.it_print.specs.Lines.{certificate_text, row_text, values_text}
+use Rattle.it_report.specs.Judging.{HasAnswer, IsVerdict, is_passed_over, judged_forms}
+use Rattle.it_report.specs.LineVerdicts.{LineVerdict, NotJson, Shape, Skipped, Judged, is_invalid}
+use Rattle.it_report.specs.Meaning.{IsClaimTrueBy}
+use Rattle.it_report.proofs.ExistenceLemmas.{each_line_is_judged}
+use Rattle.it_report.proofs.OneLemmas.{one_pair}
+use Rattle.it_report.proofs.TruthLemmas.{valid_is_true}
+use Rattle.it_certificate.proofs.OneLemmas.{one_reading}
+use Rattle.it_cli.specs.Ends.{Call}
+use Rattle.it_cli.specs.Modes.{WholeOutput}
+use Rattle.it_cli.specs.Right.{question_origins}
+use Rattle.it_cli.specs.declared.status.Status.{Status}
+use Rattle.it_cli.specs.declared.status.Status.TheVariants.{Done, Invalid}
+use Rattle.it_tell.specs.Tellings.{Answered, AreDetails, IsAccepted, IsMarkedRowText, IsProofText, IsRowText, IsTelling, LineEach, Telling, indented_line, mark_comment}
+use Rattle.it_tell.specs.Tellings as tellings
+use Rattle.it_tell.specs.Ends.{Ends, HasTold, tell_mode}
+use Rattle.it_tell.specs.Laws.{EachLineIsTold, Headline, ToldAnswersAreTrue}
+use Rattle.it_tell.proofs.PrintableLemmas.{not_invalid_is_valid}
+
+-- ---- what is written
+
+written : (r : Call) (s : Status) (bytes old new : List ℕ) → HasTold r s → r.left ≡ Some bytes → r.taken ≡ Some old → r.taken_after ≡ Some new → (out : List ℕ) × (WholeOutput tell_mode bytes out s × (new ≡ old ++ out))
+written r s bytes old new h left taken taken_after =
+    let gave : Gave (Some bytes) r.left_after h.bytes = subst (λ (o : Option (List ℕ)). Gave o r.left_after h.bytes) left h.report.0 in
+    let gained : Gains (Some old) (Some new) h.out = subst (λ (o : Option (List ℕ)). Gains o (Some new) h.out) taken (subst (λ (o : Option (List ℕ)). Gains r.taken o h.out) taken_after h.wrote) in
+    (h.out, (subst (λ (b : List ℕ). WholeOutput tell_mode b h.out s) (end_comes_last bytes h.bytes r.left_after gave) h.output, gained))
+
+pub headline : Headline
+headline r s bytes old new ends (inl is) left taken taken_after =
+    subst (λ (t : Status). (out : List ℕ) × (WholeOutput tell_mode bytes out t × (new ≡ old ++ out))) (sym is) (written r Done bytes old new (subst (Ends r) is ends).1 left taken taken_after)
+headline r s bytes old new ends (inr is) left taken taken_after =
+    subst (λ (t : Status). (out : List ℕ) × (WholeOutput tell_mode bytes out t × (new ≡ old ++ out))) (sym is) (written r Invalid bytes old new (subst (Ends r) is ends).1 left taken taken_after)
+
+-- ---- each line
+
+module _ {X : Type 0} (tells : X → List ℕ → Type 0) (each : (x : X) → (text : List ℕ) × tells x text) where
+  lines_from : (k : ℕ) (items : List X) → (out : List ℕ) × Groups (λ (s : Unit {0}) (x : X) (text : List ℕ). tells x text) (λ (s : Unit {0}) (x : X) (text : List ℕ). s) (λ (k : ℕ) (x : X) (text : List ℕ). indented_line text) k tt items tt out
+  lines_from k [] = ([], (refl, refl))
+  lines_from k (x ∷ xs) = let t = each x in let rest = lines_from (k + 1) xs in (indented_line t.0 ++ rest.0, (t.0, rest.0, t.1, rest.1, refl))
+
+  lines_there : (items : List X) → (out : List ℕ) × LineEach tells items out
+  lines_there items = lines_from 1 items
+
+row_there : (v : NamesView) (row : Mark × Terms) → (text : List ℕ) × IsMarkedRowText v row text
+unfolding IsMarkedRowText IsRowText
+row_there v row = let own = codes "as row " ++ row_text v Inequality row.1 in (own ++ mark_comment row.0, (own, (inr refl, refl)))
+
+proof_there : (q : BodyView) (proof : Form × CertificateView) → (text : List ℕ) × IsProofText q proof text
+unfolding IsProofText
+proof_there q proof = (codes "as weights " ++ certificate_text (problem_names q).variables (question_origins q) proof.1, inr refl)
+
+details_there : (q : BodyView) (a : AnswerView) → (out : List ℕ) × AreDetails q a out
+unfolding AreDetails
+details_there q (Yes proofs) = lines_there (IsProofText q) (proof_there q) (zip (judged_forms q (Yes proofs)) proofs)
+details_there q (No back values) = (indented_line (codes "as point " ++ values_text (problem_names q) values), refl)
+details_there q (Undecided cause) = ([], refl)
+details_there q (Region rows) = lines_there (IsMarkedRowText (problem_names q)) (row_there (problem_names q)) rows
+details_there q (Contained parts proofs) = lines_there (IsProofText q) (proof_there q) (zip (judged_forms q (Contained parts proofs)) proofs)
+details_there q (Open tried) = ([], refl)
+
+answer_there : (line : List ℕ) (v : LineVerdict) → IsVerdict line v → is_invalid v ≡ false → HasAnswer line v → (telling : Telling) × IsTelling line telling
+answer_there line v is accepted h =
+    let details = details_there h.question.body h.answer in
+    (Answered h.question h.answer details.0, (record { verdict = v; is = is; accepted = accepted; reads = h.reads }, details.1))
+
+pub each_line_is_told : EachLineIsTold
+each_line_is_told line = let judged = (each_line_is_judged 1 line).2 in by_verdict judged.verdict judged.is
+  where
+    by_verdict : (v : LineVerdict) → IsVerdict line v → (telling : Telling) × IsTelling line telling
+    by_verdict NotJson is = (tellings.Invalid NotJson, (is, refl))
+    by_verdict (Shape key) is = (tellings.Invalid (Shape key), (is, refl))
+    by_verdict Skipped is = answer_there line Skipped is refl is
+    by_verdict (Judged names v) is = by_test (is_invalid (Judged names v)) refl
+      where
+        by_test : (b : Bool) → is_invalid (Judged names v) ≡ b → (telling : Telling) × IsTelling line telling
+        by_test true e = (tellings.Invalid (Judged names v), (is, e))
+        by_test false e = answer_there line (Judged names v) is e is
+
+-- ---- what is told is true
+
+passed_over_claims_nothing : (q : BodyView) (verb : VerbView) (a : AnswerView) → is_passed_over a ≡ true → IsClaimTrueBy q verb a
+passed_over_claims_nothing q verb (Yes ws) e = absurd (true≢false (sym e))
+passed_over_claims_nothing q verb (No back values) e = absurd (true≢false (sym e))
+passed_over_claims_nothing q verb (Contained parts proofs) e = absurd (true≢false (sym e))
+passed_over_claims_nothing q (Prove r) (Undecided cause) e = tt
+passed_over_claims_nothing q (Prove r) (Region rows) e = tt
+passed_over_claims_nothing q (Prove r) (Open tried) e = tt
+passed_over_claims_nothing q (Eliminate rates) (Undecided cause) e = tt
+passed_over_claims_nothing q (Eliminate rates) (Region rows) e = tt
+passed_over_claims_nothing q (Eliminate rates) (Open tried) e = tt
+passed_over_claims_nothing q (Contain first second tries) (Undecided cause) e = tt
+passed_over_claims_nothing q (Contain first second tries) (Region rows) e = tt
+passed_over_claims_nothing q (Contain first second tries) (Open tried) e = tt
+
+pub told_answers_are_true : ToldAnswersAreTrue
+told_answers_are_true line q a details (h, lines) = by_verdict h.verdict h.is h.accepted
+  where
+    by_verdict : (v : LineVerdict) → IsVerdict line v → is_invalid v ≡ false → IsClaimTrueBy q.body q.body.verb a
+    by_verdict NotJson is accepted = absurd (true≢false accepted)
+    by_verdict (Shape key) is accepted = absurd (true≢false accepted)
+    by_verdict Skipped is accepted =
+        let same = one_pair (is.question, is.answer) (q, a) (one_reading line _ _ is.reads h.reads) in
+        passed_over_claims_nothing q.body q.body.verb a (subst (λ (x : QuestionView × AnswerView). is_passed_over x.1 ≡ true) same is.verdict)
+    by_verdict (Judged names v) is accepted =
+        valid_is_true line names q a (subst (λ (w : Verdict). IsVerdict line (Judged names w)) (not_invalid_is_valid v accepted) is) h.reads

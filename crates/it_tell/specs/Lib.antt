@@ -1,0 +1,4 @@
+pub mod Tellings
+pub mod Ends
+pub mod Steps
+pub mod Laws

@@ -1,0 +1,100 @@
+-- What is told of a line of a report: the verdict's own line where that is invalid, else the first line of its answer and below it, line by
+-- line, the answer's rows, its proofs or its point.
+use Rattle.std.specs.Prelude.{◌≡◌, ℕ, List, [], ◌++◌, length, Bool, true, false, ◌⊎◌, Ok, codes, decimal}
+use Rattle.std.specs.List.{zip}
+use Rattle.it_outside.specs.Groups.{Groups}
+use Rattle.it_space.specs.declared.answers.Mark.{Mark}
+use Rattle.it_space.specs.declared.answers.Mark.TheVariants.{Plain, Needed, Unsettled}
+use Rattle.it_space.specs.declared.problems.Kind.TheVariants.{Inequality}
+use Rattle.it_space.specs.Answers.{AnswerView, CertificateView, mark_word}
+use Rattle.it_space.specs.Answers.AnswerView.{Yes, No, Undecided, Region, Contained, Open}
+use Rattle.it_space.specs.Rows.{Terms}
+use Rattle.it_polymatroid.specs.Certificates.{Form}
+use Rattle.it_syntax.specs.NamesViews.{NamesView}
+use Rattle.it_question.specs.Questions.{BodyView, QuestionView}
+use Rattle.it_question.specs.Tables.{problem_names}
+use Rattle.it_certificate.specs.Reports.{ReadsReport}
+use Rattle.it_print.specs.Lines.{auxiliary_names, certificate_text, contained_line, open_line, row_text, undecided_line, values_text}
+use Rattle.it_terms.specs.Tells.{TellsRow}
+use Rattle.it_terms.specs.Proofs.{TellsForm}
+use Rattle.it_report.specs.Judging.{IsVerdict, judged_forms}
+use Rattle.it_report.specs.LineVerdicts.{LineVerdict, is_invalid, numbered_line, verdict_line}
+use Rattle.it_cli.specs.Right.{question_origins}
+
+-- ---- the lines below an answer's first one
+
+-- a text as such a line
+unfoldable pub indented_line : List ℕ → List ℕ
+indented_line text = codes "  " ++ text ++ codes "\n"
+
+-- such a line for each item in order, with a text that tells it
+abbrev pub LineEach : {X : Type 0} → (X → List ℕ → Type 0) → List X → List ℕ → Type 0
+LineEach {X} tells items out = Groups (λ (s : Unit {0}) (x : X) (text : List ℕ). tells x text) (λ (s : Unit {0}) (x : X) (text : List ℕ). s) (λ (k : ℕ) (x : X) (text : List ℕ). indented_line text) 1 tt items tt out
+
+-- a row in the question's own terms, or as reports have it and said to be that
+unfoldable pub IsRowText : NamesView → Terms → List ℕ → Type 0
+IsRowText v row text = TellsRow v row text ⊎ (text ≡ codes "as row " ++ row_text v Inequality row)
+
+-- what is said of a row that isn't known to be needed, as a comment
+abbrev pub mark_comment : Mark → List ℕ
+mark_comment Plain = codes "  # plain"
+mark_comment Needed = []
+mark_comment Unsettled = codes "  # unsettled"
+
+-- a row of a region
+unfoldable pub IsMarkedRowText : NamesView → Mark × Terms → List ℕ → Type 0
+IsMarkedRowText v row text = (own : List ℕ) × (IsRowText v row.1 own × (text ≡ own ++ mark_comment row.0))
+
+-- a proof of a form in the question's own terms, or the weights as answers have them and said to be that
+unfoldable pub IsProofText : BodyView → Form × CertificateView → List ℕ → Type 0
+IsProofText q proof text = TellsForm q proof.0 text
+    ⊎ (text ≡ codes "as weights " ++ certificate_text (problem_names q).variables (question_origins q) proof.1)
+
+-- the lines below the first one: of the proofs of what the answer says, of its rows, or of its point
+unfoldable pub AreDetails : BodyView → AnswerView → List ℕ → Type 0
+AreDetails q (Yes proofs) out = LineEach (IsProofText q) (zip (judged_forms q (Yes proofs)) proofs) out
+AreDetails q (No back values) out = out ≡ indented_line (codes "as point " ++ values_text (problem_names q) values)
+AreDetails q (Undecided cause) out = out ≡ []
+AreDetails q (Region rows) out = LineEach (IsMarkedRowText (problem_names q)) rows out
+AreDetails q (Contained parts proofs) out = LineEach (IsProofText q) (zip (judged_forms q (Contained parts proofs)) proofs) out
+AreDetails q (Open tried) out = out ≡ []
+
+-- ---- the first line
+
+-- that of an answer of `itip answer`, without proofs, values and rows
+unfoldable pub head_line : ℕ → BodyView → AnswerView → List ℕ
+head_line k q (Yes proofs) = numbered_line k (codes "yes")
+head_line k q (No back values) = numbered_line k (codes "no")
+head_line k q (Undecided cause) = undecided_line k (problem_names q) cause
+head_line k q (Region rows) = numbered_line k (codes "region " ++ decimal (length rows))
+head_line k q (Contained parts proofs) = contained_line k (auxiliary_names q) (problem_names q).variables parts
+head_line k q (Open tried) = open_line k tried
+
+-- ---- a line of a report
+
+-- that it is invalid, with this verdict; or its answer to its question, with these lines below the first one
+pub data Telling : Type 0 where
+  Invalid : (verdict : LineVerdict) → Telling
+  Answered : (question : QuestionView) (answer : AnswerView) (details : List ℕ) → Telling
+
+-- the line reads as this question with this answer, and its verdict isn't an invalid one
+pub record IsAccepted (line : List ℕ) (q : QuestionView) (answer : AnswerView) : Type 0 where
+  pub verdict : LineVerdict
+  pub is : IsVerdict line verdict
+  pub accepted : is_invalid verdict ≡ false
+  pub reads : ReadsReport line (Ok (q, answer))
+
+-- this may be told of the line
+abbrev pub IsTelling : List ℕ → Telling → Type 0
+IsTelling line (Invalid v) = IsVerdict line v × (is_invalid v ≡ true)
+IsTelling line (Answered q answer details) = IsAccepted line q answer × AreDetails q.body answer details
+
+-- whether it is told to be invalid
+abbrev pub tells_invalid : Telling → Bool
+tells_invalid (Invalid v) = true
+tells_invalid (Answered q answer details) = false
+
+-- the lines about line k
+abbrev pub telling_text : ℕ → Telling → List ℕ
+telling_text k (Invalid v) = verdict_line k v
+telling_text k (Answered q answer details) = head_line k q.body answer ++ details

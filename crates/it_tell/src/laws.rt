@@ -1,0 +1,20 @@
+//! What follows from how a call ends and from what may be told, each theorem as the contract of a function.
+ghost use Rattle.it_tell.specs.Laws.{EachLineIsTold, Headline, ToldAnswersAreTrue};
+
+/// What a call that is done has written: what is told of each line of all that the source had.
+#[tactic(auto, using(crate::proofs::LawLemmas::headline))]
+pub fn headline()
+    ensures { Headline }
+{}
+
+/// Something may be told of each line of a report, whatever its bytes.
+#[tactic(auto, using(crate::proofs::LawLemmas::each_line_is_told))]
+pub fn each_line_is_told()
+    ensures { EachLineIsTold }
+{}
+
+/// What a told answer claims is true: a yes holds everywhere, the point of a no violates the relation, and of a containment the first
+/// region lies in the second.
+pub fn told_answers_are_true()
+    ensures { ToldAnswersAreTrue }
+{}

@@ -1,0 +1,11 @@
+//! What is told of a report: the answers of its lines in the field's own notation.
+#![tactic(auto)]
+
+mod details;
+mod heads;
+pub mod laws;
+mod lines;
+mod reports;
+mod top;
+
+pub use top::tell;

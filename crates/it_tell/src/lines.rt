@@ -1,0 +1,70 @@
+//! What is told of a line of a report.
+ghost use Rattle.std.specs.Prelude.{◌≡◌, length, IfOk};
+ghost use Rattle.it_space.specs.Answers.{answer_view};
+ghost use Rattle.it_question.specs.Limits.{IsQuestion};
+ghost use Rattle.it_question.specs.Questions.{question_body};
+ghost use Rattle.it_canon.specs.QuestionDemands.{question_demands};
+ghost use Rattle.it_certificate.specs.AnswerShapes.{HasQuestionShape};
+ghost use Rattle.it_print.specs.Lines.{IsPrintable};
+ghost use Rattle.it_tell.specs.Steps.{IsAnsweredText, IsToldLine};
+
+use crate::details::write_details;
+use crate::heads::head_line;
+use it_canon::problem;
+use it_certificate::{ReportFault, answer_from_json};
+use it_question::types::Question;
+use it_report::judge;
+use it_space::Answer;
+use std::alloc::{AllocError, Global};
+
+/// The lines about a line of a report, and whether they say `invalid`.
+#[derive(Debug, Drop)]
+pub struct ToldLine {
+    pub text: Vec<u8>,
+    pub invalid: bool,
+}
+
+/// The lines about an answer to question k.
+#[tactic(auto, unfolding(crate::specs::Steps::IsAnsweredText, crate::specs::Steps::AppendsDetails))]
+fn answered_text(
+    alloc: Global,
+    k: usize,
+    question: &Question,
+    answer: &Answer,
+) -> Result<Vec<u8>, AllocError>
+    requires question { IsQuestion (question_body question.now) }
+    requires fits { HasQuestionShape (question_body question.now) (answer_view answer.now) }
+    requires printable { IsPrintable (question_body question.now) (length (question_demands (question_body question.now))) answer.now }
+    ensures { IfOk result (λ t. IsAnsweredText k (question_body question.now) (answer_view answer.now) t.items) }
+{
+    let problem = problem(alloc, question)?;
+    let constraints = problem.constraints.as_slice();
+    let mut text = head_line(alloc, k, question, constraints, answer)?;
+    write_details(alloc, &mut text, question, constraints, answer)?;
+    Ok(text)
+}
+
+/// What is told of line k of a report; lines are counted from 1, and `line` comes without its end. It is read twice, to be judged and
+/// to be told.
+pub fn tell_line(alloc: Global, k: usize, line: &[u8]) -> Result<ToldLine, AllocError>
+    ensures { IfOk result (λ t. IsToldLine k line.now t.text.items t.invalid) }
+{
+    let judged = judge(alloc, k, line)?;
+    if judged.invalid {
+        return Ok(ToldLine {
+            text: judged.text,
+            invalid: true,
+        });
+    }
+    let reported = match answer_from_json(alloc, line) {
+        Ok(reported) => reported,
+        Err(ReportFault::Memory) => return Err(AllocError),
+        Err(ReportFault::NotJson) => unreachable!(),
+        Err(ReportFault::Shape { .. }) => unreachable!(),
+    };
+    let text = answered_text(alloc, k, &reported.question, &reported.answer)?;
+    Ok(ToldLine {
+        text,
+        invalid: false,
+    })
+}
