@@ -6,7 +6,7 @@ use Rattle.std.proofs.lemmas.Slice.Zip.{get_or-zip, length-zip}
 use Rattle.std.proofs.lemmas.Option.{get_or_from_slice_get}
 use Rattle.it_outside.proofs.GroupLemmas.{UnderWay, under_way_done, under_way_first, under_way_more}
 use Rattle.it_space.specs.Answers.{AnswerView, CertificateView, certificate_view}
-use Rattle.it_space.specs.Answers.AnswerView.{Yes, No, Undecided, Region, Contained, Open}
+use Rattle.it_space.specs.Answers.AnswerView.{Yes, No, Undecided, Region, Open}
 use Rattle.it_space.specs.Rows.{Terms}
 use Rattle.it_space.specs.declared.answers.Cause.{Cause}
 use Rattle.it_space.specs.declared.answers.Mark.{Mark}
@@ -21,7 +21,7 @@ use Rattle.it_print.specs.Lines.{values_text}
 use Rattle.it_terms.specs.Proofs.{TellsForm, TellsTarget}
 use Rattle.it_report.specs.Judging.{judged_forms, judged_forms_by}
 use Rattle.it_tell.specs.Tellings.{AreDetails, IsMarkedRowText, IsProofText, indented_line}
-use Rattle.it_tell.proofs.PrintableLemmas.{contained_counted, yes_counted}
+use Rattle.it_tell.proofs.PrintableLemmas.{yes_counted}
 use Rattle.it_tell.specs.Steps.{AppendsDetails, AppendsEach, AppendsProofs, IsProofTextAt, TellsProofAt}
 
 module _ {X : Type 0} (tells : X → List ℕ → Type 0) where
@@ -104,10 +104,6 @@ all_proofs q ws old new i u all answer counted = all_appended (IsProofText q) ol
 pub yes_details : (q : BodyView) (ws : List CertificateView) (old new : List ℕ) → HasQuestionShape q (Yes ws) → AppendsProofs q ws old new → AppendsDetails q (Yes ws) old new
 unfolding AppendsDetails AppendsEach AppendsProofs AreDetails
 yes_details q ws old new fits h = h (Yes ws) (yes_counted q ws fits)
-
-pub contained_details : (q : BodyView) (parts : List ℕ) (ws : List CertificateView) (old new : List ℕ) → HasQuestionShape q (Contained parts ws) → AppendsProofs q ws old new → AppendsDetails q (Contained parts ws) old new
-unfolding AppendsDetails AppendsEach AppendsProofs AreDetails
-contained_details q parts ws old new fits h = h (Contained parts ws) (contained_counted q parts ws fits)
 
 pub region_details : (q : BodyView) (rows : List (Mark × Terms)) (old new : List ℕ) → AppendsEach (IsMarkedRowText (problem_names q)) rows old new → AppendsDetails q (Region rows) old new
 unfolding AppendsDetails AppendsEach AreDetails

@@ -1,6 +1,5 @@
 -- How a call of `tell` ends, from what the calls in it say.
 use Rattle.std.proofs.Common.{◌≡◌, ℕ, inl, inr, List, [], sym, subst}
-use Rattle.it_outside.specs.Traffic.{GaveMore}
 use Rattle.it_cli.specs.Ends.{Call, IsFaultless, ReadFailed, Wrote}
 use Rattle.it_cli.specs.InnerEnds.{EndOfBytes, EndOfLine}
 use Rattle.it_cli.specs.Refusals.{long_line}

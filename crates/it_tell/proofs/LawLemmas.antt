@@ -1,5 +1,5 @@
 -- What a call that is done has written, that each line has a telling, and that what is told is true.
-use Rattle.std.proofs.Common.{◌≡◌, ℕ, ◌+◌, ℤ, inl, inr, List, [], ◌∷◌, ◌++◌, ◌⊎◌, length, Bool, true, false, Option, Some, codes, refl, sym, subst, ◌∙◌}
+use Rattle.std.proofs.Common.{◌≡◌, ℕ, ◌+◌, inl, inr, List, [], ◌∷◌, ◌++◌, ◌⊎◌, Bool, true, false, Option, Some, codes, refl, sym, subst, ◌∙◌}
 use Rattle.std.specs.List.{zip}
 use Rattle.std.proofs.lemmas.Bool.{true≢false}
 use Rattle.it_outside.specs.Groups.{Groups}
@@ -14,9 +14,7 @@ use Rattle.it_polymatroid.specs.Certificates.{Form}
 use Rattle.it_syntax.specs.NamesViews.{NamesView}
 use Rattle.it_question.specs.Questions.{BodyView, QuestionView, VerbView, Prove, Eliminate, Contain}
 use Rattle.it_question.specs.Tables.{problem_names}
-use Rattle.it_certificate.specs.Reports.{ReadsReport}
 use Rattle.it_check.specs.declared.verdicts.Verdict.{Verdict}
-use Rattle.it_check.specs.declared.verdicts.Verdict.TheVariants.{Valid}
 use Rattle.it_print.specs.Lines.{certificate_text, row_text, values_text}
 use Rattle.it_report.specs.Judging.{HasAnswer, IsVerdict, is_passed_over, judged_forms}
 use Rattle.it_report.specs.LineVerdicts.{LineVerdict, NotJson, Shape, Skipped, Judged, is_invalid}
@@ -30,7 +28,7 @@ use Rattle.it_cli.specs.Modes.{WholeOutput}
 use Rattle.it_cli.specs.Right.{question_origins}
 use Rattle.it_cli.specs.declared.status.Status.{Status}
 use Rattle.it_cli.specs.declared.status.Status.TheVariants.{Done, Invalid}
-use Rattle.it_tell.specs.Tellings.{Answered, AreDetails, IsAccepted, IsMarkedRowText, IsProofText, IsRowText, IsTelling, LineEach, Telling, indented_line, mark_comment}
+use Rattle.it_tell.specs.Tellings.{Answered, AreDetails, IsMarkedRowText, IsProofText, IsRowText, IsTelling, LineEach, Telling, indented_line, mark_comment}
 use Rattle.it_tell.specs.Tellings as tellings
 use Rattle.it_tell.specs.Ends.{Ends, HasTold, tell_mode}
 use Rattle.it_tell.specs.Laws.{EachLineIsTold, Headline, ToldAnswersAreTrue}

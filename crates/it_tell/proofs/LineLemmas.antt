@@ -1,11 +1,11 @@
 -- What is told of a line of a report, step by step as the code forms it.
-use Rattle.std.proofs.Common.{◌≡◌, ℕ, List, ◌++◌, length, Bool, true, false, Some, None, Result, Ok, Err, IsUtf8, refl, sym, ap, subst, ◌∙◌}
+use Rattle.std.proofs.Common.{◌≡◌, ℕ, List, ◌++◌, length, Bool, true, false, Some, None, Ok, Err, IsUtf8, refl, sym, subst, ◌∙◌}
 use Rattle.std.proofs.lemmas.Bool.{true≢false}
 use Rattle.serde_json.specs.Read.{read}
 use Rattle.it_space.specs.declared.answers.Answer.{Answer}
 use Rattle.it_space.specs.Answers.{AnswerView, answer_view}
 use Rattle.it_question.specs.Limits.{IsQuestion}
-use Rattle.it_question.specs.Questions.{BodyView, QuestionView}
+use Rattle.it_question.specs.Questions.{QuestionView}
 use Rattle.it_canon.specs.QuestionDemands.{question_demands}
 use Rattle.it_certificate.specs.AnswerShapes.{HasQuestionShape}
 use Rattle.it_certificate.specs.declared.keys.Key.{Key}

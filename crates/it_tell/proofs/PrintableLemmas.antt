@@ -1,6 +1,6 @@
 -- Answers that were read and aren't invalid can be written: their generators are there, and their points, rows and causes are of the
 -- question's names.
-use Rattle.std.proofs.Common.{◌≡◌, ℕ, ℤ, ◌+◌, ◌-◌, ◌<◌, ◌≤◌, ◌^◌, List, [], ◌∷◌, map, length, drop, Bool, true, false, not, Option, Some, All, if◌then◌else◌, refl, sym, ap, ap₂, subst, ◌∙◌, arith}
+use Rattle.std.proofs.Common.{◌≡◌, ℕ, ℤ, ◌+◌, ◌-◌, ◌<◌, ◌≤◌, ◌^◌, List, [], ◌∷◌, map, length, drop, Bool, true, false, not, Some, All, if◌then◌else◌, refl, sym, ap, ap₂, subst, ◌∙◌, arith}
 use Rattle.std.specs.Prelude.{bytes_eq}
 use Rattle.std.proofs.lemmas.List.{length-map}
 use Rattle.std.proofs.lemmas.List.Elements.{All-nil, All-cons, All-weaker}
@@ -28,14 +28,13 @@ use Rattle.it_elemental.proofs.GeneratorLemmas.{length-listed}
 use Rattle.it_syntax.specs.Meaning.{RelationView}
 use Rattle.it_syntax.specs.NamesViews.{NamesView}
 use Rattle.it_question.specs.Limits.{IsQuestion, IsVerbOver}
-use Rattle.it_question.specs.Questions.{BodyView, QuestionView, RegionView, VerbView, Prove, Eliminate, Contain}
+use Rattle.it_question.specs.Questions.{BodyView, RegionView, VerbView, Prove, Eliminate, Contain}
 use Rattle.it_question.specs.Tables.{problem_names, problem_names_by}
 use Rattle.it_demand.specs.LineDemands.{space_of}
 use Rattle.it_demand.specs.Canonical.{form_of}
-use Rattle.it_demand.specs.Targets.{targets}
 use Rattle.it_canon.specs.QuestionDemands.{IsProblemOf, question_demands, variables_of}
 use Rattle.it_region.specs.Obligations.{ArePulledRows, obligations}
-use Rattle.it_certificate.specs.AnswerShapes.{HasContainmentShape, HasQuestionShape, HasVerbShape, IsCauseFor, IsRowIn}
+use Rattle.it_certificate.specs.AnswerShapes.{HasQuestionShape, HasVerbShape, IsCauseFor, IsRowIn}
 use Rattle.it_certificate.specs.Values.{rate_name}
 use Rattle.it_check.specs.declared.verdicts.Verdict.{Verdict}
 use Rattle.it_check.specs.declared.verdicts.Verdict.TheVariants.{Valid, BadScale, UnknownGenerator, NegativeWeight, Width, Mismatch, BrokenElemental, UnmetConstraint, NotViolated}

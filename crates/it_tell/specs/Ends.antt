@@ -1,5 +1,5 @@
 -- How a call of `tell` ends: what each status says of what the source gave and of what the sink took. It has neither words nor boxes.
-use Rattle.std.specs.Prelude.{◌≡◌, ℕ, List, [], Bool, true, false, ◌||◌, ◌⊎◌, Some}
+use Rattle.std.specs.Prelude.{◌≡◌, ℕ, List, [], Bool, false, ◌||◌, ◌⊎◌, Some}
 use Rattle.it_outside.specs.Traffic.{GaveMore}
 use Rattle.it_question.specs.Lines.{split_lines}
 use Rattle.it_cli.specs.Ends.{Call, IsFaultless, IsTaken, ReadFailed, WriteFailed, Wrote, WroteFront}

@@ -1,6 +1,9 @@
 -- No public clause cites this module: what the calls inside `tell` give.
 use Rattle.std.specs.Prelude.{◌≡◌, ℕ, ◌<◌, List, ◌++◌, length, get_or, Bool}
 use Rattle.std.specs.List.{zip}
+use Rattle.it_space.specs.declared.spaces.Space.{Space}
+use Rattle.it_space.specs.Rows.{Terms}
+use Rattle.it_region.specs.Obligations.{ArePulledRows}
 use Rattle.it_space.specs.Answers.{AnswerView, CertificateView}
 use Rattle.it_polymatroid.specs.Certificates.{Form}
 use Rattle.it_question.specs.Questions.{BodyView}
@@ -38,3 +41,11 @@ IsProofTextAt q i certificate text = (answer : AnswerView) (form : Form) → i <
 -- a line for each proof was appended, whichever answer they are of
 unfoldable pub AppendsProofs : BodyView → List CertificateView → List ℕ → List ℕ → Type 0
 AppendsProofs q ws old new = (answer : AnswerView) → length (judged_forms q answer) ≡ length ws → AppendsEach (IsProofText q) (zip (judged_forms q answer) ws) old new
+
+-- these are rows of the forms that an answer speaks of, in order
+unfoldable pub AreFormRows : BodyView → AnswerView → List Terms → Type 0
+AreFormRows q answer rows = (s : Space) × ArePulledRows s (judged_forms q answer) rows
+
+-- a line for each proof of a row was appended, whichever answer the rows are of
+unfoldable pub AppendsRowProofs : BodyView → List Terms → List CertificateView → List ℕ → List ℕ → Type 0
+AppendsRowProofs q rows ws old new = (answer : AnswerView) → AreFormRows q answer rows → AppendsEach (IsProofText q) (zip (judged_forms q answer) ws) old new

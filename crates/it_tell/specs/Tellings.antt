@@ -6,7 +6,7 @@ use Rattle.it_outside.specs.Groups.{Groups}
 use Rattle.it_space.specs.declared.answers.Mark.{Mark}
 use Rattle.it_space.specs.declared.answers.Mark.TheVariants.{Plain, Needed, Unsettled}
 use Rattle.it_space.specs.declared.problems.Kind.TheVariants.{Inequality}
-use Rattle.it_space.specs.Answers.{AnswerView, CertificateView, mark_word}
+use Rattle.it_space.specs.Answers.{AnswerView, CertificateView}
 use Rattle.it_space.specs.Answers.AnswerView.{Yes, No, Undecided, Region, Contained, Open}
 use Rattle.it_space.specs.Rows.{Terms}
 use Rattle.it_polymatroid.specs.Certificates.{Form}

@@ -1,6 +1,8 @@
 //! The lines below the first one of an answer: rows, proofs and points.
 ghost use Rattle.std.specs.Prelude.{◌≡◌, ◌≤◌, ◌<◌, ◌+◌, ◌^◌, ◌++◌, length, map, codes, All, IfOk, IfSome, OnOk};
 ghost use Rattle.it_space.specs.Answers.{answer_view, certificate_view};
+ghost use Rattle.it_space.specs.Answers.AnswerView.{Contained};
+ghost use Rattle.it_space.specs.Rows.{value};
 ghost use Rattle.it_space.specs.declared.problems.Kind.TheVariants.{Inequality};
 ghost use Rattle.it_polymatroid.specs.Elementals.{elementals};
 ghost use Rattle.it_question.specs.Limits.{IsQuestion};
@@ -10,14 +12,15 @@ ghost use Rattle.it_canon.specs.QuestionDemands.{variables_of};
 ghost use Rattle.it_certificate.specs.AnswerShapes.{HasQuestionShape};
 ghost use Rattle.it_print.specs.Lines.{AreListed, IsPrintable, IsRowOver, certificate_text, origins_of, row_text, values_text};
 ghost use Rattle.it_cli.specs.Right.{question_origins};
-ghost use Rattle.it_tell.specs.Tellings.{IsMarkedRowText, IsRowText, indented_line, mark_comment};
-ghost use Rattle.it_tell.specs.Steps.{AppendsDetails, AppendsEach, AppendsProofs, IsProofTextAt, TellsProofAt};
+ghost use Rattle.it_tell.specs.Tellings.{IsMarkedRowText, IsProofText, IsRowText, indented_line, mark_comment};
+ghost use Rattle.it_tell.specs.Steps.{AppendsDetails, AppendsEach, AppendsProofs, AppendsRowProofs, AreFormRows, IsProofTextAt, TellsProofAt};
 
 use it_canon::problem_names;
 use it_print::{row_text, sum_text, values_text, write_signed};
 use it_question::types::{Question, Verb};
-use it_space::{Answer, Certificate, Constraint, Kind, Mark, Point, Row};
-use it_terms::{told_proof, told_row};
+use it_region::{candidate, obligations, pair};
+use it_space::{Answer, Certificate, Constraint, Kind, Mark, Point, Row, VarSet};
+use it_terms::{told_form, told_proof, told_row};
 use std::alloc::{AllocError, Global};
 
 /// Appends a text as a line below the first one.
@@ -117,7 +120,7 @@ fn weights_text(
     Ok(out)
 }
 
-/// The proof at a place of an answer in the question's own terms, where one is found. None is looked for where regions are compared.
+/// The proof at a place of an answer in the question's own terms, where one is found.
 fn own_proof(
     alloc: Global,
     question: &Question,
@@ -175,6 +178,88 @@ fn write_proofs(
     Ok(())
 }
 
+/// The rows of what a containment's parts oblige to, in order.
+fn obligation_rows(
+    alloc: Global,
+    question: &Question,
+    parts: &[VarSet],
+    proofs: &[Certificate],
+) -> Result<Vec<Row>, AllocError>
+    requires question { IsQuestion (question_body question.now) }
+    requires fits { HasQuestionShape (question_body question.now) (Contained parts.now (map certificate_view proofs.now)) }
+    ensures { IfOk result (λ rows. AreFormRows (question_body question.now) (Contained parts.now (map certificate_view proofs.now)) rows.items) }
+{
+    // the proofs are named in the clauses alone
+    let _proofs = proofs;
+    let pair = pair(alloc, question)?;
+    let rows = obligations(alloc, &pair, &candidate(parts))?;
+    Ok(rows)
+}
+
+/// The proof of a row in the question's own terms, or its weights.
+#[tactic(auto, unfolding(crate::specs::Tellings::IsProofText))]
+fn row_proof(
+    alloc: Global,
+    question: &Question,
+    constraints: &[Constraint],
+    row: &Row,
+    certificate: &Certificate,
+) -> Result<Vec<u8>, AllocError>
+    requires question { IsQuestion (question_body question.now) }
+    requires some { 1 ≤ variables_of (question_body question.now) }
+    requires origins { origins_of constraints.now ≡ question_origins (question_body question.now) }
+    requires there { All (λ w. w.0 < length (elementals (variables_of (question_body question.now))) + length constraints.now) certificate.now.weights.items }
+    ensures { IfOk result (λ t. IsProofText (question_body question.now) (value row.now, certificate_view certificate.now) t.items) }
+{
+    match told_form(alloc, question, row, certificate)? {
+        Some(text) => Ok(text),
+        None => weights_text(alloc, question, constraints, certificate),
+    }
+}
+
+/// Appends a line for each proof of a row, in order.
+fn write_row_proofs(
+    alloc: Global,
+    out: &mut Vec<u8>,
+    question: &Question,
+    constraints: &[Constraint],
+    rows: &[Row],
+    proofs: &[Certificate],
+) -> Result<(), AllocError>
+    requires question { IsQuestion (question_body question.now) }
+    requires some { 1 ≤ variables_of (question_body question.now) }
+    requires origins { origins_of constraints.now ≡ question_origins (question_body question.now) }
+    requires there { AreListed (variables_of (question_body question.now)) (length constraints.now) proofs.now }
+    requires as_many { length rows.now ≡ length proofs.now }
+    ensures { OnOk result (AppendsRowProofs (question_body question.now) rows.now (map certificate_view proofs.now) out.old.items out.new.items) }
+{
+    for (i, certificate) in proofs.iter().enumerate() {
+        let text = row_proof(alloc, question, constraints, &rows[i], certificate)?;
+        write_indented(out, text.as_slice())?;
+    }
+    Ok(())
+}
+
+/// Appends a line for each obligation of a containment.
+fn write_obligations(
+    alloc: Global,
+    out: &mut Vec<u8>,
+    question: &Question,
+    constraints: &[Constraint],
+    parts: &[VarSet],
+    proofs: &[Certificate],
+) -> Result<(), AllocError>
+    requires question { IsQuestion (question_body question.now) }
+    requires some { 1 ≤ variables_of (question_body question.now) }
+    requires origins { origins_of constraints.now ≡ question_origins (question_body question.now) }
+    requires there { AreListed (variables_of (question_body question.now)) (length constraints.now) proofs.now }
+    requires fits { HasQuestionShape (question_body question.now) (Contained parts.now (map certificate_view proofs.now)) }
+    ensures { OnOk result (AppendsDetails (question_body question.now) (Contained parts.now (map certificate_view proofs.now)) out.old.items out.new.items) }
+{
+    let rows = obligation_rows(alloc, question, parts, proofs)?;
+    write_row_proofs(alloc, out, question, constraints, rows.as_slice(), proofs)
+}
+
 /// Appends the line of a point.
 fn write_point(
     alloc: Global,
@@ -214,9 +299,14 @@ pub fn write_details(
         Answer::No { point, .. } => write_point(alloc, out, question, point),
         Answer::Undecided(_) => Ok(()),
         Answer::Region(rows) => write_rows(alloc, out, question, rows.as_slice()),
-        Answer::Contained { proofs, .. } => {
-            write_proofs(alloc, out, question, constraints, proofs.as_slice())
-        }
+        Answer::Contained { parts, proofs } => write_obligations(
+            alloc,
+            out,
+            question,
+            constraints,
+            parts.as_slice(),
+            proofs.as_slice(),
+        ),
         Answer::Open { .. } => Ok(()),
     }
 }

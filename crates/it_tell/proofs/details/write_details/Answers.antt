@@ -2,7 +2,7 @@ use Rattle.std.proofs.Common.{map}
 use Rattle.std.proofs.lemmas.Result.{on_ok_weaker}
 use Rattle.it_space.specs.Answers.{certificate_view}
 use Rattle.it_question.specs.Questions.{question_body}
-use Rattle.it_tell.proofs.DetailLemmas.{contained_details, open_details, point_details, region_details, undecided_details, yes_details}
+use Rattle.it_tell.proofs.DetailLemmas.{open_details, point_details, region_details, undecided_details, yes_details}
 use Rattle.it_tell.proofs.details.write_details.Goals as goal
 
 pub returns-in-Yes : goal.returns-in-Yes
@@ -16,9 +16,7 @@ pub returns-in-Region : goal.returns-in-Region
 returns-in-Region c = rw c.in-Region.is (on_ok_weaker c.write_rows.result (region_details (question_body c.args.question.now) c.in-Region.rows.items c.args.out.now.items c.write_rows.new.out.items) (rw c.as_slice-in-Region.ensures.value at c.write_rows.ensures))
 
 pub returns-in-Contained : goal.returns-in-Contained
-returns-in-Contained c = rw c.in-Contained.is (on_ok_weaker c.write_proofs-in-Contained.result
-    (contained_details (question_body c.args.question.now) c.in-Contained.parts.items (map certificate_view c.in-Contained.proofs.items) c.args.out.now.items c.write_proofs-in-Contained.new.out.items (rw c.in-Contained.is at c.requires.fits))
-    (rw c.as_slice-in-Contained.ensures.value at c.write_proofs-in-Contained.ensures))
+returns-in-Contained c = rw c.in-Contained.is (rw c.as_slice-in-Contained-2.ensures.value at (rw c.as_slice-in-Contained.ensures.value at c.write_obligations.ensures))
 
 pub returns-in-Undecided : goal.returns-in-Undecided
 returns-in-Undecided c = rw c.in-Undecided.is (undecided_details (question_body c.args.question.now) _ c.args.out.now.items)

@@ -1,6 +1,6 @@
 use Rattle.it_space.specs.Answers.{answer_view}
 use Rattle.it_question.specs.Questions.{question_view}
-use Rattle.it_tell.proofs.LineLemmas.{answered_line, can_be_printed, has_no_fault, has_verdict, invalid_line, is_json}
+use Rattle.it_tell.proofs.LineLemmas.{answered_line, can_be_printed, has_no_fault, has_verdict, invalid_line}
 use Rattle.it_tell.proofs.lines.tell_line.Goals as goal
 
 pub returns-then-judged : goal.returns-then-judged
