@@ -18,3 +18,6 @@ pub mod UnboundRuns
 pub mod BudgetLemmas
 pub mod Agreeing
 pub mod FirstLemmas
+pub mod Behind
+pub mod Still
+pub mod DegenerateSteps
