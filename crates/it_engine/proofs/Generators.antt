@@ -32,7 +32,8 @@ multiple_named a x n d h e = subst (λ (k : ℕ). IsRatio (Q.times (Q.integer a)
     product_with_one : (d : ℕ) → 1 * d ≡ d
     product_with_one d = omega arith
 
-zero_named : (d : ℕ) → IsRatio (Q.integer (pos 0)) (pos 0) d
+-- nothing, over any denominator
+pub zero_named : (d : ℕ) → IsRatio (Q.integer (pos 0)) (pos 0) d
 zero_named d = by_sign (Q.integer (pos 0)).num (Q.integer (pos 0)).den (quotient_names (pos 0) 1 (omega arith))
   where
     by_sign : (z : ℤ) (k : ℕ) → z *ℤ pos 1 ≡ pos 0 *ℤ pos k → z *ℤ pos d ≡ pos 0 *ℤ pos k

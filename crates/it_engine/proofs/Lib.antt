@@ -26,3 +26,4 @@ pub mod LowerLimits
 pub mod Bounds
 pub mod StepsLeft
 pub mod UnboundRuns
+pub mod NamedBehind
