@@ -9,7 +9,7 @@ use Rattle.it_rational.specs.Rational as Q
 use Rattle.it_rational.proofs.Names.{plus_names, times_names, whole_names, quotient_names}
 use Rattle.it_rational.proofs.Field.{field_ℚ}
 use Rattle.it_space.specs.Rows.{Terms, value, row_mass}
-use Rattle.it_tableau.specs.Invariants.{HasInvariants}
+use Rattle.it_tableau.specs.Invariants.{CombinesStart}
 use Rattle.it_tableau.specs.SimplexTables.{SimplexTable, FeasibilityProblem}
 use Rattle.it_run.specs.RowValues.{rational_value}
 use Rattle.it_space.specs.Sums.{number_at}
@@ -63,7 +63,7 @@ value_bounded (t ∷ ts) m f limit a h =
     sum_at_most x y a b l h k = omega (arith, ints, h, k)
 
 module _ (m n limit norm : ℕ) (p : FeasibilityProblem Rational) (t : SimplexTable Rational) (columns : List Terms) (rows : List WholeRowView) (basis : List ℕ)
-    (h : HasInvariants field_ℚ m n p t) (s : ShowsTable m n limit t rows basis) (cs : AreStartColumns m n norm p columns) (fit : norm * limit < 2 ^ 63) (some : 1 ≤ norm) where
+    (h : CombinesStart field_ℚ m n p t) (s : ShowsTable m n limit t rows basis) (cs : AreStartColumns m n norm p columns) (fit : norm * limit < 2 ^ 63) (some : 1 ≤ norm) where
   -- the terms of column j
   abbrev pub column_terms : ℕ → Terms
   column_terms j = slice_index_or columns j []
@@ -80,7 +80,7 @@ module _ (m n limit norm : ℕ) (p : FeasibilityProblem Rational) (t : SimplexTa
   price_named i j hi hj =
       let c = cs.column j hj in
       let r = s.row i (omega (arith, hi)) in
-      subst (λ (q : Rational). IsRatio q (price i j) (bottom i)) (sym (h.combines i j hi ∙ c.value_is (λ k. t.entry i (n + k))))
+      subst (λ (q : Rational). IsRatio q (price i j) (bottom i)) (sym (h i j hi ∙ c.value_is (λ k. t.entry i (n + k))))
       (value_named (column_terms j) m (λ k. t.entry i (n + k)) (number_at (whole_row_at rows i).numbers) (bottom i) r.some c.within (λ k l. r.named k (omega (arith, l))))
 
   pub price_short : (i j : ℕ) → i ≤ m → j < n → IsShort (price i j)

@@ -27,3 +27,6 @@ pub mod Bounds
 pub mod StepsLeft
 pub mod UnboundRuns
 pub mod NamedBehind
+pub mod BehindTables
+pub mod BehindRows
+pub mod BehindSteps

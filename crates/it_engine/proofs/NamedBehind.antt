@@ -10,6 +10,7 @@ use Rattle.it_rational.proofs.Names.{times_names}
 use Rattle.it_rational.proofs.RationalLaws.{ring_ℚ}
 use Rattle.it_tableau.specs.Sums.{sum_to}
 use Rattle.it_tableau.specs.SimplexTables.{difference}
+use Rattle.it_engine.specs.Behind.{share_sum}
 use Rattle.it_engine.proofs.Generators.{sum_named, zero_named}
 use Rattle.it_engine.proofs.Names.{minus_names, scaled_name}
 
@@ -44,14 +45,9 @@ module _ (m d multiple : ℕ) (some : 0 < d) (whole : 0 < multiple) (moved : ℕ
       total = sum_to ring_ℚ m (λ q. cond (moved q) (Q.times (x q) (u q)) (Q.integer (pos 0)))
 
   module _ (most_a : ℕ) (most : ℕ → ℕ) (a_most : (q : ℕ) → q < m → moved q ≡ true → unsigned_abs (a q) ≤ most_a) (y_most : (q : ℕ) → q < m → moved q ≡ true → unsigned_abs (y q) ≤ most q) where
-    -- the bounds of the rows that moved, each times its share
-    abbrev pub share_sum : ℕ → ℕ
-    share_sum zero = 0
-    share_sum (suc k) = cond (moved k) (most k * share k) 0 + share_sum k
-
-    pub sum_is_bounded : (k : ℕ) → k ≤ m → unsigned_abs (whole_sum k) ≤ most_a * share_sum k
+    pub sum_is_bounded : (k : ℕ) → k ≤ m → unsigned_abs (whole_sum k) ≤ most_a * share_sum moved most share k
     sum_is_bounded zero h = omega arith
-    sum_is_bounded (suc k) h = two_parts (cond (moved k) ((a k *ℤ y k) *ℤ pos (share k)) (pos 0)) (whole_sum k) most_a (cond (moved k) (most k * share k) 0) (share_sum k) (by_move (moved k) refl) (sum_is_bounded k (omega arith))
+    sum_is_bounded (suc k) h = two_parts (cond (moved k) ((a k *ℤ y k) *ℤ pos (share k)) (pos 0)) (whole_sum k) most_a (cond (moved k) (most k * share k) 0) (share_sum moved most share k) (by_move (moved k) refl) (sum_is_bounded k (omega arith))
       where
         two_parts : (z w : ℤ) (p s r : ℕ) → unsigned_abs z ≤ p * s → unsigned_abs w ≤ p * r → unsigned_abs (z +ℤ w) ≤ p * (s + r)
         two_parts z w p s r f g = omega (arith, ints, f, g)

@@ -94,3 +94,10 @@ null_named q d h e = null_from q (cancel_factor q.num (pos 0) d h (e ∙ zero_pr
   where
     zero_products : (a d : ℕ) → pos 0 *ℤ pos a ≡ pos 0 *ℤ pos d
     zero_products a d = omega (arith, ints)
+
+-- where it is 0, the number is
+pub number_null : (z : ℤ) (q : Rational) (d : ℕ) → IsRatio q z d → q.num ≡ pos 0 → z ≡ pos 0
+number_null z q d e f = cancel_factor z (pos 0) q.den q.positive (sym e ∙ ap (λ x. x *ℤ pos d) f ∙ zero_products d q.den)
+  where
+    zero_products : (a b : ℕ) → pos 0 *ℤ pos a ≡ pos 0 *ℤ pos b
+    zero_products a b = omega (arith, ints)

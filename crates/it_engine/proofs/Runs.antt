@@ -1,8 +1,6 @@
 -- A run of the engine under way.
-use Rattle.std.proofs.Common.{◌≡◌, ℕ, ◌+◌, ◌-◌, ◌<◌, ℤ, pos, ◌*ℤ◌, List, length, Some, refl, sym, ap, subst, ◌∙◌, arith}
-use Rattle.std.proofs.lemmas.Int.{ints}
+use Rattle.std.proofs.Common.{◌≡◌, ℕ, ◌+◌, ◌-◌, ◌<◌, ℤ, pos, List, length, Some, refl, sym, ap, subst, ◌∙◌, arith}
 use Rattle.it_rational.specs.Rational.{Rational, IsRatio}
-use Rattle.it_rational.proofs.Names.{cancel_factor}
 use Rattle.it_rational.proofs.Field.{field_ℚ}
 use Rattle.it_fraction.proofs.ZeroLemmas.{zero_parts}
 use Rattle.it_space.specs.Rows.{Terms}
@@ -15,7 +13,7 @@ use Rattle.it_engine.specs.Choosing.{right_side_of, first_negative_cost}
 use Rattle.it_engine.specs.Engine.{IsSafe, StandsFor, IsEngineStep, IsFinished}
 use Rattle.it_engine.specs.Whole.{whole_row_at, WholeRowView}
 use Rattle.it_engine.specs.declared.engine.EngineEnd.TheVariants.{Weights, Point, Pivots}
-use Rattle.it_engine.proofs.Names.{null_named}
+use Rattle.it_engine.proofs.Names.{null_named, number_null}
 use Rattle.it_engine.proofs.Steps.{entering_same}
 
 -- after k steps the engine shows a table from which the run goes on as from the first
@@ -43,12 +41,6 @@ module _ (p : FeasibilityProblem Rational) (t : SimplexTable Rational) (columns 
 
   pub not_done_here : ¬ (right_side_of (length basis) rows (length basis) ≡ pos 0) → ¬ (IsDone field_ℚ (length basis) (length columns) t)
   not_done_here n d = n (number_null (right_side_of (length basis) rows (length basis)) (t.entry (length basis) (length columns + length basis)) (whole_row_at rows (length basis)).bottom cost_named (ap (λ (q : Rational). q.num) d ∙ zero_parts.0))
-    where
-      number_null : (z : ℤ) (q : Rational) (d : ℕ) → IsRatio q z d → q.num ≡ pos 0 → z ≡ pos 0
-      number_null z q d e f = cancel_factor z (pos 0) q.den q.positive (sym e ∙ ap (λ x. x *ℤ pos d) f ∙ zero_products d q.den)
-        where
-          zero_products : (a b : ℕ) → pos 0 *ℤ pos a ≡ pos 0 *ℤ pos b
-          zero_products a b = omega (arith, ints)
 
 module _ (columns : List Terms) (limit : ℕ) (old : List WholeRowView) (basis : List ℕ) (budget : ℕ) (now : List WholeRowView) (now_basis : List ℕ) (k : ℕ)
     (w : IsRunUnderWay columns limit old basis budget now now_basis k) where

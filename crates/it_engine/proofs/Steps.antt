@@ -57,10 +57,10 @@ above_one (negsuc n) e = absurd (true≢false (sym e))
 module _ (p : FeasibilityProblem Rational) (t : SimplexTable Rational) (columns : List Terms) (limit : ℕ) (rows : List WholeRowView) (basis : List ℕ) (s : StandsFor p t columns limit rows basis) where
   cost_sign : (j : ℕ) → j < length columns → is_at_least_zero (t.entry (length basis) j) ≡ sign_least (value (slice_index_or columns j []) (number_at (whole_row_at rows (length basis)).numbers))
   cost_sign j l = sign_named (t.entry (length basis) j) (value (slice_index_or columns j []) (number_at (whole_row_at rows (length basis)).numbers)) (whole_row_at rows (length basis)).bottom (s.shows.row (length basis) (omega arith)).some
-      (price_named (length basis) (length columns) limit s.norm p t columns rows basis s.holds s.shows s.columns_are s.fit s.some (length basis) j (omega arith) l)
+      (price_named (length basis) (length columns) limit s.norm p t columns rows basis s.holds.combines s.shows s.columns_are s.fit s.some (length basis) j (omega arith) l)
 
   entry_named : (i c : ℕ) → i ≤ length basis → c < length columns → IsRatio (t.entry i c) (value (slice_index_or columns c []) (number_at (whole_row_at rows i).numbers)) (whole_row_at rows i).bottom
-  entry_named i c l h = price_named (length basis) (length columns) limit s.norm p t columns rows basis s.holds s.shows s.columns_are s.fit s.some i c l h
+  entry_named i c l h = price_named (length basis) (length columns) limit s.norm p t columns rows basis s.holds.combines s.shows s.columns_are s.fit s.some i c l h
 
   -- the column that enters
   pub entering_same : entering_column field_ℚ (length basis) (length columns) t ≡ first_negative_cost columns (whole_row_at rows (length basis)).numbers
@@ -96,9 +96,9 @@ module _ (p : FeasibilityProblem Rational) (t : SimplexTable Rational) (columns 
 
     pub fits_here : StepFits (length basis) (length columns) t
     fits_here = W.step_fits (length basis) (length columns) t
-        (number (length basis) (length columns) limit s.norm p t columns rows basis s.holds s.shows s.columns_are s.fit s.some)
-        (bottom (length basis) (length columns) limit s.norm p t columns rows basis s.holds s.shows s.columns_are s.fit s.some)
-        (table_is_over (length basis) (length columns) limit s.norm p t columns rows basis s.holds s.shows s.columns_are s.fit s.some)
+        (number (length basis) (length columns) limit s.norm p t columns rows basis s.holds.combines s.shows s.columns_are s.fit s.some)
+        (bottom (length basis) (length columns) limit s.norm p t columns rows basis s.holds.combines s.shows s.columns_are s.fit s.some)
+        (table_is_over (length basis) (length columns) limit s.norm p t columns rows basis s.holds.combines s.shows s.columns_are s.fit s.some)
         (to_step (λ r c. r < length basis) row_leaves.1) (to_step (λ r c. c < length columns) hc) (to_step (λ r c. is_candidate field_ℚ t c r ≡ true) row_leaves.2)
 
     pub next_is : pivot field_ℚ t r c ≡ next field_ℚ (length basis) (length columns) t

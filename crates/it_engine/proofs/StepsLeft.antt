@@ -29,7 +29,7 @@ shown_table_agrees : (p : FeasibilityProblem Rational) (t : SimplexTable Rationa
     → Agree field_ℚ (length basis) (length columns) t (shown_table columns rows basis)
 shown_table_agrees p t columns limit rows basis s = record {
   entries = λ i j hi hj.
-      let o = table_is_over (length basis) (length columns) limit s.norm p t columns rows basis s.holds s.shows s.columns_are s.fit s.some in
+      let o = table_is_over (length basis) (length columns) limit s.norm p t columns rows basis s.holds.combines s.shows s.columns_are s.fit s.some in
       sym (quotient_named (t.entry i j) (cond (ltb j (length columns)) (value (slice_index_or columns j []) (number_at (whole_row_at rows i).numbers)) (number_at (whole_row_at rows i).numbers (j - length columns)))
       (whole_row_at rows i).bottom (o.some i hi) (o.named i j hi hj));
   basics = s.shows.basis_is;
