@@ -30,3 +30,8 @@ pub mod NamedBehind
 pub mod BehindTables
 pub mod BehindRows
 pub mod BehindSteps
+pub mod BehindNumbers
+pub mod BehindRuns
+pub mod BehindChoices
+pub mod BehindMoves
+pub mod ManySteps

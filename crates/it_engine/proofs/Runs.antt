@@ -1,5 +1,5 @@
 -- A run of the engine under way.
-use Rattle.std.proofs.Common.{◌≡◌, ℕ, ◌+◌, ◌-◌, ◌<◌, ℤ, pos, List, length, Some, refl, sym, ap, subst, ◌∙◌, arith}
+use Rattle.std.proofs.Common.{◌≡◌, ℕ, ◌+◌, ◌-◌, ◌<◌, ◌≤◌, ℤ, pos, List, length, Some, refl, sym, ap, subst, ◌∙◌, arith}
 use Rattle.it_rational.specs.Rational.{Rational, IsRatio}
 use Rattle.it_rational.proofs.Field.{field_ℚ}
 use Rattle.it_fraction.proofs.ZeroLemmas.{zero_parts}
@@ -9,11 +9,13 @@ use Rattle.it_run.specs.Choice.{next, IsDone, IsStuck}
 use Rattle.it_run.specs.Runs.{RunEndView}
 use Rattle.it_run.specs.Steps.{Reaches}
 use Rattle.it_run.proofs.RunSteps.{run_done, run_stuck, run_more, run_budget}
+use Rattle.it_engine.specs.Behind.{AreEngineSteps, StepsLead}
 use Rattle.it_engine.specs.Choosing.{right_side_of, first_negative_cost}
 use Rattle.it_engine.specs.Engine.{IsSafe, StandsFor, IsEngineStep, IsFinished}
 use Rattle.it_engine.specs.Whole.{whole_row_at, WholeRowView}
 use Rattle.it_engine.specs.declared.engine.EngineEnd.TheVariants.{Weights, Point, Pivots}
 use Rattle.it_engine.proofs.Names.{null_named, number_null}
+use Rattle.it_engine.proofs.ManySteps.{steps_lead_on}
 use Rattle.it_engine.proofs.Steps.{entering_same}
 
 -- after k steps the engine shows a table from which the run goes on as from the first
@@ -113,6 +115,25 @@ module _ (columns : List Terms) (limit : ℕ) (old : List WholeRowView) (basis :
     where
       one_step_less : (b k : ℕ) → b - (k + 1) ≡ b - k - 1
       one_step_less b k = omega arith
+
+  pub steps_are_made : (new : List WholeRowView) (new_basis : List ℕ) (made : ℕ) → k + made ≤ budget → AreEngineSteps columns limit now now_basis made new new_basis → IsRunUnderWay columns limit old basis budget new new_basis (k + made)
+  steps_are_made new new_basis made h g = record {
+    engine = g.engine;
+    height = g.height ∙ w.height;
+    runs = λ p t s.
+        let r = w.runs p t s in
+        let x = g.made p r.0 r.1 in (
+          x.0,
+          x.1,
+          λ e q. r.2 e
+              (steps_lead_on (length basis) (length columns) made (budget - k) k r.0 x.0 e (omega (arith, h))
+              (by_same_height (λ m. StepsLead m (length columns) made r.0 x.0) x.2)
+              (subst (λ (y : ℕ). Reaches (length basis) (length columns) y (k + made) x.0 e) (steps_less budget k made) q)),
+        );
+  }
+    where
+      steps_less : (b k i : ℕ) → b - (k + i) ≡ b - k - i
+      steps_less b k i = omega arith
 
 -- where a column has a cost below 0 the run isn't stuck
 pub not_stuck_here : (p : FeasibilityProblem Rational) (t : SimplexTable Rational) (columns : List Terms) (limit : ℕ) (rows : List WholeRowView) (basis : List ℕ) (c : ℕ) → StandsFor p t columns limit rows basis

@@ -1,5 +1,5 @@
 -- How many steps are left to an engine, as a number that its state determines: those of the table that it shows.
-use Rattle.std.proofs.Common.{◌≡◌, ℕ, ◌-◌, ◌<◌, cond, ltb, List, [], length, slice_index_or, sym, subst}
+use Rattle.std.proofs.Common.{◌≡◌, ℕ, ◌-◌, ◌<◌, ◌≤◌, ap, arith, cond, ltb, List, [], length, slice_index_or, sym, subst}
 use Rattle.it_rational.specs.Rational.{Rational, quotient}
 use Rattle.it_rational.proofs.Field.{field_ℚ}
 use Rattle.it_space.specs.Rows.{Terms, value}
@@ -7,10 +7,12 @@ use Rattle.it_tableau.specs.SimplexTables.{SimplexTable, FeasibilityProblem}
 use Rattle.it_run.specs.Choice.{next}
 use Rattle.it_run.proofs.Agreeing.{Agree, steps_left_agrees}
 use Rattle.it_run.proofs.StepsLeft.{steps_left, steps_fall}
+use Rattle.it_engine.specs.Behind.{AreEngineSteps}
 use Rattle.it_engine.specs.Engine.{StandsFor, IsEngineStep}
 use Rattle.it_space.specs.Sums.{number_at}
 use Rattle.it_engine.specs.Whole.{whole_row_at, WholeRowView}
 use Rattle.it_engine.proofs.Generators.{table_is_over}
+use Rattle.it_engine.proofs.ManySteps.{steps_lead_down}
 use Rattle.it_engine.proofs.Readings.{quotient_named}
 
 -- the table that an engine shows, as a function of the engine
@@ -50,3 +52,14 @@ steps_left_falls p t columns limit old basis new new_basis s g =
     (subst (λ (y : ℕ). steps_left field_ℚ (length new_basis) (length columns) (next field_ℚ (length basis) (length columns) t) < y) (sym (steps_left_is p t columns limit old basis s))
     (subst (λ (h : ℕ). steps_left field_ℚ h (length columns) (next field_ℚ (length basis) (length columns) t) < steps_left field_ℚ (length basis) (length columns) t) (sym g.height)
     (steps_fall field_ℚ (length basis) (length columns) p t s.holds m.moves)))
+
+-- several steps don't raise it
+pub several_steps_left : (p : FeasibilityProblem Rational) (t : SimplexTable Rational) (columns : List Terms) (limit : ℕ) (old : List WholeRowView) (basis : List ℕ) (made : ℕ) (new : List WholeRowView) (new_basis : List ℕ)
+    → StandsFor p t columns limit old basis → AreEngineSteps columns limit old basis made new new_basis → steps_left_to columns new new_basis ≤ steps_left_to columns old basis
+several_steps_left p t columns limit old basis made new new_basis s g =
+    let x = g.made p t s in
+    let after = steps_left_is p x.0 columns limit new new_basis x.1 in
+    let before = steps_left_is p t columns limit old basis s in
+    let down = (steps_lead_down (length basis) (length columns) made p t x.0 s.holds x.2).1 in
+    let same : steps_left field_ℚ (length new_basis) (length columns) x.0 ≡ steps_left field_ℚ (length basis) (length columns) x.0 = ap (λ h. steps_left field_ℚ h (length columns) x.0) g.height in
+    omega (arith, after, before, down, same)

@@ -1,5 +1,5 @@
 -- A run of the engine without a budget under way.
-use Rattle.std.proofs.Common.{◌≡◌, ℕ, suc, ◌+◌, ◌-◌, ◌<◌, pos, List, length, None, refl, subst, ap, ◌∙◌, arith}
+use Rattle.std.proofs.Common.{◌≡◌, ℕ, suc, ◌+◌, ◌-◌, ◌<◌, ◌≤◌, pos, List, length, None, refl, subst, ap, ◌∙◌, arith}
 use Rattle.it_rational.specs.Rational.{Rational}
 use Rattle.it_rational.proofs.Field.{field_ℚ}
 use Rattle.it_space.specs.Rows.{Terms}
@@ -10,11 +10,13 @@ use Rattle.it_run.specs.Runs.RunEndView.{Weights, Point}
 use Rattle.it_run.specs.Solving.{StepFits}
 use Rattle.it_run.specs.Steps.{Reaches, ReachesBy}
 use Rattle.it_run.proofs.RunSteps.{run_done, run_stuck, run_more}
+use Rattle.it_engine.specs.Behind.{AreEngineSteps, StepsLead}
 use Rattle.it_engine.specs.Choosing.{right_side_of}
 use Rattle.it_engine.specs.Engine.{IsSafe, StandsFor, StandsForSome, IsEngineStep, IsFinished}
 use Rattle.it_engine.specs.Whole.{WholeRowView}
 use Rattle.it_engine.specs.declared.engine.EngineEnd.TheVariants as engine_ends
-use Rattle.it_engine.proofs.StepsLeft.{steps_left_to, steps_left_falls}
+use Rattle.it_engine.proofs.StepsLeft.{steps_left_to, steps_left_falls, several_steps_left}
+use Rattle.it_engine.proofs.ManySteps.{steps_lead_on}
 use Rattle.it_engine.proofs.Runs.{done_here, not_done_here}
 
 -- what the run from s does after so many steps it does from t, with some budget
@@ -101,3 +103,27 @@ module _ (columns : List Terms) (limit : ℕ) (old : List WholeRowView) (basis :
 
   pub step_lowers_steps_left : (new : List WholeRowView) (new_basis : List ℕ) → IsEngineStep columns limit now now_basis new new_basis → steps_left_to columns new new_basis < steps_left_to columns now now_basis
   step_lowers_steps_left new new_basis g = let i = w.some in steps_left_falls i.0 i.1 columns limit now now_basis new new_basis i.2 g
+
+  pub steps_are_made : (new : List WholeRowView) (new_basis : List ℕ) (made : ℕ) → AreEngineSteps columns limit now now_basis made new new_basis → IsRunUnderWay columns limit old basis new new_basis
+  steps_are_made new new_basis made g = record {
+    engine = g.engine;
+    height = g.height ∙ w.height;
+    some = (let i = w.some in let x = g.made i.0 i.1 i.2 in (i.0, x.0, x.1));
+    runs = λ p t s.
+        let r = w.runs p t s in
+        let x = g.made p r.last r.stands in record {
+          last = x.0;
+          stands = x.1;
+          made = r.made + made;
+          serves = λ left e q. r.serves (left + made) e
+              (steps_lead_on (length basis) (length columns) made (left + made) r.made r.last x.0 e (omega arith)
+              (by_same_height (λ m. StepsLead m (length columns) made r.last x.0) x.2)
+              (subst (λ (y : ℕ). Reaches (length basis) (length columns) y (r.made + made) x.0 e) (steps_back left made) q));
+        };
+  }
+    where
+      steps_back : (left made : ℕ) → left ≡ left + made - made
+      steps_back left made = omega arith
+
+  pub steps_lower_steps_left : (new : List WholeRowView) (new_basis : List ℕ) (made : ℕ) → AreEngineSteps columns limit now now_basis made new new_basis → steps_left_to columns new new_basis ≤ steps_left_to columns now now_basis
+  steps_lower_steps_left new new_basis made g = let i = w.some in several_steps_left i.0 i.1 columns limit now now_basis made new new_basis i.2 g

@@ -1,11 +1,18 @@
 -- No public clause cites this module: rows that stay as they were in an earlier table of the run, the base, until they are brought up to date.
-use Rattle.std.specs.Prelude.{◌≡◌, ℕ, zero, suc, ◌+◌, ◌*◌, ◌<◌, ◌≤◌, ◌^◌, Bool, true, cond, ℤ, unsigned_abs, List, length}
-use Rattle.it_rational.specs.Rational.{Rational}
+use Rattle.std.specs.Prelude.{◌≡◌, ℕ, zero, suc, ◌+◌, ◌*◌, ◌/◌, ◌<◌, ◌≤◌, ◌^◌, ◌++◌, Bool, true, false, cond, ◌≢◌, ℤ, pos, ◌*ℤ◌, neg_ℤ, unsigned_abs, List, [], length, map, slice_index_or, slice_set, Option, Some, None}
+use Prim.Native.Nat.{◌∣◌}
+use Rattle.it_rational.specs.Rational.{Rational, integer}
 use Rattle.it_rational.proofs.Field.{field_ℚ}
 use Rattle.it_run.proofs.DegenerateSteps.{IsBehind}
-use Rattle.it_space.specs.Rows.{Terms}
+use Rattle.it_run.specs.Choice.{entering_column, leaving_row, next, IsDone, IsStuck}
+use Rattle.it_run.specs.Solving.{StepFits}
+use Rattle.it_space.specs.Rows.{Terms, value}
+use Rattle.it_space.specs.Sums.{number_at}
 use Rattle.it_tableau.specs.SimplexTables.{SimplexTable, FeasibilityProblem}
-use Rattle.it_engine.specs.Whole.{AreAtMost, AreStartColumns, ShowsTable, whole_row_at, WholeRowView}
+use Rattle.it_engine.specs.Choosing.{entry_of, first_negative_cost, is_above_zero, right_side_of}
+use Rattle.it_engine.specs.Engine.{IsSafe, StandsFor}
+use Rattle.it_engine.specs.Updates.{AreUsable, IsUsable, IsWholeRowReduced}
+use Rattle.it_engine.specs.Whole.{AreAtMost, AreStartColumns, IsRow, ShowsTable, whole_row_at, WholeRowView}
 
 -- the table that has of t the rows that moved and the basic columns, and of the base b all other rows
 abbrev pub mixed_table : (ℕ → Bool) → SimplexTable Rational → SimplexTable Rational → SimplexTable Rational
@@ -21,6 +28,136 @@ pub record ShowsBehind (p : FeasibilityProblem Rational) (b t : SimplexTable Rat
   pub entered : (q : ℕ) → q < length basis → moved q ≡ true → t.basis q < length columns
   pub shows : ShowsTable (length basis) (length columns) limit (mixed_table moved b t) rows basis
   pub columns_are : AreStartColumns (length basis) (length columns) norm p columns
+
+-- a term times a factor
+abbrev pub multiple_of_term : ℤ → ℕ × ℤ → ℕ × ℤ
+multiple_of_term factor t = (t.0, t.1 *ℤ factor)
+
+-- a column times a factor
+abbrev pub multiple_of_terms : ℤ → Terms → Terms
+multiple_of_terms factor terms = map (multiple_of_term factor) terms
+
+-- the share of row q in a common multiple of the denominators
+abbrev pub share_of : ℕ → List WholeRowView → ℕ → ℕ
+share_of multiple rows q = multiple / (whole_row_at rows q).bottom
+
+-- whether row i moved
+abbrev pub has_moved : List Bool → ℕ → Bool
+has_moved moved i = slice_index_or moved i false
+
+-- the column at which a row that stays behind has the number that it would have up to date, times the common multiple: the
+-- multiple of the column itself, less for each of the first k rows, if it moved, so much of its basic column as its entry says
+abbrev pub column_less_moved : List Terms → List WholeRowView → List ℕ → List Bool → List ℤ → ℕ → ℕ → ℕ → Terms
+column_less_moved columns rows basis moved entries multiple c zero = multiple_of_terms (pos multiple) (slice_index_or columns c [])
+column_less_moved columns rows basis moved entries multiple c (suc k) = column_less_moved columns rows basis moved entries multiple c k
+    ++ cond (has_moved moved k) (multiple_of_terms (neg_ℤ (number_at entries k *ℤ pos (share_of multiple rows k))) (slice_index_or columns (slice_index_or basis k 0) [])) []
+
+-- the entries at a column of the rows that moved, 0 for all others
+pub record AreMovedEntries (terms : Terms) (rows : List WholeRowView) (moved : List Bool) (entries : List ℤ) : Type 0 where
+  pub length_is : length entries ≡ length rows
+  pub each : (i : ℕ) → i < length rows → number_at entries i ≡ cond (has_moved moved i) (entry_of terms rows i) (pos 0)
+
+-- a number that the denominators of the rows below k that moved divide
+pub record IsCommonMultiple (rows : List WholeRowView) (moved : List Bool) (k multiple : ℕ) : Type 0 where
+  pub some : 0 < multiple
+  pub low : multiple < 2 ^ 63
+  pub each : (q : ℕ) → q < k → has_moved moved q ≡ true → (whole_row_at rows q).bottom ∣ multiple
+
+-- row i has right side 0, and above 0 its entry, or for a row that stays behind its number at the combined column
+pub record MayLeave (rows : List WholeRowView) (moved : List Bool) (entries : List ℤ) (combined : Terms) (place i : ℕ) : Type 0 where
+  pub still : right_side_of place rows i ≡ pos 0
+  pub above : is_above_zero (cond (has_moved moved i) (number_at entries i) (entry_of combined rows i)) ≡ true
+
+-- of the rows below k that may leave it is the one with the least basic column
+abbrev pub IsFirstToLeave : List WholeRowView → List ℕ → List Bool → List ℤ → Terms → ℕ → Option ℕ → Type 0
+IsFirstToLeave rows basis moved entries combined k None = (i : ℕ) → i < k → ¬ (MayLeave rows moved entries combined (length basis) i)
+IsFirstToLeave rows basis moved entries combined k (Some r) = (r < k) × MayLeave rows moved entries combined (length basis) r
+    × ((i : ℕ) → i < k → MayLeave rows moved entries combined (length basis) i → slice_index_or basis r 0 ≤ slice_index_or basis i 0)
+
+-- bounds on the numbers and the denominators of the rows that stay behind
+abbrev pub AreBaseBounds : ℕ → ℕ → List WholeRowView → List Bool → ℕ → Type 0
+AreBaseBounds most low rows moved k = (i : ℕ) → i < k → has_moved moved i ≡ false → AreAtMost (whole_row_at rows i).numbers most × ((whole_row_at rows i).bottom ≤ low)
+
+-- what a row is after row q is taken off it, if that moved: as much as makes its entry at the basic column of row q 0
+pub record IsLessMoved (columns : List Terms) (limit : ℕ) (rows : List WholeRowView) (basis : List ℕ) (moved : List Bool) (q : ℕ) (old new : WholeRowView) : Type 0 where
+  pub still : has_moved moved q ≡ false → new ≡ old
+  pub taken : has_moved moved q ≡ true
+      → IsWholeRowReduced (length basis + 1) limit old (whole_row_at rows q) (value (slice_index_or columns (slice_index_or basis q 0) []) (number_at old.numbers)) (pos (whole_row_at rows q).bottom) new
+
+-- a row is row r brought up to date, whichever tables the rows show
+abbrev pub IsUpToDate : List Terms → ℕ → List WholeRowView → List ℕ → List Bool → ℕ → WholeRowView → Type 0
+IsUpToDate columns limit rows basis moved r row = (p : FeasibilityProblem Rational) (b t : SimplexTable Rational) → ShowsBehind p b t columns limit rows basis (has_moved moved)
+    → IsRow (length basis + 1) limit (λ k. t.entry r (length columns + k)) row.numbers row.bottom
+
+-- rows that agree on those that moved
+abbrev pub AgreeOnMoved : List WholeRowView → List WholeRowView → List Bool → Type 0
+AgreeOnMoved rows whole moved = (q : ℕ) → has_moved moved q ≡ true → whole_row_at whole q ≡ whole_row_at rows q
+
+-- a row that stayed behind is brought up to date by the rows that moved
+abbrev pub IsBrought : List Terms → ℕ → List WholeRowView → List ℕ → List Bool → WholeRowView → WholeRowView → Type 0
+IsBrought columns limit rows basis moved old new = (whole : List WholeRowView) (r : ℕ) → AgreeOnMoved rows whole moved → r < length basis → has_moved moved r ≡ false → whole_row_at whole r ≡ old
+    → IsUpToDate columns limit whole basis moved r new
+
+-- row r is, and all others stay
+pub record IsRowBrought (columns : List Terms) (limit : ℕ) (old : List WholeRowView) (basis : List ℕ) (moved : List Bool) (r : ℕ) (new : List WholeRowView) : Type 0 where
+  pub same_length : length new ≡ length old
+  pub others : (i : ℕ) → i ≢ r → whole_row_at new i ≡ whole_row_at old i
+  pub own : IsBrought columns limit old basis moved (whole_row_at old r) (whole_row_at new r)
+  pub usable : IsUsable (length old) limit (whole_row_at new r)
+
+-- the first k rows are up to date
+pub record AreBrought (columns : List Terms) (limit : ℕ) (old : List WholeRowView) (basis : List ℕ) (moved : List Bool) (k : ℕ) (new : List WholeRowView) : Type 0 where
+  pub same_length : length new ≡ length old
+  pub kept : AgreeOnMoved old new moved
+  pub rest : (i : ℕ) → k ≤ i → whole_row_at new i ≡ whole_row_at old i
+  pub done : (i : ℕ) → i < k → has_moved moved i ≡ false → IsUpToDate columns limit old basis moved i (whole_row_at new i)
+  pub usable : AreUsable (length old) limit new
+
+-- the row that leaves at a degenerate step by column c, whichever tables the rows show
+pub record IsStillLeaving (p : FeasibilityProblem Rational) (b t : SimplexTable Rational) (columns : List Terms) (basis : List ℕ) (c r : ℕ) : Type 0 where
+  pub leaves : leaving_row field_ℚ (length basis) (length columns) t c ≡ r
+  pub still : t.entry r (length columns + length basis) ≡ integer (pos 0)
+  pub fits : StepFits (length basis) (length columns) t
+
+-- it leaves at the column c, if that enters
+abbrev pub LeavesStill : List Terms → ℕ → List WholeRowView → List ℕ → List Bool → ℕ → ℕ → Type 0
+LeavesStill columns limit rows basis moved c r = (p : FeasibilityProblem Rational) (b t : SimplexTable Rational) → ShowsBehind p b t columns limit rows basis (has_moved moved)
+    → first_negative_cost columns (whole_row_at rows (length basis)).numbers ≡ c → IsStillLeaving p b t columns basis c r
+
+-- the run isn't done, and it makes a degenerate step by column c and row r, whichever tables the rows show
+pub record IsStillChoice (columns : List Terms) (limit : ℕ) (rows : List WholeRowView) (basis : List ℕ) (moved : List Bool) (c r : ℕ) : Type 0 where
+  pub not_done : ¬ (right_side_of (length basis) rows (length basis) ≡ pos 0)
+  pub column : c < length columns
+  pub column_is : first_negative_cost columns (whole_row_at rows (length basis)).numbers ≡ c
+  pub row : r < length basis
+  pub leaves : LeavesStill columns limit rows basis moved c r
+
+-- a degenerate step by column c and row r was made, whichever tables the rows show
+pub record IsBehindStep (columns : List Terms) (limit : ℕ) (old : List WholeRowView) (basis : List ℕ) (moved : List Bool) (c r : ℕ) (new : List WholeRowView) : Type 0 where
+  pub engine : IsSafe columns limit new (slice_set basis r c)
+  pub made : (p : FeasibilityProblem Rational) (b t : SimplexTable Rational) → ShowsBehind p b t columns limit old basis (has_moved moved) → entering_column field_ℚ (length basis) (length columns) t ≡ c
+      → IsStillLeaving p b t columns basis c r → ¬ (IsStuck field_ℚ (length basis) (length columns) t)
+      → ShowsBehind p b (next field_ℚ (length basis) (length columns) t) columns limit new (slice_set basis r c) (has_moved (slice_set moved r true))
+
+-- so many steps lead from one table to another
+abbrev pub StepsLead : ℕ → ℕ → ℕ → SimplexTable Rational → SimplexTable Rational → Type 0
+StepsLead m n zero t s = s ≡ t
+StepsLead m n (suc k) t s = (u : SimplexTable Rational) × StepsLead m n k t u × ¬ (IsDone field_ℚ m n u) × ¬ (IsStuck field_ℚ m n u) × StepFits m n u × (s ≡ next field_ℚ m n u)
+
+-- so many degenerate steps were made, whichever tables the rows show
+pub record AreStillSteps (columns : List Terms) (limit : ℕ) (old : List WholeRowView) (basis : List ℕ) (moved : List Bool) (k : ℕ) (new : List WholeRowView) (new_basis : List ℕ) (new_moved : List Bool) : Type 0 where
+  pub engine : IsSafe columns limit new new_basis
+  pub height : length new_basis ≡ length basis
+  pub even : length new_moved ≡ length moved
+  pub made : (p : FeasibilityProblem Rational) (b t : SimplexTable Rational) → ShowsBehind p b t columns limit old basis (has_moved moved)
+      → (s : SimplexTable Rational) × ShowsBehind p b s columns limit new new_basis (has_moved new_moved) × StepsLead (length basis) (length columns) k t s
+
+-- so many steps were made, whichever table the engine showed
+pub record AreEngineSteps (columns : List Terms) (limit : ℕ) (old : List WholeRowView) (basis : List ℕ) (k : ℕ) (new : List WholeRowView) (new_basis : List ℕ) : Type 0 where
+  pub engine : IsSafe columns limit new new_basis
+  pub height : length new_basis ≡ length basis
+  pub made : (p : FeasibilityProblem Rational) (t : SimplexTable Rational) → StandsFor p t columns limit old basis
+      → (s : SimplexTable Rational) × StandsFor p s columns limit new new_basis × StepsLead (length basis) (length columns) k t s
 
 -- the absolute values at the rows that moved, each times its share, of the first k rows
 abbrev pub share_sum : (ℕ → Bool) → (ℕ → ℕ) → (ℕ → ℕ) → ℕ → ℕ

@@ -1,10 +1,20 @@
 //! Operations on single whole numbers.
-ghost use Rattle.std.specs.Prelude.{◌≡◌, ◌+◌, ◌*◌, ◌<◌, ◌≤◌, ◌^◌, ◌+ℤ◌, ◌*ℤ◌, neg_ℤ, unsigned_abs, SomeIff};
+ghost use Rattle.std.specs.Bool.{OnFalse, OnTrue};
+ghost use Rattle.std.specs.Prelude.{◌≡◌, pos, ◌+◌, ◌*◌, ◌<◌, ◌≤◌, ◌^◌, ◌+ℤ◌, ◌*ℤ◌, neg_ℤ, unsigned_abs, SomeIff};
 ghost use Rattle.std.specs.Option.{IfNone, IfSome};
 ghost use Rattle.it_number.specs.Division.{int_quotient};
 ghost use Rattle.it_number.specs.Gcd.{gcd};
 ghost use Rattle.it_rational.specs.Rational.{sign_least};
 ghost use Rattle.it_engine.specs.Choosing.{comes_first as comes_first_of, is_earlier as is_earlier_of, is_above_zero as is_above_zero_of};
+
+/// Whether a number is 0.
+pub fn is_zero(z: i64) -> bool
+    ensures yes { OnTrue result (z ≡ pos 0) }
+    ensures no { OnFalse result (¬ (z ≡ pos 0)) }
+{
+    // written out, so that the prover has each case with its test
+    if z == 0 { true } else { false }
+}
 
 /// Whether z is above 0.
 pub fn is_above_zero(z: i64) -> bool

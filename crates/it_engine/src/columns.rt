@@ -1,18 +1,23 @@
 //! The columns of the start.
 ghost use Rattle.std.specs.Prelude.{◌≡◌, ◌+◌, ◌<◌, ◌^◌, ◌++◌, ◌∷◌, [], length, pos, slice_index_or, OnOk};
+ghost use Rattle.std.specs.Bool.{OnTrue};
 ghost use Rattle.std.specs.Option.{IfSome};
+ghost use Rattle.it_engine.specs.Behind.{multiple_of_term, multiple_of_terms};
 ghost use Rattle.it_space.specs.Rows.{value, row_mass};
 ghost use Rattle.it_engine.specs.Updates.{IsPriced, Suits};
 ghost use Rattle.it_space.specs.Sums.{number_at};
 
-use crate::arithmetic::{plus_product, short_sum};
+use crate::arithmetic::{narrow, plus_product, product, short_sum};
 use crate::narrow::NarrowRow;
 use crate::rows::{AnyRow, WholeRow};
 use crate::wide::WideRow;
 use std::alloc::{AllocError, Global};
 use std::marker::Model;
 
-/// The entries of a column of the start other than 0, each after its row, by ascending row.
+/// The largest number of the engine, 2^63 - 1.
+const LARGEST: u64 = i64::MAX as u64;
+
+/// The entries of a column of the start other than 0, each after its row, by ascending row; or a sum of multiples of such columns.
 #[derive(Drop)]
 pub struct Column {
     terms: Vec<(usize, i64)>,
@@ -42,6 +47,36 @@ impl Column {
     {
         self.terms.push((row, number))?;
         Ok(())
+    }
+
+    /// Takes all entries away, and keeps the memory.
+    pub fn clear(&mut self)
+        ensures { self.new ≡ [] }
+    {
+        self.terms.clear();
+    }
+
+    /// Puts entry i of another column times a factor after the entries; false where it is too large, or for want of memory.
+    fn push_multiple(&mut self, other: &Column, i: usize, factor: i64) -> bool
+        requires { i < length other.now }
+        ensures { OnTrue result (self.new ≡ self.old ++ multiple_of_term factor (slice_index_or other.now i (0, pos 0)) ∷ []) }
+    {
+        match narrow(product(other.factor(i), factor), LARGEST) {
+            Some(number) => self.push_entry(other.place(i), number).is_ok(),
+            None => false,
+        }
+    }
+
+    /// Puts the entries of another column times a factor after the entries; false where one is too large, or for want of memory.
+    pub fn add_multiple(&mut self, other: &Column, factor: i64) -> bool
+        ensures { OnTrue result (self.new ≡ self.old ++ multiple_of_terms factor other.now) }
+    {
+        for i in 0..other.size() {
+            if !self.push_multiple(other, i, factor) {
+                return false;
+            }
+        }
+        true
     }
 
     /// How many entries it has.

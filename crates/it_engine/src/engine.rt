@@ -1,13 +1,18 @@
 //! The engine and its run.
-ghost use Rattle.std.specs.Prelude.{◌≡◌, ◌+◌, ◌<◌, ℕ, ◌^◌, length, pos, None, Some, IfOk};
+ghost use Rattle.std.specs.Prelude.{◌≡◌, ◌+◌, ◌<◌, ◌≤◌, ℕ, ◌^◌, length, pos, None, Some, IfOk};
 ghost use Rattle.std.specs.Bool.{OnFalse, OnTrue};
 ghost use Rattle.std.specs.Option.{IfNone, IfSome};
+ghost use Rattle.it_engine.specs.Behind.{AreEngineSteps};
+ghost use Rattle.it_engine.specs.Loading.{IsNorm};
 ghost use Rattle.it_engine.specs.Choosing.{first_negative_cost, right_side_of};
 ghost use Rattle.it_engine.specs.Engine.{IsFinished, IsSafe, IsEngineStepOrStuck, StandsForSome};
 ghost use Rattle.it_engine.specs.Whole.{AreAllAtMost, AreAtMost, whole_row_at};
 
+use crate::arithmetic::is_zero;
+use crate::behind::make_steps;
 use crate::choice::entering_column;
 use crate::columns::Column;
+use crate::loading::norm;
 use crate::pivots::enter;
 use crate::rows::WholeRow;
 use std::alloc::{AllocError, Global};
@@ -37,6 +42,10 @@ pub struct Engine {
     room: Vec<i64>,
     // room for the entries of the rows at the column that enters
     entries: Vec<i64>,
+    // room for a note on each row whether it moved while others stayed behind
+    moved: Vec<bool>,
+    // room for a column at which rows that stay behind are looked at
+    combined: Column,
 }
 
 impl Model for Engine {
@@ -47,7 +56,7 @@ impl Model for Engine {
 
     ghost view = { λ e. record { rows = e.rows.items; basis = e.basis.items } };
 
-    ghost invariant = { λ e. (length e.next.items ≡ length e.basis.items + 2) × (length e.room.items ≡ length e.basis.items + 1) × (length e.entries.items ≡ length e.basis.items + 1) };
+    ghost invariant = { λ e. (length e.next.items ≡ length e.basis.items + 2) × (length e.room.items ≡ length e.basis.items + 1) × (length e.entries.items ≡ length e.basis.items + 1) × (length e.moved.items ≡ length e.basis.items + 1) };
 }
 
 impl Engine {
@@ -60,6 +69,7 @@ impl Engine {
         let next = Vec::from_elem(alloc, 0, height + 2)?;
         let room = Vec::from_elem(alloc, 0, height + 1)?;
         let entries = Vec::from_elem(alloc, 0, height + 1)?;
+        let moved = Vec::from_elem(alloc, false, height + 1)?;
         Ok(Engine {
             alloc,
             rows,
@@ -67,6 +77,8 @@ impl Engine {
             next,
             room,
             entries,
+            moved,
+            combined: Column::empty(alloc),
         })
     }
 
@@ -147,18 +159,50 @@ impl Engine {
         Some(true)
     }
 
+    /// Makes degenerate steps, at most so many, and tells how many, which may be none; none with rows in 64 bits. None where a number
+    /// would be too large, and then nothing is known of the engine.
+    fn still_steps(&mut self, columns: &[Column], limit: u64, norm: u64, most: u32) -> Option<u32>
+        requires engine { IsSafe columns.now limit self.old.rows self.old.basis }
+        requires norm { IsNorm columns.now norm }
+        ensures steps { IfSome result (λ k. AreEngineSteps columns.now limit self.old.rows self.old.basis k self.new.rows self.new.basis) }
+        ensures most { IfSome result (λ k. k ≤ most) }
+    {
+        if !self.cost_row().is_narrow() {
+            return Some(0);
+        }
+        make_steps(
+            self.alloc,
+            self.rows.as_mut_slice(),
+            self.basis.as_mut_slice(),
+            self.moved.as_mut_slice(),
+            self.entries.as_mut_slice(),
+            self.next.as_mut_slice(),
+            self.room.as_mut_slice(),
+            &mut self.combined,
+            columns,
+            limit,
+            norm,
+            most,
+        )
+    }
+
     /// Makes the run with a budget of steps.
-    fn run_within(&mut self, columns: &[Column], limit: u64, budget: u32) -> Option<EngineEnd>
-        requires { IsSafe columns.now limit self.old.rows self.old.basis }
+    fn run_within(&mut self, columns: &[Column], limit: u64, norm: u64, budget: u32) -> Option<EngineEnd>
+        requires engine { IsSafe columns.now limit self.old.rows self.old.basis }
+        requires norm { IsNorm columns.now norm }
         ensures { IfSome result (λ finish. IsFinished columns.now limit self.old.rows self.old.basis (Some budget) self.new.rows self.new.basis finish) }
     {
-        for k in 0..budget {
+        let mut k: u32 = 0;
+        while k < budget {
+            let made = self.still_steps(columns, limit, norm, budget - k - 1)?;
+            k += made;
             if self.is_done() {
                 return Some(EngineEnd::Weights);
             }
             if !self.step(columns, limit)? {
                 return Some(EngineEnd::Point);
             }
+            k += 1;
         }
         if self.is_done() {
             return Some(EngineEnd::Weights);
@@ -170,12 +214,14 @@ impl Engine {
     }
 
     /// Makes the run without a budget. It ends since no set of basic columns comes back (Bland 1977).
-    fn run_on(&mut self, columns: &[Column], limit: u64) -> Option<EngineEnd>
+    fn run_on(&mut self, columns: &[Column], limit: u64, norm: u64) -> Option<EngineEnd>
         requires engine { IsSafe columns.now limit self.old.rows self.old.basis }
         requires stands { StandsForSome columns.now limit self.old.rows self.old.basis }
+        requires norm { IsNorm columns.now norm }
         ensures { IfSome result (λ finish. IsFinished columns.now limit self.old.rows self.old.basis None self.new.rows self.new.basis finish) }
     {
         'steps: loop {
+            let made = self.still_steps(columns, limit, norm, u32::MAX)?;
             if self.is_done() {
                 return Some(EngineEnd::Weights);
             }
@@ -192,9 +238,10 @@ impl Engine {
         requires stands { StandsForSome columns.now limit self.old.rows self.old.basis }
         ensures { IfSome result (λ finish. IsFinished columns.now limit self.old.rows self.old.basis budget self.new.rows self.new.basis finish) }
     {
+        let norm = norm(columns)?;
         match budget {
-            Some(steps) => self.run_within(columns, limit, steps),
-            None => self.run_on(columns, limit),
+            Some(steps) => self.run_within(columns, limit, norm, steps),
+            None => self.run_on(columns, limit, norm),
         }
     }
 }
@@ -242,13 +289,4 @@ fn last_row(rows: &[WholeRow], last: usize) -> &WholeRow
     ensures { result.now ≡ whole_row_at rows.now last }
 {
     &rows[last]
-}
-
-/// Whether a number is 0.
-fn is_zero(z: i64) -> bool
-    ensures yes { OnTrue result (z ≡ pos 0) }
-    ensures no { OnFalse result (¬ (z ≡ pos 0)) }
-{
-    // written out, so that the prover has each case with its test
-    if z == 0 { true } else { false }
 }

@@ -8,6 +8,7 @@
 #![tactic(auto)]
 
 mod arithmetic;
+mod behind;
 mod choice;
 mod columns;
 mod divisors;

@@ -79,12 +79,23 @@ impl NarrowRow {
         self.bottom
     }
 
-    /// Notes for each place the next one where the row isn't 0.
-    pub fn note_places(&self, next: &mut [usize])
+    /// Notes for each place the next one where the row isn't 0, if few numbers are other than 0; tells whether it did.
+    pub fn note_places(&self, next: &mut [usize]) -> bool
         requires { length next.old ≡ length self.now.numbers + 1 }
-        ensures { AreNextPlaces self.now.numbers next.new }
+        ensures places { OnTrue result (AreNextPlaces self.now.numbers next.new) }
+        ensures room { length next.new ≡ length next.old }
     {
-        note_places(self.numbers.as_slice(), next);
+        if self.sparse {
+            note_places(self.numbers.as_slice(), next);
+        }
+        self.sparse
+    }
+
+    /// No number is greater in absolute value.
+    pub fn most(&self) -> u64
+        ensures { AreAtMost self.now.numbers result }
+    {
+        self.most
     }
 
     /// The same row, with an exact bound on its numbers, and with a note whether few of them are other than 0.
@@ -121,13 +132,14 @@ impl NarrowRow {
         &mut self,
         own: &NarrowRow,
         next: &[usize],
+        noted: bool,
         a: i64,
         b: i64,
         bottom: u64,
         limit: u64,
     ) -> bool
         requires even { length self.old.numbers ≡ length own.now.numbers }
-        requires places { AreNextPlaces own.now.numbers next.now }
+        requires places { OnTrue noted (AreNextPlaces own.now.numbers next.now) }
         requires limit { limit < 2 ^ 31 }
         ensures combined { OnTrue result (IsCombined (length own.now.numbers) limit self.old.numbers own.now.numbers a b self.new.numbers) }
         ensures bottom { OnTrue result (self.new.bottom ≡ bottom) }
@@ -137,7 +149,7 @@ impl NarrowRow {
             self.numbers.as_mut_slice(),
             own.numbers.as_slice(),
             next,
-            own.sparse,
+            noted,
             a,
             b,
             self.most,
@@ -198,6 +210,7 @@ impl NarrowRow {
         &mut self,
         own: &NarrowRow,
         next: &[usize],
+        noted: bool,
         room: &mut [i64],
         entry: i64,
         pivot: i64,
@@ -205,7 +218,7 @@ impl NarrowRow {
     ) -> bool
         requires row { IsUsable (length own.now.numbers) limit self.old }
         requires own { IsUsable (length own.now.numbers) limit own.now }
-        requires places { AreNextPlaces own.now.numbers next.now }
+        requires places { OnTrue noted (AreNextPlaces own.now.numbers next.now) }
         requires room { length room.old ≡ length own.now.numbers }
         requires entry { unsigned_abs entry < 2 ^ 63 }
         requires pivot { pos 1 ≤ℤ pivot }
@@ -220,7 +233,7 @@ impl NarrowRow {
         let Some(bottom) = short_product(self.bottom(), a.unsigned_abs()) else {
             return false;
         };
-        if self.combine(own, next, a, b, bottom, limit) {
+        if self.combine(own, next, noted, a, b, bottom, limit) {
             return true;
         }
         self.combine_in_room(own, room, a, b, bottom, limit)
@@ -228,11 +241,12 @@ impl NarrowRow {
 
     /// The row, which has this entry at the column, after a step in which another row leaves, whose entry there is the pivot; false
     /// where a number would be larger than the limit, and then nothing is known of the row. Next has the next places where the
-    /// leaving row isn't 0, and room is room for a row.
+    /// leaving row isn't 0, if they are noted, and room is room for a row.
     pub fn update(
         &mut self,
         own: &NarrowRow,
         next: &[usize],
+        noted: bool,
         room: &mut [i64],
         entry: i64,
         pivot: i64,
@@ -240,7 +254,7 @@ impl NarrowRow {
     ) -> bool
         requires row { IsUsable (length own.now.numbers) limit self.old }
         requires own { IsUsable (length own.now.numbers) limit own.now }
-        requires places { AreNextPlaces own.now.numbers next.now }
+        requires places { OnTrue noted (AreNextPlaces own.now.numbers next.now) }
         requires room { length room.old ≡ length own.now.numbers }
         requires entry { unsigned_abs entry < 2 ^ 63 }
         requires pivot { pos 1 ≤ℤ pivot }
@@ -251,7 +265,7 @@ impl NarrowRow {
         if entry == 0 {
             return true;
         }
-        if !self.reduce(own, next, room, entry, pivot, limit) {
+        if !self.reduce(own, next, noted, room, entry, pivot, limit) {
             return false;
         }
         if is_large(self.bottom()) {

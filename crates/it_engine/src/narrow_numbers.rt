@@ -163,16 +163,16 @@ pub fn is_sparse(row: &[i32]) -> bool {
 }
 
 /// As combine, where no number needs a test.
-fn combine_plain(row: &mut [i32], by: &[i32], next: &[usize], sparse: bool, a: i32, b: i32)
+fn combine_plain(row: &mut [i32], by: &[i32], next: &[usize], noted: bool, a: i32, b: i32)
     requires even { length row.old ≡ length by.now }
     requires bound { (k : ℕ) → k < length by.now → unsigned_abs (number_at row.old k *ℤ a) + unsigned_abs (number_at by.now k *ℤ b) < 2 ^ 31 }
-    requires places { AreNextPlaces by.now next.now }
+    requires places { OnTrue noted (AreNextPlaces by.now next.now) }
     ensures length { length row.new ≡ length row.old }
     ensures entries { (k : ℕ) → k < length by.now → number_at row.new k ≡ number_at row.old k *ℤ a +ℤ neg_ℤ (number_at by.now k *ℤ b) }
 {
     if a != 1 {
         multiply_and_subtract(row, by, a, b);
-    } else if sparse {
+    } else if noted {
         subtract_at_places(row, by, next, b);
     } else {
         subtract(row, by, b);
@@ -203,13 +203,13 @@ fn narrow_factor(z: i64) -> Option<i32>
 }
 
 /// The numbers times a, less those of another row times b, with a bound on them, where most and most_by are bounds on the
-/// numbers of the two, and next has the next places where the other row isn't 0. None where the bounds don't show that all stay
-/// within the limit: then the row stays.
+/// numbers of the two, and next has the next places where the other row isn't 0, if they are noted. None where the bounds don't
+/// show that all stay within the limit: then the row stays.
 pub fn combine(
     row: &mut [i32],
     by: &[i32],
     next: &[usize],
-    sparse: bool,
+    noted: bool,
     a: i64,
     b: i64,
     most: u64,
@@ -217,7 +217,7 @@ pub fn combine(
     limit: u64,
 ) -> Option<u64>
     requires even { length row.old ≡ length by.now }
-    requires places { AreNextPlaces by.now next.now }
+    requires places { OnTrue noted (AreNextPlaces by.now next.now) }
     requires most { AreAtMost row.old most }
     requires most_by { AreAtMost by.now most_by }
     requires limit { limit < 2 ^ 31 }
@@ -235,7 +235,7 @@ pub fn combine(
         u64::from(y.unsigned_abs()),
         limit,
     )?;
-    combine_plain(row, by, next, sparse, x, y);
+    combine_plain(row, by, next, noted, x, y);
     Some(sum)
 }
 

@@ -14,7 +14,7 @@ use std::alloc::Global;
 
 /// Makes the column at which the rows have these entries basic in row r; false where a number would be too large, and then nothing
 /// is known of the rows. Next is room for a number for each place of a row and one more, room is room for a row.
-fn pivot(
+pub fn pivot(
     alloc: Global,
     rows: &mut [WholeRow],
     next: &mut [usize],
@@ -39,11 +39,11 @@ fn pivot(
     // Divided first, so that it is in lowest terms: then the factors of most other rows are 1, and their numbers stay small.
     let own = taken.divided_by(read(entries, r));
     let p = own.unit();
-    own.note_places(next);
+    let noted = own.note_places(next);
     // by index, since the invariant speaks of the rows before i and of those from i on
     for i in 0..rows.len() {
         if i != r {
-            if !rows[i].update(&own, next, room, read(entries, i), p, limit) {
+            if !rows[i].update(&own, next, noted, room, read(entries, i), p, limit) {
                 return false;
             }
         }

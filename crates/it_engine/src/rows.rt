@@ -115,24 +115,48 @@ impl WholeRow {
         self.bottom() as i64
     }
 
-    /// Notes for each place the next one where the row isn't 0.
-    pub fn note_places(&self, next: &mut [usize])
+    /// Notes for each place the next one where the row isn't 0, unless it is in 32 bits and few numbers are 0; tells whether it did.
+    pub fn note_places(&self, next: &mut [usize]) -> bool
         requires { length next.old ≡ length self.now.numbers + 1 }
-        ensures { AreNextPlaces self.now.numbers next.new }
+        ensures places { OnTrue result (AreNextPlaces self.now.numbers next.new) }
+        ensures room { length next.new ≡ length next.old }
     {
         match &self.row {
             AnyRow::Narrow(row) => row.note_places(next),
-            AnyRow::Wide(row) => row.note_places(next),
+            AnyRow::Wide(row) => {
+                row.note_places(next);
+                true
+            }
+        }
+    }
+
+    /// No number is greater in absolute value.
+    pub fn most(&self) -> u64
+        ensures { AreAtMost self.now.numbers result }
+    {
+        match &self.row {
+            AnyRow::Narrow(row) => row.most(),
+            AnyRow::Wide(row) => row.most(),
+        }
+    }
+
+    /// Whether it is in 32 bits.
+    pub fn is_narrow(&self) -> bool {
+        match &self.row {
+            AnyRow::Narrow(_) => true,
+            AnyRow::Wide(_) => false,
         }
     }
 
     /// The row, which has this entry at the column, after a step in which another row leaves, whose entry there is the pivot; false
-    /// where a number would be larger than the limit or the other row is of another width, and then nothing is known of the row. Next
-    /// has the next places where the leaving row isn't 0, and room is room for a row.
+    /// where a number would be larger than the limit, or the other row is of another width, or no places are noted of a row in 64
+    /// bits, and then nothing is known of the row. Next has the next places where the leaving row isn't 0, if they are noted, and
+    /// room is room for a row.
     pub fn update(
         &mut self,
         own: &WholeRow,
         next: &[usize],
+        noted: bool,
         room: &mut [i64],
         entry: i64,
         pivot: i64,
@@ -140,7 +164,7 @@ impl WholeRow {
     ) -> bool
         requires row { IsUsable (length own.now.numbers) limit self.old }
         requires own { IsUsable (length own.now.numbers) limit own.now }
-        requires places { AreNextPlaces own.now.numbers next.now }
+        requires places { OnTrue noted (AreNextPlaces own.now.numbers next.now) }
         requires room { length room.old ≡ length own.now.numbers }
         requires entry { unsigned_abs entry < 2 ^ 63 }
         requires pivot { pos 1 ≤ℤ pivot }
@@ -151,13 +175,13 @@ impl WholeRow {
         match &own.row {
             AnyRow::Narrow(own) => match &mut self.row {
                 AnyRow::Narrow(row) => {
-                    limit < 1 << 31 && row.update(own, next, room, entry, pivot, limit)
+                    limit < 1 << 31 && row.update(own, next, noted, room, entry, pivot, limit)
                 }
                 AnyRow::Wide(_) => false,
             },
             AnyRow::Wide(own) => match &mut self.row {
                 AnyRow::Narrow(_) => false,
-                AnyRow::Wide(row) => row.update(own, next, entry, pivot, limit),
+                AnyRow::Wide(row) => noted && row.update(own, next, entry, pivot, limit),
             },
         }
     }

@@ -2,6 +2,7 @@
 ghost use Rattle.std.specs.Prelude.{◌≡◌, ◌+◌, ◌<◌, ◌^◌, ◌≤ℤ◌, [], unsigned_abs, length, pos};
 ghost use Rattle.std.specs.Bool.{OnTrue};
 ghost use Rattle.it_space.specs.Sums.{number_at};
+ghost use Rattle.it_engine.specs.Whole.{AreAtMost};
 ghost use Rattle.it_engine.specs.Updates.{AreNextPlaces, AreShort, IsWholeRowReduced, IsQuotient, IsShortened, IsUpdated, IsUsable};
 
 use crate::arithmetic::{common_divisor, quotient, short_product};
@@ -75,6 +76,13 @@ impl WideRow {
         ensures { result.now ≡ self.now.numbers }
     {
         self.numbers.as_slice()
+    }
+
+    /// No number is greater in absolute value.
+    pub fn most(&self) -> u64
+        ensures { AreAtMost self.now.numbers result }
+    {
+        self.most
     }
 
     /// Notes for each place the next one where the row isn't 0.

@@ -1,0 +1,22 @@
+use Rattle.std.proofs.Common.{◌≡◌, ◌+◌, ◌∙◌, List, Bool, ℕ, true, length, slice_set, refl, sym, subst, arith}
+use Rattle.std.proofs.lemmas.List.{length-set}
+use Rattle.it_engine.specs.Behind.{AreStillSteps}
+use Rattle.it_engine.proofs.ManySteps.{no_steps, more_steps}
+use Rattle.it_engine.proofs.behind.still_steps.Goals as goal
+
+pub loop-k-init : goal.loop-k-init
+loop-k-init c = record { steps = no_steps c.args.columns.now c.args.limit c.args.rows.now c.args.basis.now c.args.moved.now c.requires.engine; rows = refl; entries = refl; next = refl; room = refl }
+
+pub loop-k-preserved : goal.loop-k-preserved
+loop-k-preserved c =
+    let made = c.if-not-make_step.ensures in
+    let steps = c.loop-k.invariant.steps in record {
+      steps = subst (λ (bs : List ℕ). AreStillSteps c.args.columns.now c.args.limit c.args.rows.now c.args.basis.now c.args.moved.now (c.loop-k.k + 1) c.make_step.new.rows bs c.make_step.new.moved) (sym made.basis)
+          (subst (λ (ms : List Bool). AreStillSteps c.args.columns.now c.args.limit c.args.rows.now c.args.basis.now c.args.moved.now (c.loop-k.k + 1) c.make_step.new.rows (slice_set c.loop-k.basis c.in-Some.row c.in-Some.column) ms) (sym made.moved)
+          (more_steps c.args.columns.now c.args.limit c.args.rows.now c.args.basis.now c.args.moved.now c.loop-k.k c.in-Some.column c.in-Some.row c.loop-k.rows c.loop-k.basis c.loop-k.moved c.make_step.new.rows
+          steps c.in-Some.ensures.choice made.step));
+      rows = made.step.engine.rows_are ∙ omega (arith, length-set c.loop-k.basis c.in-Some.row c.in-Some.column, steps.engine.rows_are, c.loop-k.invariant.rows);
+      entries = c.make_step.ensures.entries ∙ c.still_choice.ensures.entries ∙ c.loop-k.invariant.entries;
+      next = c.make_step.ensures.next ∙ c.loop-k.invariant.next;
+      room = c.make_step.ensures.room ∙ c.loop-k.invariant.room;
+    }

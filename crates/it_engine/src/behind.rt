@@ -1,0 +1,822 @@
+//! Rows that stay as they were in an earlier table, while degenerate steps are made.
+//!
+//! Nearly every step of a run is degenerate: the least ratio is 0, and right sides stay. Such a step looks at few rows. So a block of
+//! degenerate steps keeps up to date only the rows that left in it, and the cost row; all others stay as they were when it began,
+//! and are brought up to date where they leave, or when the block ends. The row of a table of the run is that of any other table
+//! less, for each row whose basic column changed, its entry there times that row.
+ghost use Rattle.std.specs.Prelude.{◌≡◌, ◌≤ℤ◌, ◌+◌, ◌*◌, ◌<◌, ◌≤◌, ◌^◌, ◌++◌, ◌*ℤ◌, neg_ℤ, ℕ, pos, [], length, cond, false, true, slice_index_or, slice_set};
+ghost use Rattle.std.specs.Bool.{OnFalse, OnTrue};
+ghost use Rattle.std.specs.Option.{IfNone, IfSome};
+ghost use Prim.Native.Nat.{◌∣◌};
+ghost use Rattle.it_engine.specs.Behind.{AreBaseBounds, AreBrought, AreEngineSteps, AreMovedEntries, AreStillSteps, BoundsShares, column_less_moved, has_moved, IsBehindStep, IsCommonMultiple, IsBrought, IsFirstToLeave, IsLessMoved, IsRowBrought, IsStillChoice, LeavesStill, MayLeave, multiple_of_terms, share_of};
+ghost use Rattle.it_engine.specs.Choosing.{entry_of, right_side_of};
+ghost use Rattle.it_engine.specs.Updates.{AreUsable, IsFitting, IsUpdated, IsUsable, Suits, SuitsAll};
+ghost use Rattle.it_engine.specs.Engine.{IsSafe};
+ghost use Rattle.it_engine.specs.Loading.{IsNorm};
+ghost use Rattle.it_space.specs.Rows.{row_mass, value};
+ghost use Rattle.it_engine.specs.Whole.{AreAtMost, whole_row_at};
+ghost use Rattle.it_space.specs.Sums.{number_at};
+
+use crate::arithmetic::{common_divisor, is_above_zero, is_zero, narrow, product, short_product, short_sum};
+use crate::choice::{entering_column, right_side};
+use crate::columns::Column;
+use crate::numbers::read;
+use crate::pivots::pivot;
+use crate::rows::WholeRow;
+use std::alloc::Global;
+
+/// The largest number of the engine, 2^63 - 1.
+const LARGEST: u64 = i64::MAX as u64;
+
+/// Whether row i moved.
+#[inline]
+fn moved_at(moved: &[bool], i: usize) -> bool
+    requires { i < length moved.now }
+    ensures { result ≡ has_moved moved.now i }
+{
+    moved[i]
+}
+
+/// The denominator of row i.
+#[inline]
+fn bottom_at(rows: &[WholeRow], i: usize) -> u64
+    requires { i < length rows.now }
+    ensures { result ≡ (whole_row_at rows.now i).bottom }
+{
+    rows[i].bottom()
+}
+
+/// A bound on the numbers of row i.
+#[inline]
+fn most_at(rows: &[WholeRow], i: usize) -> u64
+    requires { i < length rows.now }
+    ensures { AreAtMost (whole_row_at rows.now i).numbers result }
+{
+    rows[i].most()
+}
+
+/// The entry of row i at the column.
+#[inline]
+fn entry_at(column: &Column, rows: &[WholeRow], i: usize) -> i64
+    requires row { i < length rows.now }
+    requires suits { Suits column.now (whole_row_at rows.now i).numbers }
+    ensures { result ≡ entry_of column.now rows.now i }
+{
+    column.price(&rows[i])
+}
+
+/// The entry of row i at the column if it moved, else 0.
+#[inline]
+fn moved_entry(column: &Column, rows: &[WholeRow], moved: &[bool], i: usize) -> i64
+    requires row { i < length rows.now }
+    requires even { length moved.now ≡ length rows.now }
+    requires suits { SuitsAll column.now rows.now }
+    ensures { result ≡ cond (has_moved moved.now i) (entry_of column.now rows.now i) (pos 0) }
+{
+    if moved_at(moved, i) {
+        entry_at(column, rows, i)
+    } else {
+        0
+    }
+}
+
+/// Writes down the entry at the column of each row that moved, and 0 for each other.
+fn note_moved_entries(column: &Column, rows: &[WholeRow], moved: &[bool], entries: &mut [i64])
+    requires even { length entries.old ≡ length rows.now }
+    requires moved { length moved.now ≡ length rows.now }
+    requires suits { SuitsAll column.now rows.now }
+    ensures { AreMovedEntries column.now rows.now moved.now entries.new }
+{
+    for i in 0..rows.len() {
+        entries[i] = moved_entry(column, rows, moved, i);
+    }
+}
+
+/// The least common multiple, where it is below 2^63.
+fn multiple_of_both(a: u64, b: u64) -> Option<u64>
+    requires a { 0 < a }
+    requires b { 0 < b }
+    ensures { IfSome result (λ c. (0 < c) × (c < 2 ^ 63) × (a ∣ c) × (b ∣ c)) }
+{
+    short_product(a, b / common_divisor(a, b))
+}
+
+/// The multiple, or where row q moved a common one of it and the row's denominator.
+fn more_multiple(rows: &[WholeRow], moved: &[bool], q: usize, multiple: u64) -> Option<u64>
+    requires rows { q < length rows.now }
+    requires moved { q < length moved.now }
+    requires some { 0 < (whole_row_at rows.now q).bottom }
+    requires multiple { IsCommonMultiple rows.now moved.now q multiple }
+    ensures { IfSome result (λ multiple. IsCommonMultiple rows.now moved.now (q + 1) multiple) }
+{
+    if moved_at(moved, q) {
+        multiple_of_both(multiple, bottom_at(rows, q))
+    } else {
+        Some(multiple)
+    }
+}
+
+/// A common multiple of the denominators of the rows that moved, but the cost row, where it is below 2^63.
+fn common_multiple(rows: &[WholeRow], moved: &[bool], height: usize) -> Option<u64>
+    requires rows { height ≤ length rows.now }
+    requires moved { height ≤ length moved.now }
+    requires some { (i : ℕ) → i < length rows.now → 0 < (whole_row_at rows.now i).bottom }
+    ensures { IfSome result (λ multiple. IsCommonMultiple rows.now moved.now height multiple) }
+{
+    let mut multiple: u64 = 1;
+    for q in 0..height {
+        multiple = more_multiple(rows, moved, q, multiple)?;
+    }
+    Some(multiple)
+}
+
+/// The bound with what row q adds to it.
+fn more_shares(
+    rows: &[WholeRow],
+    moved: &[bool],
+    q: usize,
+    multiple: u64,
+    norm: u64,
+    bound: u64,
+) -> Option<u64>
+    requires rows { q < length rows.now }
+    requires moved { q < length moved.now }
+    requires some { 0 < (whole_row_at rows.now q).bottom }
+    requires bound { BoundsShares norm rows.now (has_moved moved.now) (share_of multiple rows.now) q bound }
+    ensures { IfSome result (λ bound. BoundsShares norm rows.now (has_moved moved.now) (share_of multiple rows.now) (q + 1) bound) }
+{
+    if !moved_at(moved, q) {
+        return Some(bound);
+    }
+    let entry = short_product(norm, most_at(rows, q))?;
+    let part = short_product(entry, multiple / bottom_at(rows, q))?;
+    short_sum(bound, part)
+}
+
+/// A bound on what the entries at any column of the rows that moved, each times its share of the multiple, sum to.
+fn bound_of_shares(
+    rows: &[WholeRow],
+    moved: &[bool],
+    height: usize,
+    multiple: u64,
+    norm: u64,
+) -> Option<u64>
+    requires rows { height ≤ length rows.now }
+    requires moved { height ≤ length moved.now }
+    requires some { (i : ℕ) → i < length rows.now → 0 < (whole_row_at rows.now i).bottom }
+    ensures { IfSome result (λ bound. BoundsShares norm rows.now (has_moved moved.now) (share_of multiple rows.now) height bound) }
+{
+    let mut bound: u64 = 0;
+    for q in 0..height {
+        bound = more_shares(rows, moved, q, multiple, norm, bound)?;
+    }
+    Some(bound)
+}
+
+/// Whether the numbers of the rows that stay behind are below 2^63 at every column, though they aren't formed.
+fn are_short(most: u64, low: u64, multiple: u64, norm: u64, shares: u64) -> bool
+    ensures numbers { OnTrue result (norm * most * multiple + norm * most * shares < 2 ^ 63) }
+    ensures bottoms { OnTrue result (low * multiple < 2 ^ 63) }
+{
+    let Some(all) = short_product(norm, most) else {
+        return false;
+    };
+    let Some(own) = short_product(all, multiple) else {
+        return false;
+    };
+    let Some(others) = short_product(all, shares) else {
+        return false;
+    };
+    short_sum(own, others).is_some() && short_product(low, multiple).is_some()
+}
+
+/// Takes so much of a row that moved off the column that enters as its entry says.
+fn less_moved(
+    combined: &mut Column,
+    columns: &[Column],
+    rows: &[WholeRow],
+    basis: &[usize],
+    moved: &[bool],
+    entries: &[i64],
+    q: usize,
+    multiple: u64,
+) -> bool
+    requires rows { q < length rows.now }
+    requires basis { q < length basis.now }
+    requires moved { q < length moved.now }
+    requires entries { q < length entries.now }
+    requires some { 0 < (whole_row_at rows.now q).bottom }
+    requires low { multiple < 2 ^ 63 }
+    ensures { OnTrue result (combined.new ≡ combined.old ++ cond (has_moved moved.now q) (multiple_of_terms (neg_ℤ (number_at entries.now q *ℤ pos (share_of multiple rows.now q))) (slice_index_or columns.now (slice_index_or basis.now q 0) [])) []) }
+{
+    if !moved_at(moved, q) {
+        return true;
+    }
+    let Some(taken) = taken_times(read(entries, q), multiple / bottom_at(rows, q)) else {
+        return false;
+    };
+    if basis[q] >= columns.len() {
+        return false;
+    }
+    combined.add_multiple(&columns[basis[q]], taken)
+}
+
+/// The negated product, where that is below 2^63.
+fn taken_times(entry: i64, share: u64) -> Option<i64>
+    requires { share < 2 ^ 63 }
+    ensures { IfSome result (λ z. z ≡ neg_ℤ (entry *ℤ pos share)) }
+{
+    let taken = narrow(product(entry, share as i64), LARGEST)?;
+    Some(-taken)
+}
+
+/// Forms the column at which a row that stays behind has the number that it would have up to date; false where a number is too
+/// large, or for want of memory.
+fn combine_columns(
+    combined: &mut Column,
+    columns: &[Column],
+    rows: &[WholeRow],
+    basis: &[usize],
+    moved: &[bool],
+    entries: &[i64],
+    column: usize,
+    multiple: u64,
+) -> bool
+    requires column { column < length columns.now }
+    requires rows { length basis.now ≤ length rows.now }
+    requires moved { length basis.now ≤ length moved.now }
+    requires entries { length basis.now ≤ length entries.now }
+    requires some { (i : ℕ) → i < length rows.now → 0 < (whole_row_at rows.now i).bottom }
+    requires low { multiple < 2 ^ 63 }
+    ensures { OnTrue result (combined.new ≡ column_less_moved columns.now rows.now basis.now moved.now entries.now multiple column (length basis.now)) }
+{
+    combined.clear();
+    if !combined.add_multiple(&columns[column], multiple as i64) {
+        return false;
+    }
+    for q in 0..basis.len() {
+        if !less_moved(combined, columns, rows, basis, moved, entries, q, multiple) {
+            return false;
+        }
+    }
+    true
+}
+
+/// The entry of row i if it moved, else its number at the combined column.
+#[inline]
+fn entry_now(
+    rows: &[WholeRow],
+    moved: &[bool],
+    entries: &[i64],
+    combined: &Column,
+    i: usize,
+) -> i64
+    requires rows { i < length rows.now }
+    requires moved { i < length moved.now }
+    requires entries { i < length entries.now }
+    requires suits { Suits combined.now (whole_row_at rows.now i).numbers }
+    ensures { result ≡ cond (has_moved moved.now i) (number_at entries.now i) (entry_of combined.now rows.now i) }
+{
+    if moved_at(moved, i) {
+        read(entries, i)
+    } else {
+        entry_at(combined, rows, i)
+    }
+}
+
+/// Whether row i may leave with ratio 0.
+fn may_leave(
+    rows: &[WholeRow],
+    moved: &[bool],
+    entries: &[i64],
+    combined: &Column,
+    place: usize,
+    i: usize,
+) -> bool
+    requires rows { i < length rows.now }
+    requires moved { i < length moved.now }
+    requires entries { i < length entries.now }
+    requires suits { Suits combined.now (whole_row_at rows.now i).numbers }
+    requires place { place < length (whole_row_at rows.now i).numbers }
+    ensures yes { OnTrue result (MayLeave rows.now moved.now entries.now combined.now place i) }
+    ensures no { OnFalse result (¬ (MayLeave rows.now moved.now entries.now combined.now place i)) }
+{
+    if !is_zero(right_side(rows, i, place)) {
+        return false;
+    }
+    is_above_zero(entry_now(rows, moved, entries, combined, i))
+}
+
+/// The row with the least basic column of the best one so far and row i, if it may leave.
+fn earlier_row(
+    best: Option<usize>,
+    rows: &[WholeRow],
+    basis: &[usize],
+    moved: &[bool],
+    entries: &[i64],
+    combined: &Column,
+    i: usize,
+) -> Option<usize>
+    requires row { i < length basis.now }
+    requires rows { length basis.now < length rows.now }
+    requires moved { i < length moved.now }
+    requires entries { i < length entries.now }
+    requires suits { SuitsAll combined.now rows.now }
+    requires place { length basis.now < length (whole_row_at rows.now i).numbers }
+    requires best { IsFirstToLeave rows.now basis.now moved.now entries.now combined.now i best }
+    ensures { IsFirstToLeave rows.now basis.now moved.now entries.now combined.now (i + 1) result }
+{
+    if let Some(k) = best {
+        if basis[k] <= basis[i] {
+            return Some(k);
+        }
+    }
+    if may_leave(rows, moved, entries, combined, basis.len(), i) {
+        Some(i)
+    } else {
+        best
+    }
+}
+
+/// Of the rows that may leave with ratio 0 the one with the least basic column.
+fn first_to_leave(
+    rows: &[WholeRow],
+    basis: &[usize],
+    moved: &[bool],
+    entries: &[i64],
+    combined: &Column,
+) -> Option<usize>
+    requires rows { length basis.now < length rows.now }
+    requires moved { length basis.now ≤ length moved.now }
+    requires entries { length basis.now ≤ length entries.now }
+    requires suits { SuitsAll combined.now rows.now }
+    requires places { (i : ℕ) → i < length basis.now → length basis.now < length (whole_row_at rows.now i).numbers }
+    ensures { IsFirstToLeave rows.now basis.now moved.now entries.now combined.now (length basis.now) result }
+{
+    let mut best: Option<usize> = None;
+    for i in 0..basis.len() {
+        best = earlier_row(best, rows, basis, moved, entries, combined, i);
+    }
+    best
+}
+
+/// What stands for 1 in row q: its denominator, where that is below 2^63.
+fn unit_at(rows: &[WholeRow], q: usize) -> Option<i64>
+    requires { q < length rows.now }
+    ensures { IfSome result (λ unit. unit ≡ pos (whole_row_at rows.now q).bottom) }
+{
+    let bottom = bottom_at(rows, q);
+    if bottom < 1 << 63 {
+        Some(bottom as i64)
+    } else {
+        None
+    }
+}
+
+/// The basic column of row q, which isn't artificial.
+fn basic_column<'a>(columns: &'a [Column], basis: &[usize], q: usize) -> &'a Column
+    requires q { q < length basis.now }
+    requires within { slice_index_or basis.now q 0 < length columns.now }
+    ensures { result.now ≡ slice_index_or columns.now (slice_index_or basis.now q 0) [] }
+{
+    &columns[basis[q]]
+}
+
+/// The row less as much of row q as makes its entry at the basic column of row q 0.
+fn take_off(
+    row: &mut WholeRow,
+    own: &WholeRow,
+    column: &Column,
+    unit: i64,
+    next: &[usize],
+    room: &mut [i64],
+    limit: u64,
+) -> bool
+    requires row { IsUsable (length own.now.numbers) limit row.old }
+    requires own { IsUsable (length own.now.numbers) limit own.now }
+    requires column { IsFitting (length own.now.numbers) limit column.now }
+    requires room { length room.old ≡ length own.now.numbers }
+    requires unit { pos 1 ≤ℤ unit }
+    requires limit { limit < 2 ^ 63 }
+    ensures room { length room.new ≡ length room.old }
+    ensures updated { OnTrue result (IsUpdated (length own.now.numbers) limit row.old own.now (value column.now (number_at row.old.numbers)) unit row.new) }
+{
+    let entry = column.price(row);
+    row.update(own, next, false, room, entry, unit, limit)
+}
+
+/// The row less as much of row q, if that moved, as makes its entry at the basic column of row q 0; false where a number would be
+/// too large, and then nothing is known of the row.
+fn take_off_moved(
+    row: &mut WholeRow,
+    columns: &[Column],
+    rows: &[WholeRow],
+    basis: &[usize],
+    moved: &[bool],
+    next: &[usize],
+    room: &mut [i64],
+    q: usize,
+    limit: u64,
+) -> bool
+    requires height { length rows.now ≡ length basis.now + 1 }
+    requires moved { length moved.now ≡ length rows.now }
+    requires q { q < length basis.now }
+    requires row { IsUsable (length rows.now) limit row.old }
+    requires rows { (i : ℕ) → i < length rows.now → has_moved moved.now i ≡ true → IsUsable (length rows.now) limit (whole_row_at rows.now i) }
+    requires columns { (j : ℕ) → j < length columns.now → IsFitting (length rows.now) limit (slice_index_or columns.now j []) }
+    requires room { length room.old ≡ length rows.now }
+    requires limit { limit < 2 ^ 63 }
+    ensures room { length room.new ≡ length room.old }
+    ensures less { OnTrue result (IsLessMoved columns.now limit rows.now basis.now moved.now q row.old row.new) }
+    ensures usable { OnTrue result (IsUsable (length rows.now) limit row.new) }
+{
+    if !moved_at(moved, q) {
+        return true;
+    }
+    if basis[q] >= columns.len() {
+        return false;
+    }
+    let Some(unit) = unit_at(rows, q) else {
+        return false;
+    };
+    take_off(row, &rows[q], basic_column(columns, basis, q), unit, next, room, limit)
+}
+
+/// Brings a row that stayed behind up to date; false where a number would be too large, and then nothing is known of the row.
+fn bring_row(
+    row: &mut WholeRow,
+    columns: &[Column],
+    rows: &[WholeRow],
+    basis: &[usize],
+    moved: &[bool],
+    next: &[usize],
+    room: &mut [i64],
+    limit: u64,
+) -> bool
+    requires height { length rows.now ≡ length basis.now + 1 }
+    requires moved { length moved.now ≡ length rows.now }
+    requires row { IsUsable (length rows.now) limit row.old }
+    requires rows { (i : ℕ) → i < length rows.now → has_moved moved.now i ≡ true → IsUsable (length rows.now) limit (whole_row_at rows.now i) }
+    requires columns { (j : ℕ) → j < length columns.now → IsFitting (length rows.now) limit (slice_index_or columns.now j []) }
+    requires room { length room.old ≡ length rows.now }
+    requires limit { limit < 2 ^ 63 }
+    ensures room { length room.new ≡ length room.old }
+    ensures brought { OnTrue result (IsBrought columns.now limit rows.now basis.now moved.now row.old row.new) }
+    ensures usable { OnTrue result (IsUsable (length rows.now) limit row.new) }
+{
+    for q in 0..basis.len() {
+        if !take_off_moved(row, columns, rows, basis, moved, next, room, q, limit) {
+            return false;
+        }
+    }
+    true
+}
+
+/// Brings row r, which stayed behind, up to date; false where a number would be too large, and then nothing is known of the rows.
+fn bring(
+    alloc: Global,
+    rows: &mut [WholeRow],
+    columns: &[Column],
+    basis: &[usize],
+    moved: &[bool],
+    next: &[usize],
+    room: &mut [i64],
+    r: usize,
+    limit: u64,
+) -> bool
+    requires height { length rows.old ≡ length basis.now + 1 }
+    requires moved { length moved.now ≡ length rows.old }
+    requires r { r < length basis.now }
+    requires behind { has_moved moved.now r ≡ false }
+    requires rows { AreUsable (length rows.old) limit rows.old }
+    requires columns { (j : ℕ) → j < length columns.now → IsFitting (length rows.old) limit (slice_index_or columns.now j []) }
+    requires room { length room.old ≡ length rows.old }
+    requires limit { limit < 2 ^ 63 }
+    ensures room { length room.new ≡ length room.old }
+    ensures brought { OnTrue result (IsRowBrought columns.now limit rows.old basis.now moved.now r rows.new) }
+{
+    let mut row = std::mem::replace(&mut rows[r], WholeRow::empty(alloc));
+    let done = bring_row(&mut row, columns, rows, basis, moved, next, room, limit);
+    rows[r] = row;
+    done
+}
+
+/// Brings row r up to date, if it stayed behind; false where a number would be too large, and then nothing is known of the rows.
+fn bring_if_behind(
+    alloc: Global,
+    rows: &mut [WholeRow],
+    columns: &[Column],
+    basis: &[usize],
+    moved: &[bool],
+    next: &[usize],
+    room: &mut [i64],
+    r: usize,
+    limit: u64,
+) -> bool
+    requires height { length rows.old ≡ length basis.now + 1 }
+    requires moved { length moved.now ≡ length rows.old }
+    requires r { r < length basis.now }
+    requires rows { AreUsable (length rows.old) limit rows.old }
+    requires columns { (j : ℕ) → j < length columns.now → IsFitting (length rows.old) limit (slice_index_or columns.now j []) }
+    requires room { length room.old ≡ length rows.old }
+    requires limit { limit < 2 ^ 63 }
+    ensures room { length room.new ≡ length room.old }
+    ensures brought { OnTrue result (has_moved moved.now r ≡ false → IsRowBrought columns.now limit rows.old basis.now moved.now r rows.new) }
+    ensures kept { OnTrue result (has_moved moved.now r ≡ true → rows.new ≡ rows.old) }
+{
+    if moved_at(moved, r) {
+        return true;
+    }
+    bring(alloc, rows, columns, basis, moved, next, room, r, limit)
+}
+
+/// Brings all rows up to date; false where a number would be too large, and then nothing is known of the rows.
+fn bring_all(
+    alloc: Global,
+    rows: &mut [WholeRow],
+    columns: &[Column],
+    basis: &[usize],
+    moved: &[bool],
+    next: &[usize],
+    room: &mut [i64],
+    limit: u64,
+) -> bool
+    requires height { length rows.old ≡ length basis.now + 1 }
+    requires moved { length moved.now ≡ length rows.old }
+    requires rows { AreUsable (length rows.old) limit rows.old }
+    requires columns { (j : ℕ) → j < length columns.now → IsFitting (length rows.old) limit (slice_index_or columns.now j []) }
+    requires room { length room.old ≡ length rows.old }
+    requires limit { limit < 2 ^ 63 }
+    ensures room { length room.new ≡ length room.old }
+    ensures brought { OnTrue result (AreBrought columns.now limit rows.old basis.now moved.now (length basis.now) rows.new) }
+{
+    for r in 0..basis.len() {
+        if !bring_if_behind(alloc, rows, columns, basis, moved, next, room, r, limit) {
+            return false;
+        }
+    }
+    true
+}
+
+/// Whether the row's numbers times the column's weight stay below 2^63, so that its entries there are short.
+fn is_light(combined: &Column, limit: u64) -> bool
+    ensures { OnTrue result (row_mass combined.now * limit < 2 ^ 63) }
+{
+    match combined.weight() {
+        Some(weight) => short_product(weight, limit).is_some(),
+        None => false,
+    }
+}
+
+/// The row that leaves at a degenerate step by this column. None where the step isn't degenerate, or where the numbers of the
+/// rows that stay behind may be too large, or for want of memory.
+fn still_row(
+    rows: &[WholeRow],
+    basis: &[usize],
+    moved: &[bool],
+    entries: &mut [i64],
+    combined: &mut Column,
+    columns: &[Column],
+    column: usize,
+    limit: u64,
+    most: u64,
+    low: u64,
+    norm: u64,
+) -> Option<usize>
+    requires engine { IsSafe columns.now limit rows.now basis.now }
+    requires moved { length moved.now ≡ length rows.now }
+    requires entries { length entries.old ≡ length rows.now }
+    requires column { column < length columns.now }
+    requires bounds { AreBaseBounds most low rows.now moved.now (length basis.now) }
+    requires norm { IsNorm columns.now norm }
+    ensures entries { length entries.new ≡ length entries.old }
+    ensures within { IfSome result (λ r. r < length basis.now) }
+    ensures leaves { IfSome result (λ r. LeavesStill columns.now limit rows.now basis.now moved.now column r) }
+    ensures noted { IfSome result (λ r. AreMovedEntries (slice_index_or columns.now column []) rows.now moved.now entries.new) }
+{
+    note_moved_entries(&columns[column], rows, moved, entries);
+    let multiple = common_multiple(rows, moved, basis.len())?;
+    let shares = bound_of_shares(rows, moved, basis.len(), multiple, norm)?;
+    if !are_short(most, low, multiple, norm, shares) {
+        return None;
+    }
+    if !combine_columns(combined, columns, rows, basis, moved, entries, column, multiple) {
+        return None;
+    }
+    if !is_light(combined, limit) {
+        return None;
+    }
+    first_to_leave(rows, basis, moved, entries, combined)
+}
+
+/// The bound with the numbers and the denominator of row i, if it stays behind.
+fn more_bound(rows: &[WholeRow], moved: &[bool], i: usize, bound: u64) -> u64
+    requires rows { i < length rows.now }
+    requires moved { i < length moved.now }
+    requires bound { AreBaseBounds bound bound rows.now moved.now i }
+    ensures { AreBaseBounds result result rows.now moved.now (i + 1) }
+{
+    if moved_at(moved, i) {
+        bound
+    } else {
+        bound.max(most_at(rows, i)).max(bottom_at(rows, i))
+    }
+}
+
+/// A bound on the numbers and the denominators of the rows that stay behind.
+fn bound_behind(rows: &[WholeRow], moved: &[bool], height: usize) -> u64
+    requires rows { height ≤ length rows.now }
+    requires moved { height ≤ length moved.now }
+    ensures { AreBaseBounds result result rows.now moved.now height }
+{
+    let mut bound: u64 = 0;
+    for i in 0..height {
+        bound = more_bound(rows, moved, i, bound);
+    }
+    bound
+}
+
+/// The column that enters and the row that leaves, if the next step is degenerate. None otherwise, or where no step is left, or
+/// where the numbers of the rows that stay behind may be too large, or for want of memory.
+fn still_choice(
+    rows: &[WholeRow],
+    basis: &[usize],
+    moved: &[bool],
+    entries: &mut [i64],
+    combined: &mut Column,
+    columns: &[Column],
+    limit: u64,
+    norm: u64,
+) -> Option<(usize, usize)>
+    requires engine { IsSafe columns.now limit rows.now basis.now }
+    requires moved { length moved.now ≡ length rows.now }
+    requires entries { length entries.old ≡ length rows.now }
+    requires norm { IsNorm columns.now norm }
+    ensures entries { length entries.new ≡ length entries.old }
+    ensures choice { IfSome result (λ x. IsStillChoice columns.now limit rows.now basis.now moved.now x.0 x.1) }
+    ensures noted { IfSome result (λ x. AreMovedEntries (slice_index_or columns.now x.0 []) rows.now moved.now entries.new) }
+{
+    let last = basis.len();
+    if is_zero(right_side(rows, last, last)) {
+        return None;
+    }
+    let column = entering_column(columns, &rows[last])?;
+    let bound = bound_behind(rows, moved, last);
+    let row = still_row(
+        rows, basis, moved, entries, combined, columns, column, limit, bound, bound, norm,
+    )?;
+    Some((column, row))
+}
+
+/// Makes the column basic in the row that leaves at a degenerate step, which is brought up to date first; false where a number would
+/// be too large, and then nothing is known of the rows.
+fn make_step(
+    alloc: Global,
+    rows: &mut [WholeRow],
+    basis: &mut [usize],
+    moved: &mut [bool],
+    entries: &mut [i64],
+    next: &mut [usize],
+    room: &mut [i64],
+    columns: &[Column],
+    limit: u64,
+    column: usize,
+    row: usize,
+) -> bool
+    requires engine { IsSafe columns.now limit rows.old basis.old }
+    requires moved { length moved.old ≡ length rows.old }
+    requires entries { AreMovedEntries (slice_index_or columns.now column []) rows.old moved.old entries.old }
+    requires next { length next.old ≡ length rows.old + 1 }
+    requires room { length room.old ≡ length rows.old }
+    requires column { column < length columns.now }
+    requires row { row < length basis.old }
+    ensures step { OnTrue result (IsBehindStep columns.now limit rows.old basis.old moved.old column row rows.new) }
+    ensures basis { OnTrue result (basis.new ≡ slice_set basis.old row column) }
+    ensures moved { OnTrue result (moved.new ≡ slice_set moved.old row true) }
+    ensures entries { length entries.new ≡ length entries.old }
+    ensures next { length next.new ≡ length next.old }
+    ensures room { length room.new ≡ length room.old }
+{
+    if !bring_if_behind(alloc, rows, columns, basis, moved, next, room, row, limit) {
+        return false;
+    }
+    moved[row] = true;
+    entries[row] = entry_at(&columns[column], rows, row);
+    if !is_above_zero(read(entries, row)) {
+        return false;
+    }
+    if !pivot(alloc, rows, next, room, entries, row, limit) {
+        return false;
+    }
+    basis[row] = column;
+    true
+}
+
+/// With so many rows that moved a block ends: each step has to keep them up to date.
+const MANY_MOVED: usize = 40;
+
+/// Whether many rows moved.
+fn many_moved(moved: &[bool]) -> bool {
+    let mut count: usize = 0;
+    for i in 0..moved.len() {
+        if moved[i] {
+            count = count.wrapping_add(1);
+        }
+    }
+    count > MANY_MOVED
+}
+
+/// Makes degenerate steps, at most so many, while they can be made with rows that stay behind, and tells how many were made; None
+/// where a number would be too large, and then nothing is known of the rows.
+fn still_steps(
+    alloc: Global,
+    rows: &mut [WholeRow],
+    basis: &mut [usize],
+    moved: &mut [bool],
+    entries: &mut [i64],
+    next: &mut [usize],
+    room: &mut [i64],
+    combined: &mut Column,
+    columns: &[Column],
+    limit: u64,
+    norm: u64,
+    most: u32,
+) -> Option<u32>
+    requires engine { IsSafe columns.now limit rows.old basis.old }
+    requires moved { length moved.old ≡ length rows.old }
+    requires entries { length entries.old ≡ length rows.old }
+    requires next { length next.old ≡ length rows.old + 1 }
+    requires room { length room.old ≡ length rows.old }
+    requires norm { IsNorm columns.now norm }
+    ensures steps { IfSome result (λ k. AreStillSteps columns.now limit rows.old basis.old moved.old k rows.new basis.new moved.new) }
+    ensures most { IfSome result (λ k. k ≤ most) }
+    ensures entries { length entries.new ≡ length entries.old }
+    ensures next { length next.new ≡ length next.old }
+    ensures room { length room.new ≡ length room.old }
+{
+    for k in 0..most {
+        if many_moved(moved) {
+            return Some(k);
+        }
+        let Some((column, row)) = still_choice(rows, basis, moved, entries, combined, columns, limit, norm) else {
+            return Some(k);
+        };
+        if !make_step(alloc, rows, basis, moved, entries, next, room, columns, limit, column, row) {
+            return None;
+        }
+    }
+    Some(most)
+}
+
+/// Notes that no row moved but the cost row, which comes last.
+fn note_none_moved(moved: &mut [bool], height: usize)
+    requires { length moved.old ≡ height + 1 }
+    ensures length { length moved.new ≡ length moved.old }
+    ensures moved { (i : ℕ) → i < height → has_moved moved.new i ≡ false }
+    ensures cost { has_moved moved.new height ≡ true }
+{
+    for i in 0..height {
+        moved[i] = false;
+    }
+    moved[height] = true;
+}
+
+/// Makes degenerate steps, at most so many, and tells how many, which may be none. In between most rows stay as they are, and at the
+/// end all are up to date. None where a number would be too large, and then nothing is known of the rows.
+pub fn make_steps(
+    alloc: Global,
+    rows: &mut [WholeRow],
+    basis: &mut [usize],
+    moved: &mut [bool],
+    entries: &mut [i64],
+    next: &mut [usize],
+    room: &mut [i64],
+    combined: &mut Column,
+    columns: &[Column],
+    limit: u64,
+    norm: u64,
+    most: u32,
+) -> Option<u32>
+    requires engine { IsSafe columns.now limit rows.old basis.old }
+    requires moved { length moved.old ≡ length rows.old }
+    requires entries { length entries.old ≡ length rows.old }
+    requires next { length next.old ≡ length rows.old + 1 }
+    requires room { length room.old ≡ length rows.old }
+    requires norm { IsNorm columns.now norm }
+    ensures steps { IfSome result (λ k. AreEngineSteps columns.now limit rows.old basis.old k rows.new basis.new) }
+    ensures most { IfSome result (λ k. k ≤ most) }
+    ensures moved { length moved.new ≡ length moved.old }
+    ensures entries { length entries.new ≡ length entries.old }
+    ensures next { length next.new ≡ length next.old }
+    ensures room { length room.new ≡ length room.old }
+{
+    note_none_moved(moved, basis.len());
+    let made = still_steps(
+        alloc, rows, basis, moved, entries, next, room, combined, columns, limit, norm, most,
+    )?;
+    if bring_all(alloc, rows, columns, basis, moved, next, room, limit) {
+        Some(made)
+    } else {
+        None
+    }
+}
