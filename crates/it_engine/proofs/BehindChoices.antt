@@ -1,6 +1,5 @@
 -- The row that leaves at a degenerate step, by the numbers of rows that stay behind at a combined column.
 use Rattle.std.proofs.Common.{◌≡◌, ◌⊎◌, inl, inr, ℕ, zero, suc, ◌+◌, ◌*◌, ◌-◌, ◌<◌, ◌≤◌, ◌^◌, ◌∷◌, Bool, true, false, cond, ℤ, pos, ◌+ℤ◌, ◌*ℤ◌, neg_ℤ, List, [], length, slice_index_or, Option, Some, None, IfSome, All, refl, sym, ap, ap₂, subst, ◌∙◌, arith}
-
 use Rattle.std.proofs.lemmas.Bool.{cases_lt, lt-ltb}
 use Rattle.std.proofs.lemmas.Nat.{mul-le}
 use Rattle.std.proofs.Math.Nat.{mul_comm}
@@ -16,8 +15,8 @@ use Rattle.it_space.specs.Sums.{number_at}
 use Rattle.it_space.proofs.TermLemmas.{value-append}
 use Rattle.it_tableau.specs.Sums.{sum_to}
 use Rattle.it_tableau.specs.SimplexTables.{SimplexTable, FeasibilityProblem}
-use Rattle.it_engine.specs.Behind.{AreBaseBounds, AreMovedEntries, BoundsShares, column_less_moved, has_moved, IsCommonMultiple, IsFirstToLeave, IsStillLeaving, LeavesStill, MayLeave, multiple_of_term, multiple_of_terms, share_of, ShowsBehind}
-use Rattle.it_engine.specs.Choosing.{entry_of, first_negative_cost, is_above_zero}
+use Rattle.it_engine.specs.Behind.{AreBaseBounds, AreMovedEntries, BoundsShares, column_less_moved, has_moved, IsCommonMultiple, IsFirstToLeave, LeavesStill, multiple_of_terms, share_of, ShowsBehind}
+use Rattle.it_engine.specs.Choosing.{entry_of, is_above_zero}
 use Rattle.it_engine.specs.Loading.{IsNorm}
 use Rattle.it_engine.specs.Updates.{IsFitting}
 use Rattle.it_engine.specs.Whole.{whole_row_at, WholeRowView}

@@ -1,6 +1,6 @@
 -- A degenerate step of the engine: the row that leaves is brought up to date, then it is pivoted.
-use Rattle.std.proofs.Common.{◌≡◌, ◌≢◌, ◌⊎◌, inl, inr, ℕ, ◌+◌, ◌<◌, ◌≤◌, ◌^◌, Bool, true, false, cond, eqb, ℤ, pos, unsigned_abs, List, [], length, slice_index_or, slice_set, refl, sym, ap, subst, ◌∙◌, arith}
-use Rattle.std.proofs.lemmas.Bool.{true≢false, cases_eq, eq-eqb, ne_eqb}
+use Rattle.std.proofs.Common.{◌≡◌, ◌≢◌, ◌⊎◌, inl, inr, ℕ, ◌+◌, ◌<◌, ◌^◌, Bool, true, false, cond, ℤ, pos, unsigned_abs, List, [], length, slice_index_or, slice_set, refl, sym, ap, subst, ◌∙◌, arith}
+use Rattle.std.proofs.lemmas.Bool.{cases_eq, eq-eqb, ne_eqb}
 use Rattle.std.proofs.lemmas.List.{length-set, get_or-set_same, get_or-set_other}
 use Rattle.it_rational.specs.Rational.{Rational}
 use Rattle.it_rational.proofs.Field.{field_ℚ}
@@ -93,10 +93,10 @@ module _ (columns : List Terms) (limit : ℕ) (old : List WholeRowView) (basis :
     pub step_behind : (new : List WholeRowView) → AreWholeRowsPivoted (length now) limit now (number_at (slice_set entries r z)) r new → IsBehindStep columns limit old basis moved c r new
     step_behind new a = record {
       engine = engine_kept columns limit now new basis (number_at (slice_set entries r z)) r c row record {
-          rows_are = w.same_length ∙ safe.rows_are;
-          usable = λ i l. subst (λ (x : ℕ). IsUsable x limit (whole_row_at now i)) (sym w.same_length) (w.usable i l);
-          fitting = λ j l. subst (λ (x : ℕ). IsFitting x limit (slice_index_or columns j [])) (sym w.same_length) (safe.fitting j l);
-          limit_is = safe.limit_is;
+        rows_are = w.same_length ∙ safe.rows_are;
+        usable = λ i l. subst (λ (x : ℕ). IsUsable x limit (whole_row_at now i)) (sym w.same_length) (w.usable i l);
+        fitting = λ j l. subst (λ (x : ℕ). IsFitting x limit (slice_index_or columns j [])) (sym w.same_length) (safe.fitting j l);
+        limit_is = safe.limit_is;
       } a;
       made = λ p b t s e g m. subst (λ (f : ℕ → Bool). ShowsBehind p b (next field_ℚ (length basis) (length columns) t) columns limit new (slice_set basis r c) f) (same_functions moved_same)
           (shows_next p b t columns limit old basis (has_moved moved) s c r enters row e g.leaves m g.still now (w.shown p b t s) (number_at (slice_set entries r z))

@@ -1,13 +1,13 @@
 -- Common multiples of denominators, and bounds, of the rows that moved.
-use Rattle.std.proofs.Common.{◌≡◌, ◌⊎◌, inl, inr, ℕ, zero, suc, ◌+◌, ◌*◌, ◌/◌, ◌<◌, ◌≤◌, ◌^◌, ◌++◌, ◌∷◌, Bool, true, false, cond, ℤ, unsigned_abs, List, [], map, take, length, slice_index_or, Option, Some, None, IfSome, SomeIff, refl, sym, ap, subst, ◌∙◌, arith}
-use Rattle.std.proofs.lemmas.Bool.{true≢false, false≢true, cases_eq}
-use Rattle.std.proofs.lemmas.List.{take_all, take_more, map-append}
+use Rattle.std.proofs.Common.{◌≡◌, ◌⊎◌, inl, inr, ℕ, suc, ◌+◌, ◌*◌, ◌/◌, ◌<◌, ◌≤◌, ◌^◌, ◌++◌, ◌∷◌, Bool, true, false, cond, ℤ, unsigned_abs, List, [], take, length, slice_index_or, Option, Some, None, IfSome, SomeIff, sym, ap, subst, ◌∙◌, arith}
+use Rattle.std.proofs.lemmas.Bool.{true≢false, cases_eq}
+use Rattle.std.proofs.lemmas.List.{take_more, map-append}
 use Rattle.std.proofs.lemmas.Nat.{mul-le}
 use Rattle.std.proofs.lemmas.Nat.Gcd.{dvd_trans}
 use Rattle.it_number.specs.Gcd.{gcd, lcm}
 use Rattle.it_number.proofs.Divisors.{lcm_is, lcm-over, lcm-pos}
 use Rattle.it_space.specs.Rows.{Terms}
-use Rattle.it_engine.specs.Behind.{BoundsShares, has_moved, IsCommonMultiple, multiple_of_term, multiple_of_terms, share_of, share_sum}
+use Rattle.it_engine.specs.Behind.{BoundsShares, has_moved, IsCommonMultiple, multiple_of_term, multiple_of_terms, share_sum}
 use Rattle.it_engine.specs.Whole.{AreAtMost, whole_row_at, WholeRowView}
 use Prim.Native.Nat.{◌∣◌}
 

@@ -1,5 +1,5 @@
 -- A row that stayed behind is brought up to date row by row: of each that moved as much is taken off as makes the entry at its basic column 0.
-use Rattle.std.proofs.Common.{◌≡◌, ◌⊎◌, inl, inr, ℕ, zero, suc, ◌+◌, ◌*◌, ◌<◌, ◌≤◌, Bool, true, false, cond, eqb, ℤ, pos, ◌*ℤ◌, List, [], ◌∷◌, length, slice_index_or, refl, sym, ap, ap₂, subst, ◌∙◌, arith}
+use Rattle.std.proofs.Common.{◌≡◌, ℕ, zero, suc, ◌+◌, ◌*◌, ◌<◌, ◌≤◌, Bool, true, false, cond, ℤ, pos, ◌*ℤ◌, List, [], ◌∷◌, length, slice_index_or, refl, sym, ap, ap₂, subst, ◌∙◌, arith}
 use Rattle.std.proofs.lemmas.Bool.{ne_eqb}
 use Rattle.std.proofs.lemmas.Int.{ints}
 use Rattle.it_number.proofs.Ring.{ring, mul-null, v, plus, minus, times, nil}
@@ -15,7 +15,7 @@ use Rattle.it_tableau.specs.SimplexTables.{SimplexTable, FeasibilityProblem, dif
 use Rattle.it_tableau.proofs.Sums.{sum_same, sum_null, sum_add, sum_times}
 use Rattle.it_tableau.proofs.ViewLemmas.{same_functions}
 use Rattle.it_run.proofs.Behind.{row_behind}
-use Rattle.it_engine.specs.Behind.{mixed_table, ShowsBehind}
+use Rattle.it_engine.specs.Behind.{ShowsBehind}
 use Rattle.it_engine.specs.Updates.{IsWholeRowReduced}
 use Rattle.it_engine.specs.Whole.{IsRow, whole_row_at, WholeRowView}
 use Rattle.it_engine.proofs.Generators.{value_named}

@@ -12,7 +12,7 @@ use Rattle.it_fraction.proofs.ZeroLemmas.{zero_parts}
 use Rattle.it_space.specs.Rows.{Terms, value, row_mass}
 use Rattle.it_space.specs.Sums.{number_at}
 use Rattle.it_tableau.specs.Sums.{sum_to}
-use Rattle.it_tableau.specs.SimplexTables.{SimplexTable, FeasibilityProblem, difference, start_row}
+use Rattle.it_tableau.specs.SimplexTables.{SimplexTable, FeasibilityProblem, start_row}
 use Rattle.it_tableau.specs.Invariants.{CombinesStart}
 use Rattle.it_run.specs.Choice.{entering_column, leaving_row, is_candidate, IsStuck}
 use Rattle.it_run.proofs.Behind.{row_behind}
@@ -133,7 +133,6 @@ module _ (p : FeasibilityProblem Rational) (b t : SimplexTable Rational) (column
             (λ q l f. mixed_is_over.some q (omega (arith, l)))
             e_share
             (b.entry i j) (number_now i j) (base_named i j hi hj e))
-
 
     module _ (norm most shares : ℕ) (is_norm : IsNorm columns norm)
         (base_most : (i : ℕ) → i < m → moved i ≡ false → AreAtMost (whole_row_at rows i).numbers most)

@@ -1,28 +1,26 @@
 -- Several steps of the engine at once.
 use Rattle.std.proofs.Common.{◌≡◌, ℕ, zero, suc, ◌+◌, ◌-◌, ◌<◌, ◌≤◌, Bool, true, false, cond, List, [], length, slice_index_or, slice_set, refl, sym, ap, subst, ◌∙◌, arith}
 use Rattle.std.proofs.lemmas.List.{length-set}
-use Rattle.std.proofs.lemmas.Bool.{true≢false, cases_eq}
+use Rattle.std.proofs.lemmas.Bool.{true≢false}
 use Rattle.it_fraction.proofs.ZeroLemmas.{zero_parts}
 use Rattle.it_rational.specs.Rational.{Rational, IsRatio}
 use Rattle.it_rational.proofs.Field.{field_ℚ}
 use Rattle.it_space.specs.Rows.{Terms}
-use Rattle.it_space.specs.Sums.{number_at}
 use Rattle.it_tableau.specs.Invariants.{HasInvariants}
 use Rattle.it_tableau.specs.SimplexTables.{SimplexTable, FeasibilityProblem}
-use Rattle.it_tableau.proofs.ViewLemmas.{same_functions}
 use Rattle.it_run.specs.Choice.{next, IsDone, IsStuck}
 use Rattle.it_run.specs.Runs.{RunEndView}
 use Rattle.it_run.specs.Solving.{StepFits}
 use Rattle.it_run.specs.Steps.{Reaches}
-use Rattle.it_run.proofs.DegenerateSteps.{IsBehind, none_moved}
+use Rattle.it_run.proofs.DegenerateSteps.{none_moved}
 use Rattle.it_run.proofs.RunLemmas.{next_holds}
 use Rattle.it_run.proofs.RunSteps.{run_more}
 use Rattle.it_run.proofs.StepsLeft.{steps_left, steps_fall}
-use Rattle.it_engine.specs.Behind.{AreBrought, AreEngineSteps, AreStillSteps, has_moved, IsBehindStep, IsStillChoice, mixed_table, ShowsBehind, StepsLead}
+use Rattle.it_engine.specs.Behind.{AreBrought, AreEngineSteps, AreStillSteps, has_moved, IsBehindStep, IsStillChoice, ShowsBehind, StepsLead}
 use Rattle.it_engine.specs.Choosing.{right_side_of}
 use Rattle.it_engine.specs.Engine.{IsSafe, StandsFor}
 use Rattle.it_engine.specs.Updates.{IsFitting, IsUsable}
-use Rattle.it_engine.specs.Whole.{IsRow, ShowsTable, whole_row_at, WholeRowView}
+use Rattle.it_engine.specs.Whole.{IsRow, whole_row_at, WholeRowView}
 use Rattle.it_engine.proofs.BehindTables as T
 use Rattle.it_engine.proofs.Names.{number_null}
 

@@ -1,5 +1,5 @@
 -- A run of the engine under way.
-use Rattle.std.proofs.Common.{◌≡◌, ℕ, ◌+◌, ◌-◌, ◌<◌, ◌≤◌, ℤ, pos, List, length, Some, refl, sym, ap, subst, ◌∙◌, arith}
+use Rattle.std.proofs.Common.{◌≡◌, ℕ, ◌+◌, ◌-◌, ◌<◌, ◌≤◌, ℤ, pos, List, length, Some, refl, ap, subst, ◌∙◌, arith}
 use Rattle.it_rational.specs.Rational.{Rational, IsRatio}
 use Rattle.it_rational.proofs.Field.{field_ℚ}
 use Rattle.it_fraction.proofs.ZeroLemmas.{zero_parts}

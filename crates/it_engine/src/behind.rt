@@ -17,7 +17,9 @@ ghost use Rattle.it_space.specs.Rows.{row_mass, value};
 ghost use Rattle.it_engine.specs.Whole.{AreAtMost, whole_row_at};
 ghost use Rattle.it_space.specs.Sums.{number_at};
 
-use crate::arithmetic::{common_divisor, is_above_zero, is_zero, narrow, product, short_product, short_sum};
+use crate::arithmetic::{
+    common_divisor, is_above_zero, is_zero, narrow, product, short_product, short_sum,
+};
 use crate::choice::{entering_column, right_side};
 use crate::columns::Column;
 use crate::numbers::read;
@@ -264,13 +266,7 @@ fn combine_columns(
 
 /// The entry of row i if it moved, else its number at the combined column.
 #[inline]
-fn entry_now(
-    rows: &[WholeRow],
-    moved: &[bool],
-    entries: &[i64],
-    combined: &Column,
-    i: usize,
-) -> i64
+fn entry_now(rows: &[WholeRow], moved: &[bool], entries: &[i64], combined: &Column, i: usize) -> i64
     requires rows { i < length rows.now }
     requires moved { i < length moved.now }
     requires entries { i < length entries.now }
@@ -439,7 +435,15 @@ fn take_off_moved(
     let Some(unit) = unit_at(rows, q) else {
         return false;
     };
-    take_off(row, &rows[q], basic_column(columns, basis, q), unit, next, room, limit)
+    take_off(
+        row,
+        &rows[q],
+        basic_column(columns, basis, q),
+        unit,
+        next,
+        room,
+        limit,
+    )
 }
 
 /// Brings a row that stayed behind up to date; false where a number would be too large, and then nothing is known of the row.
@@ -600,7 +604,9 @@ fn still_row(
     if !are_short(most, low, multiple, norm, shares) {
         return None;
     }
-    if !combine_columns(combined, columns, rows, basis, moved, entries, column, multiple) {
+    if !combine_columns(
+        combined, columns, rows, basis, moved, entries, column, multiple,
+    ) {
         return None;
     }
     if !is_light(combined, limit) {
@@ -758,10 +764,14 @@ fn still_steps(
         if many_moved(moved) {
             return Some(k);
         }
-        let Some((column, row)) = still_choice(rows, basis, moved, entries, combined, columns, limit, norm) else {
+        let Some((column, row)) = still_choice(
+            rows, basis, moved, entries, combined, columns, limit, norm,
+        ) else {
             return Some(k);
         };
-        if !make_step(alloc, rows, basis, moved, entries, next, room, columns, limit, column, row) {
+        if !make_step(
+            alloc, rows, basis, moved, entries, next, room, columns, limit, column, row,
+        ) {
             return None;
         }
     }

@@ -187,7 +187,13 @@ impl Engine {
     }
 
     /// Makes the run with a budget of steps.
-    fn run_within(&mut self, columns: &[Column], limit: u64, norm: u64, budget: u32) -> Option<EngineEnd>
+    fn run_within(
+        &mut self,
+        columns: &[Column],
+        limit: u64,
+        norm: u64,
+        budget: u32,
+    ) -> Option<EngineEnd>
         requires engine { IsSafe columns.now limit self.old.rows self.old.basis }
         requires norm { IsNorm columns.now norm }
         ensures { IfSome result (λ finish. IsFinished columns.now limit self.old.rows self.old.basis (Some budget) self.new.rows self.new.basis finish) }

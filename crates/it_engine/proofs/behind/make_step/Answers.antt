@@ -1,4 +1,4 @@
-use Rattle.std.proofs.Common.{rules, ◌≡◌, ◌∙◌, [], length, slice_index_or, FitsSigned, to_z-of_z, w64, ap}
+use Rattle.std.proofs.Common.{rules, ◌≡◌, ◌∙◌, [], slice_index_or, FitsSigned, to_z-of_z, w64, ap}
 use Rattle.it_space.specs.Rows.{Terms}
 use Rattle.it_engine.specs.Choosing.{entry_of}
 use Rattle.it_engine.proofs.Items.{item_by_default}

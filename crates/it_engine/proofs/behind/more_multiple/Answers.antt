@@ -1,5 +1,4 @@
-use Rattle.std.proofs.Common.{◌∙◌, ap, subst, sym, IfSome, ℕ}
-use Rattle.it_engine.specs.Whole.{whole_row_at}
+use Rattle.std.proofs.Common.{◌∙◌, subst, sym, IfSome, ℕ}
 use Rattle.it_engine.proofs.BehindNumbers.{moved_multiple, still_multiple, IsMultipleOfBoth}
 use Rattle.it_engine.proofs.behind.more_multiple.Goals as goal
 

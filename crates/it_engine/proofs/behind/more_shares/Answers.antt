@@ -1,5 +1,4 @@
-use Rattle.std.proofs.Common.{◌∙◌, ◌*◌, ◌/◌, ap, sym, not}
-use Rattle.std.proofs.lemmas.Bool.{not-false}
+use Rattle.std.proofs.Common.{◌∙◌, ◌*◌, ◌/◌, ap, sym}
 use Rattle.it_engine.specs.Behind.{has_moved, share_of}
 use Rattle.it_engine.proofs.BehindNumbers.{moved_shares_of}
 use Rattle.it_engine.proofs.behind.more_shares.Goals as goal

@@ -1,4 +1,4 @@
-use Rattle.std.proofs.Common.{◌≡◌, ◌<◌, sym, subst, length, [], slice_index_or, arith}
+use Rattle.std.proofs.Common.{◌<◌, sym, subst, length, [], slice_index_or, arith}
 use Rattle.it_engine.specs.Updates.{Suits}
 use Rattle.it_engine.specs.Whole.{whole_row_at, WholeRowView}
 use Rattle.it_engine.proofs.Items.{item_by_default}

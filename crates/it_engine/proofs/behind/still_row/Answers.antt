@@ -1,7 +1,6 @@
-use Rattle.std.proofs.Common.{◌≡◌, [], length, slice_index_or, subst, sym, List}
+use Rattle.std.proofs.Common.{[], length, slice_index_or, subst}
 use Rattle.it_space.specs.Rows.{Terms}
 use Rattle.it_engine.specs.Behind.{AreMovedEntries}
-use Rattle.it_engine.specs.Updates.{IsFitting}
 use Rattle.it_engine.specs.Whole.{whole_row_at}
 use Rattle.it_engine.proofs.Items.{item_by_default}
 use Rattle.it_engine.proofs.Usable.{fitting_suits}

@@ -1,4 +1,4 @@
-use Rattle.std.proofs.Common.{◌≡◌, ◌+◌, ◌∙◌, List, Bool, ℕ, true, length, slice_set, refl, sym, subst, arith}
+use Rattle.std.proofs.Common.{◌+◌, ◌∙◌, List, Bool, ℕ, slice_set, refl, sym, subst, arith}
 use Rattle.std.proofs.lemmas.List.{length-set}
 use Rattle.it_engine.specs.Behind.{AreStillSteps}
 use Rattle.it_engine.proofs.ManySteps.{no_steps, more_steps}
