@@ -18,6 +18,9 @@ use crate::rows::WholeRow;
 use std::alloc::{AllocError, Global};
 use std::marker::Model;
 
+/// From so many steps on the rows are full enough that it pays to leave them behind.
+const MANY_STEPS: u32 = 3000;
+
 /// How a run ended.
 #[derive(Debug, Drop, Clone, Copy)]
 pub enum EngineEnd {
@@ -167,7 +170,7 @@ impl Engine {
         ensures steps { IfSome result (λ k. AreEngineSteps columns.now limit self.old.rows self.old.basis k self.new.rows self.new.basis) }
         ensures most { IfSome result (λ k. k ≤ most) }
     {
-        if !self.cost_row().is_narrow() {
+        if most == 0 || !self.cost_row().is_narrow() {
             return Some(0);
         }
         make_steps(
@@ -200,7 +203,8 @@ impl Engine {
     {
         let mut k: u32 = 0;
         while k < budget {
-            let made = self.still_steps(columns, limit, norm, budget - k - 1)?;
+            let most = most_still(k, budget - k - 1);
+            let made = self.still_steps(columns, limit, norm, most)?;
             k += made;
             if self.is_done() {
                 return Some(EngineEnd::Weights);
@@ -226,8 +230,11 @@ impl Engine {
         requires norm { IsNorm columns.now norm }
         ensures { IfSome result (λ finish. IsFinished columns.now limit self.old.rows self.old.basis None self.new.rows self.new.basis finish) }
     {
+        let mut k: u32 = 0;
         'steps: loop {
-            let made = self.still_steps(columns, limit, norm, u32::MAX)?;
+            let most = most_still(k, u32::MAX);
+            let made = self.still_steps(columns, limit, norm, most)?;
+            k = k.saturating_add(made).saturating_add(1);
             if self.is_done() {
                 return Some(EngineEnd::Weights);
             }
@@ -250,6 +257,13 @@ impl Engine {
             None => self.run_on(columns, limit, norm),
         }
     }
+}
+
+/// How many steps may be made with rows that stay behind, where so many are left: none in a short run, whose rows have few numbers.
+fn most_still(made: u32, left: u32) -> u32
+    ensures { result ≤ left }
+{
+    if made < MANY_STEPS { 0 } else { left }
 }
 
 /// The same rows in 32 bits, where no number is above the limit.

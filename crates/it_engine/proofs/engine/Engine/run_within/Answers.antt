@@ -13,7 +13,7 @@ loop-k-init c = record { under_way = run_begins c.args.columns.now c.args.limit 
 -- the run after the degenerate steps
 after_still_steps : (c : In_ok-made) → IsRunUnderWay c.args.columns.now c.args.limit c.args.self.now.rows c.args.self.now.basis c.args.budget c.still_steps.new.self.rows c.still_steps.new.self.basis (c.loop-k.k + c.in_ok-made.made)
 after_still_steps c = steps_are_made c.args.columns.now c.args.limit c.args.self.now.rows c.args.self.now.basis c.args.budget c.loop-k.self.rows c.loop-k.self.basis c.loop-k.k c.loop-k.invariant.under_way
-    c.still_steps.new.self.rows c.still_steps.new.self.basis c.in_ok-made.made (omega (arith, c.in_ok-made.ensures.most, c.loop-k-test.true)) c.in_ok-made.ensures.steps
+    c.still_steps.new.self.rows c.still_steps.new.self.basis c.in_ok-made.made (omega (arith, c.in_ok-made.ensures.most, c.most_still-most.ensures, c.loop-k-test.true)) c.in_ok-made.ensures.steps
 
 pub returns-then-is_done : goal.returns-then-is_done
 returns-then-is_done c = run_ends_done c.args.columns.now c.args.limit c.args.self.now.rows c.args.self.now.basis c.args.budget c.still_steps.new.self.rows c.still_steps.new.self.basis (c.loop-k.k + c.in_ok-made.made)
@@ -34,8 +34,8 @@ loop-k-preserved c =
     subst (IsEngineStepOrStuck c.args.columns.now c.args.limit c.still_steps.new.self.rows c.still_steps.new.self.basis c.step.new.self.rows c.step.new.self.basis) c.if-not-branch.false c.in_ok-step.ensures in record {
       under_way = step_is_made c.args.columns.now c.args.limit c.args.self.now.rows c.args.self.now.basis c.args.budget c.still_steps.new.self.rows c.still_steps.new.self.basis (c.loop-k.k + c.in_ok-made.made)
           (after_still_steps (goal.at.loop-k-preserved c).In_ok-made) c.step.new.self.rows c.step.new.self.basis
-          c.if-is_done.ensures.no (omega (arith, c.in_ok-made.ensures.most, c.loop-k-test.true)) g;
-      within = omega (arith, c.in_ok-made.ensures.most, c.loop-k-test.true);
+          c.if-is_done.ensures.no (omega (arith, c.in_ok-made.ensures.most, c.most_still-most.ensures, c.loop-k-test.true)) g;
+      within = omega (arith, c.in_ok-made.ensures.most, c.most_still-most.ensures, c.loop-k-test.true);
     }
 
 pub returns-then-is_done-2 : goal.returns-then-is_done-2
