@@ -1,7 +1,7 @@
 -- Degenerate steps: a table with the rows that moved since an earlier one.
 use Rattle.std.proofs.Common.{◌≡◌, ℕ, ◌+◌, ◌<◌, Bool, true, false, cond, eqb, [], ◌∷◌, refl, sym, ap, ◌∙◌}
 use Rattle.std.proofs.lemmas.Bool.{eqb-true, true≢false}
-use Rattle.it_number.proofs.Ring.{ring, mul-null, v, plus, times, minus, nil}
+use Rattle.it_number.proofs.Ring.{ring, mul-null, v, plus, minus, nil}
 use Rattle.it_rational.specs.OrderedFields.{OrderedField}
 use Rattle.it_tableau.specs.SimplexTables.{SimplexTable, FeasibilityProblem, difference}
 use Rattle.it_tableau.specs.Invariants.{HasInvariants}
