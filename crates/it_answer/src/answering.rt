@@ -22,7 +22,7 @@ use crate::types::{AnsweredProblem, Budgets, budget_of};
 use it_canon::{canon, problem};
 use it_columns::opposite_row;
 use it_contain::Proposer;
-use it_prove::{Proof, prove};
+use it_prove::{ClosedProblem, Proof, prove};
 use it_question::types::{Question, Verb};
 use it_simplex::Budget;
 use it_space::{Answer, Certificate, Problem};
@@ -119,7 +119,7 @@ fn inequality(
     after_one(alloc, proof)
 }
 
-/// The answer about an equation, which has two targets.
+/// The answer about an equation, which has two targets. What is made of the problem serves both.
 fn equation(
     alloc: Global,
     problem: &Problem,
@@ -131,10 +131,11 @@ fn equation(
     ensures { IfOk result (λ a. AnswersForms (problem_view problem.now) (form_of problem.now.space.variables (relation_view relation.now) ∷ negation (form_of problem.now.space.variables (relation_view relation.now)) ∷ []) (answer_view a) budget) }
 {
     let row = canon(alloc, relation, problem.space)?;
-    match prove(alloc, problem, &row, budget)? {
+    let mut closed = ClosedProblem::read(alloc, problem)?;
+    match closed.prove(alloc, problem, &row, budget)? {
         Proof::Yes(certificate) => {
             let other = opposite_row(alloc, &row)?;
-            let proof = prove(alloc, problem, &other, budget)?;
+            let proof = closed.prove(alloc, problem, &other, budget)?;
             after_two(alloc, certificate, proof)
         }
         proof => after_one(alloc, proof),

@@ -13,6 +13,7 @@ use Rattle.it_space.specs.Problems.{ProblemView}
 use Rattle.it_space.specs.Rows.{Terms}
 use Rattle.it_space.proofs.BoolLemmas.{both_true}
 use Rattle.it_space.proofs.OptionLemmas.{some_same}
+use Rattle.it_prove.specs.ClosedProblems.{IsClosedProblem}
 use Rattle.it_prove.specs.ProofViews.{Yes, EndsWith}
 use Rattle.it_contain.specs.declared.outcomes.Outcomes.{Outcomes}
 use Rattle.it_contain.specs.SearchSteps.{ProvesOne, AreOutcomes}
@@ -76,17 +77,29 @@ module _ (q : ProblemView) (budget : Option ℕ) where
 
 -- ---- of all outcomes
 
-pub empty_outcomes : (q : ProblemView) (budget : Option ℕ) (m : Outcomes) → m.by_row.entries ≡ [] → AreOutcomes q budget m
+pub empty_outcomes : (q : ProblemView) (budget : Option ℕ) (m : Outcomes) → m.by_row.entries ≡ [] → IsClosedProblem q m.closed → AreOutcomes q budget m
 unfolding AreOutcomes
-empty_outcomes q budget m e = subst (λ (es : List Entry). All (λ x. ProvesOne q budget x.0.items x.1) es) (sym e) (All-nil _)
+empty_outcomes q budget m e h = (subst (λ (es : List Entry). All (λ x. ProvesOne q budget x.0.items x.1) es) (sym e) (All-nil _), h)
 
 pub one_outcome_more : (q : ProblemView) (budget : Option ℕ) (eq : ℕ × ℤ → ℕ × ℤ → Bool) → ComparesTerms eq → (m n : Outcomes) (v : Row) (o : Option Certificate)
-    → n.by_row.entries ≡ insert_entry (λ x y. pointwise eq x.items y.items) m.by_row.entries v o → AreOutcomes q budget m → ProvesOne q budget v.items o → AreOutcomes q budget n
+    → n.by_row.entries ≡ insert_entry (λ x y. pointwise eq x.items y.items) m.by_row.entries v o → n.closed ≡ m.closed → AreOutcomes q budget m → ProvesOne q budget v.items o → AreOutcomes q budget n
 unfolding AreOutcomes
-one_outcome_more q budget eq is m n v o e r h =
-    subst (λ (es : List Entry). All (λ x. ProvesOne q budget x.0.items x.1) es) (sym e) (entries_stay_kept q budget (λ x y. pointwise eq x.items y.items) v (λ w t. same_terms eq is v.items w.items t) o m.by_row.entries r h)
+one_outcome_more q budget eq is m n v o e f r h = (
+  subst (λ (es : List Entry). All (λ x. ProvesOne q budget x.0.items x.1) es) (sym e) (entries_stay_kept q budget (λ x y. pointwise eq x.items y.items) v (λ w t. same_terms eq is v.items w.items t) o m.by_row.entries r.0 h),
+  subst (IsClosedProblem q) (sym f) r.1,
+)
 
 pub outcome_of_row : (q : ProblemView) (budget : Option ℕ) (eq : ℕ × ℤ → ℕ × ℤ → Bool) → ComparesTerms eq → (m : Outcomes) (t : Terms) (o : Option Certificate)
     → Some o ≡ lookup (λ v. pointwise eq t v.items) m.by_row.entries → AreOutcomes q budget m → ProvesOne q budget t o
 unfolding AreOutcomes
-outcome_of_row q budget eq is m t o e r = lookup_proves q budget (λ v. pointwise eq t v.items) t (λ v h. same_terms eq is t v.items h) m.by_row.entries o r (sym e)
+outcome_of_row q budget eq is m t o e r = lookup_proves q budget (λ v. pointwise eq t v.items) t (λ v h. same_terms eq is t v.items h) m.by_row.entries o r.0 (sym e)
+
+-- what is made of the problem is of it
+pub closed_of_outcomes : (q : ProblemView) (budget : Option ℕ) (m : Outcomes) → AreOutcomes q budget m → IsClosedProblem q m.closed
+unfolding AreOutcomes
+closed_of_outcomes q budget m r = r.1
+
+-- the outcomes stay where something else is made of the problem
+pub outcomes_stay : (q : ProblemView) (budget : Option ℕ) (m n : Outcomes) → n.by_row ≡ m.by_row → IsClosedProblem q n.closed → AreOutcomes q budget m → AreOutcomes q budget n
+unfolding AreOutcomes
+outcomes_stay q budget m n e h r = (subst (λ x. All (λ y. ProvesOne q budget y.0.items y.1) x.entries) (sym e) r.0, h)

@@ -4,6 +4,7 @@ use Rattle.it_space.specs.declared.answers.Certificate.{Certificate}
 use Rattle.it_space.specs.Answers.{CertificateView, certificate_view}
 use Rattle.it_space.specs.Problems.{ProblemView}
 use Rattle.it_space.specs.Rows.{Terms}
+use Rattle.it_prove.specs.ClosedProblems.{IsClosedProblem}
 use Rattle.it_prove.specs.ProofViews.{Yes, EndsWith, AreProofsOf}
 use Rattle.it_region.specs.declared.types.Candidate.{Candidate}
 use Rattle.it_contain.specs.declared.outcomes.Outcomes.{Outcomes}
@@ -17,9 +18,10 @@ abbrev pub ProvesOne : ProblemView → Option ℕ → Terms → Option Certifica
 ProvesOne q budget t None = (w : CertificateView) → EndsWith q t budget (Yes w) → ⊥
 ProvesOne q budget t (Some c) = EndsWith q t budget (Yes (certificate_view c))
 
--- each row that is kept stands with its outcome: the certificate that proves it, or that none does
+-- each row that is kept stands with its outcome, the certificate that proves it, or that none does; and what is made once of the
+-- problem is of it
 unfoldable pub AreOutcomes : ProblemView → Option ℕ → Outcomes → Type 0
-AreOutcomes q budget o = All (λ e. ProvesOne q budget e.0.items e.1) o.by_row.entries
+AreOutcomes q budget o = All (λ e. ProvesOne q budget e.0.items e.1) o.by_row.entries × IsClosedProblem q o.closed
 
 -- whether all are
 abbrev pub ProvesAll : ProblemView → Option ℕ → List Terms → Option Proofs → Type 0

@@ -8,31 +8,12 @@ ghost use Rattle.it_contain.specs.Search.{goal_of};
 ghost use Rattle.it_contain.specs.SearchSteps.{ProvesOne, ProvesAll, Judges, AreOutcomes};
 
 use crate::outcomes::{Outcomes, copy_outcome};
-use it_prove::{Proof, prove};
 use it_region::{Candidate, Pair, fits, obligations};
 use it_simplex::Budget;
 use it_space::{Certificate, Problem, Row};
 use std::alloc::{AllocError, Global};
 
-/// The certificate that the run about a target ends with, if it does.
-fn certificate_of(
-    alloc: Global,
-    problem: &Problem,
-    target: &Row,
-    budget: Budget,
-) -> Result<Option<Certificate>, AllocError>
-    requires problem { IsProblem (problem_view problem.now) }
-    requires target { IsUpTo (size_of problem.now.space) target.now }
-    ensures { IfOk result (λ o. ProvesOne (problem_view problem.now) budget target.now o) }
-{
-    match prove(alloc, problem, target, budget)? {
-        Proof::Yes(certificate) => Ok(Some(certificate)),
-        Proof::No(_) => Ok(None),
-        Proof::Undecided(_) => Ok(None),
-    }
-}
-
-/// The same, without the run where the target is kept.
+/// The certificate that the run about a target ends with, if it does; without the run where the target is kept.
 fn proof_of(
     alloc: Global,
     problem: &Problem,
@@ -50,7 +31,7 @@ fn proof_of(
         let kept = copy_outcome(alloc, outcome)?;
         return Ok(kept);
     }
-    let outcome = certificate_of(alloc, problem, target, budget)?;
+    let outcome = outcomes.certificate_of(alloc, problem, target, budget)?;
     outcomes.keep(alloc, target, &outcome)?;
     Ok(outcome)
 }

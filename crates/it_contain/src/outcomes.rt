@@ -1,31 +1,60 @@
-//! What is kept of obligations, so that none is solved twice.
+//! What is kept about one problem, so that nothing is made or solved twice.
 ghost use Rattle.std.specs.Prelude.{◌≡◌, ℕ, Option, IfOk, OnOk};
 ghost use Rattle.std.specs.Option.{option_map};
 ghost use Rattle.it_space.specs.Answers.{certificate_view};
-ghost use Rattle.it_space.specs.Problems.{ProblemView};
+ghost use Rattle.it_space.specs.Problems.{IsProblem, ProblemView, problem_view};
+ghost use Rattle.it_space.specs.Rows.{IsUpTo};
+ghost use Rattle.it_space.specs.Spaces.{size_of};
 ghost use Rattle.it_contain.specs.SearchSteps.{ProvesOne, AreOutcomes};
 
 use indexmap::IndexMap;
-use it_space::{Certificate, Row};
+use it_prove::{ClosedProblem, Proof};
+use it_simplex::Budget;
+use it_space::{Certificate, Problem, Row};
 use std::alloc::{AllocError, Global};
 
 /// How many rows are kept at most.
 const MOST_ROWS: usize = 4096;
 
 /// Rows that were targets of runs about one problem, each with the certificate that its run ended with, if it did. The first
-/// `MOST_ROWS` of them are kept.
+/// `MOST_ROWS` of them are kept. What is made once of the problem serves all these runs.
 #[derive(Drop)]
 pub(crate) struct Outcomes {
     pub(crate) by_row: IndexMap<Vec<(u32, i128)>, Option<Certificate>>,
+    pub(crate) closed: ClosedProblem,
 }
 
 impl Outcomes {
-    /// With nothing kept.
-    pub(crate) fn new(alloc: Global) -> Outcomes
-        ensures { (q : ProblemView) (budget : Option ℕ) → AreOutcomes q budget result }
+    /// Those about a problem before any run.
+    pub(crate) fn new(alloc: Global, problem: &Problem) -> Result<Outcomes, AllocError>
+        requires { IsProblem (problem_view problem.now) }
+        ensures { IfOk result (λ o. (budget : Option ℕ) → AreOutcomes (problem_view problem.now) budget o) }
     {
-        Outcomes {
+        let closed = ClosedProblem::read(alloc, problem)?;
+        Ok(Outcomes {
             by_row: IndexMap::new(alloc),
+            closed,
+        })
+    }
+
+    /// The certificate that the run about a target ends with, if it does.
+    pub(crate) fn certificate_of(
+        &mut self,
+        alloc: Global,
+        problem: &Problem,
+        target: &Row,
+        budget: Budget,
+    ) -> Result<Option<Certificate>, AllocError>
+        requires problem { IsProblem (problem_view problem.now) }
+        requires target { IsUpTo (size_of problem.now.space) target.now }
+        requires outcomes { AreOutcomes (problem_view problem.now) budget self.old }
+        ensures proves { IfOk result (λ o. ProvesOne (problem_view problem.now) budget target.now o) }
+        ensures outcomes { OnOk result (AreOutcomes (problem_view problem.now) budget self.new) }
+    {
+        match self.closed.prove(alloc, problem, target, budget)? {
+            Proof::Yes(certificate) => Ok(Some(certificate)),
+            Proof::No(_) => Ok(None),
+            Proof::Undecided(_) => Ok(None),
         }
     }
 

@@ -35,7 +35,7 @@ pub fn contain(
         variables: pair.first.space.variables,
         parts: pair.parts,
     };
-    let mut outcomes = Outcomes::new(alloc);
+    let mut outcomes = Outcomes::new(alloc, &pair.first)?;
     // named before it is answered, so that the contract of the call stands at the answer
     let end = try_all(
         alloc,

@@ -1,6 +1,7 @@
 pub mod RowLemmas
 pub mod ReductionLemmas
 pub mod ClosedLemmas
+pub mod NumberedLemmas
 pub mod VisitLemmas
 pub mod MultipleLemmas
 pub mod ProjectionLemmas

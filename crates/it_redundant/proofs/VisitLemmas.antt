@@ -1,18 +1,19 @@
 -- Rows visited one after the other.
-use Rattle.std.proofs.Common.{◌≡◌, ℕ, ◌+◌, ◌<◌, ◌≤◌, List, [], ◌∷◌, ◌++◌, map, length, drop, Option, refl, sym, ap, subst, ◌∙◌, arith, append_assoc, append-nil, length-append}
+use Rattle.std.proofs.Common.{◌≡◌, ◌⊎◌, inl, inr, ℕ, ◌+◌, ◌<◌, ◌≤◌, List, [], ◌∷◌, ◌++◌, map, length, drop, Option, refl, sym, ap, subst, ◌∙◌, arith, append_assoc, append-nil, length-append}
 use Rattle.std.proofs.lemmas.List.{length-map}
 use Rattle.std.proofs.lemmas.List.Elements.{All-append}
 use Rattle.it_space.specs.Answers.{CertificateView}
+use Rattle.it_space.specs.declared.problems.Constraint.{Constraint}
 use Rattle.it_space.specs.Problems.{ProblemView, IsProblem}
 use Rattle.it_space.specs.Rows.{Terms, IsUpTo}
 use Rattle.it_space.specs.Spaces.{size_of}
 use Rattle.it_prove.specs.ClosedProblems.{IsClosedProblem}
 use Rattle.it_prove.specs.declared.closed.ClosedProblem.{ClosedProblem}
-use Rattle.it_prove.specs.ProofViews.{ProofView, EndsWith}
+use Rattle.it_prove.specs.ProofViews.{ProofView, Yes, No, Undecided, EndsWith}
 use Rattle.it_redundant.specs.declared.types.Need.{Need}
-use Rattle.it_redundant.specs.Reduction.{NeedView, Reduces, kept_by, dropped_by, kept_rows, need_view, with_rows}
+use Rattle.it_redundant.specs.Reduction.{NeedView, Reduces, kept_by, dropped_by, kept_rows, need_view, row_constraints, with_rows}
 use Rattle.it_redundant.specs.ReductionSteps.{AreRowsUpTo}
-use Rattle.it_redundant.proofs.RowLemmas.{problem_limits}
+use Rattle.it_redundant.proofs.RowLemmas.{problem_limits, row_count, row_parts}
 use Rattle.it_redundant.proofs.ReductionLemmas.{few_kept, kept_up_to}
 use Rattle.it_redundant.proofs.ClosedLemmas.{closed_after}
 
@@ -53,20 +54,102 @@ module _ (givens : ProblemView) (budget : Option ℕ) (size : ℕ) (rows : List 
 
 -- ---- one visit
 
-module _ (givens p : ProblemView) (budget : Option ℕ) (kept slice : List (Terms × Need)) (after : List Terms) (same : slice ≡ kept) (is : p ≡ with_rows givens (map (λ k. k.0) slice ++ after)) where
-  kept_is : p ≡ with_rows givens (map (λ k. k.0) kept ++ after)
-  kept_is = is ∙ ap (λ (ks : List (Terms × Need)). with_rows givens (map (λ k. k.0) ks ++ after)) same
+-- the rows that stay after a visit: with the row itself where they are more
+pub rows_after : (kept new : List (Terms × Need)) (row : Terms) (o : ProofView) → map (λ k. (k.0, need_view k.1)) new ≡ map (λ k. (k.0, need_view k.1)) kept ++ kept_by row o
+    → map (λ k. k.0) new ≡ map (λ k. k.0) kept ++ kept_rows (kept_by row o)
+rows_after kept new row o e = sym (rows_kept new) ∙ ap kept_rows e ∙ rows_of_parts (map (λ k. (k.0, need_view k.1)) kept) (kept_by row o) ∙ ap (λ (rows : List Terms). rows ++ kept_rows (kept_by row o)) (rows_kept kept)
 
+module _ (kept new : List (Terms × Need)) (row : Terms) (o : ProofView) (e : map (λ k. (k.0, need_view k.1)) new ≡ map (λ k. (k.0, need_view k.1)) kept ++ kept_by row o) where
+  abbrev stays : List Terms
+  stays = kept_rows (kept_by row o)
+
+  as_many : length new ≡ length kept + length stays
+  as_many = sym (length-map new (λ (k : Terms × Need). k.0)) ∙ ap length (rows_after kept new row o e) ∙ length-append (map (λ (k : Terms × Need). k.0) kept) stays
+      ∙ ap (λ n. n + length stays) (length-map kept (λ (k : Terms × Need). k.0))
+
+  by_outcome : (stays ≡ []) ⊎ (stays ≡ row ∷ [])
+  by_outcome = by_proof o
+    where
+      by_proof : (o : ProofView) → (kept_rows (kept_by row o) ≡ []) ⊎ (kept_rows (kept_by row o) ≡ row ∷ [])
+      by_proof (Yes w) = inl refl
+      by_proof (No values) = inr refl
+      by_proof (Undecided cause) = inr refl
+
+  pub row_stays : length new ≡ length kept + 1 → map (λ k. k.0) new ≡ map (λ k. k.0) kept ++ row ∷ []
+  row_stays more = by_cases by_outcome
+    where
+      by_cases : (stays ≡ []) ⊎ (stays ≡ row ∷ []) → map (λ k. k.0) new ≡ map (λ k. k.0) kept ++ row ∷ []
+      by_cases (inl none) = let n : length stays ≡ 0 = ap length none in absurd (omega (arith, as_many, more, n))
+      by_cases (inr own) = rows_after kept new row o e ∙ ap (λ (rows : List Terms). map (λ k. k.0) kept ++ rows) own
+
+  pub row_goes : (length new ≡ length kept + 1 → ⊥) → map (λ k. k.0) new ≡ map (λ k. k.0) kept
+  row_goes not = by_cases by_outcome
+    where
+      by_cases : (stays ≡ []) ⊎ (stays ≡ row ∷ []) → map (λ k. k.0) new ≡ map (λ k. k.0) kept
+      by_cases (inl none) = rows_after kept new row o e ∙ ap (λ (rows : List Terms). map (λ k. k.0) kept ++ rows) none ∙ append-nil (map (λ k. k.0) kept)
+      by_cases (inr own) = let n : length stays ≡ 1 = ap length own in absurd (not (as_many ∙ ap (λ k. length kept + k) n))
+
+module _ (givens : ProblemView) (kept : List (Terms × Need)) (line place : ℕ) (line_is : line ≡ length kept + 1) (place_is : place ≡ length givens.constraints + length kept) where
+  abbrev xs : List Terms
+  xs = map (λ k. k.0) kept
+
+  -- what stands before the row
+  abbrev before : List Constraint
+  before = givens.constraints ++ row_constraints 1 xs
+
+  count : length xs ≡ length kept
+  count = length-map kept (λ (k : Terms × Need). k.0)
+
+  before_place : length before ≡ place
+  before_place = let n = length-append givens.constraints (row_constraints 1 xs) in let r = row_count 1 xs in omega (arith, n, r, count, place_is)
+
+  in_parts : (ys : List Terms) → (with_rows givens (xs ++ ys)).constraints ≡ before ++ row_constraints line ys
+  in_parts ys = let l : 1 + length xs ≡ line = omega (arith, count, line_is) in
+      ap (λ (cs : List Constraint). givens.constraints ++ cs) (row_parts 1 xs ys ∙ ap (λ n. row_constraints 1 xs ++ row_constraints n ys) l) ∙ sym (append_assoc givens.constraints (row_constraints 1 xs) (row_constraints line ys))
+
+  as_problem : (cs : List Constraint) (ys : List Terms) → cs ≡ before ++ row_constraints line ys → record { space = givens.space; constraints = cs } ≡ with_rows givens (xs ++ ys)
+  as_problem cs ys e = ap (λ (ds : List Constraint). record { space = givens.space; constraints = ds }) (e ∙ sym (in_parts ys))
+
+  module _ (p : ProblemView) (row : Terms) (after : List Terms) where
+    rows_count : p ≡ with_rows givens (xs ++ row ∷ after) → length p.constraints ≡ place + (length after + 1)
+    rows_count is = let e : length p.constraints ≡ length (before ++ row_constraints line (row ∷ after)) = ap (λ (q : ProblemView). length q.constraints) is ∙ ap length (in_parts (row ∷ after)) in
+        let n = length-append before (row_constraints line (row ∷ after)) in let r = row_count line (row ∷ after) in let b = before_place in omega (arith, e, n, r, b)
+
+    pub row_within : p ≡ with_rows givens (xs ++ row ∷ after) → place < length p.constraints
+    row_within is = let n = rows_count is in omega (arith, n)
+
+    pub lines_within : p ≡ with_rows givens (xs ++ row ∷ after) → length kept + length after < 65535 → line + length p.constraints ≤ 65536 + place
+    lines_within is few = let n = rows_count is in omega (arith, n, few, line_is)
+
+    -- without the row
+    pub taken_out : (cs : List Constraint) → p ≡ with_rows givens (xs ++ row ∷ after)
+        → ((before : List Constraint) (row : Terms) (rows : List Terms) → length before ≡ place → p.constraints ≡ before ++ row_constraints line (row ∷ rows) → cs ≡ before ++ row_constraints line rows)
+        → record { space = p.space; constraints = cs } ≡ with_rows givens (xs ++ after)
+    taken_out cs is out = ap (λ (q : ProblemView). record { space = q.space; constraints = cs }) is
+        ∙ as_problem cs after (out before row after before_place (ap (λ (q : ProblemView). q.constraints) is ∙ in_parts (row ∷ after)))
+
+    -- what is left is one less
+    pub room_for_row : p ≡ with_rows givens (xs ++ after) → (place ≤ length p.constraints) × (length kept + length after < 65535 → line + length p.constraints ≤ 65535 + place)
+    room_for_row is = let e : length p.constraints ≡ length (before ++ row_constraints line after) = ap (λ (q : ProblemView). length q.constraints) is ∙ ap length (in_parts after) in
+        let n = length-append before (row_constraints line after) in let r = row_count line after in let b = before_place in (omega (arith, e, n, r, b), λ few. omega (arith, e, n, r, b, few, line_is))
+
+    -- with the row again
+    pub put_back : (cs : List Constraint) → p ≡ with_rows givens (xs ++ after)
+        → ((before : List Constraint) (rows : List Terms) → length before ≡ place → p.constraints ≡ before ++ row_constraints line rows → cs ≡ before ++ row_constraints line (row ∷ rows))
+        → record { space = p.space; constraints = cs } ≡ with_rows givens ((xs ++ row ∷ []) ++ after)
+    put_back cs is in_place = ap (λ (q : ProblemView). record { space = q.space; constraints = cs }) is
+        ∙ as_problem cs (row ∷ after) (in_place before after before_place (ap (λ (q : ProblemView). q.constraints) is ∙ in_parts after))
+        ∙ ap (with_rows givens) (sym (append_assoc xs (row ∷ []) after))
+
+module _ (givens p : ProblemView) (kept : List (Terms × Need)) (after : List Terms) (is : p ≡ with_rows givens (map (λ k. k.0) kept ++ after)) where
   pub visit_limits : IsProblem givens → length givens.constraints ≤ 65535 → length kept + length after ≤ 65535 → AreRowsUpTo (size_of givens.space) (map (λ k. k.0) kept)
       → AreRowsUpTo (size_of givens.space) after → IsProblem p
-  visit_limits limits few count up ups = subst IsProblem (sym kept_is) (problem_limits givens (map (λ k. k.0) kept ++ after) limits few
+  visit_limits limits few count up ups = subst IsProblem (sym is) (problem_limits givens (map (λ k. k.0) kept ++ after) limits few
       (omega (arith, count, length-append (map (λ k. k.0) kept) after, length-map kept (λ (k : Terms × Need). k.0))) (All-append (IsUpTo (size_of givens.space)) (map (λ k. k.0) kept) after up ups))
 
   -- what was made of the givens serves the problem
   pub visit_closed : (c : ClosedProblem) → IsClosedProblem givens c → IsClosedProblem p c
-  visit_closed c h = subst (λ q. IsClosedProblem q c) (sym kept_is) (closed_after givens (map (λ k. k.0) kept ++ after) c h)
+  visit_closed c h = subst (λ q. IsClosedProblem q c) (sym is) (closed_after givens (map (λ k. k.0) kept ++ after) c h)
 
-  pub visit_ends : (row : Terms) (o : ProofView) → EndsWith p row budget o → EndsWith (with_rows givens (kept_rows (map (λ k. (k.0, need_view k.1)) kept) ++ after)) row budget o
-  visit_ends row o e =
-      let as_viewed : p ≡ with_rows givens (kept_rows (map (λ k. (k.0, need_view k.1)) kept) ++ after) = kept_is ∙ ap (λ (rows : List Terms). with_rows givens (rows ++ after)) (sym (rows_kept kept)) in
-      subst (λ (q : ProblemView). EndsWith q row budget o) as_viewed e
+  pub visit_ends : (budget : Option ℕ) (row : Terms) (o : ProofView) → EndsWith p row budget o → EndsWith (with_rows givens (kept_rows (map (λ k. (k.0, need_view k.1)) kept) ++ after)) row budget o
+  visit_ends budget row o e = subst (λ (q : ProblemView). EndsWith q row budget o) (is ∙ ap (λ (rows : List Terms). with_rows givens (rows ++ after)) (sym (rows_kept kept))) e

@@ -1,5 +1,7 @@
 -- The visit of one row. No public clause cites this module.
-use Rattle.std.specs.Prelude.{◌≡◌, ℕ, List, ◌++◌, All, Option}
+use Rattle.std.specs.Prelude.{◌≡◌, ℕ, ◌+◌, List, [], ◌∷◌, ◌++◌, All, Option}
+use Rattle.it_space.specs.declared.problems.Constraint.{Constraint}
+use Rattle.it_space.specs.declared.problems.Origin.TheVariants.{Rate}
 use Rattle.it_space.specs.Problems.{ProblemView}
 use Rattle.it_space.specs.Rows.{Terms, IsUpTo}
 use Rattle.it_prove.specs.ProofViews.{ProofView, EndsWith}
@@ -16,3 +18,8 @@ pub record IsVisited (givens : ProblemView) (budget : Option ℕ) (row : Terms) 
   pub ends : EndsWith (with_rows givens (kept_rows (kept_view old) ++ after)) row budget outcome
   pub kept : kept_view new ≡ kept_view old ++ kept_by row outcome
   pub dropped : dropped_view new ≡ dropped_view old ++ dropped_by row outcome
+
+-- constraints as those of `row` lines, from line number `line` on
+abbrev pub numbered : ℕ → List Constraint → List Constraint
+numbered line [] = []
+numbered line (c ∷ cs) = record { row = c.row; kind = c.kind; origin = Rate line } ∷ numbered (line + 1) cs

@@ -1,9 +1,11 @@
 //! The problem under which a row is judged: the givens, and all other rows that still stand.
-ghost use Rattle.std.specs.Prelude.{◌≡◌, [], ◌∷◌, ◌++◌, ◌+◌, ◌≤◌, length, map, OnOk, IfOk};
+ghost use Rattle.std.specs.Prelude.{◌≡◌, [], ◌∷◌, ◌++◌, ◌+◌, ◌<◌, ◌≤◌, List, ℕ, drop, length, take, OnOk, IfOk};
 ghost use Rattle.it_space.specs.Problems.{problem_view};
+ghost use Rattle.it_space.specs.Rows.{Terms};
+ghost use Rattle.it_space.specs.declared.problems.Constraint.{Constraint};
 ghost use Rattle.it_redundant.specs.Reduction.{row_constraints, with_rows};
+ghost use Rattle.it_redundant.specs.ReductionSteps.{numbered};
 
-use crate::types::Need;
 use it_space::{Constraint, Kind, Origin, Problem, Row};
 use std::alloc::{AllocError, Global};
 
@@ -18,22 +20,16 @@ fn copy_constraint(alloc: Global, constraint: &Constraint) -> Result<Constraint,
     })
 }
 
-/// Puts a row after the constraints, as that of a `row` line.
-fn push_row(
-    alloc: Global,
-    constraints: &mut Vec<Constraint>,
-    line: usize,
-    row: &Row,
-) -> Result<(), AllocError>
+/// The constraint of a `row` line.
+fn row_constraint(alloc: Global, line: usize, row: &Row) -> Result<Constraint, AllocError>
     requires { line ≤ 65535 }
-    ensures { OnOk result (constraints.new.items ≡ constraints.old.items ++ row_constraints line (row.now ∷ [])) }
+    ensures { IfOk result (λ c. c ∷ [] ≡ row_constraints line (row.now ∷ [])) }
 {
-    constraints.push(Constraint {
+    Ok(Constraint {
         row: row.copy(alloc)?,
         kind: Kind::Inequality,
         origin: Origin::Rate { line: line as u16 },
-    })?;
-    Ok(())
+    })
 }
 
 /// The same constraints once more.
@@ -47,52 +43,71 @@ fn copies(alloc: Global, constraints: &[Constraint]) -> Result<Vec<Constraint>, 
     Ok(copies)
 }
 
-/// Puts the rows that stay after the constraints.
-fn push_kept(
-    alloc: Global,
-    constraints: &mut Vec<Constraint>,
-    kept: &[(Row, Need)],
-) -> Result<(), AllocError>
-    requires { length kept.now ≤ 65535 }
-    ensures { OnOk result (constraints.new.items ≡ constraints.old.items ++ row_constraints 1 (map (λ k. k.0) kept.now)) }
-{
-    for (i, (row, _)) in kept.iter().enumerate() {
-        push_row(alloc, constraints, i + 1, row)?;
-    }
-    Ok(())
-}
-
-/// Puts rows after the constraints, from this line number on.
+/// Puts rows after the constraints, from line 1 on.
 fn push_rows(
     alloc: Global,
     constraints: &mut Vec<Constraint>,
-    line: usize,
     rows: &[Row],
 ) -> Result<(), AllocError>
-    requires { line + length rows.now ≤ 65536 }
-    ensures { OnOk result (constraints.new.items ≡ constraints.old.items ++ row_constraints line rows.now) }
+    requires { length rows.now ≤ 65535 }
+    ensures { OnOk result (constraints.new.items ≡ constraints.old.items ++ row_constraints 1 rows.now) }
 {
     for (i, row) in rows.iter().enumerate() {
-        push_row(alloc, constraints, line + i, row)?;
+        constraints.push(row_constraint(alloc, i + 1, row)?)?;
     }
     Ok(())
 }
 
-/// The givens, then the rows that stay, then those that are still to be visited.
-pub fn problem_with(
-    alloc: Global,
-    givens: &Problem,
-    kept: &[(Row, Need)],
-    after: &[Row],
-) -> Result<Problem, AllocError>
-    requires { length kept.now + length after.now ≤ 65535 }
-    ensures { IfOk result (λ p. problem_view p ≡ with_rows (problem_view givens.now) (map (λ k. k.0) kept.now ++ after.now)) }
+/// The givens, and rows after them.
+pub fn problem_with(alloc: Global, givens: &Problem, rows: &[Row]) -> Result<Problem, AllocError>
+    requires { length rows.now ≤ 65535 }
+    ensures { IfOk result (λ p. problem_view p ≡ with_rows (problem_view givens.now) rows.now) }
 {
     let mut constraints = copies(alloc, givens.constraints.as_slice())?;
-    push_kept(alloc, &mut constraints, kept)?;
-    push_rows(alloc, &mut constraints, kept.len() + 1, after)?;
+    push_rows(alloc, &mut constraints, rows)?;
     Ok(Problem {
         space: givens.space,
         constraints,
     })
+}
+
+/// Numbers the constraints from a place on as `row` lines, from this line on.
+fn number_from(constraints: &mut Vec<Constraint>, place: usize, line: usize)
+    requires place { place ≤ length constraints.old.items }
+    requires few { line + length constraints.old.items ≤ 65536 + place }
+    ensures { constraints.new.items ≡ take place constraints.old.items ++ numbered line (drop place constraints.old.items) }
+{
+    for i in place..constraints.len() {
+        constraints[i].origin = Origin::Rate {
+            line: (line + (i - place)) as u16,
+        };
+    }
+}
+
+/// Takes out the row that stands at a place, as this line; those after it come one line nearer.
+pub fn remove_row(constraints: &mut Vec<Constraint>, place: usize, line: usize)
+    requires place { place < length constraints.old.items }
+    requires few { line + length constraints.old.items ≤ 65536 + place }
+    ensures { (before : List Constraint) (row : Terms) (rows : List Terms) → length before ≡ place → constraints.old.items ≡ before ++ row_constraints line (row ∷ rows) → constraints.new.items ≡ before ++ row_constraints line rows }
+{
+    constraints.remove(place);
+    number_from(constraints, place, line);
+}
+
+/// Puts a row at a place, as this line; those from there on go one line further.
+pub fn insert_row(
+    alloc: Global,
+    constraints: &mut Vec<Constraint>,
+    place: usize,
+    line: usize,
+    row: &Row,
+) -> Result<(), AllocError>
+    requires place { place ≤ length constraints.old.items }
+    requires few { line + length constraints.old.items ≤ 65535 + place }
+    ensures { OnOk result ((before : List Constraint) (rows : List Terms) → length before ≡ place → constraints.old.items ≡ before ++ row_constraints line rows → constraints.new.items ≡ before ++ row_constraints line (row.now ∷ rows)) }
+{
+    let constraint = row_constraint(alloc, line, row)?;
+    constraints.insert(place, constraint)?;
+    number_from(constraints, place + 1, line + 1);
+    Ok(())
 }

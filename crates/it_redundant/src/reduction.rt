@@ -1,16 +1,16 @@
 //! Reduction of a list of rows.
-ghost use Rattle.std.specs.Prelude.{◌≡◌, [], ◌∷◌, ◌++◌, ◌+◌, ◌≤◌, length, map, OnOk, IfOk};
+ghost use Rattle.std.specs.Prelude.{◌≡◌, [], ◌∷◌, ◌++◌, ◌+◌, ◌<◌, ◌≤◌, length, map, OnOk, IfOk};
 ghost use Rattle.it_space.specs.Answers.{certificate_view};
 ghost use Rattle.it_space.specs.Problems.{IsProblem, problem_view};
 ghost use Rattle.it_space.specs.Rows.{IsUpTo};
 ghost use Rattle.it_space.specs.Spaces.{size_of};
 ghost use Rattle.it_prove.specs.ClosedProblems.{IsClosedProblem};
 ghost use Rattle.it_prove.specs.ProofViews.{proof_view};
-ghost use Rattle.it_redundant.specs.Reduction.{IsSystemUnder, Reduces, dropped_by, dropped_view, kept_by, kept_rows, kept_view, need_view};
+ghost use Rattle.it_redundant.specs.Reduction.{IsSystemUnder, Reduces, dropped_by, dropped_view, kept_by, kept_rows, kept_view, need_view, with_rows};
 ghost use Rattle.it_redundant.specs.ReductionSteps.{AreRowsUpTo, IsVisited};
 ghost use Rattle.it_redundant.specs.Theorems.{AreNeeded, HoldAlike};
 
-use crate::others::problem_with;
+use crate::others::{insert_row, problem_with, remove_row};
 use crate::types::{Need, Reduced};
 use it_prove::{ClosedProblem, Proof};
 use it_simplex::Budget;
@@ -50,6 +50,7 @@ fn reduced_rows(
     ensures { IfOk result (λ r. Reduces (problem_view givens.now) budget [] rows.now (kept_view r) (dropped_view r)) }
 {
     let mut closed = ClosedProblem::read(alloc, givens)?;
+    let mut problem = problem_with(alloc, givens, rows)?;
     let mut reduced = Reduced {
         kept: Vec::new(alloc),
         dropped: Vec::new(alloc),
@@ -58,6 +59,7 @@ fn reduced_rows(
         visit(
             alloc,
             givens,
+            &mut problem,
             &mut closed,
             &mut reduced,
             &rows[i],
@@ -68,10 +70,12 @@ fn reduced_rows(
     Ok(reduced)
 }
 
-/// Visits a row: the rows that stay so far stand before it, the others after it. What is made of the givens serves each visit.
+/// Visits a row: in the problem the rows that stay so far stand before it, the others after it. It is taken out for its run, and put
+/// back where it stays. What is made of the givens serves each visit.
 fn visit(
     alloc: Global,
     givens: &Problem,
+    problem: &mut Problem,
     closed: &mut ClosedProblem,
     reduced: &mut Reduced,
     row: &Row,
@@ -80,17 +84,24 @@ fn visit(
 ) -> Result<(), AllocError>
     requires givens { IsProblem (problem_view givens.now) }
     requires few_givens { length givens.now.constraints.items ≤ 65535 }
-    requires few { length reduced.old.kept.items + length after.now ≤ 65535 }
+    requires few { length reduced.old.kept.items + length after.now < 65535 }
     requires row { IsUpTo (size_of givens.now.space) row.now }
     requires kept { AreRowsUpTo (size_of givens.now.space) (map (λ k. k.0) reduced.old.kept.items) }
     requires after { AreRowsUpTo (size_of givens.now.space) after.now }
     requires closed { IsClosedProblem (problem_view givens.now) closed.old }
+    requires problem { problem_view problem.old ≡ with_rows (problem_view givens.now) (map (λ k. k.0) reduced.old.kept.items ++ row.now ∷ after.now) }
     ensures visited { OnOk result (IsVisited (problem_view givens.now) budget row.now after.now reduced.old reduced.new) }
     ensures closed { OnOk result (IsClosedProblem (problem_view givens.now) closed.new) }
+    ensures problem { OnOk result (problem_view problem.new ≡ with_rows (problem_view givens.now) (map (λ k. k.0) reduced.new.kept.items ++ after.now)) }
 {
-    let problem = problem_with(alloc, givens, reduced.kept.as_slice(), after)?;
-    let proof = closed.prove(alloc, &problem, row, budget)?;
+    let line = reduced.kept.len() + 1;
+    let place = givens.constraints.len() + reduced.kept.len();
+    remove_row(&mut problem.constraints, place, line);
+    let proof = closed.prove(alloc, problem, row, budget)?;
     put(alloc, reduced, row, proof)?;
+    if reduced.kept.len() == line {
+        insert_row(alloc, &mut problem.constraints, place, line, row)?;
+    }
     Ok(())
 }
 

@@ -1,5 +1,6 @@
+use Rattle.it_space.specs.Problems.{problem_view}
 use Rattle.it_contain.proofs.OutcomeLemmas.{empty_outcomes}
 use Rattle.it_contain.proofs.outcomes.Outcomes.new.Goals as goal
 
 pub returns : goal.returns
-returns c = λ q budget. empty_outcomes q budget (record { by_row = c.new.result }) c.new.ensures.empty
+returns c = λ budget. empty_outcomes (problem_view c.args.problem.now) budget (record { by_row = c.new.result; closed = c.in_ok-closed.closed }) c.new.ensures.empty c.in_ok-closed.ensures
