@@ -15,6 +15,9 @@ pub prove-requires-in-Yes-clause-target : goal.prove-requires-in-Yes-clause-targ
 prove-requires-in-Yes-clause-target c =
     (row_negation c.args.problem.now.space (form_of c.args.problem.now.space.variables (relation_view c.args.relation.now)) c.in_ok-row.row c.in_ok-other-in-Yes.other c.in_ok-other-in-Yes.ensures c.in_ok-row.ensures).coordinates
 
+pub prove-requires-in-Yes-clause-closed : goal.prove-requires-in-Yes-clause-closed
+prove-requires-in-Yes-clause-closed c = c.in_ok-proof.ensures.stays (problem_view c.args.problem.now) c.in_ok-closed.ensures
+
 pub returns-in-Yes : goal.returns-in-Yes
 returns-in-Yes c =
     let p = problem_view c.args.problem.now in
