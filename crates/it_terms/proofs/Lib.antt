@@ -5,3 +5,5 @@ pub mod EquationLemmas
 pub mod SameProofs
 pub mod TargetLemmas
 pub mod ToldProofs
+pub mod PointLemmas
+pub mod FactTexts

@@ -4,20 +4,27 @@
 mod constraints;
 mod drafts;
 mod equations;
+mod fact_finding;
+mod fact_texts;
+mod facts;
 mod finding;
 mod joining;
 mod judging;
 mod laws;
 mod measures;
+mod points;
 mod proof_judging;
 mod proving;
 mod reading;
+mod settling;
 mod sums;
 mod telling;
 mod untold;
 mod writing;
 
+pub use facts::Fact;
 pub use judging::tells;
 pub use laws::{texts_move, told_proves};
+pub use points::told_point;
 pub use proving::{told_form, told_proof};
 pub use telling::told_row;
