@@ -17,6 +17,7 @@ mod proof_judging;
 mod proving;
 mod reading;
 mod settling;
+mod shortest;
 mod sums;
 mod telling;
 mod untold;

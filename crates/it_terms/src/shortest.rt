@@ -1,0 +1,320 @@
+//! A proof with the least sum of terms over sets, by the simplex method. What is found is judged by the text that it gives, so
+//! no clause says it here.
+ghost use Rattle.std.specs.Prelude.{◌≡◌, ◌+◌, ◌*◌, ◌^◌, ◌≤◌, ◌<◌, length, IfOk, OnOk};
+ghost use Rattle.it_space.specs.Spaces.{IsSpace, size_of};
+ghost use Rattle.it_demand.specs.Coefficients.{largest};
+
+use crate::finding::{product, term_of, turned};
+use crate::untold::Untold;
+use it_columns::{common_scale, opposite_row};
+use it_demand::Coefficients;
+use it_fraction::Fraction;
+use it_simplex::{Budget, Solved, solve};
+use it_space::{Constraint, Kind, Row, Space, VarSet};
+use it_syntax::types::{Atom, Term};
+use std::alloc::{AllocError, Global};
+
+/// How many steps a run may make that looks for a shorter proof.
+const STEPS: u32 = 20000;
+
+/// A proof is looked for among terms over the sets of so many variables at most.
+const MOST_VARIABLES: u8 = 6;
+
+/// So many terms at most are added up.
+const MOST_TERMS: usize = 1024;
+
+/// A sum of terms over sets and of constraints, by their numbers, that is a target so many times.
+#[derive(Debug, Drop)]
+pub struct LeastSum {
+    pub scale: i128,
+    pub terms: Vec<Term>,
+    pub weights: Vec<(u32, i128)>,
+}
+
+/// Columns: first those of terms over sets, then those of constraints by their numbers with signs turned or not, and last one
+/// for what a sum of terms is less than its bound.
+#[derive(Debug, Drop)]
+struct Columns {
+    terms: Vec<Term>,
+    constraints: Vec<(u32, bool)>,
+    rows: Vec<Row>,
+}
+
+/// The space with a rate more, in whose place each row has the sum of the terms over sets.
+fn wider_space(space: Space) -> Result<Space, Untold>
+    ensures { IfOk result IsSpace }
+{
+    if space.variables < 1 || space.variables > MOST_VARIABLES || space.rates > 15 {
+        return Err(Untold::NotFound);
+    }
+    Ok(Space {
+        variables: space.variables,
+        rates: space.rates + 1,
+    })
+}
+
+/// Adds a number below 2^64 at a coordinate below so many.
+fn put(
+    coefficients: &mut Coefficients,
+    places: usize,
+    coordinate: usize,
+    times: i128,
+) -> Result<(), Untold>
+    requires complete { length coefficients.old ≡ places }
+    requires small { largest coefficients.old ≤ 2 ^ 100 }
+    ensures complete { OnOk result (length coefficients.new ≡ places) }
+    ensures small { OnOk result (largest coefficients.new ≤ largest coefficients.old + 2 ^ 64) }
+{
+    if coordinate >= places || times.unsigned_abs() > u64::MAX as u128 {
+        return Err(Untold::NotFound);
+    }
+    coefficients.add(coordinate, times);
+    Ok(())
+}
+
+/// The row of terms so many times, with a number at the greatest coordinate.
+fn row_with(
+    alloc: Global,
+    space: Space,
+    terms: &[(u32, i128)],
+    times: i128,
+    last: i128,
+) -> Result<Row, Untold>
+    requires { IsSpace space }
+{
+    if terms.len() > MOST_TERMS {
+        return Err(Untold::NotFound);
+    }
+    let places = space.size() as usize + 1;
+    let mut coefficients = Coefficients::new(alloc, space)?;
+    for term in terms {
+        let number = product(term.1, times)?;
+        put(&mut coefficients, places, term.0 as usize, number)?;
+    }
+    put(&mut coefficients, places, places - 1, last)?;
+    Ok(coefficients.into_row(alloc)?)
+}
+
+/// The coordinate of a set.
+fn place(set: VarSet) -> u32 {
+    set.number() as u32
+}
+
+/// The terms of an entropy or a mutual information by sets; at the empty set for any other atom.
+fn atom_terms(atom: &Atom) -> [(u32, i128); 4] {
+    match atom {
+        Atom::Entropy { of, given } => [
+            (place(of.union(*given)), 1),
+            (place(*given), -1),
+            (0, 0),
+            (0, 0),
+        ],
+        Atom::Mutual { left, right, given } => [
+            (place(left.union(*given)), 1),
+            (place(right.union(*given)), 1),
+            (place(left.union(*right).union(*given)), -1),
+            (place(*given), -1),
+        ],
+        _ => [(0, 0), (0, 0), (0, 0), (0, 0)],
+    }
+}
+
+/// Adds a term over sets.
+fn put_atom(alloc: Global, columns: &mut Columns, space: Space, atom: Atom) -> Result<(), Untold>
+    requires { IsSpace space }
+{
+    let row = row_with(alloc, space, &atom_terms(&atom), 1, 1)?;
+    columns.rows.push(row)?;
+    columns.terms.push(term_of(1, atom)?)?;
+    Ok(())
+}
+
+/// Whether two sets share a variable.
+fn meets(set: VarSet, other: VarSet) -> bool {
+    set.meet(other) != VarSet::empty()
+}
+
+/// Adds H(A|C) and each I(A;B|C) with B after A, for a set A apart from C.
+fn put_atoms_of(
+    alloc: Global,
+    columns: &mut Columns,
+    space: Space,
+    sets: u16,
+    left: VarSet,
+    given: VarSet,
+) -> Result<(), Untold>
+    requires { IsSpace space }
+{
+    put_atom(alloc, columns, space, Atom::Entropy { of: left, given })?;
+    for number in 1..sets {
+        let right = VarSet::from_number(number);
+        if number > left.number() && !meets(right, left) && !meets(right, given) {
+            put_atom(alloc, columns, space, Atom::Mutual { left, right, given })?;
+        }
+    }
+    Ok(())
+}
+
+/// Adds each H(A|C) and each I(A;B|C) of sets that are apart.
+fn put_atoms(alloc: Global, columns: &mut Columns, space: Space, sets: u16) -> Result<(), Untold>
+    requires { IsSpace space }
+{
+    for number in 0..sets {
+        let given = VarSet::from_number(number);
+        for other in 1..sets {
+            let left = VarSet::from_number(other);
+            if !meets(left, given) {
+                put_atoms_of(alloc, columns, space, sets, left, given)?;
+            }
+        }
+    }
+    Ok(())
+}
+
+/// Adds a constraint, with its sign turned too where it is an equation.
+fn put_constraint(
+    alloc: Global,
+    columns: &mut Columns,
+    constraint: &Constraint,
+    number: u32,
+) -> Result<(), Untold> {
+    columns.rows.push(constraint.row.copy(alloc)?)?;
+    columns.constraints.push((number, false))?;
+    if constraint.kind == Kind::Equation {
+        columns.rows.push(opposite_row(alloc, &constraint.row)?)?;
+        columns.constraints.push((number, true))?;
+    }
+    Ok(())
+}
+
+/// All columns: terms over sets, constraints, and what a sum is less than its bound.
+fn all_columns(alloc: Global, space: Space, constraints: &[Constraint]) -> Result<Columns, Untold>
+    requires { IsSpace space }
+{
+    let mut columns = Columns {
+        terms: Vec::new(alloc),
+        constraints: Vec::new(alloc),
+        rows: Vec::new(alloc),
+    };
+    put_atoms(alloc, &mut columns, space, 1u16 << space.variables)?;
+    for (i, constraint) in constraints.iter().enumerate() {
+        put_constraint(alloc, &mut columns, constraint, (i % 65536) as u32)?;
+    }
+    columns.rows.push(row_with(alloc, space, &[], 1, 1)?)?;
+    Ok(columns)
+}
+
+/// Weights of the columns that add up to a target, with terms over sets of a sum that is at most a bound.
+fn weights_within(
+    alloc: Global,
+    space: Space,
+    columns: &Columns,
+    target: &Row,
+    scale: i128,
+    bound: i128,
+) -> Result<Vec<(usize, Fraction)>, Untold>
+    requires { IsSpace space }
+{
+    let row = row_with(alloc, space, target.terms(), scale, bound)?;
+    let coordinates: Vec<u32> = (1..space.size() + 1).collect(alloc)?;
+    match solve(
+        alloc,
+        coordinates.as_slice(),
+        columns.rows.as_slice(),
+        &row,
+        Budget::at_most(STEPS),
+    )? {
+        Solved::Weights(weights) => Ok(weights),
+        _ => Err(Untold::NotFound),
+    }
+}
+
+/// The weights for the least bound for which some are found, none of them above a bound for which there are.
+fn least_weights(
+    alloc: Global,
+    space: Space,
+    columns: &Columns,
+    target: &Row,
+    scale: i128,
+    most: i128,
+) -> Result<Vec<(usize, Fraction)>, Untold>
+    requires { IsSpace space }
+{
+    let mut best = weights_within(alloc, space, columns, target, scale, most)?;
+    let mut low: u64 = 0;
+    let Ok(mut high) = u64::try_from(most) else {
+        return Err(Untold::NotFound);
+    };
+    for _ in 0..64 {
+        if low >= high {
+            return Ok(best);
+        }
+        let middle = low + (high - low) / 2;
+        match weights_within(alloc, space, columns, target, scale, middle as i128) {
+            Ok(weights) => {
+                best = weights;
+                high = middle;
+            }
+            Err(Untold::NotFound) => low = middle + 1,
+            Err(Untold::Memory) => return Err(Untold::Memory),
+        }
+    }
+    Ok(best)
+}
+
+/// The least common multiple of the denominators of weights.
+fn common_multiple(alloc: Global, weights: &[(usize, Fraction)]) -> Result<i128, Untold> {
+    let mut numbers = Vec::new(alloc);
+    for weight in weights {
+        numbers.push(weight.1)?;
+    }
+    match common_scale(numbers.as_slice()) {
+        Ok(scale) => Ok(scale as i128),
+        Err(_) => Err(Untold::NotFound),
+    }
+}
+
+/// Adds what a column stands for so many times.
+fn put_times(
+    found: &mut LeastSum,
+    columns: &Columns,
+    column: usize,
+    times: i128,
+) -> Result<(), Untold> {
+    let terms = columns.terms.len();
+    if column < terms {
+        let term = term_of(times, columns.terms[column].atom)?;
+        found.terms.push(term)?;
+    } else if column - terms < columns.constraints.len() {
+        let (number, negative) = columns.constraints[column - terms];
+        let weight = turned(times, negative)?;
+        found.weights.push((number, weight))?;
+    }
+    Ok(())
+}
+
+/// Terms over sets with a plus and weights of constraints that add up to a multiple of a target: with the least sum of such
+/// terms for the target so many times, where there are some whose sum is at most a bound.
+pub fn shortest(
+    alloc: Global,
+    space: Space,
+    constraints: &[Constraint],
+    target: &Row,
+    scale: i128,
+    most: i128,
+) -> Result<LeastSum, Untold> {
+    let wider = wider_space(space)?;
+    let columns = all_columns(alloc, wider, constraints)?;
+    let weights = least_weights(alloc, wider, &columns, target, scale, most)?;
+    let multiple = common_multiple(alloc, weights.as_slice())?;
+    let mut found = LeastSum {
+        scale: product(scale, multiple)?,
+        terms: Vec::new(alloc),
+        weights: Vec::new(alloc),
+    };
+    for weight in weights.as_slice() {
+        let times = product(weight.1.num(), multiple / weight.1.den())?;
+        put_times(&mut found, &columns, weight.0, times)?;
+    }
+    Ok(found)
+}
