@@ -1,5 +1,5 @@
 -- What a call that is done has written, that each line has a telling, and that what is told is true.
-use Rattle.std.proofs.Common.{◌≡◌, ℕ, ◌+◌, inl, inr, List, [], ◌∷◌, ◌++◌, ◌⊎◌, Bool, true, false, Option, Some, codes, refl, sym, subst, ◌∙◌}
+use Rattle.std.proofs.Common.{◌≡◌, ℕ, ◌+◌, inl, inr, List, [], ◌∷◌, ◌++◌, Bool, true, false, Option, Some, None, option_and_then, codes, refl, ap, sym, subst, ◌∙◌}
 use Rattle.std.specs.List.{zip}
 use Rattle.std.proofs.lemmas.Bool.{true≢false}
 use Rattle.it_outside.specs.Groups.{Groups}
@@ -28,70 +28,88 @@ use Rattle.it_cli.specs.Modes.{WholeOutput}
 use Rattle.it_cli.specs.Right.{question_origins}
 use Rattle.it_cli.specs.declared.status.Status.{Status}
 use Rattle.it_cli.specs.declared.status.Status.TheVariants.{Done, Invalid}
-use Rattle.it_tell.specs.Tellings.{Answered, AreDetails, IsMarkedRowText, IsProofText, IsRowText, IsTelling, LineEach, Telling, indented_line, mark_comment}
+use Rattle.it_tell.specs.Tellings.{Answered, AreDetails, AreProofTexts, Each, IsMarkedRowText, IsProofText, IsRowText, IsTelling, ProofTexts, Telling, indented_line, mark_comment, proof_lines}
 use Rattle.it_tell.specs.Tellings as tellings
-use Rattle.it_tell.specs.Ends.{Ends, HasTold, tell_mode}
+use Rattle.it_tell.specs.declared.settings.Options.{Options}
+use Rattle.it_tell.specs.declared.settings.Settings.TheVariants.{Tell}
+use Rattle.it_tell.specs.Ends.{AsksForText, AsksToTell, Ends, HasTold, shown_by, tell_mode}
 use Rattle.it_tell.specs.Laws.{EachLineIsTold, Headline, ToldAnswersAreTrue}
 use Rattle.it_tell.proofs.PrintableLemmas.{not_invalid_is_valid}
 
 -- ---- what is written
 
-written : (r : Call) (s : Status) (bytes old new : List ℕ) → HasTold r s → r.left ≡ Some bytes → r.taken ≡ Some old → r.taken_after ≡ Some new → (out : List ℕ) × (WholeOutput tell_mode bytes out s × (new ≡ old ++ out))
-written r s bytes old new h left taken taken_after =
+-- words ask for one telling
+one_asked : (r : Call) (options others : Options) → AsksToTell r options → AsksToTell r others → options ≡ others
+one_asked r options others e f = let same : Some (Tell options) ≡ Some (Tell others) = sym e ∙ f in cc
+
+written : (r : Call) (options : Options) (s : Status) (bytes old new : List ℕ) → AsksToTell r options → HasTold r s → r.left ≡ Some bytes → r.taken ≡ Some old → r.taken_after ≡ Some new
+    → (out : List ℕ) × (WholeOutput (tell_mode options.steps) bytes out s × (new ≡ old ++ out))
+written r options s bytes old new asked h left taken taken_after =
     let gave : Gave (Some bytes) r.left_after h.bytes = subst (λ (o : Option (List ℕ)). Gave o r.left_after h.bytes) left h.report.0 in
     let gained : Gains (Some old) (Some new) h.out = subst (λ (o : Option (List ℕ)). Gains o (Some new) h.out) taken (subst (λ (o : Option (List ℕ)). Gains r.taken o h.out) taken_after h.wrote) in
-    (h.out, (subst (λ (b : List ℕ). WholeOutput tell_mode b h.out s) (end_comes_last bytes h.bytes r.left_after gave) h.output, gained))
+    let same : h.options ≡ options = one_asked r h.options options h.asked asked in
+    (h.out, (subst (λ (o : Options). WholeOutput (tell_mode o.steps) bytes h.out s) same (subst (λ (b : List ℕ). WholeOutput (tell_mode h.options.steps) b h.out s) (end_comes_last bytes h.bytes r.left_after gave) h.output), gained))
+
+-- who asks for a telling asks for no text
+no_text_asked : (r : Call) (options : Options) (text : List ℕ) → AsksToTell r options → AsksForText r text → ⊥
+no_text_asked r options text asked shown = none_is_some (sym (ap (option_and_then shown_by) asked) ∙ shown)
+  where
+    none_is_some : None ≡ Some text → ⊥
+    none_is_some e = cc
 
 pub headline : Headline
-headline r s bytes old new ends (inl is) left taken taken_after =
-    subst (λ (t : Status). (out : List ℕ) × (WholeOutput tell_mode bytes out t × (new ≡ old ++ out))) (sym is) (written r Done bytes old new (subst (Ends r) is ends).1 left taken taken_after)
-headline r s bytes old new ends (inr is) left taken taken_after =
-    subst (λ (t : Status). (out : List ℕ) × (WholeOutput tell_mode bytes out t × (new ≡ old ++ out))) (sym is) (written r Invalid bytes old new (subst (Ends r) is ends).1 left taken taken_after)
+headline r options s bytes old new asked ends (inl is) left taken taken_after = by_end (subst (Ends r) is ends)
+  where
+    by_end : Ends r Done → (out : List ℕ) × (WholeOutput (tell_mode options.steps) bytes out s × (new ≡ old ++ out))
+    by_end (faultless, inl told) = subst (λ (t : Status). (out : List ℕ) × (WholeOutput (tell_mode options.steps) bytes out t × (new ≡ old ++ out))) (sym is) (written r options Done bytes old new asked told left taken taken_after)
+    by_end (faultless, inr shown) = absurd (no_text_asked r options shown.0 asked shown.1.0.asked)
+headline r options s bytes old new asked ends (inr is) left taken taken_after =
+    subst (λ (t : Status). (out : List ℕ) × (WholeOutput (tell_mode options.steps) bytes out t × (new ≡ old ++ out))) (sym is) (written r options Invalid bytes old new asked (subst (Ends r) is ends).1 left taken taken_after)
 
 -- ---- each line
 
-module _ {X : Type 0} (tells : X → List ℕ → Type 0) (each : (x : X) → (text : List ℕ) × tells x text) where
-  lines_from : (k : ℕ) (items : List X) → (out : List ℕ) × Groups (λ (s : Unit {0}) (x : X) (text : List ℕ). tells x text) (λ (s : Unit {0}) (x : X) (text : List ℕ). s) (λ (k : ℕ) (x : X) (text : List ℕ). indented_line text) k tt items tt out
+module _ {X A : Type 0} (shown : A → List ℕ) (tells : X → A → Type 0) (each : (x : X) → (a : A) × tells x a) where
+  lines_from : (k : ℕ) (items : List X) → (out : List ℕ) × Groups (λ (s : Unit {0}) (x : X) (a : A). tells x a) (λ (s : Unit {0}) (x : X) (a : A). s) (λ (k : ℕ) (x : X) (a : A). shown a) k tt items tt out
   lines_from k [] = ([], (refl, refl))
-  lines_from k (x ∷ xs) = let t = each x in let rest = lines_from (k + 1) xs in (indented_line t.0 ++ rest.0, (t.0, rest.0, t.1, rest.1, refl))
+  lines_from k (x ∷ xs) = let t = each x in let rest = lines_from (k + 1) xs in (shown t.0 ++ rest.0, (t.0, rest.0, t.1, rest.1, refl))
 
-  lines_there : (items : List X) → (out : List ℕ) × LineEach tells items out
+  lines_there : (items : List X) → (out : List ℕ) × Each shown tells items out
   lines_there items = lines_from 1 items
 
 row_there : (v : NamesView) (row : Mark × Terms) → (text : List ℕ) × IsMarkedRowText v row text
 unfolding IsMarkedRowText IsRowText
 row_there v row = let own = codes "as row " ++ row_text v Inequality row.1 in (own ++ mark_comment row.0, (own, (inr refl, refl)))
 
-proof_there : (q : BodyView) (proof : Form × CertificateView) → (text : List ℕ) × IsProofText q proof text
-unfolding IsProofText
-proof_there q proof = (codes "as weights " ++ certificate_text (problem_names q).variables (question_origins q) proof.1, inr refl)
+proof_there : (q : BodyView) (with_steps : Bool) (proof : Form × CertificateView) → (t : ProofTexts) × AreProofTexts q with_steps proof t
+unfolding AreProofTexts IsProofText
+proof_there q with_steps proof = (record { proof = codes "as weights " ++ certificate_text (problem_names q).variables (question_origins q) proof.1; steps = [] }, (inr refl, inl refl))
 
-details_there : (q : BodyView) (a : AnswerView) → (out : List ℕ) × AreDetails q a out
+details_there : (q : BodyView) (with_steps : Bool) (a : AnswerView) → (out : List ℕ) × AreDetails q with_steps a out
 unfolding AreDetails
-details_there q (Yes proofs) = lines_there (IsProofText q) (proof_there q) (zip (judged_forms q (Yes proofs)) proofs)
-details_there q (No back values) = (indented_line (codes "as point " ++ values_text (problem_names q) values), refl)
-details_there q (Undecided cause) = ([], refl)
-details_there q (Region rows) = lines_there (IsMarkedRowText (problem_names q)) (row_there (problem_names q)) rows
-details_there q (Contained parts proofs) = lines_there (IsProofText q) (proof_there q) (zip (judged_forms q (Contained parts proofs)) proofs)
-details_there q (Open tried) = ([], refl)
+details_there q with_steps (Yes proofs) = lines_there proof_lines (AreProofTexts q with_steps) (proof_there q with_steps) (zip (judged_forms q (Yes proofs)) proofs)
+details_there q with_steps (No back values) = (indented_line (codes "as point " ++ values_text (problem_names q) values), refl)
+details_there q with_steps (Undecided cause) = ([], refl)
+details_there q with_steps (Region rows) = lines_there indented_line (IsMarkedRowText (problem_names q)) (row_there (problem_names q)) rows
+details_there q with_steps (Contained parts proofs) = lines_there proof_lines (AreProofTexts q with_steps) (proof_there q with_steps) (zip (judged_forms q (Contained parts proofs)) proofs)
+details_there q with_steps (Open tried) = ([], refl)
 
-answer_there : (line : List ℕ) (v : LineVerdict) → IsVerdict line v → is_invalid v ≡ false → HasAnswer line v → (telling : Telling) × IsTelling line telling
-answer_there line v is accepted h =
-    let details = details_there h.question.body h.answer in
+answer_there : (with_steps : Bool) (line : List ℕ) (v : LineVerdict) → IsVerdict line v → is_invalid v ≡ false → HasAnswer line v → (telling : Telling) × IsTelling with_steps line telling
+answer_there with_steps line v is accepted h =
+    let details = details_there h.question.body with_steps h.answer in
     (Answered h.question h.answer details.0, (record { verdict = v; is = is; accepted = accepted; reads = h.reads }, details.1))
 
 pub each_line_is_told : EachLineIsTold
-each_line_is_told line = let judged = (each_line_is_judged 1 line).2 in by_verdict judged.verdict judged.is
+each_line_is_told with_steps line = let judged = (each_line_is_judged 1 line).2 in by_verdict judged.verdict judged.is
   where
-    by_verdict : (v : LineVerdict) → IsVerdict line v → (telling : Telling) × IsTelling line telling
+    by_verdict : (v : LineVerdict) → IsVerdict line v → (telling : Telling) × IsTelling with_steps line telling
     by_verdict NotJson is = (tellings.Invalid NotJson, (is, refl))
     by_verdict (Shape key) is = (tellings.Invalid (Shape key), (is, refl))
-    by_verdict Skipped is = answer_there line Skipped is refl is
+    by_verdict Skipped is = answer_there with_steps line Skipped is refl is
     by_verdict (Judged names v) is = by_test (is_invalid (Judged names v)) refl
       where
-        by_test : (b : Bool) → is_invalid (Judged names v) ≡ b → (telling : Telling) × IsTelling line telling
+        by_test : (b : Bool) → is_invalid (Judged names v) ≡ b → (telling : Telling) × IsTelling with_steps line telling
         by_test true e = (tellings.Invalid (Judged names v), (is, e))
-        by_test false e = answer_there line (Judged names v) is e is
+        by_test false e = answer_there with_steps line (Judged names v) is e is
 
 -- ---- what is told is true
 
@@ -110,7 +128,7 @@ passed_over_claims_nothing q (Contain first second tries) (Region rows) e = tt
 passed_over_claims_nothing q (Contain first second tries) (Open tried) e = tt
 
 pub told_answers_are_true : ToldAnswersAreTrue
-told_answers_are_true line q a details (h, lines) = by_verdict h.verdict h.is h.accepted
+told_answers_are_true with_steps line q a details (h, lines) = by_verdict h.verdict h.is h.accepted
   where
     by_verdict : (v : LineVerdict) → IsVerdict line v → is_invalid v ≡ false → IsClaimTrueBy q.body q.body.verb a
     by_verdict NotJson is accepted = absurd (true≢false accepted)

@@ -4,4 +4,4 @@ pub mod ReportLemmas
 pub mod EndLemmas
 pub mod DetailLemmas
 pub mod LawLemmas
-pub mod ObligationLemmas
+pub mod ProofLemmas

@@ -1,5 +1,5 @@
 -- What is told of a line of a report, step by step as the code forms it.
-use Rattle.std.proofs.Common.{◌≡◌, ℕ, List, ◌++◌, length, Bool, true, false, Some, None, Ok, Err, IsUtf8, refl, sym, subst, ◌∙◌}
+use Rattle.std.proofs.Common.{◌≡◌, ℕ, List, length, Bool, true, false, Some, None, Ok, Err, IsUtf8, refl, sym, subst, ◌∙◌}
 use Rattle.std.proofs.lemmas.Bool.{true≢false}
 use Rattle.serde_json.specs.Read.{read}
 use Rattle.it_space.specs.declared.answers.Answer.{Answer}
@@ -21,8 +21,8 @@ use Rattle.it_tell.proofs.PrintableLemmas.{printable}
 
 -- ---- an invalid line
 
-pub invalid_line : (k : ℕ) (line text : List ℕ) (invalid : Bool) → IsJudgedLine k line text invalid → invalid ≡ true → IsToldLine k line text true
-invalid_line k line text invalid judged is = record {
+pub invalid_line : (with_steps : Bool) (k : ℕ) (line text : List ℕ) (invalid : Bool) → IsJudgedLine k line text invalid → invalid ≡ true → IsToldLine with_steps k line text true
+invalid_line with_steps k line text invalid judged is = record {
   telling = Invalid judged.verdict;
   is = (judged.is, sym judged.told.1 ∙ is);
   text_is = judged.told.0;
@@ -75,9 +75,9 @@ pub can_be_printed : (line : List ℕ) (q : QuestionView) (a : Answer) → Reads
     → IsPrintable q.body (length (question_demands q.body)) a
 can_be_printed line q a reads k fits h = printable q.body k h.verdict h.accepted a fits (on_answer line q (answer_view a) reads h)
 
-pub answered_line : (k : ℕ) (line text : List ℕ) (q : QuestionView) (a : AnswerView) → ReadsReport line (Ok (q, a)) → HasVerdict line → IsAnsweredText k q.body a text → IsToldLine k line text false
+pub answered_line : (with_steps : Bool) (k : ℕ) (line text : List ℕ) (q : QuestionView) (a : AnswerView) → ReadsReport line (Ok (q, a)) → HasVerdict line → IsAnsweredText with_steps k q.body a text → IsToldLine with_steps k line text false
 unfolding IsAnsweredText
-answered_line k line text q a reads h told = record {
+answered_line with_steps k line text q a reads h told = record {
   telling = Answered q a told.0;
   is = (accepts line q a reads h, told.1.0);
   text_is = told.1.1;

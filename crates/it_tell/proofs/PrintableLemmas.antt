@@ -1,6 +1,6 @@
 -- Answers that were read and aren't invalid can be written: their generators are there, and their points, rows and causes are of the
 -- question's names.
-use Rattle.std.proofs.Common.{◌≡◌, ℕ, ℤ, ◌+◌, ◌-◌, ◌<◌, ◌≤◌, ◌^◌, List, [], ◌∷◌, map, length, drop, Bool, true, false, not, Some, All, if◌then◌else◌, refl, sym, ap, ap₂, subst, ◌∙◌, arith}
+use Rattle.std.proofs.Common.{◌≡◌, ℕ, ℤ, ◌+◌, ◌<◌, ◌≤◌, List, [], ◌∷◌, map, length, drop, Bool, true, false, not, Some, All, if◌then◌else◌, refl, sym, ap, ap₂, subst, ◌∙◌, arith}
 use Rattle.std.specs.Prelude.{bytes_eq}
 use Rattle.std.proofs.lemmas.List.{length-map}
 use Rattle.std.proofs.lemmas.List.Elements.{All-nil, All-cons, All-weaker}
@@ -16,7 +16,7 @@ use Rattle.it_space.specs.declared.answers.Cause.{Cause}
 use Rattle.it_space.specs.declared.answers.Cause.TheVariants as causes
 use Rattle.it_space.specs.declared.answers.Mark.{Mark}
 use Rattle.it_space.specs.Answers.{AnswerView, CertificateView, answer_view, certificate_view}
-use Rattle.it_space.specs.Answers.AnswerView.{Yes, No, Undecided, Region, Contained, Open}
+use Rattle.it_space.specs.Answers.AnswerView.{Yes, Contained}
 use Rattle.it_space.specs.Problems.{ProblemView}
 use Rattle.it_space.specs.Rows.{Terms, IsUpTo}
 use Rattle.it_space.specs.Spaces.{size_of}
@@ -33,7 +33,7 @@ use Rattle.it_question.specs.Tables.{problem_names, problem_names_by}
 use Rattle.it_demand.specs.LineDemands.{space_of}
 use Rattle.it_demand.specs.Canonical.{form_of}
 use Rattle.it_canon.specs.QuestionDemands.{IsProblemOf, question_demands, variables_of}
-use Rattle.it_region.specs.Obligations.{ArePulledRows, obligations}
+use Rattle.it_region.specs.Obligations.{ArePulledRows}
 use Rattle.it_certificate.specs.AnswerShapes.{HasQuestionShape, HasVerbShape, IsCauseFor, IsRowIn}
 use Rattle.it_certificate.specs.Values.{rate_name}
 use Rattle.it_check.specs.declared.verdicts.Verdict.{Verdict}

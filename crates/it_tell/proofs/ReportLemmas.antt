@@ -1,5 +1,5 @@
 -- The loop over a report's lines: what is told of each.
-use Rattle.std.proofs.Common.{◌≡◌, ℕ, ◌+◌, ◌-◌, ◌<◌, ◌≤◌, List, [], ◌∷◌, length, drop, get_or, Bool, true, false, ◌||◌, ◌==◌, Option, refl, sym, ap, subst, ◌∙◌, arith}
+use Rattle.std.proofs.Common.{◌≡◌, ℕ, ◌+◌, ◌<◌, ◌≤◌, List, [], ◌∷◌, length, drop, get_or, Bool, true, false, ◌||◌, ◌==◌, Option, refl, sym, ap, subst, ◌∙◌, arith}
 use Rattle.std.proofs.lemmas.Bool.{eqb-true}
 use Rattle.std.proofs.lemmas.List.{drop_more, length-drop, nil_from_length}
 use Rattle.it_outside.specs.Traffic.{Gains, TookFront}
@@ -25,35 +25,35 @@ none_left : {X : Type 0} (k : ℕ) (xs : List X) → drop k xs ≡ [] → length
 none_left k xs e = omega (arith, sym (length-drop k xs) ∙ ap length e)
 
 -- what is told of the first k lines is written, and these bytes are left
-pub record IsTold (old new : Option (List ℕ)) (bytes rest : List ℕ) (k : ℕ) (some_invalid : Bool) : Type 0 where
-  pub written : Replied tell_mode old new (split_lines bytes) k some_invalid
+pub record IsTold (with_steps : Bool) (old new : Option (List ℕ)) (bytes rest : List ℕ) (k : ℕ) (some_invalid : Bool) : Type 0 where
+  pub written : Replied (tell_mode with_steps) old new (split_lines bytes) k some_invalid
   pub rest_is : drop k (split_lines bytes) ≡ split_lines rest
   pub counted : k + length rest ≤ length bytes
 
-pub told_more : (a b c : Option (List ℕ)) (bytes rest line after : List ℕ) (k : ℕ) (some_invalid invalid : Bool) (text piece : List ℕ) → IsTold a b bytes rest k some_invalid
-    → split_lines rest ≡ line ∷ split_lines after → length after < length rest → IsToldLine (k + 1) line text invalid → piece ≡ text → Gains b c piece → IsTold a c bytes after (k + 1) (some_invalid || invalid)
-told_more a b c bytes rest line after k some_invalid invalid text piece h split shorter told same wrote =
+pub told_more : (with_steps : Bool) (a b c : Option (List ℕ)) (bytes rest line after : List ℕ) (k : ℕ) (some_invalid invalid : Bool) (text piece : List ℕ) → IsTold with_steps a b bytes rest k some_invalid
+    → split_lines rest ≡ line ∷ split_lines after → length after < length rest → IsToldLine with_steps (k + 1) line text invalid → piece ≡ text → Gains b c piece → IsTold with_steps a c bytes after (k + 1) (some_invalid || invalid)
+told_more with_steps a b c bytes rest line after k some_invalid invalid text piece h split shorter told same wrote =
     let next = item_of_drop k (split_lines bytes) (split_lines after) line (h.rest_is ∙ split) in record {
-      written = subst (λ (i : Bool). Replied tell_mode a c (split_lines bytes) (k + 1) (some_invalid || i)) (sym told.invalid_is)
-          (replies_more tell_mode a b c (split_lines bytes) k some_invalid line told.telling text piece h.written next.0 next.1 told.is told.text_is same wrote);
+      written = subst (λ (i : Bool). Replied (tell_mode with_steps) a c (split_lines bytes) (k + 1) (some_invalid || i)) (sym told.invalid_is)
+          (replies_more (tell_mode with_steps) a b c (split_lines bytes) k some_invalid line told.telling text piece h.written next.0 next.1 told.is told.text_is same wrote);
       rest_is = next.2;
       counted = omega (arith, h.counted);
     }
 
-pub told_stops : (a b c : Option (List ℕ)) (bytes rest line after : List ℕ) (k : ℕ) (some_invalid invalid : Bool) (text piece : List ℕ) → IsTold a b bytes rest k some_invalid
-    → split_lines rest ≡ line ∷ split_lines after → IsToldLine (k + 1) line text invalid → piece ≡ text → TookFront b c piece → WroteInPart tell_mode a c bytes
-told_stops a b c bytes rest line after k some_invalid invalid text piece h split told same took =
+pub told_stops : (with_steps : Bool) (a b c : Option (List ℕ)) (bytes rest line after : List ℕ) (k : ℕ) (some_invalid invalid : Bool) (text piece : List ℕ) → IsTold with_steps a b bytes rest k some_invalid
+    → split_lines rest ≡ line ∷ split_lines after → IsToldLine with_steps (k + 1) line text invalid → piece ≡ text → TookFront b c piece → WroteInPart (tell_mode with_steps) a c bytes
+told_stops with_steps a b c bytes rest line after k some_invalid invalid text piece h split told same took =
     let next = item_of_drop k (split_lines bytes) (split_lines after) line (h.rest_is ∙ split) in
-    replies_stop tell_mode a b c bytes (split_lines bytes) k some_invalid line told.telling text piece refl h.written next.0 next.1 told.is told.text_is same took
+    replies_stop (tell_mode with_steps) a b c bytes (split_lines bytes) k some_invalid line told.telling text piece refl h.written next.0 next.1 told.is told.text_is same took
 
-pub told_first : (a b : Option (List ℕ)) (bytes rest : List ℕ) (k : ℕ) (some_invalid : Bool) → IsTold a b bytes rest k some_invalid → WroteFirst tell_mode a b bytes
-told_first a b bytes rest k some_invalid h = first_replied tell_mode a b bytes (split_lines bytes) k some_invalid refl h.written
+pub told_first : (with_steps : Bool) (a b : Option (List ℕ)) (bytes rest : List ℕ) (k : ℕ) (some_invalid : Bool) → IsTold with_steps a b bytes rest k some_invalid → WroteFirst (tell_mode with_steps) a b bytes
+told_first with_steps a b bytes rest k some_invalid h = first_replied (tell_mode with_steps) a b bytes (split_lines bytes) k some_invalid refl h.written
 
-pub told_all : (a b : Option (List ℕ)) (bytes rest : List ℕ) (k : ℕ) (some_invalid : Bool) → true ≡ (length rest == 0) → IsTold a b bytes rest k some_invalid → WroteWhole tell_mode a b bytes (verdict_status some_invalid)
-told_all a b bytes rest k some_invalid none h = all_replied tell_mode a b bytes (split_lines bytes) k some_invalid refl h.written
+pub told_all : (with_steps : Bool) (a b : Option (List ℕ)) (bytes rest : List ℕ) (k : ℕ) (some_invalid : Bool) → true ≡ (length rest == 0) → IsTold with_steps a b bytes rest k some_invalid → WroteWhole (tell_mode with_steps) a b bytes (verdict_status some_invalid)
+told_all with_steps a b bytes rest k some_invalid none h = all_replied (tell_mode with_steps) a b bytes (split_lines bytes) k some_invalid refl h.written
     (none_left k (split_lines bytes) (h.rest_is ∙ ap split_lines (nil_from_length rest (eqb-true (length rest) 0 (sym none)))))
 
-pub status_ends : (a b : Option (List ℕ)) (before now : ℕ) (bytes : List ℕ) (some_invalid : Bool) (s : Status) → s ≡ verdict_status some_invalid → now ≡ before → WroteWhole tell_mode a b bytes (verdict_status some_invalid)
-    → EndOfBytes tell_mode a b before now bytes s
-status_ends a b before now bytes true s is stayed h = subst (EndOfBytes tell_mode a b before now bytes) (sym is) (stayed, h)
-status_ends a b before now bytes false s is stayed h = subst (EndOfBytes tell_mode a b before now bytes) (sym is) (stayed, h)
+pub status_ends : (with_steps : Bool) (a b : Option (List ℕ)) (before now : ℕ) (bytes : List ℕ) (some_invalid : Bool) (s : Status) → s ≡ verdict_status some_invalid → now ≡ before → WroteWhole (tell_mode with_steps) a b bytes (verdict_status some_invalid)
+    → EndOfBytes (tell_mode with_steps) a b before now bytes s
+status_ends with_steps a b before now bytes true s is stayed h = subst (EndOfBytes (tell_mode with_steps) a b before now bytes) (sym is) (stayed, h)
+status_ends with_steps a b before now bytes false s is stayed h = subst (EndOfBytes (tell_mode with_steps) a b before now bytes) (sym is) (stayed, h)

@@ -1,25 +1,29 @@
--- How a call of `tell` ends: what each status says of what the source gave and of what the sink took. It has neither words nor boxes.
-use Rattle.std.specs.Prelude.{◌≡◌, ℕ, List, [], Bool, false, ◌||◌, ◌⊎◌, Some}
+-- How a call of `tell` ends: what each status says of the words, of what the source gave and of what the sink took. It has no boxes.
+use Rattle.std.specs.Prelude.{◌≡◌, ℕ, List, [], codes, Bool, false, ◌||◌, ◌⊎◌, Option, Some, None, option_and_then}
 use Rattle.it_outside.specs.Traffic.{GaveMore}
 use Rattle.it_question.specs.Lines.{split_lines}
-use Rattle.it_cli.specs.Ends.{Call, IsFaultless, IsTaken, ReadFailed, WriteFailed, Wrote, WroteFront}
+use Rattle.it_cli.specs.Ends.{Call, IsFaultless, IsTaken, IsUntouched, ReadFailed, WriteFailed, Wrote, WroteFront}
 use Rattle.it_cli.specs.Modes.{FirstOutput, Mode, OutputInPart, WholeOutput}
 use Rattle.it_cli.specs.Outputs.{verdict_status}
 use Rattle.it_cli.specs.Refusals.{long_line}
 use Rattle.it_cli.specs.declared.status.Status.{Status}
 use Rattle.it_cli.specs.declared.status.Status.TheVariants.{Done, Invalid, Usage, Refused, ReadFault, WriteFault, Memory}
+use Rattle.it_tell.specs.declared.settings.Options.{Options}
+use Rattle.it_tell.specs.declared.settings.Settings.{Settings}
+use Rattle.it_tell.specs.declared.settings.Settings.TheVariants.{Tell, Help, Version}
+use Rattle.it_tell.specs.Settings.{settings_of}
 use Rattle.it_tell.specs.Tellings.{IsTelling, Telling, tells_invalid, telling_text}
 
--- what is told of each line of a report, and whether one is invalid
-abbrev pub tell_mode : Mode
-tell_mode = record {
+-- what is told of each line of a report, with steps of proofs where these are asked for, and whether one is invalid
+abbrev pub tell_mode : Bool → Mode
+tell_mode with_steps = record {
   Item = List ℕ;
   Reply = Telling;
   State = Bool;
   Asks = λ bytes lines. lines ≡ split_lines bytes;
   FaultAt = λ bytes line column code. ⊥;
   start = false;
-  IsRight = λ some_invalid line telling. IsTelling line telling;
+  IsRight = λ some_invalid line telling. IsTelling with_steps line telling;
   after = λ some_invalid line telling. some_invalid || tells_invalid telling;
   text = λ k line telling. telling_text k telling;
   status = verdict_status;
@@ -29,44 +33,73 @@ tell_mode = record {
 abbrev pub most_bytes : ℕ
 most_bytes = 67108864
 
+-- the text that is asked for in place of a telling
+abbrev pub shown_by : Settings → Option (List ℕ)
+shown_by (Tell options) = None
+shown_by Help = Some (codes "usage: tell [--steps] <REPORT\nTells what the lines of a report say, as `itip answer --format json` writes one, in the field's own notation.\n--steps: below each proof its steps\n")
+shown_by Version = Some (codes "tell 1\n")
+
+-- the words ask for this text
+abbrev pub AsksForText : Call → List ℕ → Type 0
+AsksForText r text = option_and_then shown_by (settings_of r.words) ≡ Some text
+
+-- the words ask for a telling
+abbrev pub AsksToTell : Call → Options → Type 0
+AsksToTell r options = settings_of r.words ≡ Some (Tell options)
+
+-- the words have no reading
+abbrev pub HasNone : Call → Type 0
+HasNone r = settings_of r.words ≡ None
+
 -- the source gave these bytes and no more, and they are few enough
 abbrev pub IsReport : Call → List ℕ → Type 0
 IsReport r bytes = IsTaken r (Some most_bytes) bytes
 
--- it gave more
+-- the words ask for a telling, and the source gave more
 abbrev pub IsTooLong : Call → Type 0
-IsTooLong r = GaveMore r.left r.left_after most_bytes
+IsTooLong r = ((options : Options) × AsksToTell r options) × GaveMore r.left r.left_after most_bytes
 
 -- the sink took what is told of each line
 pub record HasTold (r : Call) (status : Status) : Type 0 where
+  pub options : Options
+  pub asked : AsksToTell r options
   pub bytes : List ℕ
   pub out : List ℕ
   pub report : IsReport r bytes
-  pub output : WholeOutput tell_mode bytes out status
+  pub output : WholeOutput (tell_mode options.steps) bytes out status
   pub wrote : Wrote r out
 
 -- of the first lines, each whole
 pub record HasToldFirst (r : Call) : Type 0 where
+  pub options : Options
+  pub asked : AsksToTell r options
   pub bytes : List ℕ
   pub out : List ℕ
   pub report : IsReport r bytes
-  pub output : FirstOutput tell_mode bytes out
+  pub output : FirstOutput (tell_mode options.steps) bytes out
   pub wrote : Wrote r out
 
 -- of the first lines, and a front of what is told of the next one
 pub record HasToldInPart (r : Call) : Type 0 where
+  pub options : Options
+  pub asked : AsksToTell r options
   pub bytes : List ℕ
   pub out : List ℕ
   pub report : IsReport r bytes
-  pub output : OutputInPart tell_mode bytes out
+  pub output : OutputInPart (tell_mode options.steps) bytes out
   pub wrote : Wrote r out
+
+-- the words ask for a text, and the source wasn't read
+pub record IsShowing (r : Call) (text : List ℕ) : Type 0 where
+  pub asked : AsksForText r text
+  pub unread : IsUntouched r
 
 -- By the status. Each case says which calls of source and sink failed, all of its cause and all that the sink took.
 abbrev pub Ends : Call → Status → Type 0
-Ends r Done = IsFaultless r × HasTold r Done
+Ends r Done = IsFaultless r × (HasTold r Done ⊎ ((text : List ℕ) × (IsShowing r text × Wrote r text)))
 Ends r Invalid = IsFaultless r × HasTold r Invalid
-Ends r Usage = ⊥
+Ends r Usage = IsFaultless r × HasNone r × IsUntouched r × Wrote r []
 Ends r Refused = IsFaultless r × IsTooLong r × Wrote r long_line
-Ends r ReadFault = ReadFailed r × Wrote r []
-Ends r WriteFault = WriteFailed r × ((IsTooLong r × WroteFront r long_line) ⊎ HasToldInPart r)
-Ends r Memory = IsFaultless r × (Wrote r [] ⊎ HasToldFirst r)
+Ends r ReadFault = ReadFailed r × ((options : Options) × AsksToTell r options) × Wrote r []
+Ends r WriteFault = WriteFailed r × ((IsTooLong r × WroteFront r long_line) ⊎ (HasToldInPart r ⊎ ((text : List ℕ) × (IsShowing r text × WroteFront r text))))
+Ends r Memory = IsFaultless r × ((((options : Options) × AsksToTell r options) × Wrote r []) ⊎ HasToldFirst r)

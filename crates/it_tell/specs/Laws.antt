@@ -1,5 +1,5 @@
 -- What follows from how a call of `tell` ends and from what may be told.
-use Rattle.std.specs.Prelude.{◌≡◌, ℕ, List, ◌++◌, ◌⊎◌, Some}
+use Rattle.std.specs.Prelude.{◌≡◌, ℕ, List, ◌++◌, ◌⊎◌, Bool, Some}
 use Rattle.it_space.specs.Answers.{AnswerView}
 use Rattle.it_question.specs.Questions.{QuestionView}
 use Rattle.it_report.specs.Meaning.{IsClaimTrue}
@@ -8,17 +8,19 @@ use Rattle.it_cli.specs.Modes.{WholeOutput}
 use Rattle.it_cli.specs.declared.status.Status.{Status}
 use Rattle.it_cli.specs.declared.status.Status.TheVariants.{Done, Invalid}
 use Rattle.it_tell.specs.Tellings.{Answered, IsTelling, Telling}
-use Rattle.it_tell.specs.Ends.{Ends, tell_mode}
+use Rattle.it_tell.specs.declared.settings.Options.{Options}
+use Rattle.it_tell.specs.Ends.{AsksToTell, Ends, tell_mode}
 
--- Where source and sink tell their bytes, a call that is done gave the sink what is told of each line that the source had.
+-- Where the words ask for a telling and source and sink tell their bytes, a call that is done gave the sink what is told of each line that
+-- the source had.
 abbrev pub Headline : Type 0
-Headline = (r : Call) (s : Status) (bytes old new : List ℕ) → Ends r s → (s ≡ Done) ⊎ (s ≡ Invalid) → r.left ≡ Some bytes → r.taken ≡ Some old → r.taken_after ≡ Some new
-    → (out : List ℕ) × (WholeOutput tell_mode bytes out s × (new ≡ old ++ out))
+Headline = (r : Call) (options : Options) (s : Status) (bytes old new : List ℕ) → AsksToTell r options → Ends r s → (s ≡ Done) ⊎ (s ≡ Invalid) → r.left ≡ Some bytes → r.taken ≡ Some old → r.taken_after ≡ Some new
+    → (out : List ℕ) × (WholeOutput (tell_mode options.steps) bytes out s × (new ≡ old ++ out))
 
 -- Something may be told of each line, whatever its bytes.
 abbrev pub EachLineIsTold : Type 0
-EachLineIsTold = (line : List ℕ) → (telling : Telling) × IsTelling line telling
+EachLineIsTold = (with_steps : Bool) (line : List ℕ) → (telling : Telling) × IsTelling with_steps line telling
 
 -- What an answer claims that is told is true.
 abbrev pub ToldAnswersAreTrue : Type 0
-ToldAnswersAreTrue = (line : List ℕ) (q : QuestionView) (answer : AnswerView) (details : List ℕ) → IsTelling line (Answered q answer details) → IsClaimTrue q.body answer
+ToldAnswersAreTrue = (with_steps : Bool) (line : List ℕ) (q : QuestionView) (answer : AnswerView) (details : List ℕ) → IsTelling with_steps line (Answered q answer details) → IsClaimTrue q.body answer

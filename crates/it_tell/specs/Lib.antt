@@ -1,4 +1,5 @@
 pub mod Tellings
+pub mod Settings
 pub mod Ends
 pub mod Steps
 pub mod Laws

@@ -1,7 +1,7 @@
 -- What is told of a line of a report: the verdict's own line where that is invalid, else the first line of its answer and below it, line by
--- line, the answer's rows, its proofs or its point.
+-- line, the answer's rows, its proofs, with their steps where these are asked for, or its point.
 use Rattle.std.specs.Prelude.{◌≡◌, ℕ, List, [], ◌++◌, length, Bool, true, false, ◌⊎◌, Ok, codes, decimal}
-use Rattle.std.specs.List.{zip}
+use Rattle.std.specs.List.{flat_map, zip}
 use Rattle.it_outside.specs.Groups.{Groups}
 use Rattle.it_space.specs.declared.answers.Mark.{Mark}
 use Rattle.it_space.specs.declared.answers.Mark.TheVariants.{Plain, Needed, Unsettled}
@@ -17,6 +17,7 @@ use Rattle.it_certificate.specs.Reports.{ReadsReport}
 use Rattle.it_print.specs.Lines.{auxiliary_names, certificate_text, contained_line, open_line, row_text, undecided_line, values_text}
 use Rattle.it_terms.specs.Tells.{TellsRow}
 use Rattle.it_terms.specs.Proofs.{TellsForm}
+use Rattle.it_terms.specs.ProofSteps.{TellsSteps}
 use Rattle.it_report.specs.Judging.{IsVerdict, judged_forms}
 use Rattle.it_report.specs.LineVerdicts.{LineVerdict, is_invalid, numbered_line, verdict_line}
 use Rattle.it_cli.specs.Right.{question_origins}
@@ -27,9 +28,13 @@ use Rattle.it_cli.specs.Right.{question_origins}
 unfoldable pub indented_line : List ℕ → List ℕ
 indented_line text = codes "  " ++ text ++ codes "\n"
 
--- such a line for each item in order, with a text that tells it
-abbrev pub LineEach : {X : Type 0} → (X → List ℕ → Type 0) → List X → List ℕ → Type 0
-LineEach {X} tells items out = Groups (λ (s : Unit {0}) (x : X) (text : List ℕ). tells x text) (λ (s : Unit {0}) (x : X) (text : List ℕ). s) (λ (k : ℕ) (x : X) (text : List ℕ). indented_line text) 1 tt items tt out
+-- a text as a line below that of a proof
+unfoldable pub step_line : List ℕ → List ℕ
+step_line text = codes "    " ++ text ++ codes "\n"
+
+-- of each item in order what tells it, as it is shown
+abbrev pub Each : {X A : Type 0} → (A → List ℕ) → (X → A → Type 0) → List X → List ℕ → Type 0
+Each {X} {A} shown tells items out = Groups (λ (s : Unit {0}) (x : X) (a : A). tells x a) (λ (s : Unit {0}) (x : X) (a : A). s) (λ (k : ℕ) (x : X) (a : A). shown a) 1 tt items tt out
 
 -- a row in the question's own terms, or as reports have it and said to be that
 unfoldable pub IsRowText : NamesView → Terms → List ℕ → Type 0
@@ -50,14 +55,27 @@ unfoldable pub IsProofText : BodyView → Form × CertificateView → List ℕ �
 IsProofText q proof text = TellsForm q proof.0 text
     ⊎ (text ≡ codes "as weights " ++ certificate_text (problem_names q).variables (question_origins q) proof.1)
 
+-- the text of a proof, and those of its steps
+pub record ProofTexts : Type 0 where
+  pub proof : List ℕ
+  pub steps : List (List ℕ)
+
+-- these as lines
+unfoldable pub proof_lines : ProofTexts → List ℕ
+proof_lines t = indented_line t.proof ++ flat_map step_line t.steps
+
+-- texts of a proof: without steps, or with them where they are asked for
+unfoldable pub AreProofTexts : BodyView → Bool → Form × CertificateView → ProofTexts → Type 0
+AreProofTexts q with_steps proof t = IsProofText q proof t.proof × ((t.steps ≡ []) ⊎ ((with_steps ≡ true) × TellsSteps (problem_names q) t.proof t.steps))
+
 -- the lines below the first one: of the proofs of what the answer says, of its rows, or of its point
-unfoldable pub AreDetails : BodyView → AnswerView → List ℕ → Type 0
-AreDetails q (Yes proofs) out = LineEach (IsProofText q) (zip (judged_forms q (Yes proofs)) proofs) out
-AreDetails q (No back values) out = out ≡ indented_line (codes "as point " ++ values_text (problem_names q) values)
-AreDetails q (Undecided cause) out = out ≡ []
-AreDetails q (Region rows) out = LineEach (IsMarkedRowText (problem_names q)) rows out
-AreDetails q (Contained parts proofs) out = LineEach (IsProofText q) (zip (judged_forms q (Contained parts proofs)) proofs) out
-AreDetails q (Open tried) out = out ≡ []
+unfoldable pub AreDetails : BodyView → Bool → AnswerView → List ℕ → Type 0
+AreDetails q with_steps (Yes proofs) out = Each proof_lines (AreProofTexts q with_steps) (zip (judged_forms q (Yes proofs)) proofs) out
+AreDetails q with_steps (No back values) out = out ≡ indented_line (codes "as point " ++ values_text (problem_names q) values)
+AreDetails q with_steps (Undecided cause) out = out ≡ []
+AreDetails q with_steps (Region rows) out = Each indented_line (IsMarkedRowText (problem_names q)) rows out
+AreDetails q with_steps (Contained parts proofs) out = Each proof_lines (AreProofTexts q with_steps) (zip (judged_forms q (Contained parts proofs)) proofs) out
+AreDetails q with_steps (Open tried) out = out ≡ []
 
 -- ---- the first line
 
@@ -84,10 +102,10 @@ pub record IsAccepted (line : List ℕ) (q : QuestionView) (answer : AnswerView)
   pub accepted : is_invalid verdict ≡ false
   pub reads : ReadsReport line (Ok (q, answer))
 
--- this may be told of the line
-abbrev pub IsTelling : List ℕ → Telling → Type 0
-IsTelling line (Invalid v) = IsVerdict line v × (is_invalid v ≡ true)
-IsTelling line (Answered q answer details) = IsAccepted line q answer × AreDetails q.body answer details
+-- this may be told of the line, where steps of proofs are asked for or not
+abbrev pub IsTelling : Bool → List ℕ → Telling → Type 0
+IsTelling with_steps line (Invalid v) = IsVerdict line v × (is_invalid v ≡ true)
+IsTelling with_steps line (Answered q answer details) = IsAccepted line q answer × AreDetails q.body with_steps answer details
 
 -- whether it is told to be invalid
 abbrev pub tells_invalid : Telling → Bool

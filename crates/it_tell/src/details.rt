@@ -1,26 +1,31 @@
 //! The lines below the first one of an answer: rows, proofs and points.
-ghost use Rattle.std.specs.Prelude.{◌≡◌, ◌≤◌, ◌<◌, ◌+◌, ◌^◌, ◌++◌, length, map, codes, All, IfOk, IfSome, OnOk};
+ghost use Rattle.std.specs.Prelude.{◌≡◌, ◌≤◌, ◌<◌, ◌+◌, ◌^◌, ◌++◌, ◌⊎◌, [], true, length, map, codes, All, IfOk, OnOk};
+ghost use Rattle.std.specs.List.{flat_map};
 ghost use Rattle.it_space.specs.Answers.{answer_view, certificate_view};
-ghost use Rattle.it_space.specs.Answers.AnswerView.{Contained};
+ghost use Rattle.it_space.specs.Answers.AnswerView.{Contained, Yes};
 ghost use Rattle.it_space.specs.Rows.{value};
 ghost use Rattle.it_space.specs.declared.problems.Kind.TheVariants.{Inequality};
 ghost use Rattle.it_polymatroid.specs.Elementals.{elementals};
 ghost use Rattle.it_question.specs.Limits.{IsQuestion};
-ghost use Rattle.it_question.specs.Questions.{question_body};
+ghost use Rattle.it_syntax.specs.Meaning.{relation_view};
+ghost use Rattle.it_question.specs.Questions.{Prove, question_body};
 ghost use Rattle.it_question.specs.Tables.{problem_names};
 ghost use Rattle.it_canon.specs.QuestionDemands.{variables_of};
 ghost use Rattle.it_certificate.specs.AnswerShapes.{HasQuestionShape};
 ghost use Rattle.it_print.specs.Lines.{AreListed, IsPrintable, IsRowOver, certificate_text, origins_of, row_text, values_text};
+ghost use Rattle.it_report.specs.Steps.{IsAboutRelation};
 ghost use Rattle.it_cli.specs.Right.{question_origins};
-ghost use Rattle.it_tell.specs.Tellings.{IsMarkedRowText, IsProofText, IsRowText, indented_line, mark_comment};
-ghost use Rattle.it_tell.specs.Steps.{AppendsDetails, AppendsEach, AppendsProofs, AppendsRowProofs, AreFormRows, IsProofTextAt, TellsProofAt};
+ghost use Rattle.it_terms.specs.ProofSteps.{TellsSteps};
+ghost use Rattle.it_tell.specs.Tellings.{IsMarkedRowText, IsProofText, IsRowText, indented_line, mark_comment, step_line};
+ghost use Rattle.it_tell.specs.Steps.{AppendsDetails, AppendsEach, AppendsProof, AppendsProofs, AreFormRows};
 
-use it_canon::problem_names;
+use it_canon::{problem_names, target_rows};
 use it_print::{row_text, sum_text, values_text, write_signed};
 use it_question::types::{Question, Verb};
 use it_region::{candidate, obligations, pair};
 use it_space::{Answer, Certificate, Constraint, Kind, Mark, Point, Row, VarSet};
-use it_terms::{told_form, told_proof, told_row};
+use it_syntax::types::Relation;
+use it_terms::{told_form, told_row, told_steps};
 use std::alloc::{AllocError, Global};
 
 /// Appends a text as a line below the first one.
@@ -90,7 +95,7 @@ fn write_rows(
 ) -> Result<(), AllocError>
     requires question { IsQuestion (question_body question.now) }
     requires over { All (λ row. IsRowOver (problem_names (question_body question.now)) row.1) rows.now }
-    ensures { OnOk result (AppendsEach (IsMarkedRowText (problem_names (question_body question.now))) rows.now out.old.items out.new.items) }
+    ensures { OnOk result (AppendsEach indented_line (IsMarkedRowText (problem_names (question_body question.now))) rows.now out.old.items out.new.items) }
 {
     for row in rows {
         let text = marked_row(alloc, question, row)?;
@@ -120,62 +125,32 @@ fn weights_text(
     Ok(out)
 }
 
-/// The proof at a place of an answer in the question's own terms, where one is found.
-fn own_proof(
-    alloc: Global,
-    question: &Question,
-    place: usize,
-    certificate: &Certificate,
-) -> Result<Option<Vec<u8>>, AllocError>
-    requires { IsQuestion (question_body question.now) }
-    ensures { IfOk result (λ o. IfSome o (λ t. TellsProofAt (question_body question.now) place t.items)) }
+/// The relation of a question that is about one.
+fn relation_of(question: &Question) -> &Relation
+    requires { IsAboutRelation (question_body question.now).verb }
+    ensures { (question_body question.now).verb ≡ Prove (relation_view result.now) }
 {
-    match &question.verb {
-        Verb::Prove(_) => told_proof(alloc, question, place, certificate),
-        Verb::Eliminate(_) | Verb::Contain { .. } => Ok(None),
-    }
+    let Verb::Prove(relation) = &question.verb else {
+        unreachable!()
+    };
+    relation
 }
 
-/// The proof at a place of an answer in the question's own terms, or its weights.
-#[tactic(auto, unfolding(crate::specs::Tellings::IsProofText, crate::specs::Steps::IsProofTextAt, crate::specs::Steps::TellsProofAt))]
-fn any_proof(
+/// The rows of the targets of the relation that a question asks for.
+fn relation_rows(
     alloc: Global,
     question: &Question,
-    constraints: &[Constraint],
-    place: usize,
-    certificate: &Certificate,
-) -> Result<Vec<u8>, AllocError>
-    requires question { IsQuestion (question_body question.now) }
-    requires some { 1 ≤ variables_of (question_body question.now) }
-    requires origins { origins_of constraints.now ≡ question_origins (question_body question.now) }
-    requires there { All (λ w. w.0 < length (elementals (variables_of (question_body question.now))) + length constraints.now) certificate.now.weights.items }
-    ensures { IfOk result (λ t. IsProofTextAt (question_body question.now) place (certificate_view certificate.now) t.items) }
-{
-    match own_proof(alloc, question, place, certificate)? {
-        Some(text) => Ok(text),
-        None => weights_text(alloc, question, constraints, certificate),
-    }
-}
-
-/// Appends a line for each proof.
-fn write_proofs(
-    alloc: Global,
-    out: &mut Vec<u8>,
-    question: &Question,
-    constraints: &[Constraint],
     proofs: &[Certificate],
-) -> Result<(), AllocError>
+) -> Result<Vec<Row>, AllocError>
     requires question { IsQuestion (question_body question.now) }
-    requires some { 1 ≤ variables_of (question_body question.now) }
-    requires origins { origins_of constraints.now ≡ question_origins (question_body question.now) }
-    requires there { AreListed (variables_of (question_body question.now)) (length constraints.now) proofs.now }
-    ensures { OnOk result (AppendsProofs (question_body question.now) (map certificate_view proofs.now) out.old.items out.new.items) }
+    requires fits { HasQuestionShape (question_body question.now) (Yes (map certificate_view proofs.now)) }
+    ensures { IfOk result (λ rows. AreFormRows (question_body question.now) (Yes (map certificate_view proofs.now)) rows.items) }
 {
-    for (i, certificate) in proofs.iter().enumerate() {
-        let text = any_proof(alloc, question, constraints, i, certificate)?;
-        write_indented(out, text.as_slice())?;
-    }
-    Ok(())
+    // the proofs are named in the clauses alone
+    let _proofs = proofs;
+    let relation = relation_of(question);
+    let rows = target_rows(alloc, relation, question.names.space())?;
+    Ok(rows)
 }
 
 /// The rows of what a containment's parts oblige to, in order.
@@ -217,11 +192,73 @@ fn row_proof(
     }
 }
 
-/// Appends a line for each proof of a row, in order.
-fn write_row_proofs(
+/// The steps of a proof, where they are asked for and found.
+fn steps_of(
+    alloc: Global,
+    question: &Question,
+    with_steps: bool,
+    proof: &[u8],
+) -> Result<Vec<Vec<u8>>, AllocError>
+    requires { IsQuestion (question_body question.now) }
+    ensures { IfOk result (λ steps. (map (λ s. s.items) steps.items ≡ []) ⊎ ((with_steps ≡ true) × TellsSteps (problem_names (question_body question.now)) proof.now (map (λ s. s.items) steps.items))) }
+{
+    if !with_steps {
+        return Ok(Vec::new(alloc));
+    }
+    match told_steps(alloc, question, proof)? {
+        Some(steps) => Ok(steps),
+        None => Ok(Vec::new(alloc)),
+    }
+}
+
+/// Appends a text as a line below that of a proof.
+#[tactic(auto, unfolding(crate::specs::Tellings::step_line))]
+fn write_step(out: &mut Vec<u8>, text: &[u8]) -> Result<(), AllocError>
+    ensures { OnOk result (out.new.items ≡ out.old.items ++ step_line text.now) }
+{
+    out.extend_from_slice(b"    ")?;
+    out.extend_from_slice(text)?;
+    out.extend_from_slice(b"\n")
+}
+
+/// Appends a line for each step.
+fn write_steps(out: &mut Vec<u8>, steps: &[Vec<u8>]) -> Result<(), AllocError>
+    ensures { OnOk result (out.new.items ≡ out.old.items ++ flat_map step_line (map (λ s. s.items) steps.now)) }
+{
+    for step in steps {
+        write_step(out, step.as_slice())?;
+    }
+    Ok(())
+}
+
+/// Appends the lines of the proof of a row.
+fn write_proof(
     alloc: Global,
     out: &mut Vec<u8>,
     question: &Question,
+    with_steps: bool,
+    constraints: &[Constraint],
+    row: &Row,
+    certificate: &Certificate,
+) -> Result<(), AllocError>
+    requires question { IsQuestion (question_body question.now) }
+    requires some { 1 ≤ variables_of (question_body question.now) }
+    requires origins { origins_of constraints.now ≡ question_origins (question_body question.now) }
+    requires there { All (λ w. w.0 < length (elementals (variables_of (question_body question.now))) + length constraints.now) certificate.now.weights.items }
+    ensures { OnOk result (AppendsProof (question_body question.now) with_steps (value row.now, certificate_view certificate.now) out.old.items out.new.items) }
+{
+    let text = row_proof(alloc, question, constraints, row, certificate)?;
+    let steps = steps_of(alloc, question, with_steps, text.as_slice())?;
+    write_indented(out, text.as_slice())?;
+    write_steps(out, steps.as_slice())
+}
+
+/// Appends the lines of each proof of a row, in order.
+fn write_proofs(
+    alloc: Global,
+    out: &mut Vec<u8>,
+    question: &Question,
+    with_steps: bool,
     constraints: &[Constraint],
     rows: &[Row],
     proofs: &[Certificate],
@@ -231,20 +268,57 @@ fn write_row_proofs(
     requires origins { origins_of constraints.now ≡ question_origins (question_body question.now) }
     requires there { AreListed (variables_of (question_body question.now)) (length constraints.now) proofs.now }
     requires as_many { length rows.now ≡ length proofs.now }
-    ensures { OnOk result (AppendsRowProofs (question_body question.now) rows.now (map certificate_view proofs.now) out.old.items out.new.items) }
+    ensures { OnOk result (AppendsProofs (question_body question.now) with_steps rows.now (map certificate_view proofs.now) out.old.items out.new.items) }
 {
     for (i, certificate) in proofs.iter().enumerate() {
-        let text = row_proof(alloc, question, constraints, &rows[i], certificate)?;
-        write_indented(out, text.as_slice())?;
+        let row = &rows[i];
+        write_proof(
+            alloc,
+            out,
+            question,
+            with_steps,
+            constraints,
+            row,
+            certificate,
+        )?;
     }
     Ok(())
 }
 
-/// Appends a line for each obligation of a containment.
+/// Appends the lines of the proofs of a relation.
+fn write_relation_proofs(
+    alloc: Global,
+    out: &mut Vec<u8>,
+    question: &Question,
+    with_steps: bool,
+    constraints: &[Constraint],
+    proofs: &[Certificate],
+) -> Result<(), AllocError>
+    requires question { IsQuestion (question_body question.now) }
+    requires some { 1 ≤ variables_of (question_body question.now) }
+    requires origins { origins_of constraints.now ≡ question_origins (question_body question.now) }
+    requires there { AreListed (variables_of (question_body question.now)) (length constraints.now) proofs.now }
+    requires fits { HasQuestionShape (question_body question.now) (Yes (map certificate_view proofs.now)) }
+    ensures { OnOk result (AppendsDetails (question_body question.now) with_steps (Yes (map certificate_view proofs.now)) out.old.items out.new.items) }
+{
+    let rows = relation_rows(alloc, question, proofs)?;
+    write_proofs(
+        alloc,
+        out,
+        question,
+        with_steps,
+        constraints,
+        rows.as_slice(),
+        proofs,
+    )
+}
+
+/// Appends the lines of the proofs of a containment's obligations.
 fn write_obligations(
     alloc: Global,
     out: &mut Vec<u8>,
     question: &Question,
+    with_steps: bool,
     constraints: &[Constraint],
     parts: &[VarSet],
     proofs: &[Certificate],
@@ -254,10 +328,18 @@ fn write_obligations(
     requires origins { origins_of constraints.now ≡ question_origins (question_body question.now) }
     requires there { AreListed (variables_of (question_body question.now)) (length constraints.now) proofs.now }
     requires fits { HasQuestionShape (question_body question.now) (Contained parts.now (map certificate_view proofs.now)) }
-    ensures { OnOk result (AppendsDetails (question_body question.now) (Contained parts.now (map certificate_view proofs.now)) out.old.items out.new.items) }
+    ensures { OnOk result (AppendsDetails (question_body question.now) with_steps (Contained parts.now (map certificate_view proofs.now)) out.old.items out.new.items) }
 {
     let rows = obligation_rows(alloc, question, parts, proofs)?;
-    write_row_proofs(alloc, out, question, constraints, rows.as_slice(), proofs)
+    write_proofs(
+        alloc,
+        out,
+        question,
+        with_steps,
+        constraints,
+        rows.as_slice(),
+        proofs,
+    )
 }
 
 /// Appends the line of a point.
@@ -278,12 +360,13 @@ fn write_point(
     write_indented(out, text.as_slice())
 }
 
-/// Appends the lines below the first one of an answer.
+/// Appends the lines below the first one of an answer: those of proofs with steps where they are asked for.
 #[tactic(auto, unfolding(crate::specs::Tellings::AreDetails))]
 pub fn write_details(
     alloc: Global,
     out: &mut Vec<u8>,
     question: &Question,
+    with_steps: bool,
     constraints: &[Constraint],
     answer: &Answer,
 ) -> Result<(), AllocError>
@@ -292,10 +375,17 @@ pub fn write_details(
     requires origins { origins_of constraints.now ≡ question_origins (question_body question.now) }
     requires fits { HasQuestionShape (question_body question.now) (answer_view answer.now) }
     requires printable { IsPrintable (question_body question.now) (length constraints.now) answer.now }
-    ensures { OnOk result (AppendsDetails (question_body question.now) (answer_view answer.now) out.old.items out.new.items) }
+    ensures { OnOk result (AppendsDetails (question_body question.now) with_steps (answer_view answer.now) out.old.items out.new.items) }
 {
     match answer {
-        Answer::Yes(proofs) => write_proofs(alloc, out, question, constraints, proofs.as_slice()),
+        Answer::Yes(proofs) => write_relation_proofs(
+            alloc,
+            out,
+            question,
+            with_steps,
+            constraints,
+            proofs.as_slice(),
+        ),
         Answer::No { point, .. } => write_point(alloc, out, question, point),
         Answer::Undecided(_) => Ok(()),
         Answer::Region(rows) => write_rows(alloc, out, question, rows.as_slice()),
@@ -303,6 +393,7 @@ pub fn write_details(
             alloc,
             out,
             question,
+            with_steps,
             constraints,
             parts.as_slice(),
             proofs.as_slice(),

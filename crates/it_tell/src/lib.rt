@@ -6,6 +6,7 @@ mod heads;
 pub mod laws;
 mod lines;
 mod reports;
+pub mod settings;
 mod top;
 
 pub use top::tell;

@@ -28,6 +28,7 @@ pub struct ToldLine {
 #[tactic(auto, unfolding(crate::specs::Steps::IsAnsweredText, crate::specs::Steps::AppendsDetails))]
 fn answered_text(
     alloc: Global,
+    with_steps: bool,
     k: usize,
     question: &Question,
     answer: &Answer,
@@ -35,19 +36,24 @@ fn answered_text(
     requires question { IsQuestion (question_body question.now) }
     requires fits { HasQuestionShape (question_body question.now) (answer_view answer.now) }
     requires printable { IsPrintable (question_body question.now) (length (question_demands (question_body question.now))) answer.now }
-    ensures { IfOk result (λ t. IsAnsweredText k (question_body question.now) (answer_view answer.now) t.items) }
+    ensures { IfOk result (λ t. IsAnsweredText with_steps k (question_body question.now) (answer_view answer.now) t.items) }
 {
     let problem = problem(alloc, question)?;
     let constraints = problem.constraints.as_slice();
     let mut text = head_line(alloc, k, question, constraints, answer)?;
-    write_details(alloc, &mut text, question, constraints, answer)?;
+    write_details(alloc, &mut text, question, with_steps, constraints, answer)?;
     Ok(text)
 }
 
 /// What is told of line k of a report; lines are counted from 1, and `line` comes without its end. It is read twice, to be judged and
 /// to be told.
-pub fn tell_line(alloc: Global, k: usize, line: &[u8]) -> Result<ToldLine, AllocError>
-    ensures { IfOk result (λ t. IsToldLine k line.now t.text.items t.invalid) }
+pub fn tell_line(
+    alloc: Global,
+    with_steps: bool,
+    k: usize,
+    line: &[u8],
+) -> Result<ToldLine, AllocError>
+    ensures { IfOk result (λ t. IsToldLine with_steps k line.now t.text.items t.invalid) }
 {
     let judged = judge(alloc, k, line)?;
     if judged.invalid {
@@ -62,7 +68,7 @@ pub fn tell_line(alloc: Global, k: usize, line: &[u8]) -> Result<ToldLine, Alloc
         Err(ReportFault::NotJson) => unreachable!(),
         Err(ReportFault::Shape { .. }) => unreachable!(),
     };
-    let text = answered_text(alloc, k, &reported.question, &reported.answer)?;
+    let text = answered_text(alloc, with_steps, k, &reported.question, &reported.answer)?;
     Ok(ToldLine {
         text,
         invalid: false,

@@ -1,11 +1,13 @@
 //! The top call of the program `tell`.
-ghost use Rattle.std.specs.Prelude.{[]};
+ghost use Rattle.std.specs.Prelude.{◌≡◌, ℕ, List, [], Some, map};
 ghost use Rattle.it_cli.specs.Ends.{call_of};
 ghost use Rattle.it_cli.specs.InnerEnds.{EndOfLine};
-ghost use Rattle.it_cli.specs.Refusals.{long_line};
+ghost use Rattle.it_tell.specs.declared.settings.Settings.TheVariants.{Tell};
+ghost use Rattle.it_tell.specs.Settings.{settings_of};
 ghost use Rattle.it_tell.specs.Ends.{Ends};
 
 use crate::reports::tell_report;
+use crate::settings::{Options, Settings, settings_of};
 use it_cli::Status;
 use it_outside::{InFault, Sink, Source, read_all, write_all};
 use std::alloc::Global;
@@ -16,25 +18,55 @@ const MOST: usize = 67108864;
 /// The line of a report of more bytes.
 const LONG: &[u8] = b"refused long\n";
 
-/// All that the program does: reads a report, as `itip answer --format json` writes it, and writes what is told of each of its lines. The
-/// report is read whole before the first line of output. The lines about one line are written by one write, in order.
-pub fn tell<S: Source, K: Sink>(alloc: Global, source: &mut S, sink: &mut K) -> Status
-    ensures { Ends (call_of S.left S.faults K.taken K.faults [] [] source.old source.new sink.old sink.new) result }
+/// What `--help` asks for.
+const HELP: &[u8] =
+    b"usage: tell [--steps] <REPORT\nTells what the lines of a report say, as `itip answer --format json` writes one, in the field's own notation.\n--steps: below each proof its steps\n";
+
+/// What `--version` asks for.
+const VERSION: &[u8] = b"tell 1\n";
+
+/// All that the program does: `words` are those of the command line after the program's name. It reads a report, as `itip answer --format
+/// json` writes it, and writes what is told of each of its lines. The report is read whole before the first line of output. The lines
+/// about one line are written by one write, in order. Of words without a reading nothing is written.
+pub fn tell<S: Source, K: Sink>(
+    alloc: Global,
+    words: &[&str],
+    source: &mut S,
+    sink: &mut K,
+) -> Status
+    ensures { Ends (call_of S.left S.faults K.taken K.faults (map (λ w. w.now) words.now) [] source.old source.new sink.old sink.new) result }
+{
+    match settings_of(words) {
+        Some(Settings::Tell(options)) => tell_source(alloc, options, source, sink),
+        Some(Settings::Help) => write_last(sink, HELP, Status::Done),
+        Some(Settings::Version) => write_last(sink, VERSION, Status::Done),
+        None => Status::Usage,
+    }
+}
+
+/// What is done for words that ask for a telling.
+fn tell_source<S: Source, K: Sink>(
+    alloc: Global,
+    options: Options,
+    source: &mut S,
+    sink: &mut K,
+) -> Status
+    ensures { (words : List (List ℕ)) → settings_of words ≡ Some (Tell options) → Ends (call_of S.left S.faults K.taken K.faults words [] source.old source.new sink.old sink.new) result }
 {
     match read_all(alloc, source, MOST) {
-        Ok(bytes) => tell_report(alloc, bytes.as_slice(), sink),
+        Ok(bytes) => tell_report(alloc, options.steps, bytes.as_slice(), sink),
         Err(InFault::ReadFault) => Status::ReadFault,
-        Err(InFault::TooLong) => refuse_long(sink),
+        Err(InFault::TooLong) => write_last(sink, LONG, Status::Refused),
         Err(InFault::Memory) => Status::Memory,
     }
 }
 
-/// Writes that the report is too long.
-fn refuse_long<K: Sink>(sink: &mut K) -> Status
-    ensures { EndOfLine (K.taken sink.old) (K.taken sink.new) (K.faults sink.old) (K.faults sink.new) long_line Status.Refused result }
+/// Writes a text. The call then ends with the status, or with `WriteFault` where the write failed.
+fn write_last<K: Sink>(sink: &mut K, text: &[u8], status: Status) -> Status
+    ensures { EndOfLine (K.taken sink.old) (K.taken sink.new) (K.faults sink.old) (K.faults sink.new) text.now status result }
 {
-    match write_all(sink, LONG) {
-        Ok(()) => Status::Refused,
+    match write_all(sink, text) {
+        Ok(()) => status,
         Err(_) => Status::WriteFault,
     }
 }

@@ -3,7 +3,8 @@ pub mod JudgedTexts
 pub mod SumLemmas
 pub mod EquationLemmas
 pub mod SameProofs
-pub mod TargetLemmas
+pub mod NameLemmas
 pub mod ToldProofs
+pub mod StepLemmas
 pub mod PointLemmas
 pub mod FactTexts

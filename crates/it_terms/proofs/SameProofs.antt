@@ -59,9 +59,6 @@ stated_are_same s ds cs a =
       forms = λ i h. (agreeing_at s ds cs i (subst (λ (m : ℕ). i < m) counted h) a).1;
     }
 
-pub same_alone : (g : Generators) → AreSameConstraints g g
-same_alone g = record { count = refl; kinds = λ i h. refl; forms = λ i h p z. refl }
-
 -- a text that tells a proof from a problem's constraints tells it from the question's lines
 pub told_by_lines : {X : Type 0} (items : X → List ℕ) (q : BodyView) (v : NamesView) (target : Form) (s : Space) (cs : List Constraint) (o : Option X) → v ≡ problem_names q
     → AreStated s (question_demands q) cs → IfSome o (λ x. TellsProof v target (forms_of (map of_constraint cs)) (items x)) → IfSome o (λ x. TellsForm q target (items x))

@@ -1,5 +1,6 @@
 pub mod Tells
 pub mod Proofs
+pub mod ProofSteps
 pub mod Sums
 pub mod Points
 pub mod Settling

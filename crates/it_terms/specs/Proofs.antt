@@ -1,6 +1,6 @@
 -- Texts that tell a proof: an equation between a multiple of the target and a sum of terms that are never negative and of
 -- multiples of constraints (Yeung 1997, "A Framework for Linear Information Inequalities").
-use Rattle.std.specs.Prelude.{◌≡◌, ◌<◌, ◌^◌, ℕ, ℤ, pos, ◌*ℤ◌, ◌≤ℤ◌, false, List, ◌++◌, length, map, get_or, All, Some, slice_get}
+use Rattle.std.specs.Prelude.{◌≡◌, ◌<◌, ◌^◌, ℕ, ℤ, pos, ◌*ℤ◌, ◌≤ℤ◌, false, List, ◌++◌, length, map, get_or, All}
 use Rattle.it_polymatroid.specs.Certificates.{Form, Generators, IsAllowed, combination}
 use Rattle.it_elemental.specs.Generators.{is_equation}
 use Rattle.it_syntax.specs.declared.types.Atom.{Atom}
@@ -10,10 +10,9 @@ use Rattle.it_syntax.specs.declared.types.Term.{Term}
 use Rattle.it_syntax.specs.Meaning.{RelationView, multiple_of, side_at}
 use Rattle.it_syntax.specs.NamesViews.{NamesView}
 use Rattle.it_demand.specs.Demands.{Demand, LineDemand, equation}
-use Rattle.it_demand.specs.Targets.{targets}
-use Rattle.it_question.specs.Questions.{BodyView, Prove}
+use Rattle.it_question.specs.Questions.{BodyView}
 use Rattle.it_question.specs.Tables.{problem_names}
-use Rattle.it_canon.specs.QuestionDemands.{AreTrueTogether, question_demands, variables_of}
+use Rattle.it_canon.specs.QuestionDemands.{AreTrueTogether, question_demands}
 use Rattle.it_terms.specs.Tells.{IsRelationText}
 
 -- H(A|C) or I(A;B|C) of sets of n variables, or nothing
@@ -80,14 +79,6 @@ constraints_of ds = record {
 -- the text tells a proof of this form from the lines of a question, under the names of its problem
 abbrev pub TellsForm : BodyView → Form → List ℕ → Type 0
 TellsForm q target text = TellsProof (problem_names q) target (constraints_of (question_demands q)) text
-
--- the text tells a proof of the target at this place of the relation that the question asks for
-pub record TellsTarget (q : BodyView) (place : ℕ) (text : List ℕ) : Type 0 where
-  pub relation : RelationView
-  pub asks : q.verb ≡ Prove relation
-  pub target : Form
-  pub at : slice_get (targets (variables_of q) relation) place ≡ Some target
-  pub tells : TellsForm q target text
 
 -- What is told so proves: the target is at least 0 wherever a polymatroid and rates make the question's lines true.
 abbrev pub ToldProves : Type 0

@@ -18,14 +18,15 @@ mod proving;
 mod reading;
 mod settling;
 mod shortest;
+mod steps;
 mod sums;
 mod telling;
 mod untold;
 mod writing;
 
 pub use facts::Fact;
-pub use judging::tells;
 pub use laws::{texts_move, told_proves};
 pub use points::told_point;
-pub use proving::{told_form, told_proof};
+pub use proving::told_form;
+pub use steps::told_steps;
 pub use telling::told_row;

@@ -5,12 +5,13 @@ ghost use Rattle.it_polymatroid.specs.Elementals.{elementals};
 ghost use Rattle.it_elemental.specs.Generators.{forms_of, of_constraint};
 ghost use Rattle.it_question.specs.Limits.{IsQuestion};
 ghost use Rattle.it_question.specs.Questions.{question_body};
-ghost use Rattle.it_terms.specs.Proofs.{TellsForm, TellsProof, TellsTarget};
+ghost use Rattle.it_terms.specs.Proofs.{TellsForm, TellsProof};
 
 use crate::constraints::{put_constraint, put_relation, put_terms};
 use crate::drafts::row_terms;
 use crate::finding::{joint_sum, own_sum, product, turned};
 use crate::joining::{add_term, joined_terms};
+use crate::judging::is_same;
 use crate::measures::{Measure, measures};
 use crate::proof_judging::{Proposal, tells_proof};
 use crate::telling::names_of;
@@ -313,6 +314,35 @@ fn relation_goal(alloc: Global, relation: &Relation, target: usize) -> Result<Go
     Ok(Goal { terms, factor: 1 })
 }
 
+/// The place of a row among others.
+fn place_of(rows: &[Row], row: &Row) -> Option<usize> {
+    for (i, other) in rows.iter().enumerate() {
+        if is_same(other, row) {
+            return Some(i);
+        }
+    }
+    None
+}
+
+/// A row as a goal: in the own terms of the relation that the question asks for, where it is the row of one of its targets.
+fn goal_of(
+    alloc: Global,
+    question: &Question,
+    measures: &[Measure],
+    names: &Names,
+    row: &Row,
+) -> Result<Goal, Untold>
+    requires { IsQuestion (question_body question.now) }
+{
+    if let Verb::Prove(relation) = &question.verb {
+        let targets = target_rows(alloc, relation, question.names.space())?;
+        if let Some(place) = place_of(targets.as_slice(), row) {
+            return relation_goal(alloc, relation, place);
+        }
+    }
+    row_goal(alloc, measures, names, row)
+}
+
 /// The text of the proof of a row from the lines of a question, by a certificate: an equation between a multiple of the row
 /// and a sum of terms over sets and of multiples of the question's constraints; None where none was found.
 pub fn told_form(
@@ -326,7 +356,7 @@ pub fn told_form(
 {
     let names = names_of(question);
     let measures = measures(alloc, question.text.as_slice(), names)?;
-    let goal = row_goal(alloc, measures.as_slice(), names, target);
+    let goal = goal_of(alloc, question, measures.as_slice(), names, target);
     form_text(
         alloc,
         question,
@@ -335,51 +365,4 @@ pub fn told_form(
         goal,
         certificate,
     )
-}
-
-/// The same of a target of the relation that the question asks for.
-fn target_text(
-    alloc: Global,
-    question: &Question,
-    relation: &Relation,
-    target: usize,
-    row: &Row,
-    certificate: &Certificate,
-) -> Result<Option<Vec<u8>>, AllocError>
-    requires { IsQuestion (question_body question.now) }
-    ensures { IfOk result (λ o. IfSome o (λ text. TellsForm (question_body question.now) (value row.now) text.items)) }
-{
-    let names = names_of(question);
-    let measures = measures(alloc, question.text.as_slice(), names)?;
-    let goal = relation_goal(alloc, relation, target);
-    form_text(alloc, question, measures.as_slice(), row, goal, certificate)
-}
-
-/// The text of the proof of one target of the relation that a question asks for, by its place: 0, and 1 for the second half
-/// of an equation; None where none was found.
-pub fn told_proof(
-    alloc: Global,
-    question: &Question,
-    target: usize,
-    certificate: &Certificate,
-) -> Result<Option<Vec<u8>>, AllocError>
-    requires { IsQuestion (question_body question.now) }
-    ensures { IfOk result (λ o. IfSome o (λ text. TellsTarget (question_body question.now) target text.items)) }
-{
-    let Verb::Prove(relation) = &question.verb else {
-        return Ok(None);
-    };
-    let rows = target_rows(alloc, relation, question.names.space())?;
-    if target >= rows.len() {
-        return Ok(None);
-    }
-    let text = target_text(
-        alloc,
-        question,
-        relation,
-        target,
-        &rows[target],
-        certificate,
-    )?;
-    Ok(text)
 }

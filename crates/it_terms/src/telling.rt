@@ -18,7 +18,7 @@ use it_syntax::Names;
 use std::alloc::{AllocError, Global};
 
 /// The names of a question's problem, of which some are variables.
-#[tactic(auto, using(crate::proofs::TargetLemmas::some_variables))]
+#[tactic(auto, using(crate::proofs::NameLemmas::some_variables))]
 pub fn names_of(question: &Question) -> &Names
     requires { IsQuestion (question_body question.now) }
     ensures names { result.now ≡ problem_names (question_body question.now) }

@@ -1,20 +1,35 @@
-//! The program: hands the standard input and the standard output to the top call. It takes no words.
+//! The program: hands the words, the standard input and the standard output to the top call.
 #![tactic(auto)]
 
 use it_cli::Status;
 use it_outside::{StdSink, StdSource};
 use it_tell::tell;
-use std::env;
 use std::process::ExitCode;
+use std::{env, io};
+
+/// The words have no reading as text.
+const UNREADABLE_WORDS: u8 = 7;
 
 fn main(rt: HostRuntime) -> ExitCode {
-    let Ok(words) = env::args(&rt) else {
+    let alloc = rt.alloc();
+    let arguments = match env::args(&rt) {
+        Ok(arguments) => arguments,
+        Err(error) if error.kind() == io::ErrorKind::OutOfMemory => {
+            return ExitCode::from(Status::Memory.code());
+        }
+        Err(_) => return ExitCode::from(UNREADABLE_WORDS),
+    };
+    let Ok(words) = arguments.skip(1).collect::<Vec<String>>(alloc) else {
         return ExitCode::from(Status::Memory.code());
     };
-    if words.count() > 1 {
-        return ExitCode::from(Status::Usage.code());
-    }
+    let Ok(texts) = words
+        .iter()
+        .map(|word| word.as_str())
+        .collect::<Vec<&str>>(alloc)
+    else {
+        return ExitCode::from(Status::Memory.code());
+    };
     let mut source = StdSource::new(rt.stdin());
     let mut sink = StdSink::new(rt.stdout());
-    ExitCode::from(tell(rt.alloc(), &mut source, &mut sink).code())
+    ExitCode::from(tell(alloc, texts.as_slice(), &mut source, &mut sink).code())
 }

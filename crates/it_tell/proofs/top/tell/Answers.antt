@@ -1,21 +1,18 @@
-use Rattle.std.proofs.Common.{[], refl}
+use Rattle.std.proofs.Common.{[], Some, map, refl, sym, ap, ◌∙◌}
 use Rattle.it_outside.proofs.Moved.{Gains-nil}
 use Rattle.it_cli.specs.Ends.{call_of}
-use Rattle.it_tell.proofs.EndLemmas.{end_of_failed_read, end_of_long_report, end_of_memory, end_of_report}
+use Rattle.it_tell.specs.declared.settings.Settings.TheVariants.{Help, Version}
+use Rattle.it_tell.proofs.EndLemmas.{end_of_text, end_of_usage}
 use Rattle.it_tell.proofs.top.tell.Goals as goal
 
-pub returns-in-Ok : goal.returns-in-Ok
-returns-in-Ok g c = end_of_report (call_of g.S.Source.left g.S.Source.faults g.K.Sink.taken g.K.Sink.faults [] [] c.args.source.now c.read_all.new.source c.args.sink.now c.tell_report.new.sink) c.in-Ok.bytes.items c.tell_report.result
-    (c.in-Ok.ensures.stayed (λ e. cc)) (c.in-Ok.ensures.whole, c.in-Ok.ensures.fits) (rw (← c.as_slice.ensures.value) c.tell_report.ensures)
+pub returns-in-Some-Help : goal.returns-in-Some-Help
+returns-in-Some-Help g c = end_of_text (call_of g.S.Source.left g.S.Source.faults g.K.Sink.taken g.K.Sink.faults (map (λ w. w.now) c.args.words.now) [] c.args.source.now c.args.source.now c.args.sink.now c.write_last.new.sink) Help _
+    c.write_last.result (sym c.settings_of.ensures ∙ c.in-Some-Help.is ∙ ap Some c.in-Some-Help.field-0-is) refl (refl, refl) c.write_last.ensures
 
-pub returns-in-Err-ReadFault : goal.returns-in-Err-ReadFault
-returns-in-Err-ReadFault g c = end_of_failed_read (call_of g.S.Source.left g.S.Source.faults g.K.Sink.taken g.K.Sink.faults [] [] c.args.source.now c.read_all.new.source c.args.sink.now c.args.sink.now)
-    (rw c.in-Err-ReadFault.field-0-is at c.in-Err-ReadFault.ensures.read refl, refl) (Gains-nil _)
+pub returns-in-Some-Version : goal.returns-in-Some-Version
+returns-in-Some-Version g c = end_of_text (call_of g.S.Source.left g.S.Source.faults g.K.Sink.taken g.K.Sink.faults (map (λ w. w.now) c.args.words.now) [] c.args.source.now c.args.source.now c.args.sink.now c.write_last-in-Some-Version.new.sink) Version _
+    c.write_last-in-Some-Version.result (sym c.settings_of.ensures ∙ c.in-Some-Version.is ∙ ap Some c.in-Some-Version.field-0-is) refl (refl, refl) c.write_last-in-Some-Version.ensures
 
-pub returns-in-Err-TooLong : goal.returns-in-Err-TooLong
-returns-in-Err-TooLong g c = end_of_long_report (call_of g.S.Source.left g.S.Source.faults g.K.Sink.taken g.K.Sink.faults [] [] c.args.source.now c.read_all.new.source c.args.sink.now c.refuse_long.new.sink) c.refuse_long.result
-    (rw c.in-Err-TooLong.field-0-is at c.in-Err-TooLong.ensures.stayed (λ e. cc)) (rw c.in-Err-TooLong.field-0-is at c.in-Err-TooLong.ensures.long refl) c.refuse_long.ensures
-
-pub returns-in-Err-Memory : goal.returns-in-Err-Memory
-returns-in-Err-Memory g c = end_of_memory (call_of g.S.Source.left g.S.Source.faults g.K.Sink.taken g.K.Sink.faults [] [] c.args.source.now c.read_all.new.source c.args.sink.now c.args.sink.now)
-    (rw c.in-Err-Memory.field-0-is at c.in-Err-Memory.ensures.stayed (λ e. cc), refl) (Gains-nil _)
+pub returns-in-None : goal.returns-in-None
+returns-in-None g c = end_of_usage (call_of g.S.Source.left g.S.Source.faults g.K.Sink.taken g.K.Sink.faults (map (λ w. w.now) c.args.words.now) [] c.args.source.now c.args.source.now c.args.sink.now c.args.sink.now)
+    (sym c.settings_of.ensures ∙ c.in-None.is) (refl, refl) refl (Gains-nil _)

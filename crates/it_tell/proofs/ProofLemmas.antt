@@ -1,0 +1,119 @@
+-- The lines of proofs of rows, which are those of an answer's forms.
+use Rattle.std.proofs.Common.{◌≡◌, ℕ, zero, suc, ◌+◌, ◌<◌, ◌≤◌, pos, ◌*ℤ◌, inl, inr, Bool, List, [], ◌∷◌, map, length, get_or, sym, ap, ap₂, subst, ◌∙◌, arith}
+use Rattle.std.specs.List.{zip}
+use Rattle.std.proofs.lemmas.List.{get_or_default, get_or-map, length-map}
+use Rattle.std.proofs.lemmas.Slice.Zip.{get_or-zip, length-zip}
+use Rattle.it_space.specs.declared.answers.Certificate.{Certificate}
+use Rattle.it_space.specs.declared.spaces.Space.{Space}
+use Rattle.it_space.specs.Answers.{AnswerView, CertificateView, certificate_view}
+use Rattle.it_space.specs.Answers.AnswerView.{Contained, Yes}
+use Rattle.it_space.specs.Rows.{Terms, value}
+use Rattle.it_polymatroid.specs.Certificates.{Form}
+use Rattle.it_question.specs.Questions.{BodyView}
+use Rattle.it_demand.proofs.ZipLemmas.{zip-length}
+use Rattle.it_region.specs.Obligations.{ArePulledRows, IsPulledRow}
+use Rattle.it_certificate.specs.AnswerShapes.{HasQuestionShape}
+use Rattle.it_report.specs.Judging.{judged_forms}
+use Rattle.it_tell.specs.Tellings.{AreDetails, AreProofTexts, IsProofText, proof_lines}
+use Rattle.it_tell.specs.Steps.{AppendsDetails, AppendsEach, AppendsProof, AppendsProofs, AreFormRows}
+use Rattle.it_tell.proofs.DetailLemmas.{Appended, all_appended, appended_more, none_appended}
+use Rattle.it_tell.proofs.PrintableLemmas.{contained_counted, yes_counted}
+
+-- the row at a place is that of the form there
+row_at_place : (s : Space) (fs : List Form) (ts : List Terms) (i : ℕ) → ArePulledRows s fs ts → i < length fs → IsPulledRow s (get_or fs i (λ p. pos 0)) (get_or ts i [])
+row_at_place s [] ts i z h = absurd (omega arith)
+row_at_place s (f ∷ fs) [] i z h = absurd z
+row_at_place s (f ∷ fs) (t ∷ ts) zero z h = z.0
+row_at_place s (f ∷ fs) (t ∷ ts) (suc i) z h = row_at_place s fs ts i z.1 (omega arith)
+
+-- what tells a proof of a form's row tells one of the form
+form_told : (q : BodyView) (s : Space) (f : Form) (row : Terms) (w : CertificateView) (text : List ℕ) → IsPulledRow s f row → IsProofText q (value row, w) text → IsProofText q (f, w) text
+unfolding IsProofText
+form_told q s f row w text pulled (inl h) = inl (record {
+  relation = h.relation;
+  is = h.is;
+  proves = record {
+    shannon = h.proves.shannon;
+    rest = h.proves.rest;
+    right = h.proves.right;
+    plus = h.proves.plus;
+    scale = h.proves.scale;
+    scale_from_one = h.proves.scale_from_one;
+    target_is = λ p z. h.proves.target_is p z ∙ ap (λ x. h.proves.scale *ℤ x) (pulled.same p z);
+    weights = h.proves.weights;
+    allowed = h.proves.allowed;
+    constraints_are = h.proves.constraints_are;
+  };
+})
+form_told q s f row w text pulled (inr e) = inr e
+
+-- the lines of the first i proofs are appended, whichever answer the rows are of
+abbrev pub ProofsAppended : BodyView → Bool → List Terms → List CertificateView → List ℕ → List ℕ → ℕ → Type 0
+ProofsAppended q with_steps rows ws old new i = (answer : AnswerView) → AreFormRows q answer rows → Appended proof_lines (AreProofTexts q with_steps) old new (zip (judged_forms q answer) ws) i
+
+pub no_proof_appended : (q : BodyView) (with_steps : Bool) (rows : List Terms) (ws : List CertificateView) (old : List ℕ) → ProofsAppended q with_steps rows ws old old 0
+no_proof_appended q with_steps rows ws old answer are = none_appended proof_lines (AreProofTexts q with_steps) old (zip (judged_forms q answer) ws)
+
+pub proofs_more : (q : BodyView) (with_steps : Bool) (rows : List Terms) (cs : List Certificate) (row : Terms) (c : Certificate) (old now new : List ℕ) (i : ℕ) → ProofsAppended q with_steps rows (map certificate_view cs) old now i
+    → length rows ≡ length cs → i < length cs → row ≡ get_or rows i row → c ≡ get_or cs i c → AppendsProof q with_steps (value row, certificate_view c) now new → ProofsAppended q with_steps rows (map certificate_view cs) old new (i + 1)
+unfolding AreFormRows AreProofTexts
+proofs_more q with_steps rows cs row c old now new i before as_many within row_read read told answer are =
+    appended_more proof_lines (AreProofTexts q with_steps) old now new (zip forms ws) i (form, certificate_view c) told.texts (before answer are) in_zip at_zip (form_is_told, told.are.1) told.new_is
+  where
+    forms : List Form
+    forms = judged_forms q answer
+
+    ws : List CertificateView
+    ws = map certificate_view cs
+
+    form : Form
+    form = get_or forms i (λ p. pos 0)
+
+    in_ws : i < length ws
+    in_ws = simp length-map within
+
+    in_forms : i < length forms
+    in_forms = omega (arith, zip-length (IsPulledRow are.0) forms rows are.1, as_many, within)
+
+    in_rows : i < length rows
+    in_rows = omega (arith, as_many, within)
+
+    in_zip : i < length (zip forms ws)
+    in_zip = omega (arith, length-zip forms ws, in_forms, in_ws)
+
+    at_zip : get_or (zip forms ws) i (form, certificate_view c) ≡ (form, certificate_view c)
+    at_zip = get_or-zip forms ws i (form, certificate_view c) in_forms in_ws
+        ∙ ap₂ (λ f w. (f, w)) (get_or_default forms i form (λ p. pos 0) in_forms) (get_or-map certificate_view cs i c (certificate_view c) within ∙ ap certificate_view (sym read))
+
+    row_is : get_or rows i [] ≡ row
+    row_is = get_or_default rows i [] row in_rows ∙ sym row_read
+
+    form_is_told : IsProofText q (form, certificate_view c) told.texts.proof
+    form_is_told = form_told q are.0 form row (certificate_view c) told.texts.proof (subst (IsPulledRow are.0 form) row_is (row_at_place are.0 forms rows i are.1 in_forms)) told.are.0
+
+pub all_proofs : (q : BodyView) (with_steps : Bool) (rows : List Terms) (ws : List CertificateView) (old new : List ℕ) (i : ℕ) → ProofsAppended q with_steps rows ws old new i → length ws ≤ i → AppendsProofs q with_steps rows ws old new
+unfolding AppendsProofs
+all_proofs q with_steps rows ws old new i u all answer are =
+    all_appended proof_lines (AreProofTexts q with_steps) old new (zip (judged_forms q answer) ws) i (u answer are) (omega (arith, length-zip (judged_forms q answer) ws, all))
+
+-- ---- a relation and a containment
+
+-- there are as many rows as proofs
+rows_counted : (q : BodyView) (answer : AnswerView) (cs : List Certificate) (rows : List Terms) → length (judged_forms q answer) ≡ length (map certificate_view cs) → AreFormRows q answer rows → length rows ≡ length cs
+unfolding AreFormRows
+rows_counted q answer cs rows counted are = zip-length (IsPulledRow are.0) (judged_forms q answer) rows are.1 ∙ counted ∙ length-map cs certificate_view
+
+pub relation_rows_counted : (q : BodyView) (cs : List Certificate) (rows : List Terms) → HasQuestionShape q (Yes (map certificate_view cs)) → AreFormRows q (Yes (map certificate_view cs)) rows → length rows ≡ length cs
+relation_rows_counted q cs rows fits are = rows_counted q (Yes (map certificate_view cs)) cs rows (yes_counted q (map certificate_view cs) fits) are
+
+pub obligation_rows_counted : (q : BodyView) (parts : List ℕ) (cs : List Certificate) (rows : List Terms) → HasQuestionShape q (Contained parts (map certificate_view cs)) → AreFormRows q (Contained parts (map certificate_view cs)) rows → length rows ≡ length cs
+obligation_rows_counted q parts cs rows fits are = rows_counted q (Contained parts (map certificate_view cs)) cs rows (contained_counted q parts (map certificate_view cs) fits) are
+
+pub yes_details : (q : BodyView) (with_steps : Bool) (ws : List CertificateView) (rows : List Terms) (old new : List ℕ) → AreFormRows q (Yes ws) rows → AppendsProofs q with_steps rows ws old new → AppendsDetails q with_steps (Yes ws) old new
+unfolding AppendsDetails AppendsEach AppendsProofs AreDetails
+yes_details q with_steps ws rows old new are h = h (Yes ws) are
+
+pub contained_details : (q : BodyView) (with_steps : Bool) (parts : List ℕ) (ws : List CertificateView) (rows : List Terms) (old new : List ℕ) → AreFormRows q (Contained parts ws) rows → AppendsProofs q with_steps rows ws old new
+    → AppendsDetails q with_steps (Contained parts ws) old new
+unfolding AppendsDetails AppendsEach AppendsProofs AreDetails
+contained_details q with_steps parts ws rows old new are h = h (Contained parts ws) are

@@ -1,0 +1,31 @@
+-- What the words of `tell` ask for.
+use Rattle.std.specs.Prelude.{ℕ, List, [], ◌∷◌, true, false, not, ◌&&◌, Option, Some, None, if◌then◌else◌, codes, option_and_then, option_map}
+use Rattle.std.specs.Str.{bytes_eq}
+use Rattle.it_tell.specs.declared.settings.Options.{Options}
+use Rattle.it_tell.specs.declared.settings.Settings.{Settings}
+use Rattle.it_tell.specs.declared.settings.Settings.TheVariants.{Tell, Help, Version}
+
+-- with this word, where it is an option that isn't there yet
+unfoldable pub with_word : Options → List ℕ → Option Options
+with_word o word = if bytes_eq word (codes "--steps") && not o.steps then Some (record { steps = true }) else None
+
+-- with these words, one after the other
+abbrev pub with_words : Options → List (List ℕ) → Option Options
+with_words o [] = Some o
+with_words o (word ∷ words) = option_and_then (λ p. with_words p words) (with_word o word)
+
+-- without words
+abbrev pub no_options : Options
+no_options = record { steps = false }
+
+-- what one word asks for that stands alone
+unfoldable pub alone : List ℕ → Option Settings
+alone word =
+    if bytes_eq word (codes "--help") then Some Help else
+    if bytes_eq word (codes "--version") then Some Version else option_map Tell (with_word no_options word)
+
+-- what the words ask for, if they ask for something
+unfoldable pub settings_of : List (List ℕ) → Option Settings
+settings_of [] = Some (Tell no_options)
+settings_of (word ∷ []) = alone word
+settings_of (word ∷ more ∷ words) = option_map Tell (with_words no_options (word ∷ more ∷ words))

@@ -1,0 +1,67 @@
+//! What words ask for.
+ghost use Rattle.std.specs.Prelude.{◌≡◌, map};
+ghost use Rattle.it_tell.specs.Settings.{alone, no_options, settings_of, with_word, with_words};
+
+/// How it is told: with the steps of proofs or without.
+#[derive(Clone, Copy, Debug, PartialEq, Eq)]
+pub struct Options {
+    pub steps: bool,
+}
+
+/// What the words ask for.
+#[derive(Clone, Copy, Debug, PartialEq, Eq)]
+pub enum Settings {
+    Tell(Options),
+    Help,
+    Version,
+}
+
+/// Without words.
+const NO_OPTIONS: Options = Options { steps: false };
+
+/// The options with one that isn't there yet.
+#[tactic(auto, unfolding(crate::specs::Settings::with_word))]
+fn with_word(options: Options, word: &str) -> Option<Options>
+    ensures { result ≡ with_word options word.now }
+{
+    if word == "--steps" && !options.steps {
+        Some(Options { steps: true })
+    } else {
+        None
+    }
+}
+
+/// The options that words are, one after the other.
+fn with_words(words: &[&str]) -> Option<Options>
+    ensures { result ≡ with_words no_options (map (λ w. w.now) words.now) }
+{
+    let mut options = NO_OPTIONS;
+    for word in words {
+        options = with_word(options, word)?;
+    }
+    Some(options)
+}
+
+/// What a word asks for that stands alone.
+#[tactic(auto, unfolding(crate::specs::Settings::alone))]
+fn alone(word: &str) -> Option<Settings>
+    ensures { result ≡ alone word.now }
+{
+    match word {
+        "--help" => Some(Settings::Help),
+        "--version" => Some(Settings::Version),
+        _ => Some(Settings::Tell(with_word(NO_OPTIONS, word)?)),
+    }
+}
+
+/// What the words ask for: `--help` and `--version` stand alone, and each option stands once. None where a word is another
+/// one.
+#[tactic(auto, unfolding(crate::specs::Settings::settings_of))]
+pub fn settings_of(words: &[&str]) -> Option<Settings>
+    ensures { result ≡ settings_of (map (λ w. w.now) words.now) }
+{
+    match words {
+        [word] => alone(word),
+        _ => Some(Settings::Tell(with_words(words)?)),
+    }
+}

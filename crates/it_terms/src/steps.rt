@@ -1,0 +1,264 @@
+//! The steps of a proof, each judged before it is handed out.
+ghost use Rattle.std.specs.Prelude.{◌≡◌, ◌≤◌, ◌++◌, ◌∷◌, [], length, map, take, drop, IfOk, IfSome};
+ghost use Rattle.std.specs.Bool.{OnTrue};
+ghost use Rattle.it_syntax.specs.Meaning.{relation_view};
+ghost use Rattle.it_question.specs.Limits.{IsQuestion};
+ghost use Rattle.it_question.specs.Questions.{question_body};
+ghost use Rattle.it_question.specs.Tables.{problem_names};
+ghost use Rattle.it_terms.specs.ProofSteps.{AreStepTexts, TellsSteps};
+
+use crate::drafts::row_terms;
+use crate::equations::equation;
+use crate::finding::{Found, joint_sum, own_sum};
+use crate::measures::{Measure, measures};
+use crate::reading::relation_text;
+use crate::telling::names_of;
+use crate::untold::Untold;
+use crate::writing::{Draft, draft_text};
+use it_canon::canon;
+use it_question::types::Question;
+use it_space::{Row, Space};
+use it_syntax::Names;
+use it_syntax::types::{Relation, Sign, Term};
+use std::alloc::{AllocError, Global};
+
+/// The line of a step, and the sum after it.
+#[derive(Debug, Drop)]
+struct Step {
+    text: Vec<u8>,
+    sum: Vec<Term>,
+}
+
+/// Whether two terms are the same.
+fn is_same_term(term: &Term, other: &Term) -> bool
+    ensures { OnTrue result (term.now ≡ other.now) }
+{
+    *term == *other
+}
+
+/// Whether two sums have the same terms in the same order.
+fn are_same_terms(terms: &[Term], others: &[Term]) -> bool
+    ensures { OnTrue result (terms.now ≡ others.now) }
+{
+    if terms.len() != others.len() {
+        return false;
+    }
+    for i in 0..terms.len() {
+        if !is_same_term(&terms[i], &others[i]) {
+            return false;
+        }
+    }
+    true
+}
+
+/// A sum and a term after it.
+fn with_term(alloc: Global, sum: &[Term], term: &Term) -> Result<Vec<Term>, AllocError>
+    ensures { IfOk result (λ v. v.items ≡ sum.now ++ term.now ∷ []) }
+{
+    let mut terms = Vec::new(alloc);
+    terms.extend_from_slice(sum)?;
+    terms.push(*term)?;
+    Ok(terms)
+}
+
+/// The text of two sums and the sign between them.
+fn text_of(
+    alloc: Global,
+    measures: &[Measure],
+    names: &Names,
+    left: &[Term],
+    sign: Sign,
+    right: &[Term],
+) -> Result<Vec<u8>, AllocError> {
+    let mut draft = Draft {
+        left: Vec::new(alloc),
+        sign,
+        right: Vec::new(alloc),
+    };
+    draft.left.extend_from_slice(left)?;
+    draft.right.extend_from_slice(right)?;
+    draft_text(alloc, measures, names, &draft)
+}
+
+/// The row of a sum, by the text that says it to be at least 0.
+fn row_of(alloc: Global, measures: &[Measure], names: &Names, sum: &[Term]) -> Result<Row, Untold>
+    requires { 1 ≤ length names.now.variables }
+{
+    let text = text_of(alloc, measures, names, sum, Sign::AtLeast, &[])?;
+    match relation_text(alloc, text.as_slice(), names)? {
+        Some(relation) => Ok(canon(alloc, &relation, names.space())?),
+        None => Err(Untold::NotFound),
+    }
+}
+
+/// A sum for a row's part over sets: of the question's own measures where that is one of whole numbers, else of joint
+/// entropies.
+fn whole_sum(alloc: Global, measures: &[Measure], row: &Row, space: Space) -> Result<Found, Untold>
+    requires { space.variables ≤ 10 }
+{
+    match own_sum(alloc, measures, row, space) {
+        Ok(found) => {
+            if found.scale == 1 {
+                Ok(found)
+            } else {
+                joint_sum(alloc, row, space)
+            }
+        }
+        Err(Untold::NotFound) => joint_sum(alloc, row, space),
+        Err(Untold::Memory) => Err(Untold::Memory),
+    }
+}
+
+/// What a sum is, as short as found.
+fn short_sum(
+    alloc: Global,
+    measures: &[Measure],
+    names: &Names,
+    sum: &[Term],
+) -> Result<Vec<Term>, Untold>
+    requires { 1 ≤ length names.now.variables }
+{
+    let row = row_of(alloc, measures, names, sum)?;
+    let space = names.space();
+    let found = whole_sum(alloc, measures, &row, space)?;
+    row_terms(alloc, &row, &found, space)
+}
+
+/// The text of a step, whose left side is these terms: on its right side is the total where this is the last step.
+fn step_text(
+    alloc: Global,
+    measures: &[Measure],
+    names: &Names,
+    left: &[Term],
+    total: &[Term],
+    is_last: bool,
+) -> Result<Vec<u8>, Untold>
+    requires { 1 ≤ length names.now.variables }
+{
+    if is_last {
+        return Ok(text_of(alloc, measures, names, left, Sign::Equal, total)?);
+    }
+    let right = short_sum(alloc, measures, names, left)?;
+    Ok(text_of(alloc, measures, names, left, Sign::Equal, right.as_slice())?)
+}
+
+/// The step that a text is, where it is an equation that is true of every map, with the sum and the term on its left.
+fn judged(
+    alloc: Global,
+    names: &Names,
+    text: Vec<u8>,
+    sum: &[Term],
+    term: &Term,
+) -> Result<Option<Step>, AllocError>
+    requires { 1 ≤ length names.now.variables }
+    ensures { IfOk result (λ o. IfSome o (λ s. AreStepTexts names.now sum.now (term.now ∷ []) s.sum.items (s.text.items ∷ []))) }
+{
+    let left = with_term(alloc, sum, term)?;
+    let Some(read) = equation(alloc, text.as_slice(), names)? else {
+        return Ok(None);
+    };
+    if are_same_terms(read.left.terms.as_slice(), left.as_slice()) {
+        Ok(Some(Step {
+            text,
+            sum: read.right.terms,
+        }))
+    } else {
+        Ok(None)
+    }
+}
+
+/// The step that adds a term to a sum, None where it isn't found.
+fn next_step(
+    alloc: Global,
+    measures: &[Measure],
+    names: &Names,
+    sum: &[Term],
+    term: &Term,
+    total: &[Term],
+    is_last: bool,
+) -> Result<Option<Step>, AllocError>
+    requires { 1 ≤ length names.now.variables }
+    ensures { IfOk result (λ o. IfSome o (λ s. AreStepTexts names.now sum.now (term.now ∷ []) s.sum.items (s.text.items ∷ []))) }
+{
+    let left = with_term(alloc, sum, term)?;
+    match step_text(alloc, measures, names, left.as_slice(), total, is_last) {
+        Ok(text) => judged(alloc, names, text, sum, term),
+        Err(Untold::NotFound) => Ok(None),
+        Err(Untold::Memory) => Err(AllocError),
+    }
+}
+
+/// The lines of the steps from a sum, by these terms, to the total; None where one isn't found.
+fn step_texts(
+    alloc: Global,
+    measures: &[Measure],
+    names: &Names,
+    first: &[Term],
+    terms: &[Term],
+    total: &[Term],
+) -> Result<Option<Vec<Vec<u8>>>, AllocError>
+    requires { 1 ≤ length names.now.variables }
+    ensures { IfOk result (λ o. IfSome o (λ lines. AreStepTexts names.now first.now terms.now total.now (map (λ line. line.items) lines.items))) }
+{
+    let mut lines = Vec::new(alloc);
+    let mut sum = Vec::new(alloc);
+    sum.extend_from_slice(first)?;
+    for (i, term) in terms.iter().enumerate() {
+        let is_last = i + 1 == terms.len();
+        match next_step(alloc, measures, names, sum.as_slice(), term, total, is_last)? {
+            Some(step) => {
+                lines.push(step.text)?;
+                sum = step.sum;
+            }
+            None => return Ok(None),
+        }
+    }
+    if are_same_terms(sum.as_slice(), total) {
+        Ok(Some(lines))
+    } else {
+        Ok(None)
+    }
+}
+
+/// The lines of the steps of an equation, from the first term on its right side to its left side.
+fn equation_steps(
+    alloc: Global,
+    measures: &[Measure],
+    names: &Names,
+    equation: &Relation,
+) -> Result<Option<Vec<Vec<u8>>>, AllocError>
+    requires { 1 ≤ length names.now.variables }
+    ensures { IfOk result (λ o. IfSome o (λ lines. AreStepTexts names.now (take 1 (relation_view equation.now).right) (drop 1 (relation_view equation.now).right) (relation_view equation.now).left (map (λ line. line.items) lines.items))) }
+{
+    let right = equation.right.terms.as_slice();
+    if right.is_empty() {
+        return Ok(None);
+    }
+    let (first, terms) = right.split_at(1);
+    step_texts(
+        alloc,
+        measures,
+        names,
+        first,
+        terms,
+        equation.left.terms.as_slice(),
+    )
+}
+
+/// The steps of a proof that `told_form` told of a question, a line each: the sum of the terms on its right side, one term
+/// more in each line, up to its left side. Each line may stand after the word `prove`. None where a step isn't found.
+pub fn told_steps(
+    alloc: Global,
+    question: &Question,
+    proof: &[u8],
+) -> Result<Option<Vec<Vec<u8>>>, AllocError>
+    requires { IsQuestion (question_body question.now) }
+    ensures { IfOk result (λ o. IfSome o (λ lines. TellsSteps (problem_names (question_body question.now)) proof.now (map (λ line. line.items) lines.items))) }
+{
+    let names = names_of(question);
+    let Some(equation) = equation(alloc, proof, names)? else {
+        return Ok(None);
+    };
+    let measures = measures(alloc, question.text.as_slice(), names)?;
+    equation_steps(alloc, measures.as_slice(), names, &equation)
+}
