@@ -1,5 +1,5 @@
 -- The lines below the first one of an answer: the groups of it_outside, in a list of bytes.
-use Rattle.std.proofs.Common.{◌≡◌, ℕ, ◌+◌, ◌<◌, ◌≤◌, ℤ, Bool, List, [], ◌++◌, append-nil, append_assoc, codes, length, get_or, ◌⊎◌, true, Some, refl, sym, ap, ◌∙◌}
+use Rattle.std.proofs.Common.{◌≡◌, ℕ, ◌+◌, ◌<◌, ◌≤◌, ℤ, Bool, List, [], ◌++◌, append-nil, append_assoc, length, get_or, ◌⊎◌, true, Some, refl, sym, ap, ◌∙◌}
 use Rattle.std.specs.List.{flat_map}
 use Rattle.it_outside.proofs.GroupLemmas.{UnderWay, under_way_done, under_way_first, under_way_more}
 use Rattle.it_space.specs.Answers.{CertificateView}
@@ -8,12 +8,12 @@ use Rattle.it_space.specs.Rows.{Terms}
 use Rattle.it_space.specs.declared.answers.Cause.{Cause}
 use Rattle.it_space.specs.declared.answers.Mark.{Mark}
 use Rattle.it_polymatroid.specs.Certificates.{Form}
+use Rattle.it_syntax.specs.NamesViews.{NamesView}
 use Rattle.it_question.specs.Questions.{BodyView}
 use Rattle.it_question.specs.Tables.{problem_names}
-use Rattle.it_print.specs.Lines.{values_text}
 use Rattle.it_terms.specs.ProofSteps.{TellsSteps}
-use Rattle.it_tell.specs.Tellings.{AreDetails, AreProofTexts, IsMarkedRowText, IsProofText, indented_line, proof_lines, step_line}
-use Rattle.it_tell.specs.Steps.{AppendsDetails, AppendsEach, AppendsProof}
+use Rattle.it_tell.specs.Tellings.{AreDetails, AreProofTexts, IsMarkedRowText, IsPointText, IsProofText, indented_line, proof_lines, step_line}
+use Rattle.it_tell.specs.Steps.{AppendsDetails, AppendsEach, AppendsPoint, AppendsProof}
 
 module _ {X A : Type 0} (shown : A → List ℕ) (tells : X → A → Type 0) where
   -- what tells the first i items is appended
@@ -45,15 +45,21 @@ proof_appended q with_steps proof old now new text steps is are first then = rec
   new_is = then ∙ ap (λ t. t ++ flat_map step_line steps) first ∙ append_assoc old (indented_line text) (flat_map step_line steps);
 }
 
+-- ---- a point
+
+pub point_appended : (v : NamesView) (values : List ℤ) (old new text : List ℕ) → IsPointText v values text → new ≡ old ++ indented_line text → AppendsPoint v values old new
+unfolding AppendsPoint
+point_appended v values old new text is then = (text, (is, then))
+
 -- ---- each answer
 
 pub region_details : (q : BodyView) (with_steps : Bool) (rows : List (Mark × Terms)) (old new : List ℕ) → AppendsEach indented_line (IsMarkedRowText (problem_names q)) rows old new → AppendsDetails q with_steps (Region rows) old new
 unfolding AppendsDetails AppendsEach AreDetails
 region_details q with_steps rows old new h = h
 
-pub point_details : (q : BodyView) (with_steps back : Bool) (values : List ℤ) (old new : List ℕ) → new ≡ old ++ indented_line (codes "as point " ++ values_text (problem_names q) values) → AppendsDetails q with_steps (No back values) old new
-unfolding AppendsDetails AreDetails
-point_details q with_steps back values old new h = (indented_line (codes "as point " ++ values_text (problem_names q) values), (refl, h))
+pub point_details : (q : BodyView) (with_steps back : Bool) (values : List ℤ) (old new : List ℕ) → AppendsPoint (problem_names q) values old new → AppendsDetails q with_steps (No back values) old new
+unfolding AppendsDetails AppendsPoint AreDetails
+point_details q with_steps back values old new h = (indented_line h.0, ((h.0, (h.1.0, refl)), h.1.1))
 
 pub undecided_details : (q : BodyView) (with_steps : Bool) (cause : Cause) (old : List ℕ) → AppendsDetails q with_steps (Undecided cause) old old
 unfolding AppendsDetails AreDetails

@@ -1,5 +1,5 @@
 -- What a call that is done has written, that each line has a telling, and that what is told is true.
-use Rattle.std.proofs.Common.{◌≡◌, ℕ, ◌+◌, inl, inr, List, [], ◌∷◌, ◌++◌, Bool, true, false, Option, Some, None, option_and_then, codes, refl, ap, sym, subst, ◌∙◌}
+use Rattle.std.proofs.Common.{◌≡◌, ℕ, ℤ, ◌+◌, inl, inr, List, [], ◌∷◌, ◌++◌, Bool, true, false, Option, Some, None, option_and_then, codes, refl, ap, sym, subst, ◌∙◌}
 use Rattle.std.specs.List.{zip}
 use Rattle.std.proofs.lemmas.Bool.{true≢false}
 use Rattle.it_outside.specs.Groups.{Groups}
@@ -28,7 +28,7 @@ use Rattle.it_cli.specs.Modes.{WholeOutput}
 use Rattle.it_cli.specs.Right.{question_origins}
 use Rattle.it_cli.specs.declared.status.Status.{Status}
 use Rattle.it_cli.specs.declared.status.Status.TheVariants.{Done, Invalid}
-use Rattle.it_tell.specs.Tellings.{Answered, AreDetails, AreProofTexts, Each, IsMarkedRowText, IsProofText, IsRowText, IsTelling, ProofTexts, Telling, indented_line, mark_comment, proof_lines}
+use Rattle.it_tell.specs.Tellings.{Answered, AreDetails, AreProofTexts, Each, IsMarkedRowText, IsPointText, IsProofText, IsRowText, IsTelling, ProofTexts, Telling, indented_line, mark_comment, proof_lines}
 use Rattle.it_tell.specs.Tellings as tellings
 use Rattle.it_tell.specs.declared.settings.Options.{Options}
 use Rattle.it_tell.specs.declared.settings.Settings.TheVariants.{Tell}
@@ -84,10 +84,14 @@ proof_there : (q : BodyView) (with_steps : Bool) (proof : Form × CertificateVie
 unfolding AreProofTexts IsProofText
 proof_there q with_steps proof = (record { proof = codes "as weights " ++ certificate_text (problem_names q).variables (question_origins q) proof.1; steps = [] }, (inr refl, inl refl))
 
+point_there : (q : BodyView) (values : List ℤ) → (text : List ℕ) × IsPointText (problem_names q) values text
+unfolding IsPointText
+point_there q values = (codes "as point " ++ values_text (problem_names q) values, inr refl)
+
 details_there : (q : BodyView) (with_steps : Bool) (a : AnswerView) → (out : List ℕ) × AreDetails q with_steps a out
 unfolding AreDetails
 details_there q with_steps (Yes proofs) = lines_there proof_lines (AreProofTexts q with_steps) (proof_there q with_steps) (zip (judged_forms q (Yes proofs)) proofs)
-details_there q with_steps (No back values) = (indented_line (codes "as point " ++ values_text (problem_names q) values), refl)
+details_there q with_steps (No back values) = let point = point_there q values in (indented_line point.0, (point.0, (point.1, refl)))
 details_there q with_steps (Undecided cause) = ([], refl)
 details_there q with_steps (Region rows) = lines_there indented_line (IsMarkedRowText (problem_names q)) (row_there (problem_names q)) rows
 details_there q with_steps (Contained parts proofs) = lines_there proof_lines (AreProofTexts q with_steps) (proof_there q with_steps) (zip (judged_forms q (Contained parts proofs)) proofs)

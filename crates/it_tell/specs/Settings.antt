@@ -7,7 +7,9 @@ use Rattle.it_tell.specs.declared.settings.Settings.TheVariants.{Tell, Help, Ver
 
 -- with this word, where it is an option that isn't there yet
 unfoldable pub with_word : Options → List ℕ → Option Options
-with_word o word = if bytes_eq word (codes "--steps") && not o.steps then Some (record { steps = true }) else None
+with_word o word =
+    if bytes_eq word (codes "--steps") && not o.steps then Some (record { steps = true; short = o.short }) else
+    if bytes_eq word (codes "--short") && not o.short then Some (record { steps = o.steps; short = true }) else None
 
 -- with these words, one after the other
 abbrev pub with_words : Options → List (List ℕ) → Option Options
@@ -16,7 +18,7 @@ with_words o (word ∷ words) = option_and_then (λ p. with_words p words) (with
 
 -- without words
 abbrev pub no_options : Options
-no_options = record { steps = false }
+no_options = record { steps = false; short = false }
 
 -- what one word asks for that stands alone
 unfoldable pub alone : List ℕ → Option Settings

@@ -1,14 +1,15 @@
 -- No public clause cites this module: what the calls inside `tell` give.
-use Rattle.std.specs.Prelude.{◌≡◌, ℕ, List, ◌++◌, Bool}
+use Rattle.std.specs.Prelude.{◌≡◌, ℕ, ℤ, List, ◌++◌, Bool}
 use Rattle.std.specs.List.{zip}
 use Rattle.it_space.specs.declared.spaces.Space.{Space}
 use Rattle.it_space.specs.Rows.{Terms}
 use Rattle.it_region.specs.Obligations.{ArePulledRows}
 use Rattle.it_space.specs.Answers.{AnswerView, CertificateView}
 use Rattle.it_polymatroid.specs.Certificates.{Form}
+use Rattle.it_syntax.specs.NamesViews.{NamesView}
 use Rattle.it_question.specs.Questions.{BodyView}
 use Rattle.it_report.specs.Judging.{judged_forms}
-use Rattle.it_tell.specs.Tellings.{AreDetails, AreProofTexts, Each, IsTelling, ProofTexts, Telling, head_line, proof_lines, tells_invalid, telling_text}
+use Rattle.it_tell.specs.Tellings.{AreDetails, AreProofTexts, Each, IsPointText, IsTelling, ProofTexts, Telling, head_line, indented_line, proof_lines, tells_invalid, telling_text}
 
 -- the text has the lines about line k, and `invalid` tells whether they say so
 pub record IsToldLine (with_steps : Bool) (k : ℕ) (line text : List ℕ) (invalid : Bool) : Type 0 where
@@ -28,6 +29,10 @@ AppendsEach shown tells items old new = (lines : List ℕ) × (Each shown tells 
 -- the lines below the first one were appended
 unfoldable pub AppendsDetails : BodyView → Bool → AnswerView → List ℕ → List ℕ → Type 0
 AppendsDetails q with_steps answer old new = (details : List ℕ) × (AreDetails q with_steps answer details × (new ≡ old ++ details))
+
+-- the line of a point was appended
+unfoldable pub AppendsPoint : NamesView → List ℤ → List ℕ → List ℕ → Type 0
+AppendsPoint v values old new = (text : List ℕ) × (IsPointText v values text × (new ≡ old ++ indented_line text))
 
 -- the lines of a proof of a form were appended
 pub record AppendsProof (q : BodyView) (with_steps : Bool) (proof : Form × CertificateView) (old new : List ℕ) : Type 0 where

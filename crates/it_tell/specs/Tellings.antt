@@ -1,6 +1,6 @@
 -- What is told of a line of a report: the verdict's own line where that is invalid, else the first line of its answer and below it, line by
 -- line, the answer's rows, its proofs, with their steps where these are asked for, or its point.
-use Rattle.std.specs.Prelude.{◌≡◌, ℕ, List, [], ◌++◌, length, Bool, true, false, ◌⊎◌, Ok, codes, decimal}
+use Rattle.std.specs.Prelude.{◌≡◌, ℕ, ℤ, List, [], ◌++◌, length, Bool, true, false, ◌⊎◌, Ok, codes, decimal}
 use Rattle.std.specs.List.{flat_map, zip}
 use Rattle.it_outside.specs.Groups.{Groups}
 use Rattle.it_space.specs.declared.answers.Mark.{Mark}
@@ -17,6 +17,7 @@ use Rattle.it_certificate.specs.Reports.{ReadsReport}
 use Rattle.it_print.specs.Lines.{auxiliary_names, certificate_text, contained_line, open_line, row_text, undecided_line, values_text}
 use Rattle.it_terms.specs.Tells.{TellsRow}
 use Rattle.it_terms.specs.Proofs.{TellsForm}
+use Rattle.it_terms.specs.Points.{TellsPoint}
 use Rattle.it_terms.specs.ProofSteps.{TellsSteps}
 use Rattle.it_report.specs.Judging.{IsVerdict, judged_forms}
 use Rattle.it_report.specs.LineVerdicts.{LineVerdict, is_invalid, numbered_line, verdict_line}
@@ -55,6 +56,10 @@ unfoldable pub IsProofText : BodyView → Form × CertificateView → List ℕ �
 IsProofText q proof text = TellsForm q proof.0 text
     ⊎ (text ≡ codes "as weights " ++ certificate_text (problem_names q).variables (question_origins q) proof.1)
 
+-- a point by facts that determine it, or its values as answers have them and said to be that
+unfoldable pub IsPointText : NamesView → List ℤ → List ℕ → Type 0
+IsPointText v values text = TellsPoint v values text ⊎ (text ≡ codes "as point " ++ values_text v values)
+
 -- the text of a proof, and those of its steps
 pub record ProofTexts : Type 0 where
   pub proof : List ℕ
@@ -71,7 +76,7 @@ AreProofTexts q with_steps proof t = IsProofText q proof t.proof × ((t.steps �
 -- the lines below the first one: of the proofs of what the answer says, of its rows, or of its point
 unfoldable pub AreDetails : BodyView → Bool → AnswerView → List ℕ → Type 0
 AreDetails q with_steps (Yes proofs) out = Each proof_lines (AreProofTexts q with_steps) (zip (judged_forms q (Yes proofs)) proofs) out
-AreDetails q with_steps (No back values) out = out ≡ indented_line (codes "as point " ++ values_text (problem_names q) values)
+AreDetails q with_steps (No back values) out = (text : List ℕ) × (IsPointText (problem_names q) values text × (out ≡ indented_line text))
 AreDetails q with_steps (Undecided cause) out = out ≡ []
 AreDetails q with_steps (Region rows) out = Each indented_line (IsMarkedRowText (problem_names q)) rows out
 AreDetails q with_steps (Contained parts proofs) out = Each proof_lines (AreProofTexts q with_steps) (zip (judged_forms q (Contained parts proofs)) proofs) out

@@ -16,16 +16,17 @@ ghost use Rattle.it_print.specs.Lines.{AreListed, IsPrintable, IsRowOver, certif
 ghost use Rattle.it_report.specs.Steps.{IsAboutRelation};
 ghost use Rattle.it_cli.specs.Right.{question_origins};
 ghost use Rattle.it_terms.specs.ProofSteps.{TellsSteps};
-ghost use Rattle.it_tell.specs.Tellings.{IsMarkedRowText, IsProofText, IsRowText, indented_line, mark_comment, step_line};
-ghost use Rattle.it_tell.specs.Steps.{AppendsDetails, AppendsEach, AppendsProof, AppendsProofs, AreFormRows};
+ghost use Rattle.it_tell.specs.Tellings.{IsMarkedRowText, IsPointText, IsProofText, IsRowText, indented_line, mark_comment, step_line};
+ghost use Rattle.it_tell.specs.Steps.{AppendsDetails, AppendsEach, AppendsPoint, AppendsProof, AppendsProofs, AreFormRows};
 
+use crate::settings::Options;
 use it_canon::{problem_names, target_rows};
 use it_print::{row_text, sum_text, values_text, write_signed};
 use it_question::types::{Question, Verb};
 use it_region::{candidate, obligations, pair};
 use it_space::{Answer, Certificate, Constraint, Kind, Mark, Point, Row, VarSet};
 use it_syntax::types::Relation;
-use it_terms::{told_form, told_row, told_steps};
+use it_terms::{told_form, told_point, told_row, told_steps};
 use std::alloc::{AllocError, Global};
 
 /// Appends a text as a line below the first one.
@@ -179,6 +180,7 @@ fn row_proof(
     constraints: &[Constraint],
     row: &Row,
     certificate: &Certificate,
+    short: bool,
 ) -> Result<Vec<u8>, AllocError>
     requires question { IsQuestion (question_body question.now) }
     requires some { 1 ≤ variables_of (question_body question.now) }
@@ -186,7 +188,7 @@ fn row_proof(
     requires there { All (λ w. w.0 < length (elementals (variables_of (question_body question.now))) + length constraints.now) certificate.now.weights.items }
     ensures { IfOk result (λ t. IsProofText (question_body question.now) (value row.now, certificate_view certificate.now) t.items) }
 {
-    match told_form(alloc, question, row, certificate)? {
+    match told_form(alloc, question, row, certificate, short)? {
         Some(text) => Ok(text),
         None => weights_text(alloc, question, constraints, certificate),
     }
@@ -236,7 +238,7 @@ fn write_proof(
     alloc: Global,
     out: &mut Vec<u8>,
     question: &Question,
-    with_steps: bool,
+    options: Options,
     constraints: &[Constraint],
     row: &Row,
     certificate: &Certificate,
@@ -245,10 +247,17 @@ fn write_proof(
     requires some { 1 ≤ variables_of (question_body question.now) }
     requires origins { origins_of constraints.now ≡ question_origins (question_body question.now) }
     requires there { All (λ w. w.0 < length (elementals (variables_of (question_body question.now))) + length constraints.now) certificate.now.weights.items }
-    ensures { OnOk result (AppendsProof (question_body question.now) with_steps (value row.now, certificate_view certificate.now) out.old.items out.new.items) }
+    ensures { OnOk result (AppendsProof (question_body question.now) options.steps (value row.now, certificate_view certificate.now) out.old.items out.new.items) }
 {
-    let text = row_proof(alloc, question, constraints, row, certificate)?;
-    let steps = steps_of(alloc, question, with_steps, text.as_slice())?;
+    let text = row_proof(
+        alloc,
+        question,
+        constraints,
+        row,
+        certificate,
+        options.short,
+    )?;
+    let steps = steps_of(alloc, question, options.steps, text.as_slice())?;
     write_indented(out, text.as_slice())?;
     write_steps(out, steps.as_slice())
 }
@@ -258,7 +267,7 @@ fn write_proofs(
     alloc: Global,
     out: &mut Vec<u8>,
     question: &Question,
-    with_steps: bool,
+    options: Options,
     constraints: &[Constraint],
     rows: &[Row],
     proofs: &[Certificate],
@@ -268,19 +277,11 @@ fn write_proofs(
     requires origins { origins_of constraints.now ≡ question_origins (question_body question.now) }
     requires there { AreListed (variables_of (question_body question.now)) (length constraints.now) proofs.now }
     requires as_many { length rows.now ≡ length proofs.now }
-    ensures { OnOk result (AppendsProofs (question_body question.now) with_steps rows.now (map certificate_view proofs.now) out.old.items out.new.items) }
+    ensures { OnOk result (AppendsProofs (question_body question.now) options.steps rows.now (map certificate_view proofs.now) out.old.items out.new.items) }
 {
     for (i, certificate) in proofs.iter().enumerate() {
         let row = &rows[i];
-        write_proof(
-            alloc,
-            out,
-            question,
-            with_steps,
-            constraints,
-            row,
-            certificate,
-        )?;
+        write_proof(alloc, out, question, options, constraints, row, certificate)?;
     }
     Ok(())
 }
@@ -290,7 +291,7 @@ fn write_relation_proofs(
     alloc: Global,
     out: &mut Vec<u8>,
     question: &Question,
-    with_steps: bool,
+    options: Options,
     constraints: &[Constraint],
     proofs: &[Certificate],
 ) -> Result<(), AllocError>
@@ -299,14 +300,14 @@ fn write_relation_proofs(
     requires origins { origins_of constraints.now ≡ question_origins (question_body question.now) }
     requires there { AreListed (variables_of (question_body question.now)) (length constraints.now) proofs.now }
     requires fits { HasQuestionShape (question_body question.now) (Yes (map certificate_view proofs.now)) }
-    ensures { OnOk result (AppendsDetails (question_body question.now) with_steps (Yes (map certificate_view proofs.now)) out.old.items out.new.items) }
+    ensures { OnOk result (AppendsDetails (question_body question.now) options.steps (Yes (map certificate_view proofs.now)) out.old.items out.new.items) }
 {
     let rows = relation_rows(alloc, question, proofs)?;
     write_proofs(
         alloc,
         out,
         question,
-        with_steps,
+        options,
         constraints,
         rows.as_slice(),
         proofs,
@@ -318,7 +319,7 @@ fn write_obligations(
     alloc: Global,
     out: &mut Vec<u8>,
     question: &Question,
-    with_steps: bool,
+    options: Options,
     constraints: &[Constraint],
     parts: &[VarSet],
     proofs: &[Certificate],
@@ -328,18 +329,45 @@ fn write_obligations(
     requires origins { origins_of constraints.now ≡ question_origins (question_body question.now) }
     requires there { AreListed (variables_of (question_body question.now)) (length constraints.now) proofs.now }
     requires fits { HasQuestionShape (question_body question.now) (Contained parts.now (map certificate_view proofs.now)) }
-    ensures { OnOk result (AppendsDetails (question_body question.now) with_steps (Contained parts.now (map certificate_view proofs.now)) out.old.items out.new.items) }
+    ensures { OnOk result (AppendsDetails (question_body question.now) options.steps (Contained parts.now (map certificate_view proofs.now)) out.old.items out.new.items) }
 {
     let rows = obligation_rows(alloc, question, parts, proofs)?;
     write_proofs(
         alloc,
         out,
         question,
-        with_steps,
+        options,
         constraints,
         rows.as_slice(),
         proofs,
     )
+}
+
+/// A point as answers have it.
+fn values_of(alloc: Global, question: &Question, point: &Point) -> Result<Vec<u8>, AllocError>
+    requires there { length point.now < 2 ^ variables_of (question_body question.now) + length (problem_names (question_body question.now)).rates }
+    requires few { length point.now < 2 ^ 16 }
+    ensures { IfOk result (λ t. t.items ≡ codes "as point " ++ values_text (problem_names (question_body question.now)) point.now) }
+{
+    let values = values_text(alloc, problem_names(question), point)?;
+    let mut text = Vec::new(alloc);
+    text.extend_from_slice(b"as point ")?;
+    text.extend_from_slice(values.as_slice())?;
+    Ok(text)
+}
+
+/// A point by facts that determine it, or as answers have it.
+#[tactic(auto, unfolding(crate::specs::Tellings::IsPointText))]
+fn any_point(alloc: Global, question: &Question, point: &Point) -> Result<Vec<u8>, AllocError>
+    requires question { IsQuestion (question_body question.now) }
+    requires there { length point.now < 2 ^ variables_of (question_body question.now) + length (problem_names (question_body question.now)).rates }
+    requires few { length point.now < 2 ^ 16 }
+    ensures { IfOk result (λ t. IsPointText (problem_names (question_body question.now)) point.now t.items) }
+{
+    match told_point(alloc, question, point)? {
+        Some(text) => Ok(text),
+        None => values_of(alloc, question, point),
+    }
 }
 
 /// Appends the line of a point.
@@ -349,14 +377,12 @@ fn write_point(
     question: &Question,
     point: &Point,
 ) -> Result<(), AllocError>
+    requires question { IsQuestion (question_body question.now) }
     requires there { length point.now < 2 ^ variables_of (question_body question.now) + length (problem_names (question_body question.now)).rates }
     requires few { length point.now < 2 ^ 16 }
-    ensures { OnOk result (out.new.items ≡ out.old.items ++ indented_line (codes "as point " ++ values_text (problem_names (question_body question.now)) point.now)) }
+    ensures { OnOk result (AppendsPoint (problem_names (question_body question.now)) point.now out.old.items out.new.items) }
 {
-    let values = values_text(alloc, problem_names(question), point)?;
-    let mut text = Vec::new(alloc);
-    text.extend_from_slice(b"as point ")?;
-    text.extend_from_slice(values.as_slice())?;
+    let text = any_point(alloc, question, point)?;
     write_indented(out, text.as_slice())
 }
 
@@ -366,7 +392,7 @@ pub fn write_details(
     alloc: Global,
     out: &mut Vec<u8>,
     question: &Question,
-    with_steps: bool,
+    options: Options,
     constraints: &[Constraint],
     answer: &Answer,
 ) -> Result<(), AllocError>
@@ -375,14 +401,14 @@ pub fn write_details(
     requires origins { origins_of constraints.now ≡ question_origins (question_body question.now) }
     requires fits { HasQuestionShape (question_body question.now) (answer_view answer.now) }
     requires printable { IsPrintable (question_body question.now) (length constraints.now) answer.now }
-    ensures { OnOk result (AppendsDetails (question_body question.now) with_steps (answer_view answer.now) out.old.items out.new.items) }
+    ensures { OnOk result (AppendsDetails (question_body question.now) options.steps (answer_view answer.now) out.old.items out.new.items) }
 {
     match answer {
         Answer::Yes(proofs) => write_relation_proofs(
             alloc,
             out,
             question,
-            with_steps,
+            options,
             constraints,
             proofs.as_slice(),
         ),
@@ -393,7 +419,7 @@ pub fn write_details(
             alloc,
             out,
             question,
-            with_steps,
+            options,
             constraints,
             parts.as_slice(),
             proofs.as_slice(),

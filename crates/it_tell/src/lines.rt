@@ -10,6 +10,7 @@ ghost use Rattle.it_tell.specs.Steps.{IsAnsweredText, IsToldLine};
 
 use crate::details::write_details;
 use crate::heads::head_line;
+use crate::settings::Options;
 use it_canon::problem;
 use it_certificate::{ReportFault, answer_from_json};
 use it_question::types::Question;
@@ -28,7 +29,7 @@ pub struct ToldLine {
 #[tactic(auto, unfolding(crate::specs::Steps::IsAnsweredText, crate::specs::Steps::AppendsDetails))]
 fn answered_text(
     alloc: Global,
-    with_steps: bool,
+    options: Options,
     k: usize,
     question: &Question,
     answer: &Answer,
@@ -36,12 +37,12 @@ fn answered_text(
     requires question { IsQuestion (question_body question.now) }
     requires fits { HasQuestionShape (question_body question.now) (answer_view answer.now) }
     requires printable { IsPrintable (question_body question.now) (length (question_demands (question_body question.now))) answer.now }
-    ensures { IfOk result (λ t. IsAnsweredText with_steps k (question_body question.now) (answer_view answer.now) t.items) }
+    ensures { IfOk result (λ t. IsAnsweredText options.steps k (question_body question.now) (answer_view answer.now) t.items) }
 {
     let problem = problem(alloc, question)?;
     let constraints = problem.constraints.as_slice();
     let mut text = head_line(alloc, k, question, constraints, answer)?;
-    write_details(alloc, &mut text, question, with_steps, constraints, answer)?;
+    write_details(alloc, &mut text, question, options, constraints, answer)?;
     Ok(text)
 }
 
@@ -49,11 +50,11 @@ fn answered_text(
 /// to be told.
 pub fn tell_line(
     alloc: Global,
-    with_steps: bool,
+    options: Options,
     k: usize,
     line: &[u8],
 ) -> Result<ToldLine, AllocError>
-    ensures { IfOk result (λ t. IsToldLine with_steps k line.now t.text.items t.invalid) }
+    ensures { IfOk result (λ t. IsToldLine options.steps k line.now t.text.items t.invalid) }
 {
     let judged = judge(alloc, k, line)?;
     if judged.invalid {
@@ -68,7 +69,7 @@ pub fn tell_line(
         Err(ReportFault::NotJson) => unreachable!(),
         Err(ReportFault::Shape { .. }) => unreachable!(),
     };
-    let text = answered_text(alloc, with_steps, k, &reported.question, &reported.answer)?;
+    let text = answered_text(alloc, options, k, &reported.question, &reported.answer)?;
     Ok(ToldLine {
         text,
         invalid: false,

@@ -5,21 +5,22 @@ ghost use Rattle.it_cli.specs.Outputs.{verdict_status};
 ghost use Rattle.it_tell.specs.Ends.{tell_mode};
 
 use crate::lines::tell_line;
+use crate::settings::Options;
 use it_cli::Status;
 use it_outside::{Sink, write_all};
 use it_question::first_line;
 use std::alloc::Global;
 
 /// What is done for the bytes of a report: what is told of a line is written as soon as it is there.
-pub fn tell_report<K: Sink>(alloc: Global, with_steps: bool, bytes: &[u8], sink: &mut K) -> Status
-    ensures { EndOfBytes (tell_mode with_steps) (K.taken sink.old) (K.taken sink.new) (K.faults sink.old) (K.faults sink.new) bytes.now result }
+pub fn tell_report<K: Sink>(alloc: Global, options: Options, bytes: &[u8], sink: &mut K) -> Status
+    ensures { EndOfBytes (tell_mode options.steps) (K.taken sink.old) (K.taken sink.new) (K.faults sink.old) (K.faults sink.new) bytes.now result }
 {
     let mut rest = bytes;
     let mut count: usize = 0;
     let mut some_invalid = false;
     while !rest.is_empty() {
         let (line, after) = first_line(rest);
-        let Ok(told) = tell_line(alloc, with_steps, count + 1, line) else {
+        let Ok(told) = tell_line(alloc, options, count + 1, line) else {
             return Status::Memory;
         };
         let Ok(()) = write_all(sink, told.text.as_slice()) else {

@@ -2,10 +2,11 @@
 ghost use Rattle.std.specs.Prelude.{◌≡◌, map};
 ghost use Rattle.it_tell.specs.Settings.{alone, no_options, settings_of, with_word, with_words};
 
-/// How it is told: with the steps of proofs or without.
+/// How it is told: with the steps of proofs or without; and whether short proofs are looked for, which may take long.
 #[derive(Clone, Copy, Debug, PartialEq, Eq)]
 pub struct Options {
     pub steps: bool,
+    pub short: bool,
 }
 
 /// What the words ask for.
@@ -17,7 +18,10 @@ pub enum Settings {
 }
 
 /// Without words.
-const NO_OPTIONS: Options = Options { steps: false };
+const NO_OPTIONS: Options = Options {
+    steps: false,
+    short: false,
+};
 
 /// The options with one that isn't there yet.
 #[tactic(auto, unfolding(crate::specs::Settings::with_word))]
@@ -25,7 +29,15 @@ fn with_word(options: Options, word: &str) -> Option<Options>
     ensures { result ≡ with_word options word.now }
 {
     if word == "--steps" && !options.steps {
-        Some(Options { steps: true })
+        Some(Options {
+            steps: true,
+            short: options.short,
+        })
+    } else if word == "--short" && !options.short {
+        Some(Options {
+            steps: options.steps,
+            short: true,
+        })
     } else {
         None
     }

@@ -20,7 +20,7 @@ const LONG: &[u8] = b"refused long\n";
 
 /// What `--help` asks for.
 const HELP: &[u8] =
-    b"usage: tell [--steps] <REPORT\nTells what the lines of a report say, as `itip answer --format json` writes one, in the field's own notation.\n--steps: below each proof its steps\n";
+    b"usage: tell [--steps] [--short] <REPORT\nTells what the lines of a report say, as `itip answer --format json` writes one, in the field's own notation.\n--steps: below each proof its steps\n--short: proofs with the least sum of terms, which may take long\n";
 
 /// What `--version` asks for.
 const VERSION: &[u8] = b"tell 1\n";
@@ -54,7 +54,7 @@ fn tell_source<S: Source, K: Sink>(
     ensures { (words : List (List ℕ)) → settings_of words ≡ Some (Tell options) → Ends (call_of S.left S.faults K.taken K.faults words [] source.old source.new sink.old sink.new) result }
 {
     match read_all(alloc, source, MOST) {
-        Ok(bytes) => tell_report(alloc, options.steps, bytes.as_slice(), sink),
+        Ok(bytes) => tell_report(alloc, options, bytes.as_slice(), sink),
         Err(InFault::ReadFault) => Status::ReadFault,
         Err(InFault::TooLong) => write_last(sink, LONG, Status::Refused),
         Err(InFault::Memory) => Status::Memory,

@@ -14,13 +14,14 @@ use crate::joining::{add_term, joined_terms};
 use crate::judging::is_same;
 use crate::measures::{Measure, measures};
 use crate::proof_judging::{Proposal, tells_proof};
+use crate::shortest::shortest;
 use crate::telling::names_of;
 use crate::untold::Untold;
 use crate::writing::{Draft, draft_text};
 use it_canon::{problem, target_rows};
 use it_elemental::{Elemental, count, parts};
 use it_question::types::{Question, Verb};
-use it_space::{Certificate, Constraint, Row, VarSet};
+use it_space::{Certificate, Constraint, Row, Space, VarSet};
 use it_syntax::Names;
 use it_syntax::types::{Atom, Relation, Sign, Term};
 use std::alloc::{AllocError, Global};
@@ -229,6 +230,130 @@ fn text_by(
     judged(alloc, names, target, constraints, long)
 }
 
+/// The sum of the numbers of terms.
+fn sum_of_numbers(terms: &[Term]) -> i128 {
+    let mut sum: i128 = 0;
+    for term in terms {
+        sum = sum.saturating_add(term.number as i128);
+    }
+    sum
+}
+
+/// What a proof with the least sum of terms over sets sums up, and how often it has the goal: no more terms than these.
+fn least_summands(
+    alloc: Global,
+    question: &Question,
+    space: Space,
+    target: &Row,
+    constraints: &[Constraint],
+    goal: &Goal,
+    scale: i128,
+    terms: &[Term],
+) -> Result<(i128, Summands), Untold> {
+    let often = product(scale, goal.factor)?;
+    let most = sum_of_numbers(terms);
+    let least = shortest(alloc, space, constraints, target, often, most)?;
+    if goal.factor <= 0 {
+        return Err(Untold::NotFound);
+    }
+    let mut summands = Summands {
+        shannon: least.terms,
+        rest: Vec::new(alloc),
+        weights: Vec::new(alloc),
+    };
+    for weight in least.weights.as_slice() {
+        put_weighted(&mut summands, question, constraints, weight.0, weight.1)?;
+    }
+    Ok((least.scale / goal.factor, summands))
+}
+
+/// The text of the proof with the least sum of terms over sets, where one is found that is no longer than what a certificate
+/// sums up.
+fn least_text(
+    alloc: Global,
+    question: &Question,
+    measures: &[Measure],
+    names: &Names,
+    target: &Row,
+    constraints: &[Constraint],
+    goal: &Goal,
+    scale: i128,
+    summands: &Summands,
+) -> Result<Option<Vec<u8>>, AllocError>
+    requires { 1 ≤ length names.now.variables }
+    ensures { IfOk result (λ o. IfSome o (λ text. TellsProof names.now (value target.now) (forms_of (map of_constraint constraints.now)) text.items)) }
+{
+    let terms = joined_terms(alloc, summands.shannon.as_slice())?;
+    let found = least_summands(
+        alloc,
+        question,
+        names.space(),
+        target,
+        constraints,
+        goal,
+        scale,
+        terms.as_slice(),
+    );
+    match found {
+        Ok((often, least)) => text_by(
+            alloc,
+            measures,
+            names,
+            target,
+            constraints,
+            goal,
+            often,
+            &least,
+        ),
+        Err(Untold::Memory) => Err(AllocError),
+        Err(Untold::NotFound) => Ok(None),
+    }
+}
+
+/// The text of a proof by what a certificate sums up, or, where a short one is asked for, by the least sum if it is found.
+fn short_text(
+    alloc: Global,
+    question: &Question,
+    measures: &[Measure],
+    names: &Names,
+    target: &Row,
+    constraints: &[Constraint],
+    goal: &Goal,
+    scale: i128,
+    summands: &Summands,
+    short: bool,
+) -> Result<Option<Vec<u8>>, AllocError>
+    requires { 1 ≤ length names.now.variables }
+    ensures { IfOk result (λ o. IfSome o (λ text. TellsProof names.now (value target.now) (forms_of (map of_constraint constraints.now)) text.items)) }
+{
+    if short {
+        let least = least_text(
+            alloc,
+            question,
+            measures,
+            names,
+            target,
+            constraints,
+            goal,
+            scale,
+            summands,
+        )?;
+        if let Some(text) = least {
+            return Ok(Some(text));
+        }
+    }
+    text_by(
+        alloc,
+        measures,
+        names,
+        target,
+        constraints,
+        goal,
+        scale,
+        summands,
+    )
+}
+
 /// The text of a proof of a target from constraints.
 fn proof_text(
     alloc: Global,
@@ -239,6 +364,7 @@ fn proof_text(
     constraints: &[Constraint],
     goal: Result<Goal, Untold>,
     certificate: &Certificate,
+    short: bool,
 ) -> Result<Option<Vec<u8>>, AllocError>
     requires { 1 ≤ length names.now.variables }
     ensures { IfOk result (λ o. IfSome o (λ text. TellsProof names.now (value target.now) (forms_of (map of_constraint constraints.now)) text.items)) }
@@ -250,8 +376,9 @@ fn proof_text(
     };
     let n = names.space().variables;
     match summed_up(alloc, question, n, constraints, certificate, goal.factor) {
-        Ok(summands) => text_by(
+        Ok(summands) => short_text(
             alloc,
+            question,
             measures,
             names,
             target,
@@ -259,6 +386,7 @@ fn proof_text(
             &goal,
             certificate.scale,
             &summands,
+            short,
         ),
         Err(Untold::Memory) => Err(AllocError),
         Err(Untold::NotFound) => Ok(None),
@@ -273,6 +401,7 @@ fn form_text(
     target: &Row,
     goal: Result<Goal, Untold>,
     certificate: &Certificate,
+    short: bool,
 ) -> Result<Option<Vec<u8>>, AllocError>
     requires { IsQuestion (question_body question.now) }
     ensures { IfOk result (λ o. IfSome o (λ text. TellsForm (question_body question.now) (value target.now) text.items)) }
@@ -288,6 +417,7 @@ fn form_text(
         posed.constraints.as_slice(),
         goal,
         certificate,
+        short,
     )?;
     Ok(text)
 }
@@ -344,12 +474,14 @@ fn goal_of(
 }
 
 /// The text of the proof of a row from the lines of a question, by a certificate: an equation between a multiple of the row
-/// and a sum of terms over sets and of multiples of the question's constraints; None where none was found.
+/// and a sum of terms over sets and of multiples of the question's constraints; None where none was found. Where a short one
+/// is asked for, one with the least sum of terms over sets is looked for first, which may take long.
 pub fn told_form(
     alloc: Global,
     question: &Question,
     target: &Row,
     certificate: &Certificate,
+    short: bool,
 ) -> Result<Option<Vec<u8>>, AllocError>
     requires { IsQuestion (question_body question.now) }
     ensures { IfOk result (λ o. IfSome o (λ text. TellsForm (question_body question.now) (value target.now) text.items)) }
@@ -364,5 +496,6 @@ pub fn told_form(
         target,
         goal,
         certificate,
+        short,
     )
 }
