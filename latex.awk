@@ -121,6 +121,33 @@ function point_tex(text,    word, count, i, most, columns, pair, out) {
     return out
 }
 
+# A fact of a point: `H(X,Y) = 2`, `R = 1`, `Y = X`, `X constant`, `func Z of X,Y`, `indep X;Y;Z`. Nothing, where it is none.
+function fact_tex(text,    word) {
+    split(text, word, " ")
+    if (text ~ /^(H[(][A-Za-z0-9_,]+[)]|[A-Za-z][A-Za-z0-9_]*) = (-?[0-9]+|[A-Za-z][A-Za-z0-9_]*)$/) return names_tex(word[1]) " = " names_tex(word[3])
+    if (text ~ /^[A-Za-z][A-Za-z0-9_]* constant$/) return names_tex(word[1]) "\\text{ constant}"
+    if (text ~ /^func [A-Za-z0-9_]+ of [A-Za-z0-9_,]+$/) return names_tex(word[2]) "\\text{ a function of }" names_tex(word[4])
+    if (text ~ /^indep [A-Za-z0-9_;]+$/) return names_tex(word[2]) "\\text{ independent}"
+    return ""
+}
+
+# Facts with `, ` between them, as lines of align*. Nothing, where one is none.
+function facts_tex(text,    fact, count, i, tex, used, out) {
+    count = split(text, fact, ", ")
+    for (i = 1; i <= count; i++) {
+        tex = fact_tex(fact[i])
+        if (tex == "") return ""
+        if (i == 1) out = "&"
+        else if (used + length(fact[i]) > WIDTH) {
+            out = out ", \\\\\n  &"
+            used = 0
+        } else out = out ",\\quad "
+        out = out tex
+        used += length(fact[i]) + 6
+    }
+    return out
+}
+
 # One or more, in words.
 function rows_words(count) {
     return count == 1 ? "by this row:" : "by these " count " rows:"
@@ -162,11 +189,18 @@ function close_relations(    i, wide, text) {
 }
 
 # Writes the answer that waits.
-function close_answer(    i, text, said) {
+function close_answer(    i, text, said, is_step, facts) {
     if (first == "") return
     print sentence(first, lines)
     for (i = 1; i <= lines; i++) {
         text = line[i]
+        # (steps stand further in)
+        if ((text ~ /^ /) != is_step) {
+            close_relations()
+            is_step = !is_step
+            if (is_step) print "Step by step:"
+        }
+        sub(/^ +/, "", text)
         said = ""
         if (match(text, / *# /)) {
             said = substr(text, RSTART + RLENGTH)
@@ -180,6 +214,7 @@ function close_answer(    i, text, said) {
         }
         close_relations()
         if (sub(/^as point /, "", text)) print "\\begin{align*}\n  " point_tex(text) "\n\\end{align*}"
+        else if ((facts = facts_tex(text)) != "") print "\\begin{align*}\n  " facts "\n\\end{align*}"
         else print "\\par{\\raggedright\\texttt{" escaped(line[i]) "}\\par}"
     }
     close_relations()
