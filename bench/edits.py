@@ -172,12 +172,15 @@ def try_crate(clone, folder, crate):
         if it.why_not(texts):
             print(f"{crate}/{it.name}: BAD: {it.why_not(texts)}", flush=True)
     for group in groups([it for it in edits if not it.why_not(texts)], texts):
-        said = check(at, texts, group)
+        said, alone = check(at, texts, group), []
         for it in group:
             how = outcome(said, crate, it.functions(texts))
             if len(group) > 1 and not how.startswith("refused:"):
-                how = outcome(check(at, texts, [it]), crate, it.functions(texts))
-            print(f"{crate}/{it.name}: {how}", flush=True)
+                alone.append(it)
+            else:
+                print(f"{crate}/{it.name}: {how}", flush=True)
+        for it in alone:
+            print(f"{crate}/{it.name}: {outcome(check(at, texts, [it]), crate, it.functions(texts))}", flush=True)
 
 
 if __name__ == "__main__":
