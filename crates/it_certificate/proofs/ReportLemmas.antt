@@ -6,7 +6,7 @@ use Rattle.serde_json.specs.Data.{Data}
 use Rattle.serde_json.specs.Find.{get}
 use Rattle.it_space.specs.Answers.{AnswerView, answer_view}
 use Rattle.it_space.specs.declared.answers.Answer.{Answer}
-use Rattle.it_syntax.specs.declared.types.Code.{Code}
+use Rattle.it_forms.specs.declared.types.Code.{Code}
 use Rattle.it_question.specs.Questions.{QuestionView, question_view}
 use Rattle.it_question.specs.Files.{IsFile, FileFaultAt}
 use Rattle.it_question.specs.declared.types.Question.{Question}

@@ -3,7 +3,7 @@ use Rattle.std.proofs.Common.{◌≡◌, ℕ, ◌+◌, ◌<◌, ◌≤◌, ◌^�
 use Rattle.std.proofs.lemmas.List.{length-map, get_or-map}
 use Rattle.it_space.specs.Answers.{AnswerView}
 use Rattle.it_polymatroid.specs.Polymatroid.{IsPolymatroid}
-use Rattle.it_syntax.specs.declared.types.Code.{Code}
+use Rattle.it_forms.specs.declared.types.Code.{Code}
 use Rattle.it_syntax.specs.Meaning.{RelationView, Holds}
 use Rattle.it_question.specs.declared.types.Question.{Question}
 use Rattle.it_question.specs.declared.types.FileFault.{FileFault}

@@ -7,7 +7,7 @@ use Rattle.it_space.specs.Answers.AnswerView.{Yes, No, Undecided, Region, Contai
 use Rattle.it_syntax.specs.Meaning.{RelationView}
 use Rattle.it_question.specs.declared.types.Question.{Question}
 use Rattle.it_question.specs.Questions.{BodyView, QuestionView, VerbView, Prove, Eliminate, Contain, question_view, question_body}
-use Rattle.it_syntax.specs.declared.types.Code.{Code}
+use Rattle.it_forms.specs.declared.types.Code.{Code}
 use Rattle.it_question.specs.Files.{FileFaultAt, FileIsOne, FileOrFault}
 use Rattle.it_gen.specs.GeneratedFiles.{GeneratedIsFile, IsProve, generated_file}
 use Rattle.it_contain.specs.Proposals.{Plan, plan_after_all}

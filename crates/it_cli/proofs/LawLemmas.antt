@@ -6,7 +6,7 @@ use Rattle.it_outside.specs.Traffic.{Gains, Gave, GaveMore}
 use Rattle.it_outside.proofs.LawLemmas.{end_comes_last, more_was_there}
 use Rattle.it_settings.specs.declared.types.Settings.{Settings}
 use Rattle.it_settings.specs.declared.types.Settings.TheVariants.{Check, Bench}
-use Rattle.it_syntax.specs.declared.types.Code.{Code}
+use Rattle.it_forms.specs.declared.types.Code.{Code}
 use Rattle.it_contain.specs.Proposals.{Plan}
 use Rattle.it_answer.specs.declared.types.Budgets.{Budgets}
 use Rattle.it_cli.specs.Counts.{IsBenchLine}

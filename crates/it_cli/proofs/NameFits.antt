@@ -7,28 +7,32 @@ use Rattle.std.proofs.lemmas.Bool.Decides.{nat_tests}
 use Rattle.std.proofs.lemmas.List.{take_at, drop_at}
 use Rattle.std.proofs.lemmas.Slice.Eq.{bytes_eq-Decides}
 use Rattle.it_space.proofs.EveryLemmas.{every-append}
-use Rattle.it_syntax.specs.declared.types.Code.{Code}
+use Rattle.it_forms.specs.declared.types.Code.{Code}
 use Rattle.it_syntax.specs.declared.types.Misspelling.{Misspelling}
 use Rattle.it_syntax.specs.declared.types.Token.{Token}
 use Rattle.it_syntax.specs.declared.types.TokenKind.{TokenKind}
 use Rattle.it_syntax.specs.declared.types.TokenKind.TheVariants as kinds
-use Rattle.it_syntax.specs.declared.types.Symbol.TheVariants.{Comma}
-use Rattle.it_syntax.specs.Letters.{Letter, Word, Number, Sym, End, Bad, MarkedLetters, without_mark, without_marks}
+use Rattle.it_forms.specs.declared.types.Symbol.TheVariants.{Comma}
+use Rattle.it_forms.specs.Letters.{Letter, Word, Number, Sym, End, Bad, MarkedLetters, without_mark, without_marks}
+use Rattle.it_syntax.specs.NameMarks.{is_measure}
+use Rattle.it_question.specs.WrittenNames.{spell_new_more, spell_new_names, with_names, new_names_of, spell_names_line, names_line_of}
+use Rattle.it_forms.specs.Words.{limit_mark}
+use Rattle.it_question.specs.QuestionLimits.{most_questions, most_variables, most_rates}
 use Rattle.it_syntax.specs.Misspellings.{SpellsUntil}
 use Rattle.it_syntax.specs.NamesViews.{NamesView, index_of, IsNew}
 use Rattle.it_syntax.specs.Spans.{letter_of, letters_until, last_letter}
 use Rattle.it_syntax.specs.Spelling.{StartsWith, IsText}
-use Rattle.it_syntax.specs.WrittenMeasures.{WrittenList, is_measure}
+use Rattle.it_syntax.specs.WrittenMeasures.{WrittenList}
 use Rattle.it_syntax.proofs.NameLemmas.{nowhere_all, distinct_insert, differs_both_ways}
 use Rattle.it_question.specs.Files.{IsFile}
 use Rattle.it_question.specs.Keywords.{vars_keyword, rates_keyword}
 use Rattle.it_question.specs.Lines.{LineView, AreLines, split_lines, letters_of_lines}
-use Rattle.it_question.specs.NewNames.{NameSortView, Variable, Rate, with_name, no_names, is_taken, new_mark, spell_new_more, spell_new_names, with_names, new_names_of, spell_names_line, names_line_of}
+use Rattle.it_question.specs.NewNames.{NameSortView, Variable, Rate, with_name, no_names, is_taken, new_mark}
 use Rattle.it_question.specs.Questions.{QuestionView}
 use Rattle.it_question.specs.Texts.{text_of_lines, question_line_count, with_texts}
-use Rattle.it_question.specs.WrittenLines.{limit_mark}
-use Rattle.it_question.specs.WrittenQuestions.{WrittenQuestion, most_questions, most_variables, most_rates}
+use Rattle.it_question.specs.WrittenQuestions.{WrittenQuestion}
 use Rattle.it_question.specs.WrittenFiles.{names_of, spell_question, question_of, questions_of, spell_file}
+use Rattle.it_question.proofs.FileLemmas.{asked_is_written}
 use Rattle.it_question.proofs.NewNameLemmas.{new_of}
 use Rattle.it_certificate.specs.AnswerShapes.{IsFoundIn}
 use Rattle.it_number.specs.Decimals.{value_from}
@@ -212,6 +216,7 @@ no_number (c ∷ cs) h =
 
 -- a rate of the question that a text asks
 pub rates_found : (q : QuestionView) (r : ℕ) → IsFile q.text (q ∷ []) → r < length q.body.names.rates → IsFoundIn q.body.names r × (step_of (rate_name q.body.names r) ≡ None)
-rates_found q r f h =
+rates_found q r asked h =
+    let f = asked_is_written q.text (q ∷ []) asked in
     let g = read_good q f.lines f.tree (lines_sound 1 (split_lines q.text) f.lines f.cut) f.spelled f.says in
     (found_at q.body.names.rates r g.distinct h, no_number (rate_name q.body.names r) (every_at IsLettered q.body.names.rates r g.lettered h))

@@ -3,15 +3,17 @@ use Rattle.std.proofs.Common.{◌≡◌, inl, inr, ℕ, zero, suc, ◌+◌, ◌-
 use Rattle.std.proofs.lemmas.List.{length-map}
 use Rattle.std.proofs.lemmas.List.Elements.{All-nil, All-cons}
 use Rattle.it_syntax.specs.declared.types.Misspelling.{Misspelling}
-use Rattle.it_syntax.specs.Letters.{without_mark, letters, without_marks}
+use Rattle.it_forms.specs.Letters.{without_mark, letters, without_marks}
+use Rattle.it_forms.specs.Words.{limit_mark}
+use Rattle.it_question.specs.QuestionLimits.{most_questions}
 use Rattle.it_question.proofs.LetterLemmas.{length_with_ends, split_length}
 use Rattle.it_question.specs.Files.{IsFile}
 use Rattle.it_question.specs.Lines.{LineView, AreLines, split_lines, without_return, before_comment, without_tab, plain_text, file_end, letters_of_lines}
 use Rattle.it_question.specs.Questions.{QuestionView}
 use Rattle.it_question.specs.Texts.{without_leading, unless_blank, without_trailing, trimmed_line, text_of_lines, question_line_count, with_texts}
-use Rattle.it_question.specs.WrittenLines.{limit_mark}
-use Rattle.it_question.specs.WrittenQuestions.{WrittenQuestion, most_questions}
+use Rattle.it_question.specs.WrittenQuestions.{WrittenQuestion}
 use Rattle.it_question.specs.WrittenFiles.{question_of, spell_questions, questions_of}
+use Rattle.it_question.proofs.FileLemmas.{asked_is_written}
 use Rattle.it_question.proofs.CleanLetters.{clean_parts}
 use Rattle.it_question.proofs.LineParts.{AreWhole, AreSound, lines_sound, letters_of_first_lines}
 use Rattle.it_question.proofs.LinePuts.{question_puts}
@@ -111,7 +113,8 @@ all_short most n (x ∷ xs) lines e s h =
     (all_short most (n - 1) xs (drop i lines) (c.after ∙ ap without_marks (sym d.after)) d.sound (omega (arith, sum, h)))
 
 pub texts_are_short : (bytes : List ℕ) (qs : List QuestionView) → IsFile bytes qs → All (λ q. length q.text ≤ length bytes + 1) qs
-texts_are_short bytes qs f =
+texts_are_short bytes qs asked =
+    let f = asked_is_written bytes qs asked in
     let a = lines_short 1 (split_lines bytes) f.lines f.cut in
     let b = split_length bytes in
     subst (All (IsShortBy (length bytes + 1))) f.says (all_short (length bytes + 1) most_questions f.tree f.lines f.spelled (lines_sound 1 (split_lines bytes) f.lines f.cut) (omega (arith, a, b)))

@@ -4,7 +4,7 @@ use Rattle.it_settings.specs.declared.types.Settings.{Settings}
 use Rattle.it_settings.specs.declared.types.Settings.TheVariants.{Check, Bench}
 use Rattle.it_space.specs.Answers.AnswerView.{Undecided}
 use Rattle.it_space.specs.declared.answers.Cause.TheVariants.{Pivots}
-use Rattle.it_syntax.specs.declared.types.Code.{Code}
+use Rattle.it_forms.specs.declared.types.Code.{Code}
 use Rattle.it_question.specs.Questions.{BodyView, QuestionView}
 use Rattle.it_question.specs.Files.{IsFile}
 use Rattle.it_region.specs.declared.types.Candidate.{Candidate}

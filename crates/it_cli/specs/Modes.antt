@@ -2,7 +2,7 @@
 use Rattle.std.specs.Prelude.{◌≡◌, ℕ, ◌+◌, List, ◌∷◌, ◌++◌, length}
 use Rattle.it_outside.specs.Groups.{Groups}
 use Rattle.it_outside.specs.Traffic.{IsFront}
-use Rattle.it_syntax.specs.declared.types.Code.{Code}
+use Rattle.it_forms.specs.declared.types.Code.{Code}
 use Rattle.it_cli.specs.declared.status.Status.{Status}
 
 -- The bytes of an input ask for items, one after the other, or have a first fault, at a line and a column. An item has replies

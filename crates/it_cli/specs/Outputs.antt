@@ -8,7 +8,7 @@ use Rattle.it_question.specs.Files.{FileFaultAt, IsFile}
 use Rattle.it_question.specs.Lines.{split_lines}
 use Rattle.it_question.specs.Questions.{QuestionView}
 use Rattle.it_copy.specs.Files.{CopyFileFaultAt}
-use Rattle.it_syntax.specs.declared.types.Code.{Code}
+use Rattle.it_forms.specs.declared.types.Code.{Code}
 use Rattle.it_contain.specs.Proposals.{Plan}
 use Rattle.it_answer.specs.declared.types.Budgets.{Budgets}
 use Rattle.it_answer.specs.Replies.{Reply}

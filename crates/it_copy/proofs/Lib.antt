@@ -1,5 +1,3 @@
-pub mod CopyTraces
-pub mod CopyAnswers
 pub mod CopyLineLemmas
 pub mod MemberLemmas
 pub mod HeadLemmas
@@ -13,3 +11,6 @@ pub mod ExtendLemmas
 pub mod PointLemmas
 pub mod MisfitLemmas
 pub mod SizeLemmas
+pub mod CopyOutlines
+pub mod CopyReadings
+pub mod CopyFileLemmas

@@ -12,7 +12,7 @@ use Rattle.it_syntax.specs.Meaning.{IsAtomOf}
 use Rattle.it_syntax.specs.Givens.{GivenView, IsGivenOf, IsRelationOf}
 use Rattle.it_question.specs.Questions.{BodyView, VerbView, Prove, Eliminate, Contain}
 use Rattle.it_question.specs.Limits.{IsQuestion, IsVerbOver}
-use Rattle.it_question.specs.WrittenQuestions.{most_lines, most_variables}
+use Rattle.it_question.specs.QuestionLimits.{most_lines, most_variables}
 use Rattle.it_number.specs.Gcd.{gcd, gcd_within, lcm}
 use Rattle.it_demand.proofs.LimitLemmas.{wider_given, wider_relation}
 use Rattle.it_copy.specs.CopyLines.{CopyView}

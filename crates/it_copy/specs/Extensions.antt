@@ -5,7 +5,7 @@ use Rattle.it_syntax.specs.NamesViews.{NamesView, index_of}
 use Rattle.it_syntax.specs.Givens.{GivenView}
 use Rattle.it_question.specs.NewNames.{Variable, is_taken, with_name}
 use Rattle.it_question.specs.Questions.{VerbView, Prove, Eliminate, Contain, BodyView}
-use Rattle.it_question.specs.WrittenQuestions.{most_lines, most_variables}
+use Rattle.it_question.specs.QuestionLimits.{most_lines, most_variables}
 use Rattle.it_question.specs.Tables.{HasSmallTable}
 use Rattle.it_copy.specs.declared.types.CopyFault.{CopyFault}
 use Rattle.it_copy.specs.declared.types.CopyFault.TheVariants as faults

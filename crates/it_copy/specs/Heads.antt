@@ -1,20 +1,32 @@
 -- The head of a file: all lines before the first whose first token is `vars`, or all lines where there is none. Each of them that has
 -- tokens asks for a copy.
 use Rattle.std.specs.Prelude.{◌≡◌, ℕ, ◌+◌, ◌-◌, ◌≤◌, List, [], ◌∷◌, length, drop, Option, Some, None, ◌⊎◌}
-use Rattle.it_syntax.specs.declared.types.Code.{Code}
+use Rattle.it_forms.specs.declared.types.Code.{Code}
 use Rattle.it_syntax.specs.declared.types.LineTokens.{LineTokens}
 use Rattle.it_syntax.specs.declared.types.Token.{Token}
 use Rattle.it_syntax.specs.declared.types.Misspelling.{Misspelling}
-use Rattle.it_syntax.specs.FirstFault.{head}
-use Rattle.it_syntax.specs.Letters.{Word}
-use Rattle.it_syntax.specs.Lines.{FaultAt}
+use Rattle.it_forms.specs.FirstFault.{head}
+use Rattle.it_forms.specs.Letters.{Word}
+use Rattle.it_syntax.specs.Lines.{FaultAt, letters_from}
 use Rattle.it_syntax.specs.Misspellings.{SpellsUntil}
 use Rattle.it_syntax.specs.Spans.{letters_until, last_letter}
 use Rattle.it_question.specs.Keywords.{vars_keyword}
 use Rattle.it_question.specs.Lines.{plain_text, split_lines}
 use Rattle.it_question.specs.declared.types.FileFault.{FileFault}
 use Rattle.it_question.specs.declared.types.FileFault.TheVariants.{Memory, Fault}
-use Rattle.it_copy.specs.CopyLines.{CopyView, IsCopyLine, most_copies, spell_copy}
+use Rattle.it_copy.specs.CopyLines.{CopyView, most_copies}
+use Rattle.it_copy.specs.CopyForms.{copy_line}
+use Rattle.it_forms.specs.Forms.{Form}
+use Rattle.it_forms.specs.FormTexts.{Says}
+use Rattle.it_forms.specs.Words.{to_end}
+
+-- a line that asks for a copy, of which n are allowed
+abbrev pub head_line : ℕ → Form CopyView
+head_line n = to_end (copy_line n)
+
+-- the line is this copy, and n copies are allowed
+abbrev pub IsCopyLine : ℕ → List ℕ → LineTokens → CopyView → Type 0
+IsCopyLine n line ts c = Says (head_line n) (letters_from line ts 0) c
 
 -- the first token is the word that begins a question
 abbrev pub BeginsQuestions : List ℕ → List Token → Option Misspelling → Type 0
@@ -48,7 +60,7 @@ pub record IsHead (bytes : List ℕ) (copies : List CopyView) (from skipped : �
 abbrev pub HasHeadFault : ℕ → ℕ → List (List ℕ) → ℕ → ℕ → Code → Type 0
 HasHeadFault number before [] row column code = ⊥
 HasHeadFault number before (line ∷ lines) row column code = (ts : LineTokens) × AreTokensOf line ts
-    × (((BeginsQuestions (plain_text line) ts.tokens.items ts.misspelling → ⊥) × (HasNoTokens ts.tokens.items ts.misspelling → ⊥) × (row ≡ number) × FaultAt (spell_copy (most_copies - before)) (plain_text line) ts 0 column code)
+    × (((BeginsQuestions (plain_text line) ts.tokens.items ts.misspelling → ⊥) × (HasNoTokens ts.tokens.items ts.misspelling → ⊥) × (row ≡ number) × FaultAt (head_line (most_copies - before)) (plain_text line) ts 0 column code)
     ⊎ ((HasNoTokens ts.tokens.items ts.misspelling × HasHeadFault (number + 1) before lines row column code)
     ⊎ ((c : CopyView) × IsCopyLine (most_copies - before) (plain_text line) ts c × HasHeadFault (number + 1) (before + 1) lines row column code)))
 

@@ -7,3 +7,5 @@ pub mod Equations
 pub mod Extensions
 pub mod ExtensionSteps
 pub mod Points
+pub mod CopyForms
+pub mod CopyTables

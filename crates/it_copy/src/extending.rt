@@ -8,7 +8,7 @@ ghost use Rattle.it_question.specs.Limits.{IsQuestion};
 ghost use Rattle.it_question.specs.NewNames.{Variable, is_taken, with_name};
 ghost use Rattle.it_question.specs.Tables.{most_entries};
 ghost use Rattle.it_question.specs.Questions.{Prove, question_body, question_view};
-ghost use Rattle.it_question.specs.WrittenQuestions.{most_variables};
+ghost use Rattle.it_question.specs.QuestionLimits.{most_variables};
 ghost use Rattle.it_copy.specs.CopyLines.{AreNamed, copy_view};
 ghost use Rattle.it_copy.specs.Equations.{copy_equations};
 ghost use Rattle.it_copy.specs.Extensions.{IsExtension, IsMisfit, equations_of, extended, first_unplaced, named_parts, placed, set_with, unless_member, with_copies};

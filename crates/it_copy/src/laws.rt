@@ -1,4 +1,5 @@
 //! Theorems on copies, each as the contract of a function.
+ghost use Rattle.it_copy.specs.CopyTables.{CopiesAreByTable};
 ghost use Rattle.it_copy.specs.Files.{CopyFaultIsOne, CopyFileIsOne, CopyFileOrFault};
 ghost use Rattle.it_copy.specs.Points.{ExtensionOrMisfit, OneExtension, OneMisfit, YesByCopies};
 
@@ -7,6 +8,11 @@ use it_question::file_is_one;
 /// What holds at every polymatroid that meets a question with copies holds wherever the question's own entropies have such copies.
 pub fn yes_by_copies()
     ensures { YesByCopies }
+{}
+
+/// What a file with a head asks it asks by the table of such files.
+pub fn copies_are_by_table()
+    ensures { CopiesAreByTable }
 {}
 
 /// A question has one extension by some copies, or one reason against them, and not both.

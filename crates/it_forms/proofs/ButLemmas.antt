@@ -2,8 +2,8 @@
 use Rattle.std.proofs.Common.{◌≡◌, Bool, true, false, cond, ◌||◌, List, [], ◌∷◌, ◌++◌, ℕ, refl, ap, ◌∙◌}
 use Rattle.std.specs.Prelude.{bytes_eq, not}
 use Rattle.std.specs.List.{list_any}
-use Rattle.it_syntax.specs.MeasureReading.{Reads, ◌>>=◌}
-use Rattle.it_syntax.specs.Letters.{Letter, Word, Number, Sym, End, Bad}
+use Rattle.it_forms.specs.Reads.{Reads, ◌>>=◌}
+use Rattle.it_forms.specs.Letters.{Letter, Word, Number, Sym, End, Bad}
 use Rattle.it_forms.specs.Forms.{Kind, WordBut, is_of, is_among, Terminal, Form, Give, Take, Then, If, While}
 use Rattle.it_forms.specs.FormReading.{if_unmarked, if_taken, read}
 use Rattle.it_forms.specs.Words.{without, all_without, terminal_but, but}

@@ -1,13 +1,12 @@
 -- A form's reading gives what is written, or the first fault.
-use Rattle.std.proofs.Common.{◌≡◌, List, [], ◌∷◌, ◌++◌, Some, Ok, Err, refl, sym, ap, ◌∙◌, subst, inl, inr, ◌⊎◌}
-use Rattle.std.proofs.lemmas.List.{append_cancel_right}
-use Rattle.it_syntax.specs.declared.types.Code.{Code}
-use Rattle.it_syntax.specs.Letters.{Letter, MarkedLetters, letters, without_marks}
-use Rattle.it_syntax.specs.FirstFault.{head, own_code, MarkedAt}
-use Rattle.it_syntax.specs.MeasureReading.{Fault, Reads}
-use Rattle.it_syntax.proofs.Traces.{Why}
-use Rattle.it_syntax.proofs.SpelledIsRead.{Answers, Marks}
-use Rattle.it_syntax.proofs.FirstFaults.{letters_after, letters_cleaned, clean_is_clean}
+use Rattle.std.proofs.Common.{◌≡◌, List, [], ◌∷◌, ◌++◌, Ok, Err, refl, sym, ap, ◌∙◌, subst, inl, inr, ◌⊎◌}
+use Rattle.it_forms.specs.declared.types.Code.{Code}
+use Rattle.it_forms.specs.Letters.{Letter, MarkedLetters, letters, without_marks}
+use Rattle.it_forms.specs.FirstFault.{head, own_code, MarkedAt}
+use Rattle.it_forms.specs.Reads.{Reads}
+use Rattle.it_forms.proofs.FirstFaults.{Why, err_is, mark_place}
+use Rattle.it_forms.proofs.MarkedReadings.{Answers}
+use Rattle.it_forms.proofs.LetterLemmas.{letters_after, letters_cleaned, clean_is_clean}
 use Rattle.it_forms.specs.Forms.{Form, Spells}
 use Rattle.it_forms.specs.FormReading.{read}
 use Rattle.it_forms.specs.FormTexts.{Says, Written, IsFirstFault}
@@ -15,19 +14,6 @@ use Rattle.it_forms.proofs.FormTraces.{Went, Stuck, By}
 use Rattle.it_forms.proofs.Outlines.{Outline, Has}
 use Rattle.it_forms.proofs.FormFound.{reading_tells}
 use Rattle.it_forms.proofs.FormWritten.{written_is_read}
-
-mark_place : (m : MarkedLetters) (f : Fault) (front q : List Letter) (c : Code) → Marks m f → f ≡ (c, q) → letters m ≡ front ++ q → MarkedAt m front c
-mark_place m f front q c k e h =
-    let q-is : q ≡ k.letter ∷ letters k.rest = sym (ap (λ (t : Fault). t.1) e) ∙ k.left in
-    let same : k.front ++ q ≡ front ++ q = ap (λ (t : List Letter). k.front ++ t) q-is ∙ sym (letters_after k.front ((k.letter, Some f.0) ∷ k.rest)) ∙ sym (ap letters k.is) ∙ h in
-    let front-is : k.front ≡ front = append_cancel_right k.front front q same in
-    (k.letter, k.rest, k.is ∙ ap (λ (t : List Letter). without_marks t ++ ((k.letter, Some f.0) ∷ k.rest)) front-is ∙ ap (λ (t : Fault). without_marks front ++ ((k.letter, Some t.0) ∷ k.rest)) e)
-
-abbrev err_of : {A : Type 0} → Fault → Reads A
-err_of f = Err f
-
-err_is : {A : Type 0} (f g : Fault) → err_of {A = A} f ≡ err_of {A = A} g → f ≡ g
-err_is f g e = cc
 
 each_marked : {A : Type 0} (f : Form A) (o : Outline) → Has f o → (front : List Letter) (c : Code) (q : List Letter) → read f (front ++ q) ≡ Err (c, q) → (x : Written f) → letters x.1 ≡ front ++ q → MarkedAt x.1 front c
 each_marked {A} f o s front c q e x h = by_answer (written_is_read f o s x.0 x.1 [] x.2 tt)

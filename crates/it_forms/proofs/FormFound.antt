@@ -1,8 +1,8 @@
 -- What a reading of a form tells of the letters that it looked at.
 use Rattle.std.proofs.Common.{◌≡◌, ℕ, zero, suc, ◌≤◌, List, [], ◌∷◌, length, Option, Ok, refl, ◌∙◌, subst, inl, inr, arith}
-use Rattle.it_syntax.specs.declared.types.Code.{Code}
-use Rattle.it_syntax.specs.Letters.{Letter, MarkedLetters}
-use Rattle.it_syntax.specs.MeasureReading.{◌>>=◌, no_rule}
+use Rattle.it_forms.specs.declared.types.Code.{Code}
+use Rattle.it_forms.specs.Letters.{Letter, MarkedLetters}
+use Rattle.it_forms.specs.Reads.{◌>>=◌, no_rule}
 use Rattle.it_forms.specs.Forms.{Kind, IsTaken, Form, Give, Take, Then, If, While, Spells}
 use Rattle.it_forms.specs.FormReading.{read}
 use Rattle.it_forms.proofs.FormTraces.{Language, Reader, By, Completes, by_then, by_branch, by_nothing, by_no_rule}

@@ -1,9 +1,9 @@
 -- What letters say in a form is one thing, their first fault is one, and they have not both.
 use Rattle.std.proofs.Common.{◌≡◌, List, [], ◌∷◌, ◌++◌, Ok, refl, sym, ap, ◌∙◌, subst, ℕ, zero, suc, inl, inr, append_assoc, Option}
-use Rattle.it_syntax.specs.declared.types.Code.{Code}
-use Rattle.it_syntax.specs.Letters.{Letter, MarkedLetters, without_marks}
-use Rattle.it_syntax.specs.MeasureReading.{Reads}
-use Rattle.it_syntax.proofs.FirstFaults.{letters_cleaned, clean_is_clean}
+use Rattle.it_forms.specs.declared.types.Code.{Code}
+use Rattle.it_forms.specs.Letters.{Letter, MarkedLetters, without_marks}
+use Rattle.it_forms.specs.Reads.{Reads}
+use Rattle.it_forms.proofs.LetterLemmas.{letters_cleaned, clean_is_clean}
 use Rattle.it_forms.specs.Forms.{Kind, Terminal, IsTaken, AreTurns, Form, Give, Take, Then, If, While, Spells}
 use Rattle.it_forms.specs.FormTexts.{Says, IsFirstFault}
 use Rattle.it_forms.proofs.Outlines.{Outline, Has}

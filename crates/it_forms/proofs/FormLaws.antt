@@ -1,9 +1,9 @@
 -- The two laws of forms: what is written in a form is read, up to its first mark; and what a reading tells of the letters
 -- that it looked at.
 use Rattle.std.proofs.Common.{◌≡◌, ℕ, zero, suc, ◌≤◌, Bool, true, false, cond, List, [], ◌∷◌, length, Option, Some, None, Ok, Err, refl, arith}
-use Rattle.it_syntax.specs.declared.types.Code.{Code}
-use Rattle.it_syntax.specs.Letters.{Letter}
-use Rattle.it_syntax.specs.MeasureReading.{Reads, ◌>>=◌, no_rule}
+use Rattle.it_forms.specs.declared.types.Code.{Code}
+use Rattle.it_forms.specs.Letters.{Letter}
+use Rattle.it_forms.specs.Reads.{Reads, ◌>>=◌, no_rule}
 use Rattle.it_forms.specs.Forms.{Terminal, is_among, Form, Give, Take, Then, If, While}
 use Rattle.it_forms.specs.FormReading.{if_unmarked, if_taken, read_turns, read}
 use Rattle.it_forms.proofs.FormTraces.{Reader}

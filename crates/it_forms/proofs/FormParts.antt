@@ -1,8 +1,8 @@
 -- What always holds of what is read in a form and of the letters that say it.
 use Rattle.std.proofs.Common.{◌≡◌, ℕ, zero, suc, Bool, true, false, cond, List, [], ◌∷◌, ◌++◌, length, Option, Some, None, Ok, Err, refl, sym, ap, ◌∙◌, subst, append_assoc}
-use Rattle.it_syntax.specs.declared.types.Code.{Code}
-use Rattle.it_syntax.specs.Letters.{Letter}
-use Rattle.it_syntax.specs.MeasureReading.{Reads, ◌>>=◌, no_rule}
+use Rattle.it_forms.specs.declared.types.Code.{Code}
+use Rattle.it_forms.specs.Letters.{Letter}
+use Rattle.it_forms.specs.Reads.{Reads, ◌>>=◌, no_rule}
 use Rattle.it_forms.specs.Forms.{Kind, Terminal, is_among, Form, Give, Take, Then, If, While}
 use Rattle.it_forms.specs.FormReading.{if_unmarked, if_taken, read_turns, read}
 use Rattle.it_forms.proofs.FormTraces.{Reader}

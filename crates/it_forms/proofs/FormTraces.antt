@@ -1,10 +1,11 @@
 -- What a reading tells of the letters that it looked at, for readers and for what they read.
 use Rattle.std.proofs.Common.{◌≡◌, Bool, true, false, cond, List, [], ◌∷◌, ◌++◌, Option, Some, None, Ok, Err, refl, sym, ap, ◌∙◌, subst, inl, inr, append_assoc}
-use Rattle.it_syntax.specs.declared.types.Code.{Code}
-use Rattle.it_syntax.specs.Letters.{Letter, Bad, MarkedLetters, without_mark, without_marks}
-use Rattle.it_syntax.specs.FirstFault.{head, own_code}
-use Rattle.it_syntax.specs.MeasureReading.{Reads, ◌>>=◌, no_rule}
-use Rattle.it_syntax.proofs.Traces.{Why, cleaned_append}
+use Rattle.it_forms.specs.declared.types.Code.{Code}
+use Rattle.it_forms.specs.Letters.{Letter, Bad, MarkedLetters, without_mark, without_marks}
+use Rattle.it_forms.specs.FirstFault.{head, own_code}
+use Rattle.it_forms.specs.Reads.{Reads, ◌>>=◌, no_rule}
+use Rattle.it_forms.proofs.FirstFaults.{Why}
+use Rattle.it_forms.proofs.LetterLemmas.{cleaned_append}
 use Rattle.it_forms.specs.Forms.{Terminal, is_among, IsTaken}
 use Rattle.it_forms.specs.FormReading.{if_unmarked, if_taken}
 

@@ -1,9 +1,9 @@
 -- What is written in a form is read, up to its first mark.
 use Rattle.std.proofs.Common.{◌≡◌, ℕ, zero, suc, Bool, true, false, List, [], ◌∷◌, ◌++◌, Option, Some, None, Ok, refl, sym, ◌∙◌, subst, inl, inr, ◌⊎◌}
-use Rattle.it_syntax.specs.declared.types.Code.{Code}
-use Rattle.it_syntax.specs.Letters.{Letter, MarkedLetters, letters}
-use Rattle.it_syntax.specs.MeasureReading.{Reads, ◌>>=◌, no_rule}
-use Rattle.it_syntax.proofs.SpelledIsRead.{Answers, answers_ok, answers_cons, answers_bind}
+use Rattle.it_forms.specs.declared.types.Code.{Code}
+use Rattle.it_forms.specs.Letters.{Letter, MarkedLetters, letters}
+use Rattle.it_forms.specs.Reads.{Reads, ◌>>=◌, no_rule}
+use Rattle.it_forms.proofs.MarkedReadings.{Answers, answers_ok, answers_cons, answers_bind}
 use Rattle.it_forms.specs.Forms.{Kind, Terminal, is_among, IsTaken, AreTurns, Form, Give, Take, Then, If, While, Spells}
 use Rattle.it_forms.specs.FormReading.{if_unmarked, if_taken, read}
 use Rattle.it_forms.proofs.FormTraces.{Reader, taken_is, other_is}

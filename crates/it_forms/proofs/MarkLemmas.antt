@@ -1,6 +1,6 @@
 -- Where more is allowed nothing is marked.
 use Rattle.std.proofs.Common.{◌≡◌, ℕ, zero, suc, List, None, refl, ap}
-use Rattle.it_syntax.specs.Letters.{Letter}
+use Rattle.it_forms.specs.Letters.{Letter}
 use Rattle.it_forms.specs.Forms.{Form, Give, Take, Then, If, While}
 use Rattle.it_forms.specs.FormReading.{read}
 use Rattle.it_forms.specs.Words.{marked, allowed}

@@ -3,12 +3,12 @@
 use Rattle.std.proofs.Common.{◌≡◌, Bool, true, false, ◌&&◌, ◌||◌, List, [], ◌∷◌, ◌++◌, Option, refl}
 use Rattle.std.specs.Prelude.{bytes_eq, not}
 use Rattle.std.specs.List.{list_any}
-use Rattle.it_syntax.specs.declared.types.Code.{Code}
-use Rattle.it_syntax.specs.Spelling.{symbol_text}
-use Rattle.it_syntax.specs.Letters.{Letter, Sym}
+use Rattle.it_forms.specs.declared.types.Code.{Code}
+use Rattle.it_forms.specs.SymbolTexts.{symbol_text}
+use Rattle.it_forms.specs.Letters.{Letter, Sym, End}
 use Rattle.it_forms.specs.Forms.{Kind, Keyword, Punctuation, WordBut, Zero, Positive, LineEnd, FileEnd, is_among, Terminal, Form, Give, Take, Then, If, While}
-use Rattle.it_forms.specs.Words.{symbol, marked}
-use Rattle.it_syntax.specs.declared.types.Symbol.{Symbol}
+use Rattle.it_forms.specs.Words.{symbol, marked, line_end, to_end}
+use Rattle.it_forms.specs.declared.types.Symbol.{Symbol}
 use Rattle.std.proofs.lemmas.Slice.Eq.{bytes_eq-Decides}
 
 -- whether no letter is of both kinds
@@ -124,3 +124,15 @@ has_marked m (Take t) o h = h
 has_marked m (Then f g) o h = (h.0, h.1, has_marked m f h.0 h.2, h.3, h.4, h.5)
 has_marked m (If t g other) o h = (h.0, h.1, h.2, has_marked m other h.1 h.3, h.4, h.5)
 has_marked m (While ks says step a) o h = h
+
+-- ---- up to the line's end
+
+pub end_has : Has line_end (one_of (LineEnd ∷ []))
+end_has = has_take _ End refl
+
+-- what ends with its line
+abbrev pub a_line : Outline → Outline
+a_line i = one_then i (one_then (one_of (LineEnd ∷ [])) nothing)
+
+pub has_to_end : {A : Type 0} (f : Form A) (o : Outline) → Has f o → all_apart o.goes (LineEnd ∷ []) ≡ true → Has (to_end f) (a_line o)
+has_to_end f o h e = has_then _ _ _ _ h (λ x. has_then _ _ _ _ end_has (λ u. has_give _) refl) e

@@ -1,9 +1,9 @@
 -- Reading a form from left to right: at each place the next letter decides. No public clause cites this module: the laws tie
 -- it to what forms spell.
 use Rattle.std.specs.Prelude.{ℕ, zero, suc, if◌then◌else◌, List, [], ◌∷◌, length, Option, Some, None, Ok, Err}
-use Rattle.it_syntax.specs.declared.types.Code.{Code}
-use Rattle.it_syntax.specs.Letters.{Letter}
-use Rattle.it_syntax.specs.MeasureReading.{Reads, ◌>>=◌, no_rule}
+use Rattle.it_forms.specs.declared.types.Code.{Code}
+use Rattle.it_forms.specs.Letters.{Letter}
+use Rattle.it_forms.specs.Reads.{Reads, ◌>>=◌, no_rule}
 use Rattle.it_forms.specs.Forms.{Terminal, is_among, Form, Give, Take, Then, If, While}
 
 -- a letter that may be marked, and what is read after it

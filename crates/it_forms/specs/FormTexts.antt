@@ -1,10 +1,8 @@
--- What letters and whole files say in a form, and their first fault.
-use Rattle.std.specs.Prelude.{ℕ, List, []}
-use Rattle.it_syntax.specs.declared.types.Code.{Code}
-use Rattle.it_syntax.specs.Letters.{Letter, MarkedLetters, without_marks}
-use Rattle.it_syntax.specs.FirstFault.{FirstFault}
-use Rattle.it_question.specs.Lines.{LineView}
-use Rattle.it_question.specs.WholeFiles.{SaysWhole, WholeFaultAt}
+-- What letters say in a form, and their first fault.
+use Rattle.std.specs.Prelude.{List, []}
+use Rattle.it_forms.specs.declared.types.Code.{Code}
+use Rattle.it_forms.specs.Letters.{Letter, MarkedLetters, without_marks}
+use Rattle.it_forms.specs.FirstFault.{FirstFault}
 use Rattle.it_forms.specs.Forms.{Form, Spells}
 
 -- these letters say y in this form, and nothing is said against one
@@ -22,11 +20,3 @@ spelling f x = x.1
 -- of these letters the first fault is c, where r is left
 abbrev pub IsFirstFault : {A : Type 0} → Form A → List Letter → Code → List Letter → Type 0
 IsFirstFault f ls c r = FirstFault (spelling f) ls c r
-
--- The bytes say y in this form; `value` tells what is made in the file's lines of what the form says.
-abbrev pub SaysInForm : {A Y : Type 0} → Form A → (List LineView → A → Y) → List ℕ → Y → Type 0
-SaysInForm f value bytes y = SaysWhole (spelling f) (λ lines x. value lines x.0) bytes y
-
--- of these bytes the first fault is `code`, at this line and column
-abbrev pub FormFaultAt : {A : Type 0} → Form A → List ℕ → ℕ → ℕ → Code → Type 0
-FormFaultAt f bytes line column code = WholeFaultAt (spelling f) bytes line column code

@@ -3,11 +3,11 @@
 -- may decide what comes next.
 use Rattle.std.specs.Prelude.{◌≡◌, ◌⊎◌, ℕ, zero, suc, Bool, true, false, not, ◌||◌, List, [], ◌∷◌, Option, bytes_eq}
 use Rattle.std.specs.List.{list_any}
-use Rattle.it_syntax.specs.declared.types.Symbol.{Symbol}
-use Rattle.it_syntax.specs.declared.types.Code.{Code}
-use Rattle.it_syntax.specs.declared.types.Code.TheVariants as codes
-use Rattle.it_syntax.specs.Spelling.{symbol_text}
-use Rattle.it_syntax.specs.Letters.{Letter, Word, Number, Sym, End, Bad, MarkedLetters}
+use Rattle.it_forms.specs.declared.types.Symbol.{Symbol}
+use Rattle.it_forms.specs.declared.types.Code.{Code}
+use Rattle.it_forms.specs.declared.types.Code.TheVariants as codes
+use Rattle.it_forms.specs.SymbolTexts.{symbol_text}
+use Rattle.it_forms.specs.Letters.{Letter, Word, Number, Sym, End, Bad, MarkedLetters}
 
 -- ---- letters
 

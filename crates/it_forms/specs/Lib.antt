@@ -1,12 +1,8 @@
+pub mod SymbolTexts
+pub mod Letters
+pub mod FirstFault
+pub mod Reads
 pub mod Forms
 pub mod FormReading
 pub mod Words
 pub mod FormTexts
-pub mod LineForms
-pub mod QuestionForms
-pub mod CopyForms
-pub mod CopyTables
-pub mod SharingForms
-pub mod LineTables
-pub mod QuestionTables
-pub mod SharingTables

@@ -1,9 +1,9 @@
 -- The words in which tables of forms are written.
-use Rattle.std.specs.Prelude.{ℕ, List, [], ◌∷◌, ◌++◌, Option, Some, None}
-use Rattle.it_syntax.specs.declared.types.Symbol.{Symbol}
-use Rattle.it_syntax.specs.declared.types.Code.{Code}
-use Rattle.it_syntax.specs.Letters.{Letter, Word, Number}
-use Rattle.it_question.specs.WrittenLines.{limit_mark}
+use Rattle.std.specs.Prelude.{ℕ, zero, suc, List, [], ◌∷◌, ◌++◌, Option, Some, None}
+use Rattle.it_forms.specs.declared.types.Symbol.{Symbol}
+use Rattle.it_forms.specs.declared.types.Code.{Code}
+use Rattle.it_forms.specs.declared.types.Code.TheVariants as codes
+use Rattle.it_forms.specs.Letters.{Letter, Word, Number}
 use Rattle.it_forms.specs.Forms.{Kind, Keyword, Punctuation, WordBut, Zero, Positive, LineEnd, FileEnd, Terminal, Form, Give, Take, Then, If, While}
 
 -- one form after the other
@@ -105,6 +105,11 @@ marked o (Take t) = Take (marked_terminal o t)
 marked o (Then f g) = Then (marked o f) g
 marked o (If t g h) = If (marked_terminal o t) g (marked o h)
 marked o (While ks says step a) = While ks says step a
+
+-- against a letter, where n more such are allowed
+abbrev pub limit_mark : ℕ → Option Code
+limit_mark zero = Some codes.Many
+limit_mark (suc n) = None
 
 -- the form, where n more are allowed
 abbrev pub allowed : {A : Type 0} → ℕ → Form A → Form A

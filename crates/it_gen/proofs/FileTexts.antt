@@ -3,28 +3,30 @@ use Rattle.std.proofs.Common.{◌≡◌, ℕ, zero, suc, ◌+◌, ◌-◌, ◌�
 use Rattle.std.proofs.lemmas.List.Elements.{All-nil, All-cons}
 use Rattle.std.specs.Prelude.{All}
 use Rattle.it_syntax.specs.declared.types.Sign.TheVariants.{AtLeast}
-use Rattle.it_syntax.specs.declared.types.Symbol.TheVariants as symbols
+use Rattle.it_forms.specs.declared.types.Symbol.TheVariants as symbols
 use Rattle.it_syntax.specs.declared.types.Token.{Token}
 use Rattle.it_syntax.specs.declared.types.TokenKind.TheVariants as kinds
-use Rattle.it_syntax.specs.declared.types.Code.{Code}
+use Rattle.it_forms.specs.declared.types.Code.{Code}
 use Rattle.it_syntax.specs.Givens.{IsGivenOf}
-use Rattle.it_syntax.specs.Letters.{Word, Sym, End, MarkedLetters, without_mark, letters, without_marks}
+use Rattle.it_forms.specs.Letters.{Word, Sym, End, MarkedLetters, without_mark, letters, without_marks}
+use Rattle.it_forms.proofs.LetterLemmas.{cleaned_append}
+use Rattle.it_question.specs.WrittenNames.{spell_new_names, new_names_of}
+use Rattle.it_question.specs.Questions.{no_lines}
+use Rattle.it_question.specs.QuestionLimits.{most_variables}
 use Rattle.it_syntax.specs.Scopes.{scope_of}
 use Rattle.it_syntax.specs.Spans.{letters_until}
 use Rattle.it_syntax.specs.Spelling.{is_word_byte, Stops, IsText}
 use Rattle.it_syntax.specs.WrittenMeasures.{Positive}
 use Rattle.it_syntax.specs.WrittenRelations.{WrittenRelation, spell_relation}
-use Rattle.it_syntax.proofs.Traces.{cleaned_append}
-use Rattle.it_question.specs.Files.{IsFile}
 use Rattle.it_question.specs.Keywords.{vars_keyword, prove_keyword}
 use Rattle.it_question.specs.Lines.{LineView, AreLines, IsFilled, split_lines, file_end, end_line, letters_of_lines}
-use Rattle.it_question.specs.NewNames.{Variable, no_names, is_taken, spell_new_names, new_names_of}
+use Rattle.it_question.specs.NewNames.{Variable, no_names, is_taken}
 use Rattle.it_question.specs.Tables.{size_mark}
-use Rattle.it_question.specs.WrittenLines.{no_lines}
+use Rattle.it_question.proofs.FileLemmas.{written_is_asked}
 use Rattle.it_question.proofs.TableLemmas.{few_variables}
 use Rattle.it_question.specs.Texts.{with_texts}
-use Rattle.it_question.specs.WrittenFiles.{spell_question, spell_questions, questions_of}
-use Rattle.it_question.specs.WrittenQuestions.{WrittenQuestion, Prove, most_variables}
+use Rattle.it_question.specs.WrittenFiles.{spell_question, spell_questions, questions_of, AskAsWritten}
+use Rattle.it_question.specs.WrittenQuestions.{WrittenQuestion, Prove}
 use Rattle.it_question.proofs.PlainLines.{spelled_plain, plain_same, plain_first}
 use Rattle.it_gen.specs.Draws.{state_after}
 use Rattle.it_gen.specs.GeneratedFiles.{generated_term_text, bound_text, question_text, generated_file, IsProve, GeneratedIsFile}
@@ -162,5 +164,5 @@ all_prove seed (suc count) lines = All-cons IsProve _ _ tt (all_prove (state_aft
 pub generated_is_file : GeneratedIsFile
 generated_is_file seed count few =
     let r = file_read seed count 1 1000 few in
-    let asked : IsFile (generated_file seed count) (with_texts r.lines (questions_of (trees seed count))) = record { lines = r.lines; cut = r.cut; tree = trees seed count; spelled = r.same; says = refl } in
-    record { questions = _; asked = asked; counted = question_count seed count r.lines; prove = all_prove seed count r.lines; short = generated_short seed count few }
+    let asked : AskAsWritten (generated_file seed count) (with_texts r.lines (questions_of (trees seed count))) = record { lines = r.lines; cut = r.cut; tree = trees seed count; spelled = r.same; says = refl } in
+    record { questions = _; asked = written_is_asked (generated_file seed count) (with_texts r.lines (questions_of (trees seed count))) asked; counted = question_count seed count r.lines; prove = all_prove seed count r.lines; short = generated_short seed count few }

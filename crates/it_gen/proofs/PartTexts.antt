@@ -11,14 +11,15 @@ use Rattle.it_space.specs.Sets.{has_member}
 use Rattle.it_polymatroid.specs.Elementals.{Elemental, Conditional, Mutual, elementals, elemental_at}
 use Rattle.it_elemental.specs.Views.{IsElemental}
 use Rattle.it_elemental.proofs.PlaceLemmas.{is_elemental}
-use Rattle.it_syntax.specs.declared.types.Code.{Code}
-use Rattle.it_syntax.specs.declared.types.Symbol.TheVariants as symbols
+use Rattle.it_forms.specs.declared.types.Code.{Code}
+use Rattle.it_forms.specs.declared.types.Symbol.TheVariants as symbols
 use Rattle.it_syntax.specs.declared.types.TokenKind.TheVariants as kinds
-use Rattle.it_syntax.specs.Letters.{Word, Number, Sym, without_mark}
+use Rattle.it_forms.specs.Letters.{Word, Number, Sym, without_mark}
+use Rattle.it_syntax.specs.NameMarks.{entropy_text, mutual_text, name_mark}
 use Rattle.it_syntax.specs.NamesViews.{NamesView}
-use Rattle.it_syntax.specs.Scopes.{env_of, scope_of}
+use Rattle.it_syntax.specs.Scopes.{env_of, scope_of, Environment}
 use Rattle.it_syntax.specs.Spelling.{is_word_byte, Stops, IsText}
-use Rattle.it_syntax.specs.WrittenMeasures.{Environment, WrittenList, WrittenMeasure, entropy_text, mutual_text, name_mark, spell_name, spell_more, spell_list, spell_measure}
+use Rattle.it_syntax.specs.WrittenMeasures.{WrittenList, WrittenMeasure, spell_name, spell_more, spell_list, spell_measure}
 use Rattle.it_syntax.specs.WrittenMeasures as written
 use Rattle.it_syntax.specs.WrittenRelations.{WrittenTerm, Times, Measure, spell_term}
 use Rattle.it_syntax.proofs.TokenLemmas.{empty_len}

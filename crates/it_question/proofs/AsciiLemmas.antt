@@ -7,30 +7,34 @@ use Rattle.std.proofs.lemmas.List.Elements.{All-nil, All-cons, All-append}
 use Rattle.std.proofs.lemmas.Str.{IsAscii-take, IsAscii-drop, IsAscii-append}
 use Rattle.std.proofs.lemmas.Str.Ascii.{IsAscii-nil, IsAscii-cons}
 use Rattle.it_syntax.specs.declared.types.Misspelling.{Misspelling}
-use Rattle.it_syntax.specs.declared.types.Symbol.{Symbol}
-use Rattle.it_syntax.specs.declared.types.Symbol.TheVariants.{LeftParen, RightParen, Comma, Semicolon, Bar, Plus, Minus, Arrow, AtLeast, AtMost, Equal, Assign, Slash}
+use Rattle.it_forms.specs.declared.types.Symbol.{Symbol}
+use Rattle.it_forms.specs.declared.types.Symbol.TheVariants.{LeftParen, RightParen, Comma, Semicolon, Bar, Plus, Minus, Arrow, AtLeast, AtMost, Equal, Assign, Slash}
 use Rattle.it_syntax.specs.declared.types.Token.{Token}
 use Rattle.it_syntax.specs.declared.types.TokenKind.{TokenKind}
 use Rattle.it_syntax.specs.declared.types.TokenKind.TheVariants as kinds
-use Rattle.it_syntax.specs.Letters.{Letter, Word, Number, Sym, End, Bad, MarkedLetters, without_mark, letters, without_marks}
+use Rattle.it_forms.specs.Letters.{Letter, Word, Number, Sym, End, Bad, MarkedLetters, without_mark, letters, without_marks}
+use Rattle.it_forms.specs.SymbolTexts.{symbol_text}
+use Rattle.it_question.specs.WrittenNames.{spell_new_more, spell_new_names, with_names, new_names_of, spell_names_line, names_line_of}
+use Rattle.it_forms.specs.Words.{limit_mark}
+use Rattle.it_question.specs.QuestionLimits.{most_questions, most_variables, most_rates}
 use Rattle.it_syntax.specs.Misspellings.{SpellsUntil}
 use Rattle.it_syntax.specs.NamesViews.{NamesView}
 use Rattle.it_syntax.specs.Spans.{letter_of, letters_until, last_letter}
-use Rattle.it_syntax.specs.Spelling.{is_word_byte, is_space, symbol_text, AreAll, IsText}
+use Rattle.it_syntax.specs.Spelling.{is_word_byte, is_space, AreAll, IsText}
 use Rattle.it_syntax.specs.WrittenMeasures.{WrittenList}
 use Rattle.it_syntax.proofs.RunLemmas.{value_digits}
 use Rattle.it_question.specs.AsciiTexts.{IsAsciiQuestion, TextsAreAscii}
 use Rattle.it_question.specs.Keywords.{vars_keyword, rates_keyword}
 use Rattle.it_question.specs.Lines.{LineView, split_lines, file_end, line_letters, letters_of_lines}
-use Rattle.it_question.specs.NewNames.{NameSortView, Variable, Rate, with_name, no_names, spell_new_more, spell_new_names, with_names, new_names_of, spell_names_line, names_line_of}
+use Rattle.it_question.specs.NewNames.{NameSortView, Variable, Rate, with_name, no_names}
 use Rattle.it_question.specs.Questions.{QuestionView}
 use Rattle.it_question.specs.Texts.{without_leading, unless_blank, without_trailing, trimmed_line, text_of_lines, question_line_count, with_texts}
-use Rattle.it_question.specs.WrittenLines.{limit_mark}
-use Rattle.it_question.specs.WrittenQuestions.{WrittenQuestion, most_questions, most_variables, most_rates}
+use Rattle.it_question.specs.WrittenQuestions.{WrittenQuestion}
 use Rattle.it_question.specs.WrittenFiles.{names_of, spell_question, question_of, spell_questions, questions_of}
 use Rattle.it_question.proofs.CleanLetters.{clean_parts}
 use Rattle.it_question.proofs.LineParts.{AreWhole, AreSound, lines_sound, letters_of_first_lines}
 use Rattle.it_question.proofs.LinePuts.{question_puts}
+use Rattle.it_question.proofs.FileLemmas.{asked_is_written}
 
 -- ---- bytes of tokens
 
@@ -201,4 +205,4 @@ all_questions n (x ∷ xs) lines e s =
     (all_questions (n - 1) xs (drop i lines) (c.after ∙ ap without_marks (sym d.after)) d.sound)
 
 pub texts_are_ascii : TextsAreAscii
-texts_are_ascii bytes qs f = subst (All IsAsciiQuestion) f.says (all_questions most_questions f.tree f.lines f.spelled (lines_sound 1 (split_lines bytes) f.lines f.cut))
+texts_are_ascii bytes qs asked = let f = asked_is_written bytes qs asked in subst (All IsAsciiQuestion) f.says (all_questions most_questions f.tree f.lines f.spelled (lines_sound 1 (split_lines bytes) f.lines f.cut))

@@ -1,7 +1,7 @@
 -- Letters that nothing is said against, and their parts.
 use Rattle.std.proofs.Common.{◌≡◌, List, [], ◌∷◌, ◌++◌, Option, None, refl, sym, ap, ◌∙◌}
-use Rattle.it_syntax.specs.declared.types.Code.{Code}
-use Rattle.it_syntax.specs.Letters.{Letter, MarkedLetters, without_mark, letters, without_marks}
+use Rattle.it_forms.specs.declared.types.Code.{Code}
+use Rattle.it_forms.specs.Letters.{Letter, MarkedLetters, without_mark, letters, without_marks}
 
 -- both parts of such letters
 pub record CleanParts (p k : MarkedLetters) (ls : List Letter) : Type 0 where

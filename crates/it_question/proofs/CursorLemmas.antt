@@ -2,8 +2,8 @@
 use Rattle.std.proofs.Common.{◌≡◌, List, [], ◌∷◌, ◌++◌, map, Option, Some, None, refl, ap}
 use Rattle.it_syntax.specs.declared.rest.Rest.{Rest}
 use Rattle.it_syntax.specs.declared.types.Token.{Token}
-use Rattle.it_syntax.specs.Letters.{Letter, Word, Number, Sym, End, Bad}
-use Rattle.it_syntax.specs.FirstFault.{own_code}
+use Rattle.it_forms.specs.Letters.{Letter, Word, Number, Sym, End, Bad}
+use Rattle.it_forms.specs.FirstFault.{own_code}
 use Rattle.it_syntax.specs.Spans.{letter_of, letters_until, last_letter}
 use Rattle.it_syntax.specs.Gives as gives
 use Rattle.it_question.specs.declared.cursor.Cursor.{Cursor}

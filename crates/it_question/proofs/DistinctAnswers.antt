@@ -1,13 +1,17 @@
 -- The rates of an `eliminate` line that are spelled so are read, up to the first mark.
 use Rattle.std.proofs.Common.{ℕ, Bool, true, false, cond, List, [], ◌∷◌, ◌++◌, Option, Some, None, Ok, refl, inl}
-use Rattle.it_syntax.specs.declared.types.Symbol.TheVariants.{Comma}
-use Rattle.it_syntax.specs.declared.types.Code.TheVariants as codes
-use Rattle.it_syntax.specs.Letters.{Word, Sym, MarkedLetters, letters}
-use Rattle.it_syntax.specs.MeasureReading.{Reads, ◌>>=◌}
-use Rattle.it_syntax.specs.WrittenMeasures.{Environment, WrittenList, is_measure, index_or}
-use Rattle.it_question.specs.WrittenLines.{is_among, once_mark, spell_once, spell_once_more, spell_distinct, indexes_of, distinct_of}
+use Rattle.it_forms.specs.declared.types.Symbol.TheVariants.{Comma}
+use Rattle.it_forms.specs.declared.types.Code.TheVariants as codes
+use Rattle.it_forms.specs.Letters.{Word, Sym, MarkedLetters, letters}
+use Rattle.it_forms.specs.Reads.{Reads, ◌>>=◌}
+use Rattle.it_syntax.specs.Scopes.{Environment}
+use Rattle.it_syntax.specs.NameMarks.{is_measure, index_or}
+use Rattle.it_question.specs.RateNames.{is_among, once_mark}
+use Rattle.it_forms.proofs.MarkedReadings.{Answers, answers_ok, answers_cons, answers_bind}
+use Rattle.it_syntax.specs.WrittenMeasures.{WrittenList}
+use Rattle.it_question.specs.WrittenLines.{spell_once, spell_once_more, spell_distinct, indexes_of, distinct_of}
 use Rattle.it_question.specs.Reading.{if_unseen, rate_once, read_once, read_once_more, read_distinct}
-use Rattle.it_syntax.proofs.SpelledIsRead.{Answers, answers_ok, answers_cons, answers_bind, NoComma}
+use Rattle.it_syntax.proofs.SpelledIsRead.{NoComma}
 use Rattle.it_question.proofs.NameAnswers.{answers_at_mark}
 
 unseen_answers : (i : ℕ) (w : List ℕ) (b : Bool) (k : MarkedLetters) → Answers (if_unseen i w b (letters k) (Word w ∷ letters k)) ((Word w, cond b (Some codes.Twice) None) ∷ k) i k

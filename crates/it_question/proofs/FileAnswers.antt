@@ -1,11 +1,15 @@
 -- Questions, and a file of them, that are spelled so are read, up to the first mark.
 use Rattle.std.proofs.Common.{◌≡◌, ℕ, zero, suc, ◌-◌, true, List, [], ◌∷◌, Option, Some, None, Ok, refl, arith}
-use Rattle.it_syntax.specs.declared.types.Code.{Code}
-use Rattle.it_syntax.specs.declared.types.Code.TheVariants as codes
+use Rattle.it_forms.specs.declared.types.Code.{Code}
+use Rattle.it_forms.specs.declared.types.Code.TheVariants as codes
 use Rattle.it_syntax.specs.NamesViews.{NamesView}
-use Rattle.it_syntax.specs.Letters.{Letter, Word, End, MarkedLetters, without_mark, letters}
-use Rattle.it_syntax.specs.Lines.{to_end}
-use Rattle.it_syntax.specs.MeasureReading.{Reads, ◌>>=◌}
+use Rattle.it_forms.specs.Letters.{Letter, Word, End, MarkedLetters, without_mark, letters}
+use Rattle.it_syntax.specs.MeasureReading.{to_end}
+use Rattle.it_forms.specs.Reads.{Reads, ◌>>=◌}
+use Rattle.it_question.specs.QuestionLimits.{most_questions, most_variables, most_rates, most_lines}
+use Rattle.it_question.specs.WrittenNames.{spell_new_names, new_names_of, spell_names_line}
+use Rattle.it_question.specs.RateNames.{rates_env}
+use Rattle.it_forms.proofs.MarkedReadings.{Answers, answers_ok, answers_cons, answers_bind}
 use Rattle.it_syntax.specs.WrittenMeasures.{WrittenList}
 use Rattle.it_syntax.specs.WrittenRelations.{WrittenRelation, spell_relation, relation_of}
 use Rattle.it_syntax.specs.Scopes.{scope_of}
@@ -13,14 +17,13 @@ use Rattle.it_syntax.specs.RelationReading.{read_relation}
 use Rattle.it_question.specs.Lines.{file_end}
 use Rattle.it_question.specs.Keywords.{vars_keyword, rates_keyword, prove_keyword, eliminate_keyword, region_keyword}
 use Rattle.it_question.specs.Questions as views
-use Rattle.it_question.specs.WrittenQuestions.{WrittenVerb, Prove, Eliminate, Contain, WrittenQuestion, most_questions, most_variables, most_rates, most_lines}
-use Rattle.it_question.specs.NewNames.{Variable, Rate, no_names, spell_new_names, new_names_of, spell_names_line}
-use Rattle.it_question.specs.WrittenLines.{spell_own, own_of, rates_env, spell_distinct, distinct_of}
+use Rattle.it_question.specs.WrittenQuestions.{WrittenVerb, Prove, Eliminate, Contain, WrittenQuestion}
+use Rattle.it_question.specs.NewNames.{Variable, Rate, no_names}
+use Rattle.it_question.specs.WrittenLines.{spell_own, own_of, spell_distinct, distinct_of}
 use Rattle.it_question.specs.Questions.{OwnLinesView}
 use Rattle.it_question.specs.Tables.{givens_alone, size_mark}
 use Rattle.it_question.specs.WrittenFiles.{spell_verb, verb_of, names_of, spell_question, question_of, spell_questions, questions_of}
 use Rattle.it_question.specs.Reading.{after_word, read_new_names, read_names_line, read_lines, read_distinct, read_proof, read_elimination, unless_marked, read_verb, read_question, read_end, read_questions, read_file}
-use Rattle.it_syntax.proofs.SpelledIsRead.{Answers, answers_ok, answers_cons, answers_bind}
 use Rattle.it_syntax.proofs.LineEnd.{to_end_answers}
 use Rattle.it_question.proofs.NameAnswers.{answers_at_mark, names_to_end_answers, names_line_answers}
 use Rattle.it_question.proofs.LineAnswers.{NoOwn, relation_to_end_answers, lines_answers, own_no_word}

@@ -1,7 +1,7 @@
 -- What the reading of a file's letters says of the file.
 use Rattle.std.proofs.Common.{◌≡◌, ℕ, List, [], ◌∷◌, drop, map, All, Ok, refl, sym, ap, ◌∙◌, subst, arith}
 use Rattle.std.proofs.lemmas.List.Elements.{All-cons, All-head, All-tail}
-use Rattle.it_syntax.specs.Letters.{Letter}
+use Rattle.it_forms.specs.Letters.{Letter}
 use Rattle.it_question.specs.declared.types.Question.{Question}
 use Rattle.it_question.specs.declared.bodies.Body.{Body}
 use Rattle.it_question.specs.Bodies.{body_view}
@@ -12,7 +12,8 @@ use Rattle.it_question.specs.Questions.{BodyView, QuestionView, question_body, q
 use Rattle.it_question.specs.Reading.{read_file}
 use Rattle.it_question.specs.WrittenFiles.{questions_of}
 use Rattle.it_question.specs.Texts.{question_line_count, with_texts}
-use Rattle.it_question.proofs.FileLemmas.{file_language}
+use Rattle.it_question.proofs.FileLanguage.{file_language}
+use Rattle.it_question.proofs.FileLemmas.{asked_is_written, written_is_asked}
 use Rattle.it_question.proofs.WholeFileLemmas.{says_read, read_says}
 use Rattle.it_question.specs.Tables.{HasSmallTable}
 use Rattle.it_question.proofs.LimitLemmas.{each_of_file, file_limited}
@@ -20,7 +21,7 @@ use Rattle.it_question.proofs.SmallTables.{question_small}
 
 -- a file whose letters were read
 pub file_read : (bytes : List ℕ) (lines : List LineView) (ys : List BodyView) (r : List Letter) (qs : List QuestionView) → AreLinesOf bytes lines → read_file (letters_of_lines lines) ≡ Ok (ys, r) → qs ≡ with_texts lines ys → IsFile bytes qs
-file_read bytes lines ys r qs cut e are = subst (IsFile bytes) (sym are) (read_says file_language with_texts bytes lines ys r cut e)
+file_read bytes lines ys r qs cut e are = subst (IsFile bytes) (sym are) (written_is_asked bytes (with_texts lines ys) (read_says file_language with_texts bytes lines ys r cut e))
 
 -- the questions with their texts are those that were read
 body_again : (lines : List LineView) (ys : List BodyView) → map (λ (q : QuestionView). q.body) (with_texts lines ys) ≡ ys
@@ -46,7 +47,8 @@ questions_limited qs lines ys r e are =
 
 -- what holds of each question that is read holds of those of a file
 of_file : (P : BodyView → Type 0) → ((ls r : List Letter) (ys : List BodyView) → read_file ls ≡ Ok (ys, r) → All P ys) → (bytes : List ℕ) (qs : List QuestionView) → IsFile bytes qs → All (λ (q : QuestionView). P q.body) qs
-of_file P each bytes qs f =
+of_file P each bytes qs asked =
+    let f = asked_is_written bytes qs asked in
     let bodies = questions_of f.tree in
     from_map P (λ (q : QuestionView). q.body) qs (subst (All P) (sym (body_again f.lines bodies) ∙ ap (map (λ (q : QuestionView). q.body)) f.says)
     (each (letters_of_lines f.lines) [] bodies (says_read file_language (letters_of_lines f.lines) f.tree f.spelled)))

@@ -2,13 +2,16 @@
 use Rattle.std.proofs.Common.{◌≡◌, ℕ, zero, suc, ◌-◌, Bool, true, false, cond, List, [], ◌∷◌, Option, Some, None, Ok, Err, inr, refl, sym, ap, ◌∙◌, subst, arith}
 use Rattle.std.specs.Prelude.{bytes_eq}
 use Rattle.std.proofs.lemmas.Slice.Eq.{bytes_eq-Decides}
-use Rattle.it_syntax.specs.declared.types.Code.{Code}
-use Rattle.it_syntax.specs.declared.types.Code.TheVariants as codes
+use Rattle.it_forms.specs.declared.types.Code.{Code}
+use Rattle.it_forms.specs.declared.types.Code.TheVariants as codes
 use Rattle.it_syntax.specs.NamesViews.{NamesView}
-use Rattle.it_syntax.specs.Letters.{Letter, Word, End, Bad, MarkedLetters, without_mark}
-use Rattle.it_syntax.specs.FirstFault.{head}
-use Rattle.it_syntax.specs.Lines.{to_end}
-use Rattle.it_syntax.specs.MeasureReading.{Reads, ◌>>=◌}
+use Rattle.it_forms.specs.Letters.{Letter, Word, End, Bad, MarkedLetters, without_mark}
+use Rattle.it_forms.specs.FirstFault.{head}
+use Rattle.it_syntax.specs.MeasureReading.{to_end}
+use Rattle.it_forms.specs.Reads.{Reads, ◌>>=◌}
+use Rattle.it_question.specs.QuestionLimits.{most_questions, most_variables, most_rates, most_lines}
+use Rattle.it_question.specs.WrittenNames.{spell_new_names, new_names_of, spell_names_line, names_line_of}
+use Rattle.it_question.specs.RateNames.{rates_env}
 use Rattle.it_syntax.specs.WrittenMeasures.{WrittenList}
 use Rattle.it_syntax.specs.WrittenRelations.{WrittenRelation, spell_relation, relation_of}
 use Rattle.it_syntax.specs.Scopes.{scope_of}
@@ -21,9 +24,9 @@ use Rattle.it_question.specs.Lines.{file_end}
 use Rattle.it_question.specs.Keywords.{vars_keyword, rates_keyword, region_keyword, prove_keyword, eliminate_keyword}
 use Rattle.it_question.specs.Questions.{OwnLinesView, VerbView, BodyView}
 use Rattle.it_question.specs.Questions as views
-use Rattle.it_question.specs.WrittenQuestions.{WrittenOwnLine, WrittenVerb, Prove, Eliminate, Contain, WrittenQuestion, most_questions, most_variables, most_rates, most_lines}
-use Rattle.it_question.specs.NewNames.{Variable, Rate, no_names, spell_new_names, new_names_of, spell_names_line, names_line_of}
-use Rattle.it_question.specs.WrittenLines.{spell_own, own_of, spell_distinct, distinct_of, rates_env}
+use Rattle.it_question.specs.WrittenQuestions.{WrittenOwnLine, WrittenVerb, Prove, Eliminate, Contain, WrittenQuestion}
+use Rattle.it_question.specs.NewNames.{Variable, Rate, no_names}
+use Rattle.it_question.specs.WrittenLines.{spell_own, own_of, spell_distinct, distinct_of}
 use Rattle.it_question.specs.WrittenRegions.{containment_of}
 use Rattle.it_question.specs.Tables.{givens_alone, size_mark}
 use Rattle.it_question.specs.WrittenFiles.{spell_verb, verb_of, spell_question, question_of, spell_questions, questions_of}

@@ -50,3 +50,10 @@ pub mod StatedLines
 pub mod TableLemmas
 pub mod LineListLemmas
 pub mod WholeFileLemmas
+pub mod WordReadings
+pub mod LineReadings
+pub mod TryReadings
+pub mod QuestionReadings
+pub mod QuestionOutlines
+pub mod FormFileLemmas
+pub mod FileLanguage

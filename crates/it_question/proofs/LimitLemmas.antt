@@ -3,26 +3,25 @@ use Rattle.std.proofs.Common.{◌≡◌, ℕ, zero, suc, ◌+◌, ◌-◌, ◌�
 use Rattle.std.specs.Prelude.{All, bytes_eq}
 use Rattle.std.proofs.Math.Nat.{min-le_left, min-le_right}
 use Rattle.std.proofs.lemmas.List.Elements.{All-nil, All-cons}
-use Rattle.it_syntax.specs.declared.types.Code.TheVariants as codes
+use Rattle.it_forms.specs.declared.types.Code.TheVariants as codes
 use Rattle.it_syntax.specs.NamesViews.{NamesView}
-use Rattle.it_syntax.specs.Letters.{Letter, Word, Bad}
-use Rattle.it_syntax.specs.Lines.{to_end}
+use Rattle.it_forms.specs.Letters.{Letter, Word, Bad}
+use Rattle.it_forms.specs.Reads.{Reads, ◌>>=◌, no_rule}
+use Rattle.it_question.specs.QuestionLimits.{most_questions, most_variables, most_rates, most_lines, auxiliaries_left, givens_left, rows_left}
+use Rattle.it_question.specs.TrySets.{auxiliary_env, unnamed_sets}
+use Rattle.it_question.specs.RateNames.{rates_env}
 use Rattle.it_syntax.specs.Meaning.{RelationView}
-use Rattle.it_syntax.specs.MeasureReading.{Reads, ◌>>=◌, no_rule, line_end}
+use Rattle.it_syntax.specs.MeasureReading.{line_end, to_end}
 use Rattle.it_syntax.specs.Scopes.{env_of, scope_of}
 use Rattle.it_syntax.specs.RelationReading.{read_relation}
 use Rattle.it_question.specs.Keywords.{vars_keyword, rates_keyword, region_keyword, aux_keyword, prove_keyword, eliminate_keyword}
-use Rattle.it_syntax.specs.declared.types.Code.{Code}
+use Rattle.it_forms.specs.declared.types.Code.{Code}
 use Rattle.it_space.specs.Spaces.{IsSpace}
 use Rattle.it_demand.specs.LineDemands.{space_of}
 use Rattle.it_question.specs.Tables.{givens_alone, size_mark, contain_mark}
 use Rattle.it_question.specs.Limits.{AreRatesOf, AreLinesOver, IsRegionOf, IsVerbOver, IsQuestion}
 use Rattle.it_question.specs.Questions.{OwnLinesView, RegionView, VerbView, Prove, Eliminate, Contain, BodyView}
 use Rattle.it_question.specs.NewNames.{Variable, Rate, no_names}
-use Rattle.it_question.specs.WrittenQuestions.{most_questions, most_variables, most_rates, most_lines}
-use Rattle.it_question.specs.WrittenRegions.{auxiliaries_left, auxiliary_env, givens_left, rows_left}
-use Rattle.it_question.specs.WrittenLines.{rates_env}
-use Rattle.it_question.specs.WrittenTries.{unnamed_sets}
 use Rattle.it_question.specs.Reading.{after_word, read_word, read_new_names, read_names_line, read_lines, read_distinct, read_tries, read_region, read_containment, read_proof, read_elimination, unless_marked, read_contain, read_verb, read_question, read_end, question_then, if_question, read_questions, read_file}
 use Rattle.it_syntax.proofs.LimitLemmas.{Sure, sure_bind, Any, sure_any, knows_names}
 use Rattle.it_question.proofs.NameLimits.{ended_sure, IsGrown, Grows, new_names_sure, names_line_sure}

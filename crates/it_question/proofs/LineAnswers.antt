@@ -1,22 +1,22 @@
 -- `given` and `row` lines that are spelled so are read, up to the first mark.
 use Rattle.std.proofs.Common.{◌≡◌, ℕ, zero, suc, ◌+◌, ◌-◌, ◌≤◌, true, false, List, [], ◌∷◌, Option, Some, None, Ok, Err, refl, sym, subst, arith}
 use Rattle.std.specs.Prelude.{bytes_eq}
-use Rattle.it_syntax.specs.declared.types.Code.TheVariants as codes
+use Rattle.it_forms.specs.declared.types.Code.TheVariants as codes
 use Rattle.it_syntax.specs.NamesViews.{NamesView}
-use Rattle.it_syntax.specs.Letters.{Letter, Word, End, MarkedLetters, without_mark, letters}
-use Rattle.it_syntax.specs.Lines.{to_end}
-use Rattle.it_syntax.specs.MeasureReading.{Reads, ◌>>=◌}
+use Rattle.it_forms.specs.Letters.{Letter, Word, End, MarkedLetters, without_mark, letters}
+use Rattle.it_syntax.specs.MeasureReading.{to_end}
+use Rattle.it_forms.specs.Reads.{Reads, ◌>>=◌}
+use Rattle.it_forms.proofs.MarkedReadings.{Answers, answers_ok, answers_cons, answers_bind}
 use Rattle.it_syntax.specs.WrittenRelations.{WrittenRelation, spell_relation, relation_of}
 use Rattle.it_syntax.specs.Scopes.{scope_of}
 use Rattle.it_syntax.specs.RelationReading.{read_relation}
 use Rattle.it_syntax.specs.WrittenGivens.{WrittenGiven, spell_given, given_of}
 use Rattle.it_syntax.specs.GivenReading.{read_given}
 use Rattle.it_question.specs.Keywords.{given_keyword, row_keyword}
-use Rattle.it_question.specs.Questions.{OwnLinesView}
+use Rattle.it_question.specs.Questions.{OwnLinesView, no_lines}
 use Rattle.it_question.specs.WrittenQuestions.{WrittenOwnLine, GivenLine, RowLine}
-use Rattle.it_question.specs.WrittenLines.{no_lines, spell_own, own_of}
+use Rattle.it_question.specs.WrittenLines.{spell_own, own_of}
 use Rattle.it_question.specs.Reading.{after_word, within_limit, given_then, row_then, by_keyword, read_own, read_lines}
-use Rattle.it_syntax.proofs.SpelledIsRead.{Answers, answers_ok, answers_cons, answers_bind}
 use Rattle.it_syntax.proofs.RelationAnswers.{relation_answers}
 use Rattle.it_syntax.proofs.GivenAnswers.{given_line_answers}
 use Rattle.it_syntax.proofs.LineEnd.{to_end_answers}

@@ -2,19 +2,18 @@
 use Rattle.std.proofs.Common.{◌≡◌, ℕ, zero, suc, ◌+◌, ◌-◌, ◌≤◌, false, true, List, ◌∷◌, length, Option, None, Some, Ok, Err, refl, arith}
 use Rattle.std.specs.Prelude.{All}
 use Rattle.std.proofs.lemmas.List.Elements.{All-nil, All-cons}
-use Rattle.it_syntax.specs.declared.types.Code.TheVariants as codes
+use Rattle.it_forms.specs.declared.types.Code.TheVariants as codes
 use Rattle.it_syntax.specs.NamesViews.{NamesView}
-use Rattle.it_syntax.specs.Letters.{Letter}
-use Rattle.it_syntax.specs.Lines.{to_end}
-use Rattle.it_syntax.specs.MeasureReading.{Reads, ◌>>=◌}
+use Rattle.it_forms.specs.Letters.{Letter}
+use Rattle.it_syntax.specs.MeasureReading.{to_end}
+use Rattle.it_forms.specs.Reads.{Reads, ◌>>=◌}
 use Rattle.it_syntax.specs.Meaning.{RelationView}
 use Rattle.it_syntax.specs.Givens.{GivenView, IsRelationOf, IsGivenOf}
 use Rattle.it_syntax.specs.Scopes.{scope_of}
 use Rattle.it_syntax.specs.RelationReading.{read_relation}
 use Rattle.it_syntax.specs.GivenReading.{read_given}
 use Rattle.it_question.specs.Keywords.{given_keyword, row_keyword}
-use Rattle.it_question.specs.Questions.{OwnLinesView}
-use Rattle.it_question.specs.WrittenLines.{no_lines}
+use Rattle.it_question.specs.Questions.{OwnLinesView, no_lines}
 use Rattle.it_question.specs.Reading.{after_word, within_limit, given_then, row_then, by_keyword, read_own, read_lines}
 use Rattle.it_syntax.proofs.LimitLemmas.{Sure, sure_bind}
 use Rattle.it_syntax.proofs.RelationLimits.{relation_limited}

@@ -1,21 +1,27 @@
 -- What the spelling of a question puts: as many lines as are counted of it.
 use Rattle.std.proofs.Common.{◌≡◌, ℕ, suc, ◌+◌, ◌-◌, ◌==◌, Bool, true, false, cond, List, [], ◌∷◌, ◌++◌, length, Option, Some, None, refl, sym, ap, ◌∙◌, inl, inr, length-append, arith}
 use Rattle.std.proofs.lemmas.Bool.Decides.{eqb_tells}
-use Rattle.it_syntax.specs.declared.types.Code.{Code}
-use Rattle.it_syntax.specs.declared.types.Symbol.TheVariants as symbols
-use Rattle.it_syntax.specs.Letters.{Word, Number, Sym, without_mark}
-use Rattle.it_syntax.specs.WrittenMeasures.{Environment, WrittenList, is_measure, index_or}
+use Rattle.it_forms.specs.declared.types.Code.{Code}
+use Rattle.it_forms.specs.declared.types.Symbol.TheVariants as symbols
+use Rattle.it_forms.specs.Letters.{Word, Number, Sym, without_mark}
+use Rattle.it_syntax.specs.NameMarks.{is_measure, index_or}
+use Rattle.it_question.specs.QuestionLimits.{most_variables, most_rates, most_lines, auxiliaries_left, givens_left, rows_left}
+use Rattle.it_question.specs.WrittenNames.{spell_new, spell_new_more, spell_new_names, with_names, new_names_of, spell_names_line, names_line_of}
+use Rattle.it_question.specs.TrySets.{Sets, unnamed_sets, is_whole, part_mark, try_end_mark, try_mark, auxiliary_env}
+use Rattle.it_forms.specs.Words.{limit_mark}
+use Rattle.it_question.specs.RateNames.{once_mark, rates_env}
+use Rattle.it_syntax.specs.WrittenMeasures.{WrittenList}
 use Rattle.it_syntax.specs.NamesViews.{NamesView}
-use Rattle.it_syntax.specs.Scopes.{scope_of, env_of}
+use Rattle.it_syntax.specs.Scopes.{scope_of, env_of, Environment}
 use Rattle.it_question.specs.Keywords.{vars_keyword, rates_keyword, given_keyword, row_keyword, region_keyword, aux_keyword, try_keyword, prove_keyword, eliminate_keyword, contain_keyword}
 use Rattle.it_question.specs.Texts.{one_if_some, own_line_count, one_unless_zero, region_line_count, verb_line_count, question_line_count}
-use Rattle.it_question.specs.WrittenQuestions.{WrittenOwnLine, GivenLine, RowLine, WrittenRegion, WrittenSet, Empty, Listed, WrittenPart, WrittenTry, WrittenVerb, Prove, Eliminate, Contain, WrittenQuestion, most_variables, most_rates, most_lines}
-use Rattle.it_question.specs.NewNames.{NameSortView, Variable, Rate, with_name, no_names, is_taken, new_mark, spell_new, spell_new_more, spell_new_names, with_names, new_names_of, spell_names_line, names_line_of}
-use Rattle.it_question.specs.WrittenTries.{Sets, unnamed_sets, is_whole, part_mark, spell_set, spell_part, with_part, spell_parts, with_parts, try_end_mark, try_mark, spell_tries, tries_of}
-use Rattle.it_question.specs.WrittenLines.{limit_mark, spell_own, own_of, once_mark, spell_once, spell_once_more, spell_distinct, rates_env}
+use Rattle.it_question.specs.WrittenQuestions.{WrittenOwnLine, GivenLine, RowLine, WrittenRegion, WrittenSet, Empty, Listed, WrittenPart, WrittenTry, WrittenVerb, Prove, Eliminate, Contain, WrittenQuestion}
+use Rattle.it_question.specs.NewNames.{NameSortView, Variable, Rate, with_name, no_names, is_taken, new_mark}
+use Rattle.it_question.specs.WrittenTries.{spell_set, spell_part, with_part, spell_parts, with_parts, spell_tries, tries_of}
+use Rattle.it_question.specs.WrittenLines.{spell_own, own_of, spell_once, spell_once_more, spell_distinct}
 use Rattle.it_question.specs.Questions.{OwnLinesView}
 use Rattle.it_question.specs.Tables.{givens_alone, size_mark, contain_mark}
-use Rattle.it_question.specs.WrittenRegions.{auxiliaries_left, spell_region, region_of, auxiliary_env, givens_left, rows_left}
+use Rattle.it_question.specs.WrittenRegions.{spell_region, region_of}
 use Rattle.it_question.specs.WrittenFiles.{spell_verb, verb_of, names_of, spell_question, question_of, spell_questions}
 use Rattle.it_question.proofs.Puts.{AreTokens, HasLines, Puts, no_tokens, tokens_then, one_token, token_then, no_lines, line_of_tokens, lines_then, lines_as, line_then}
 use Rattle.it_question.proofs.TokenPuts.{list_puts, relation_puts, given_puts}

@@ -1,12 +1,12 @@
 -- The `given` and `row` lines are traced.
 use Rattle.std.proofs.Common.{◌≡◌, ◌≤◌, ℕ, zero, suc, ◌+◌, ◌-◌, true, false, List, [], ◌∷◌, Option, None, Ok, Err, refl, sym, ap, ◌∙◌, subst, arith}
-use Rattle.it_syntax.specs.declared.types.Code.TheVariants as codes
+use Rattle.it_forms.specs.declared.types.Code.TheVariants as codes
 use Rattle.it_syntax.specs.declared.types.Sign.TheVariants as signs
 use Rattle.it_syntax.specs.NamesViews.{NamesView}
 use Rattle.it_syntax.specs.Meaning.{RelationView}
-use Rattle.it_syntax.specs.Letters.{Letter, Word, End, MarkedLetters, without_mark}
-use Rattle.it_syntax.specs.Lines.{to_end}
-use Rattle.it_syntax.specs.MeasureReading.{Reads, ◌>>=◌}
+use Rattle.it_forms.specs.Letters.{Letter, Word, End, MarkedLetters, without_mark}
+use Rattle.it_syntax.specs.MeasureReading.{to_end}
+use Rattle.it_forms.specs.Reads.{Reads, ◌>>=◌}
 use Rattle.it_syntax.specs.WrittenRelations.{WrittenSum, WrittenRelation, Zero, spell_relation, relation_of}
 use Rattle.it_syntax.specs.Scopes.{scope_of}
 use Rattle.it_syntax.specs.RelationReading.{read_relation}
@@ -18,9 +18,9 @@ use Rattle.it_syntax.proofs.RelationTraces.{relation_traces}
 use Rattle.it_syntax.proofs.GivenTraces.{given_line_traces}
 use Rattle.it_syntax.proofs.LineEnd.{to_end_traces}
 use Rattle.it_question.specs.Keywords.{given_keyword, row_keyword}
-use Rattle.it_question.specs.Questions.{OwnLinesView}
+use Rattle.it_question.specs.Questions.{OwnLinesView, no_lines}
 use Rattle.it_question.specs.WrittenQuestions.{WrittenOwnLine, GivenLine, RowLine}
-use Rattle.it_question.specs.WrittenLines.{spell_own, no_lines, own_of}
+use Rattle.it_question.specs.WrittenLines.{spell_own, own_of}
 use Rattle.it_question.specs.Reading.{after_word, within_limit, given_then, row_then, by_keyword, read_own, read_lines}
 use Rattle.it_question.proofs.NameTraces.{marked_here, nothing_read, word_after, at_word, after_traced}
 

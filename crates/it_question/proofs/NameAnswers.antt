@@ -1,16 +1,19 @@
 -- New names that are spelled so are read, up to the first mark.
 use Rattle.std.proofs.Common.{◌≡◌, ℕ, zero, suc, ◌-◌, Bool, true, false, List, [], ◌∷◌, Option, Some, None, Err, refl, subst, sym, arith, inl, inr}
 use Rattle.std.specs.Prelude.{bytes_eq}
-use Rattle.it_syntax.specs.declared.types.Symbol.TheVariants.{Comma}
-use Rattle.it_syntax.specs.declared.types.Code.{Code}
-use Rattle.it_syntax.specs.declared.types.Code.TheVariants as codes
+use Rattle.it_forms.specs.declared.types.Symbol.TheVariants.{Comma}
+use Rattle.it_forms.specs.declared.types.Code.{Code}
+use Rattle.it_forms.specs.declared.types.Code.TheVariants as codes
 use Rattle.it_syntax.specs.NamesViews.{NamesView}
-use Rattle.it_syntax.specs.Letters.{Letter, Word, Sym, End, MarkedLetters, without_mark, letters}
-use Rattle.it_syntax.specs.Lines.{to_end}
-use Rattle.it_syntax.specs.WrittenMeasures.{WrittenList, is_measure}
-use Rattle.it_question.specs.NewNames.{NameSortView, with_name, is_taken, new_mark, spell_new, spell_new_more, spell_new_names, with_names, new_names_of, spell_names_line, names_line_of}
+use Rattle.it_forms.specs.Letters.{Letter, Word, Sym, End, MarkedLetters, without_mark, letters}
+use Rattle.it_syntax.specs.MeasureReading.{to_end}
+use Rattle.it_syntax.specs.NameMarks.{is_measure}
+use Rattle.it_question.specs.WrittenNames.{spell_new, spell_new_more, spell_new_names, with_names, new_names_of, spell_names_line, names_line_of}
+use Rattle.it_forms.proofs.MarkedReadings.{Answers, answers_ok, answers_cons, answers_bind}
+use Rattle.it_syntax.specs.WrittenMeasures.{WrittenList}
+use Rattle.it_question.specs.NewNames.{NameSortView, with_name, is_taken, new_mark}
 use Rattle.it_question.specs.Reading.{after_word, new_name_or_fault, read_new, read_new_more, read_new_names, if_after, read_names_line}
-use Rattle.it_syntax.proofs.SpelledIsRead.{Answers, answers_ok, answers_cons, answers_bind, NoComma}
+use Rattle.it_syntax.proofs.SpelledIsRead.{NoComma}
 use Rattle.it_syntax.proofs.LineEnd.{to_end_answers}
 
 -- a letter that is marked is a fault

@@ -1,12 +1,12 @@
 -- New names that are read stand after those that there are, and are no more than are allowed.
 use Rattle.std.proofs.Common.{◌≡◌, ℕ, zero, suc, ◌-◌, ◌≤◌, Bool, true, false, List, [], ◌∷◌, ◌++◌, length, Option, None, Some, Ok, Err, refl, sym, ap, ◌∙◌, arith, append_assoc}
 use Rattle.std.proofs.lemmas.List.{append-nil}
-use Rattle.it_syntax.specs.declared.types.Symbol.TheVariants.{Comma}
+use Rattle.it_forms.specs.declared.types.Symbol.TheVariants.{Comma}
 use Rattle.it_syntax.specs.NamesViews.{NamesView}
-use Rattle.it_syntax.specs.Letters.{Letter, Word, Sym, Bad}
-use Rattle.it_syntax.specs.Lines.{to_end}
-use Rattle.it_syntax.specs.MeasureReading.{Reads, ◌>>=◌, line_end}
-use Rattle.it_syntax.specs.WrittenMeasures.{is_measure}
+use Rattle.it_forms.specs.Letters.{Letter, Word, Sym, Bad}
+use Rattle.it_forms.specs.Reads.{Reads, ◌>>=◌}
+use Rattle.it_syntax.specs.NameMarks.{is_measure}
+use Rattle.it_syntax.specs.MeasureReading.{line_end, to_end}
 use Rattle.it_question.specs.NewNames.{NameSortView, Variable, Rate, with_name, is_taken}
 use Rattle.it_question.specs.Reading.{after_word, new_name_or_fault, read_new, read_new_more, read_new_names, if_after, read_names_line}
 use Rattle.it_syntax.proofs.LimitLemmas.{Sure, sure_bind, Any, sure_any}

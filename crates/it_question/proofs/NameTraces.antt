@@ -2,19 +2,22 @@
 use Rattle.std.proofs.Common.{◌≡◌, ℕ, zero, suc, ◌-◌, Bool, true, false, cond, List, [], ◌∷◌, Option, Some, None, Ok, Err, refl, sym, ap, ◌∙◌, subst, inl, inr, ◌⊎◌, arith}
 use Rattle.std.specs.Prelude.{bytes_eq}
 use Rattle.std.proofs.lemmas.Slice.Eq.{bytes_eq-Decides}
-use Rattle.it_syntax.specs.declared.types.Symbol.TheVariants.{Comma}
-use Rattle.it_syntax.specs.declared.types.Code.{Code}
-use Rattle.it_syntax.specs.declared.types.Code.TheVariants as codes
+use Rattle.it_forms.specs.declared.types.Symbol.TheVariants.{Comma}
+use Rattle.it_forms.specs.declared.types.Code.{Code}
+use Rattle.it_forms.specs.declared.types.Code.TheVariants as codes
 use Rattle.it_syntax.specs.NamesViews.{NamesView}
-use Rattle.it_syntax.specs.Letters.{Letter, Word, Sym, End, MarkedLetters, without_mark}
-use Rattle.it_syntax.specs.FirstFault.{head}
-use Rattle.it_syntax.specs.Lines.{to_end}
-use Rattle.it_syntax.specs.MeasureReading.{Reads, ◌>>=◌}
-use Rattle.it_syntax.specs.WrittenMeasures.{Environment, WrittenList, is_measure, index_or}
+use Rattle.it_forms.specs.Letters.{Letter, Word, Sym, End, MarkedLetters, without_mark}
+use Rattle.it_forms.specs.FirstFault.{head}
+use Rattle.it_syntax.specs.MeasureReading.{to_end}
+use Rattle.it_forms.specs.Reads.{Reads, ◌>>=◌}
+use Rattle.it_syntax.specs.Scopes.{Environment}
+use Rattle.it_syntax.specs.NameMarks.{is_measure, index_or}
+use Rattle.it_question.specs.WrittenNames.{spell_new, spell_new_more, spell_new_names, with_names, new_names_of, spell_names_line, names_line_of}
+use Rattle.it_syntax.specs.WrittenMeasures.{WrittenList}
 use Rattle.it_syntax.proofs.Traces.{Stuck, By, Traces, traces_bind, letter_then}
 use Rattle.it_syntax.proofs.MeasureTraces.{for_same_head, for_no_head, stuck_here, stuck_none}
 use Rattle.it_syntax.proofs.LineEnd.{to_end_traces}
-use Rattle.it_question.specs.NewNames.{NameSortView, with_name, is_taken, new_mark, spell_new, spell_new_more, spell_new_names, with_names, new_names_of, spell_names_line, names_line_of}
+use Rattle.it_question.specs.NewNames.{NameSortView, with_name, is_taken, new_mark}
 use Rattle.it_question.specs.Reading.{read_word, after_word, new_name_or_fault, read_new, read_new_more, read_new_names, if_after, read_names_line}
 
 -- ---- a letter that is marked, and letters that are left

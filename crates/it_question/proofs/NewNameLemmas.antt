@@ -3,11 +3,11 @@ use Rattle.std.proofs.Common.{◌≡◌, ℕ, zero, suc, ◌-◌, ◌≤◌, fal
 use Rattle.std.specs.Prelude.{◌||◌, is_some}
 use Rattle.it_syntax.specs.declared.rest.Stop.{Stop}
 use Rattle.it_syntax.specs.declared.rest.Stop.TheVariants as stops
-use Rattle.it_syntax.specs.declared.types.Symbol.TheVariants.{Comma}
+use Rattle.it_forms.specs.declared.types.Symbol.TheVariants.{Comma}
 use Rattle.it_syntax.specs.NamesViews.{NamesView, IsNew, index_of}
-use Rattle.it_syntax.specs.Letters.{Letter, Sym}
+use Rattle.it_forms.specs.Letters.{Letter, Sym}
+use Rattle.it_forms.specs.Reads.{Reads, ◌>>=◌}
 use Rattle.it_syntax.specs.Gives.{StopsAs}
-use Rattle.it_syntax.specs.MeasureReading.{Reads, ◌>>=◌}
 use Rattle.it_syntax.specs.ReaderSteps.{after_comma}
 use Rattle.it_syntax.proofs.ListLemmas.{comma_is}
 use Rattle.it_question.specs.declared.sorts.NameSort.{NameSort}

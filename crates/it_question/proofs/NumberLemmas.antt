@@ -12,29 +12,36 @@ use Rattle.it_syntax.specs.declared.types.TokenKind.{TokenKind}
 use Rattle.it_syntax.specs.declared.types.TokenKind.TheVariants as kinds
 use Rattle.it_syntax.specs.Givens.{GivenView}
 use Rattle.it_syntax.specs.Givens as given_views
-use Rattle.it_syntax.specs.Letters.{Letter, Number, End, MarkedLetters, without_mark, without_marks}
+use Rattle.it_forms.specs.Letters.{Letter, Number, End, MarkedLetters, without_mark, without_marks}
+use Rattle.it_syntax.specs.NameMarks.{index_or}
+use Rattle.it_syntax.specs.Multiples.{most_terms}
+use Rattle.it_question.specs.WrittenNames.{spell_new_more, spell_new_names, new_names_of, spell_names_line, names_line_of}
+use Rattle.it_question.specs.RateNames.{rates_env}
+use Rattle.it_question.specs.QuestionLimits.{most_questions, most_rates, most_lines, most_variables, auxiliaries_left, givens_left, rows_left}
+use Rattle.it_question.specs.TrySets.{auxiliary_env, Sets, unnamed_sets}
 use Rattle.it_syntax.specs.Meaning.{RelationView, multiple_from}
 use Rattle.it_syntax.specs.Misspellings.{SpellsUntil}
 use Rattle.it_syntax.specs.NamesViews.{NamesView}
-use Rattle.it_syntax.specs.Scopes.{scope_of, env_of}
+use Rattle.it_syntax.specs.Scopes.{scope_of, env_of, Environment, Scope}
 use Rattle.it_syntax.specs.Spans.{letter_of, letters_until, last_letter}
 use Rattle.it_syntax.specs.Spelling.{IsText}
-use Rattle.it_syntax.specs.WrittenMeasures.{Environment, WrittenList, WrittenMeasure, Entropy, EntropyGiven, Mutual, MutualGiven, TermSign, Positive, Negative, sign_letter, mark_surplus, index_or, is_negative, is_minus, spell_more, spell_list, spell_measure, spell_sign}
+use Rattle.it_syntax.specs.WrittenMeasures.{WrittenList, WrittenMeasure, Entropy, EntropyGiven, Mutual, MutualGiven, TermSign, Positive, Negative, sign_letter, mark_surplus, is_negative, is_minus, spell_more, spell_list, spell_measure, spell_sign}
 use Rattle.it_number.specs.Gcd.{lcm}
-use Rattle.it_syntax.specs.WrittenRelations.{Scope, WrittenAtom, Measure, RateOf, WrittenTerm, Zero, Once, Times, Over, WrittenSum, WrittenRelation, most_terms, number_of_terms, denominator_of, spell_atom, spell_term, spell_terms, spell_counted, spell_sum, compare_letter, spell_relation, term_of, terms_of, sum_of, relation_of}
+use Rattle.it_syntax.specs.WrittenRelations.{WrittenAtom, Measure, RateOf, WrittenTerm, Zero, Once, Times, Over, WrittenSum, WrittenRelation, number_of_terms, denominator_of, spell_atom, spell_term, spell_terms, spell_counted, spell_sum, compare_letter, spell_relation, term_of, terms_of, sum_of, relation_of}
 use Rattle.it_syntax.specs.WrittenGivens.{WrittenGiven, Relation, Markov, Independent, Function, divider_letter, spell_members, spell_bar, spell_given, given_of}
 use Rattle.it_question.specs.Files.{IsFile}
 use Rattle.it_question.specs.Lines.{LineView, AreLines, letters_of_lines, split_lines}
-use Rattle.it_question.specs.NewNames.{NameSortView, Variable, Rate, with_name, no_names, spell_new_more, spell_new_names, new_names_of, spell_names_line, names_line_of}
+use Rattle.it_question.specs.NewNames.{NameSortView, Variable, Rate, with_name, no_names}
 use Rattle.it_question.specs.Questions.{OwnLinesView, VerbView, BodyView, QuestionView}
 use Rattle.it_question.specs.Questions as views
 use Rattle.it_question.specs.Texts.{question_line_count, with_texts}
 use Rattle.it_question.specs.WrittenFiles.{spell_verb, verb_of, names_of, spell_question, question_of, spell_questions, questions_of}
-use Rattle.it_question.specs.WrittenLines.{spell_own, own_of, spell_once_more, rates_env}
-use Rattle.it_question.specs.WrittenQuestions.{WrittenOwnLine, GivenLine, RowLine, WrittenRegion, WrittenSet, Empty, Listed, WrittenPart, WrittenTry, WrittenVerb, Prove, Eliminate, Contain, WrittenQuestion, most_questions, most_rates, most_lines, most_variables}
+use Rattle.it_question.specs.WrittenLines.{spell_own, own_of, spell_once_more}
+use Rattle.it_question.specs.WrittenQuestions.{WrittenOwnLine, GivenLine, RowLine, WrittenRegion, WrittenSet, Empty, Listed, WrittenPart, WrittenTry, WrittenVerb, Prove, Eliminate, Contain, WrittenQuestion}
 use Rattle.it_question.specs.Keywords.{aux_keyword, rates_keyword}
-use Rattle.it_question.specs.WrittenRegions.{auxiliaries_left, auxiliary_env, spell_region, region_of, givens_left, rows_left}
-use Rattle.it_question.specs.WrittenTries.{Sets, unnamed_sets, spell_set, spell_part, with_part, spell_parts, spell_try, spell_tries}
+use Rattle.it_question.specs.WrittenRegions.{spell_region, region_of}
+use Rattle.it_question.specs.WrittenTries.{spell_set, spell_part, with_part, spell_parts, spell_try, spell_tries}
+use Rattle.it_question.proofs.FileLemmas.{asked_is_written}
 
 -- ---- numbers of 64 bits
 
@@ -279,6 +286,7 @@ texts_apart lines (q ∷ qs) h = (h.0, texts_apart (drop (question_line_count q)
 
 -- the questions of a file count by numbers of 64 bits
 pub file_has_small_numbers : (bytes : List ℕ) (qs : List QuestionView) → IsFile bytes qs → Every (λ (q : QuestionView). QuestionHasSmallNumbers q.body) qs
-file_has_small_numbers bytes qs f =
+file_has_small_numbers bytes qs asked =
+    let f = asked_is_written bytes qs asked in
     let small = subst AreSmall (sym f.spelled) (lines_small 1 (split_lines bytes) f.lines f.cut) in
     subst (Every (λ (q : QuestionView). QuestionHasSmallNumbers q.body)) f.says (texts_apart f.lines (questions_of f.tree) (questions_small most_questions f.tree _ small))

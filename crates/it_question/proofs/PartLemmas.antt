@@ -1,18 +1,17 @@
 -- What is read of a line's letters is read of them with the letters of further lines after them.
 use Rattle.std.proofs.Common.{◌≡◌, ℕ, List, [], ◌∷◌, ◌++◌, Ok, Err, refl, sym, ap, ◌∙◌, subst, append_assoc}
-use Rattle.it_syntax.specs.declared.types.Code.{Code}
-use Rattle.it_syntax.specs.declared.types.Code.TheVariants as codes
+use Rattle.it_forms.specs.declared.types.Code.{Code}
+use Rattle.it_forms.specs.declared.types.Code.TheVariants as codes
 use Rattle.it_syntax.specs.declared.types.Token.{Token}
 use Rattle.it_syntax.specs.declared.rest.Stop.{Stop}
 use Rattle.it_syntax.specs.declared.rest.Stop.TheVariants as stops
-use Rattle.it_syntax.specs.Letters.{Letter, Word, Number, Sym, End, Bad, MarkedLetters}
+use Rattle.it_forms.specs.Letters.{Letter, Word, Number, Sym, End, Bad, MarkedLetters}
+use Rattle.it_forms.specs.FirstFault.{head}
+use Rattle.it_forms.specs.Reads.{Fault, Reads, ◌>>=◌}
+use Rattle.it_syntax.specs.Scopes.{Environment, Scope}
 use Rattle.it_syntax.specs.Spans.{letters_until}
-use Rattle.it_syntax.specs.FirstFault.{head}
 use Rattle.it_syntax.specs.Gives.{StopsAs}
-use Rattle.it_syntax.specs.Lines.{to_end}
-use Rattle.it_syntax.specs.MeasureReading.{Fault, Reads, ◌>>=◌, line_end, read_list, read_name, read_sign}
-use Rattle.it_syntax.specs.WrittenMeasures.{Environment}
-use Rattle.it_syntax.specs.WrittenRelations.{Scope}
+use Rattle.it_syntax.specs.MeasureReading.{line_end, read_list, read_name, read_sign, to_end}
 use Rattle.it_syntax.specs.RelationReading.{read_relation, read_sum, read_counted, read_term, read_atom}
 use Rattle.it_syntax.specs.GivenReading.{read_given, read_plain}
 use Rattle.it_syntax.proofs.Traces.{Went, Stuck, By, Traces}

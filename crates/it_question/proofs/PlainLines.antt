@@ -1,13 +1,14 @@
 -- A line of tokens alone holds no comment, tab, line feed or carriage return, so it stays as it is when it is read as a line.
 use Rattle.std.proofs.Common.{◌≡◌, ℕ, ◌==◌, ◌&&◌, Bool, true, false, not, cond, List, [], ◌∷◌, ◌++◌, map, None, refl, sym, ap, ◌∙◌, subst}
-use Rattle.it_syntax.specs.declared.types.Symbol.{Symbol}
-use Rattle.it_syntax.specs.declared.types.Symbol.TheVariants.{LeftParen, RightParen, Comma, Semicolon, Bar, Plus, Minus, Arrow, AtLeast, AtMost, Equal, Assign, Slash}
+use Rattle.it_forms.specs.declared.types.Symbol.{Symbol}
+use Rattle.it_forms.specs.declared.types.Symbol.TheVariants.{LeftParen, RightParen, Comma, Semicolon, Bar, Plus, Minus, Arrow, AtLeast, AtMost, Equal, Assign, Slash}
 use Rattle.it_syntax.specs.declared.types.Token.{Token}
 use Rattle.it_syntax.specs.declared.types.TokenKind.{TokenKind}
 use Rattle.it_syntax.specs.declared.types.TokenKind.TheVariants as kinds
 use Rattle.it_syntax.specs.Misspellings.{SpellsUntil}
 use Rattle.std.specs.Char.{is_ascii_digit}
-use Rattle.it_syntax.specs.Spelling.{is_word_byte, is_space, symbol_text, AreAll, IsText}
+use Rattle.it_syntax.specs.Spelling.{is_word_byte, is_space, AreAll, IsText}
+use Rattle.it_forms.specs.SymbolTexts.{symbol_text}
 use Rattle.it_syntax.proofs.TokenLemmas.{other_byte}
 use Rattle.it_syntax.proofs.RunLemmas.{value_digits}
 use Rattle.it_question.specs.Lines.{in_front, split_lines, without_return, before_comment, without_tab, plain_text}

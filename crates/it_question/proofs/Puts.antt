@@ -1,9 +1,9 @@
 -- What a spelling puts before the letters that follow: tokens, or a number of whole lines.
 use Rattle.std.proofs.Common.{◌≡◌, ℕ, zero, suc, ◌+◌, List, [], ◌∷◌, ◌++◌, Option, Some, None, refl, sym, ap, ◌∙◌, subst, append_assoc, arith}
-use Rattle.it_syntax.specs.declared.types.Code.{Code}
-use Rattle.it_syntax.specs.Letters.{Letter, End, Bad, MarkedLetters, letters}
+use Rattle.it_forms.specs.declared.types.Code.{Code}
+use Rattle.it_forms.specs.Letters.{Letter, End, Bad, MarkedLetters, letters}
+use Rattle.it_forms.proofs.LetterLemmas.{letters_append}
 use Rattle.it_syntax.specs.WrittenMeasures.{mark_surplus}
-use Rattle.it_syntax.proofs.FirstFaults.{letters_append}
 
 abbrev pub AreTokens : List Letter → Type 0
 AreTokens [] = Unit {0}

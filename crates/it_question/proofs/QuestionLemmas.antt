@@ -1,12 +1,12 @@
 -- Questions one after the other, as a loop reads them.
 use Rattle.std.proofs.Common.{◌≡◌, ℕ, zero, suc, ◌-◌, ◌<◌, List, [], ◌∷◌, ◌++◌, Option, Some, None, Ok, Err, refl, sym, ap, ◌∙◌, append_assoc, arith}
 use Rattle.std.proofs.lemmas.List.{append-nil}
-use Rattle.it_syntax.specs.declared.types.Code.TheVariants as codes
+use Rattle.it_forms.specs.declared.types.Code.TheVariants as codes
 use Rattle.it_syntax.specs.declared.rest.Stop.{Stop}
 use Rattle.it_syntax.specs.declared.rest.Stop.TheVariants as stops
-use Rattle.it_syntax.specs.Letters.{Letter}
+use Rattle.it_forms.specs.Letters.{Letter}
+use Rattle.it_forms.specs.Reads.{Reads, ◌>>=◌}
 use Rattle.it_syntax.specs.Gives.{StopsAs}
-use Rattle.it_syntax.specs.MeasureReading.{Reads, ◌>>=◌}
 use Rattle.it_question.specs.Keywords.{vars_keyword}
 use Rattle.it_question.specs.Questions.{BodyView}
 use Rattle.it_question.specs.Reading.{after_word, read_question, read_end, question_then, if_question, read_questions}

@@ -3,17 +3,18 @@ use Rattle.std.proofs.Common.{◌≡◌, ℕ, Bool, true, false, List, [], ◌�
 use Rattle.std.proofs.lemmas.List.{append-nil}
 use Rattle.it_syntax.specs.declared.rest.Stop.{Stop}
 use Rattle.it_syntax.specs.declared.rest.Stop.TheVariants as stops
-use Rattle.it_syntax.specs.declared.types.Symbol.TheVariants.{Comma}
-use Rattle.it_syntax.specs.Letters.{Letter, Word, Number, Sym, End, Bad}
+use Rattle.it_forms.specs.declared.types.Symbol.TheVariants.{Comma}
+use Rattle.it_forms.specs.Letters.{Letter, Word, Number, Sym, End, Bad}
+use Rattle.it_forms.specs.Reads.{Reads, ◌>>=◌}
+use Rattle.it_syntax.specs.Scopes.{Environment}
+use Rattle.it_syntax.specs.NameMarks.{is_measure}
+use Rattle.it_question.specs.RateNames.{is_among}
 use Rattle.it_syntax.specs.GivenReading.{with_sets}
 use Rattle.it_syntax.specs.Gives.{StopsAs}
-use Rattle.it_syntax.specs.MeasureReading.{Reads, ◌>>=◌}
 use Rattle.it_syntax.specs.ReaderSteps.{after_comma}
-use Rattle.it_syntax.specs.WrittenMeasures.{Environment, is_measure}
 use Rattle.it_syntax.proofs.ListLemmas.{comma_is}
 use Rattle.it_syntax.proofs.MemberLemmas.{with_sets_append}
 use Rattle.it_question.specs.Reading.{if_unseen, rate_once, read_once, read_once_more}
-use Rattle.it_question.specs.WrittenLines.{is_among}
 
 abbrev then_more : Environment → List ℕ → Reads ℕ → Reads (List ℕ)
 then_more env seen r = r >>= λ i. read_once_more env (seen ++ i.0 ∷ []) i.1 >>= λ more. Ok (i.0 ∷ more.0, more.1)

@@ -5,13 +5,14 @@ use Rattle.std.specs.List.{IsDistinct, AllByRecursion}
 use Rattle.std.proofs.lemmas.List.Elements.{All-nil, All-cons}
 use Rattle.std.proofs.lemmas.List.Folds.{list_any-append}
 use Rattle.std.proofs.lemmas.List.Quantifiers.{position-Some}
-use Rattle.it_syntax.specs.declared.types.Symbol.TheVariants.{Comma}
+use Rattle.it_forms.specs.declared.types.Symbol.TheVariants.{Comma}
 use Rattle.it_syntax.specs.NamesViews.{NamesView}
-use Rattle.it_syntax.specs.Letters.{Letter, Word, Sym, Bad}
-use Rattle.it_syntax.specs.MeasureReading.{◌>>=◌}
-use Rattle.it_syntax.specs.WrittenMeasures.{Environment, is_measure}
+use Rattle.it_forms.specs.Letters.{Letter, Word, Sym, Bad}
+use Rattle.it_forms.specs.Reads.{◌>>=◌}
+use Rattle.it_syntax.specs.Scopes.{Environment}
+use Rattle.it_syntax.specs.NameMarks.{is_measure}
+use Rattle.it_question.specs.RateNames.{is_among, rates_env}
 use Rattle.it_question.specs.Limits.{AreRatesOf}
-use Rattle.it_question.specs.WrittenLines.{is_among, rates_env}
 use Rattle.it_question.specs.Reading.{if_unseen, rate_once, read_once, read_once_more, read_distinct}
 use Rattle.it_syntax.proofs.LimitLemmas.{Sure, sure_bind, stuck_sure, Knows}
 

@@ -1,21 +1,24 @@
 -- Regions, and a containment of two, that are spelled so are read, up to the first mark.
 use Rattle.std.proofs.Common.{◌≡◌, ℕ, ◌-◌, List, [], ◌∷◌, length, Option, Some, None, Ok, inr, refl}
-use Rattle.it_syntax.specs.declared.types.Code.{Code}
+use Rattle.it_forms.specs.declared.types.Code.{Code}
 use Rattle.it_syntax.specs.NamesViews.{NamesView}
-use Rattle.it_syntax.specs.Letters.{Word, End, MarkedLetters, without_mark, letters}
-use Rattle.it_syntax.specs.MeasureReading.{◌>>=◌, line_end}
-use Rattle.it_syntax.specs.Scopes.{env_of}
-use Rattle.it_syntax.specs.WrittenMeasures.{Environment}
+use Rattle.it_forms.specs.Letters.{Word, End, MarkedLetters, without_mark, letters}
+use Rattle.it_forms.specs.Reads.{◌>>=◌}
+use Rattle.it_question.specs.QuestionLimits.{most_lines, auxiliaries_left, givens_left, rows_left}
+use Rattle.it_question.specs.WrittenNames.{spell_names_line, names_line_of}
+use Rattle.it_question.specs.TrySets.{auxiliary_env, unnamed_sets}
+use Rattle.it_forms.proofs.MarkedReadings.{Answers, answers_ok, answers_cons, answers_bind}
+use Rattle.it_syntax.specs.MeasureReading.{line_end}
+use Rattle.it_syntax.specs.Scopes.{env_of, Environment}
 use Rattle.it_question.specs.Keywords.{region_keyword, aux_keyword, contain_keyword}
 use Rattle.it_question.specs.Questions.{OwnLinesView, RegionView, Contain}
 use Rattle.it_question.specs.Tables.{contain_mark}
-use Rattle.it_question.specs.WrittenQuestions.{WrittenRegion, WrittenTry, WrittenContainment, most_lines}
-use Rattle.it_question.specs.NewNames.{Variable, spell_names_line, names_line_of}
-use Rattle.it_question.specs.WrittenRegions.{auxiliaries_left, spell_region, region_of, auxiliary_env, givens_left, rows_left, containment_of}
+use Rattle.it_question.specs.WrittenQuestions.{WrittenRegion, WrittenTry, WrittenContainment}
+use Rattle.it_question.specs.NewNames.{Variable}
+use Rattle.it_question.specs.WrittenRegions.{spell_region, region_of, containment_of}
 use Rattle.it_question.specs.WrittenLines.{spell_own, own_of}
-use Rattle.it_question.specs.WrittenTries.{unnamed_sets, spell_tries, tries_of}
+use Rattle.it_question.specs.WrittenTries.{spell_tries, tries_of}
 use Rattle.it_question.specs.Reading.{after_word, read_word, read_contain, read_names_line, read_lines, read_tries, read_region, read_containment}
-use Rattle.it_syntax.proofs.SpelledIsRead.{Answers, answers_ok, answers_cons, answers_bind}
 use Rattle.it_question.proofs.NameAnswers.{names_line_answers}
 use Rattle.it_question.proofs.LineAnswers.{NoOwn, lines_answers, own_no_word}
 use Rattle.it_question.proofs.TryAnswers.{tries_answers}

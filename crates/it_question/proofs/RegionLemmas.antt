@@ -2,19 +2,18 @@
 use Rattle.std.proofs.Common.{◌≡◌, ℕ, List, Option, Ok, refl, ap, subst, ◌∙◌}
 use Rattle.it_syntax.specs.declared.rest.Stop.{Stop}
 use Rattle.it_syntax.specs.declared.rest.Stop.TheVariants as stops
-use Rattle.it_syntax.specs.declared.types.Code.{Code}
+use Rattle.it_forms.specs.declared.types.Code.{Code}
 use Rattle.it_syntax.specs.NamesViews.{NamesView}
-use Rattle.it_syntax.specs.Letters.{Letter}
+use Rattle.it_forms.specs.Letters.{Letter}
+use Rattle.it_forms.specs.Reads.{Reads, ◌>>=◌}
+use Rattle.it_question.specs.TrySets.{auxiliary_env, unnamed_sets}
+use Rattle.it_question.specs.QuestionLimits.{givens_left, rows_left, most_lines}
 use Rattle.it_syntax.specs.Gives.{StopsAs}
-use Rattle.it_syntax.specs.MeasureReading.{Reads, ◌>>=◌}
 use Rattle.it_syntax.specs.Scopes.{env_of}
 use Rattle.it_question.specs.Keywords.{region_keyword}
 use Rattle.it_question.specs.Questions.{OwnLinesView, RegionView, VerbView, Contain}
 use Rattle.it_question.specs.Reading.{read_word, read_region, read_tries, read_contain, read_containment}
 use Rattle.it_question.specs.Tables.{contain_mark}
-use Rattle.it_question.specs.WrittenRegions.{auxiliary_env, givens_left, rows_left}
-use Rattle.it_question.specs.WrittenTries.{unnamed_sets}
-use Rattle.it_question.specs.WrittenQuestions.{most_lines}
 
 abbrev then_contain : Option Code → RegionView → RegionView → List (List ℕ) × List Letter → Reads VerbView
 then_contain c first second tries = read_contain c tries.1 >>= λ e. Ok (Contain first second tries.0, e.1)

@@ -2,10 +2,14 @@
 use Rattle.std.proofs.Common.{◌≡◌, ℕ, ◌-◌, Bool, true, false, cond, List, [], ◌∷◌, length, Option, Some, None, Ok, refl, sym, ap, subst}
 use Rattle.std.specs.Prelude.{bytes_eq}
 use Rattle.std.proofs.lemmas.Slice.Eq.{bytes_eq-Decides}
-use Rattle.it_syntax.specs.declared.types.Code.{Code}
+use Rattle.it_forms.specs.declared.types.Code.{Code}
 use Rattle.it_syntax.specs.NamesViews.{NamesView}
-use Rattle.it_syntax.specs.Letters.{Letter, Word, End, MarkedLetters, without_mark}
-use Rattle.it_syntax.specs.MeasureReading.{Reads, ◌>>=◌, line_end}
+use Rattle.it_forms.specs.Letters.{Letter, Word, End, MarkedLetters, without_mark}
+use Rattle.it_forms.specs.Reads.{Reads, ◌>>=◌}
+use Rattle.it_question.specs.QuestionLimits.{most_lines, auxiliaries_left, givens_left, rows_left}
+use Rattle.it_question.specs.WrittenNames.{spell_names_line, names_line_of}
+use Rattle.it_question.specs.TrySets.{unnamed_sets, auxiliary_env}
+use Rattle.it_syntax.specs.MeasureReading.{line_end}
 use Rattle.it_syntax.specs.Scopes.{env_of}
 use Rattle.it_syntax.specs.WrittenMeasures.{WrittenList}
 use Rattle.it_syntax.proofs.Traces.{By, Traces, traces_bind, traces_map, letter_then}
@@ -13,11 +17,11 @@ use Rattle.it_syntax.proofs.MeasureTraces.{stuck_here, stuck_none}
 use Rattle.it_syntax.proofs.LineEnd.{spell_end, end_value, end_traces}
 use Rattle.it_question.specs.Keywords.{region_keyword, aux_keyword, contain_keyword}
 use Rattle.it_question.specs.Questions.{OwnLinesView, RegionView, VerbView, Contain}
-use Rattle.it_question.specs.WrittenQuestions.{WrittenOwnLine, WrittenRegion, WrittenTry, WrittenContainment, most_lines}
-use Rattle.it_question.specs.NewNames.{Variable, spell_names_line, names_line_of}
+use Rattle.it_question.specs.WrittenQuestions.{WrittenOwnLine, WrittenRegion, WrittenTry, WrittenContainment}
+use Rattle.it_question.specs.NewNames.{Variable}
 use Rattle.it_question.specs.WrittenLines.{spell_own, own_of}
-use Rattle.it_question.specs.WrittenTries.{unnamed_sets, spell_tries, tries_of}
-use Rattle.it_question.specs.WrittenRegions.{auxiliaries_left, region_of, auxiliary_env, givens_left, rows_left, containment_of}
+use Rattle.it_question.specs.WrittenTries.{spell_tries, tries_of}
+use Rattle.it_question.specs.WrittenRegions.{region_of, containment_of}
 use Rattle.it_question.specs.Reading.{read_word, read_names_line, read_lines, read_tries, read_region, after_word, unless_marked, contain_or_fault, read_contain, read_containment}
 use Rattle.it_question.specs.Tables.{contain_mark}
 use Rattle.it_question.proofs.NameTraces.{marked_here, spell_word, word_traces, names_line_traces}

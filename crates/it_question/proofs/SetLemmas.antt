@@ -1,7 +1,7 @@
 -- The sets of auxiliaries, place by place.
 use Rattle.std.proofs.Common.{◌≡◌, ℕ, zero, suc, ◌<◌, ◌≤◌, true, false, [], ◌∷◌, length, drop, Option, Some, None, refl, ap, arith}
 use Rattle.std.specs.Prelude.{is_some, slice_index_or, slice_set}
-use Rattle.it_question.specs.WrittenTries.{Sets, is_named, with_set, is_whole}
+use Rattle.it_question.specs.TrySets.{Sets, is_named, with_set, is_whole}
 
 pub named_at : (sets : Sets) (i : ℕ) (d : Option ℕ) → i < length sets → is_named sets i ≡ is_some (slice_index_or sets i d)
 named_at [] i d lt = absurd (omega arith)

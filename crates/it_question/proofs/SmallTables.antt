@@ -3,12 +3,15 @@ use Rattle.std.proofs.Common.{◌≡◌, ◌≤◌, Bool, true, false, cond, nat
 use Rattle.std.specs.Prelude.{bytes_eq}
 use Rattle.std.proofs.lemmas.Bool.Decides.{nat_tests}
 use Rattle.it_closure.specs.Sizes.{table_size}
-use Rattle.it_syntax.specs.declared.types.Code.{Code}
-use Rattle.it_syntax.specs.declared.types.Code.TheVariants as codes
+use Rattle.it_forms.specs.declared.types.Code.{Code}
+use Rattle.it_forms.specs.declared.types.Code.TheVariants as codes
 use Rattle.it_syntax.specs.NamesViews.{NamesView}
-use Rattle.it_syntax.specs.Letters.{Letter, Word, Bad}
-use Rattle.it_syntax.specs.Lines.{to_end}
-use Rattle.it_syntax.specs.MeasureReading.{Reads, ◌>>=◌, no_rule, line_end}
+use Rattle.it_forms.specs.Letters.{Letter, Word, Bad}
+use Rattle.it_forms.specs.Reads.{Reads, ◌>>=◌, no_rule}
+use Rattle.it_question.specs.RateNames.{rates_env}
+use Rattle.it_question.specs.QuestionLimits.{most_variables, most_rates, most_lines, givens_left, rows_left}
+use Rattle.it_question.specs.TrySets.{auxiliary_env, unnamed_sets}
+use Rattle.it_syntax.specs.MeasureReading.{line_end, to_end}
 use Rattle.it_syntax.specs.RelationReading.{read_relation}
 use Rattle.it_syntax.specs.Scopes.{scope_of, env_of}
 use Rattle.it_syntax.proofs.LimitLemmas.{Sure, sure_bind, Any, sure_any}
@@ -17,10 +20,6 @@ use Rattle.it_question.specs.NewNames.{Variable, Rate, no_names}
 use Rattle.it_question.specs.Questions.{OwnLinesView, VerbView, Prove, Eliminate, Contain, BodyView}
 use Rattle.it_question.specs.Reading.{after_word, read_word, read_new_names, read_names_line, read_lines, read_distinct, read_tries, read_region, unless_marked, contain_or_fault, read_contain, read_containment, read_proof, read_elimination, read_verb, read_question}
 use Rattle.it_question.specs.Tables.{givens_alone, problem_names_by, problem_lines_by, problem_of_lines, most_entries, size_mark, contain_mark, HasSmallTable}
-use Rattle.it_question.specs.WrittenLines.{rates_env}
-use Rattle.it_question.specs.WrittenQuestions.{most_variables, most_rates, most_lines}
-use Rattle.it_question.specs.WrittenRegions.{auxiliary_env, givens_left, rows_left}
-use Rattle.it_question.specs.WrittenTries.{unnamed_sets}
 use Rattle.it_question.proofs.LimitLemmas.{marked_sure}
 
 -- a table against which nothing is said

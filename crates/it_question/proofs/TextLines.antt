@@ -1,7 +1,7 @@
 -- The text of lines is read as lines of the same letters.
 use Rattle.std.proofs.Common.{◌≡◌, ℕ, ◌+◌, List, [], ◌∷◌, ◌++◌, length, take, Option, refl, sym, ap, ◌∙◌, subst, inr, append_assoc}
 use Rattle.it_syntax.specs.declared.types.Misspelling.{Misspelling}
-use Rattle.it_syntax.specs.Letters.{Letter, End}
+use Rattle.it_forms.specs.Letters.{Letter, End}
 use Rattle.it_syntax.specs.Spans.{letters_until, last_letter}
 use Rattle.it_question.specs.Lines.{LineView, AreLines, split_lines, file_end, end_line, line_letters, letters_of_lines}
 use Rattle.it_question.specs.Texts.{trimmed_line, text_of_lines}

@@ -4,13 +4,17 @@ use Rattle.it_syntax.specs.declared.rest.Divider.{Divider}
 use Rattle.it_syntax.specs.declared.rest.Divider.TheVariants.{Arrows, Semicolons}
 use Rattle.it_syntax.specs.declared.types.Sign.{Sign}
 use Rattle.it_syntax.specs.declared.types.Sign.TheVariants.{AtLeast, AtMost, Equal}
-use Rattle.it_syntax.specs.declared.types.Symbol.TheVariants as symbols
-use Rattle.it_syntax.specs.Letters.{Word, Number, Sym, MarkedLetters, without_mark}
-use Rattle.it_syntax.specs.WrittenMeasures.{Environment, WrittenList, WrittenMeasure, Entropy, EntropyGiven, Mutual, MutualGiven, TermSign, Positive, Negative, entropy_text, mutual_text, name_mark, unknown_mark, sign_letter, spell_name, spell_more, spell_list, spell_measure, spell_sign}
+use Rattle.it_forms.specs.declared.types.Symbol.TheVariants as symbols
+use Rattle.it_forms.specs.Letters.{Word, Number, Sym, MarkedLetters, without_mark}
+use Rattle.it_syntax.specs.Scopes.{Environment, Scope}
+use Rattle.it_syntax.specs.NameMarks.{entropy_text, mutual_text, name_mark, unknown_mark}
+use Rattle.it_syntax.specs.Multiples.{multiple_with, multiple_mark, most_terms}
+use Rattle.it_syntax.specs.GivenWords.{markov_text, indep_text, func_text, of_text}
+use Rattle.it_syntax.specs.WrittenMeasures.{WrittenList, WrittenMeasure, Entropy, EntropyGiven, Mutual, MutualGiven, TermSign, Positive, Negative, sign_letter, spell_name, spell_more, spell_list, spell_measure, spell_sign}
 use Rattle.it_number.specs.Gcd.{lcm}
 use Rattle.it_syntax.specs.Meaning.{multiple_from}
-use Rattle.it_syntax.specs.WrittenRelations.{Scope, WrittenAtom, Measure, RateOf, WrittenTerm, Zero, Once, Times, Over, WrittenSum, WrittenRelation, multiple_with, multiple_mark, denominator_of, sum_of, most_terms, number_of_terms, spell_atom, spell_term, spell_terms, spell_counted, spell_sum, compare_letter, spell_relation}
-use Rattle.it_syntax.specs.WrittenGivens.{WrittenChain, WrittenIndependence, WrittenFunction, WrittenGiven, Relation, Markov, Independent, Function, markov_text, indep_text, func_text, of_text, divider_letter, spell_members, spell_chain, spell_bar, spell_independence, spell_function, spell_given}
+use Rattle.it_syntax.specs.WrittenRelations.{WrittenAtom, Measure, RateOf, WrittenTerm, Zero, Once, Times, Over, WrittenSum, WrittenRelation, denominator_of, sum_of, number_of_terms, spell_atom, spell_term, spell_terms, spell_counted, spell_sum, compare_letter, spell_relation}
+use Rattle.it_syntax.specs.WrittenGivens.{WrittenChain, WrittenIndependence, WrittenFunction, WrittenGiven, Relation, Markov, Independent, Function, divider_letter, spell_members, spell_chain, spell_bar, spell_independence, spell_function, spell_given}
 use Rattle.it_question.proofs.Puts.{AreTokens, Puts, no_tokens, tokens_then, one_token, token_then, tokens_over}
 
 -- ---- lists

@@ -2,10 +2,10 @@
 use Rattle.std.proofs.Common.{◌≡◌, ℕ, zero, suc, ◌+◌, ◌<◌, ◌≤◌, ◌^◌, Bool, true, false, List, [], ◌∷◌, length, take, drop, Option, Some, None, refl, sym, ap, subst, inl, inr, ◌⊎◌, length-drop, length-take, arith}
 use Rattle.std.proofs.lemmas.Bool.{cases_lt}
 use Rattle.std.proofs.lemmas.List.{take-append-drop}
-use Rattle.it_syntax.specs.declared.types.Code.{Code}
-use Rattle.it_syntax.specs.declared.types.Code.TheVariants as codes
+use Rattle.it_forms.specs.declared.types.Code.{Code}
+use Rattle.it_forms.specs.declared.types.Code.TheVariants as codes
 use Rattle.it_syntax.specs.declared.types.Misspelling.{Misspelling}
-use Rattle.it_syntax.specs.declared.types.Symbol.{Symbol}
+use Rattle.it_forms.specs.declared.types.Symbol.{Symbol}
 use Rattle.it_syntax.specs.declared.types.Token.{Token}
 use Rattle.it_syntax.specs.declared.types.TokenKind.{TokenKind}
 use Rattle.it_syntax.specs.declared.types.TokenKind.TheVariants as kinds
@@ -13,7 +13,8 @@ use Rattle.it_syntax.specs.Fronts.{IsLongestRun, symbol_of}
 use Rattle.it_syntax.specs.ReaderSteps.{IsTokenFront}
 use Rattle.it_syntax.specs.Misspellings.{IsWrong, SpellsUntil}
 use Rattle.std.specs.Char.{is_ascii_alphabetic, is_ascii_digit}
-use Rattle.it_syntax.specs.Spelling.{is_word_byte, is_space, symbol_text, Stops}
+use Rattle.it_syntax.specs.Spelling.{is_word_byte, is_space, Stops}
+use Rattle.it_forms.specs.SymbolTexts.{symbol_text}
 use Rattle.it_syntax.proofs.RunLemmas.{digits_value}
 use Rattle.it_syntax.proofs.TokenLemmas.{run_all, cut_made, shape_some}
 

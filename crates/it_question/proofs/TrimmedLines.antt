@@ -1,16 +1,17 @@
 -- A trimmed line has the tokens of the line, in their new places.
 use Rattle.std.proofs.Common.{◌≡◌, ℕ, ◌+◌, ◌-◌, Bool, false, List, [], ◌∷◌, ◌++◌, length, take, drop, None, refl, sym, ap, ◌∙◌, subst, length-append, append_assoc, arith}
 use Rattle.std.proofs.lemmas.List.{take_at, drop_at}
-use Rattle.it_syntax.specs.declared.types.Symbol.{Symbol}
-use Rattle.it_syntax.specs.declared.types.Symbol.TheVariants.{LeftParen, RightParen, Comma, Semicolon, Bar, Plus, Minus, Arrow, AtLeast, AtMost, Equal, Assign, Slash}
+use Rattle.it_forms.specs.declared.types.Symbol.{Symbol}
+use Rattle.it_forms.specs.declared.types.Symbol.TheVariants.{LeftParen, RightParen, Comma, Semicolon, Bar, Plus, Minus, Arrow, AtLeast, AtMost, Equal, Assign, Slash}
 use Rattle.it_syntax.specs.declared.types.Token.{Token}
 use Rattle.it_syntax.specs.declared.types.TokenKind.{TokenKind}
 use Rattle.it_syntax.specs.declared.types.TokenKind.TheVariants as kinds
-use Rattle.it_syntax.specs.Letters.{Letter, Word, Number, Sym, End}
+use Rattle.it_forms.specs.Letters.{Letter, Word, Number, Sym, End}
+use Rattle.it_forms.specs.SymbolTexts.{symbol_text}
 use Rattle.it_syntax.specs.Misspellings.{SpellsUntil}
 use Rattle.it_syntax.specs.Spans.{letter_of, letters_until}
 use Rattle.std.specs.Char.{is_ascii_digit}
-use Rattle.it_syntax.specs.Spelling.{is_word_byte, is_space, is_greater, symbol_text, AreAll, Stops, IsText, EndsToken, Cut}
+use Rattle.it_syntax.specs.Spelling.{is_word_byte, is_space, is_greater, AreAll, Stops, IsText, EndsToken, Cut}
 use Rattle.it_syntax.proofs.TokenLemmas.{not_space}
 use Rattle.it_syntax.proofs.RunLemmas.{value_digits}
 use Rattle.it_question.specs.Lines.{LineView, IsFilled, IsLine, HasTokens, line_letters}

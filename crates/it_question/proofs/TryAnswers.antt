@@ -1,15 +1,19 @@
 -- `try` lines that are spelled so are read, up to the first mark.
 use Rattle.std.proofs.Common.{◌≡◌, ℕ, zero, suc, ◌-◌, ◌≤◌, Bool, true, false, cond, List, [], ◌∷◌, Option, Some, None, Ok, Err, refl, sym, ap, subst, arith, inl}
-use Rattle.it_syntax.specs.declared.types.Symbol.TheVariants.{Semicolon, Assign}
-use Rattle.it_syntax.specs.declared.types.Code.TheVariants as codes
-use Rattle.it_syntax.specs.Letters.{Letter, Word, Number, Sym, End, MarkedLetters, without_mark, letters}
-use Rattle.it_syntax.specs.MeasureReading.{Reads, ◌>>=◌, line_end}
-use Rattle.it_syntax.specs.WrittenMeasures.{Environment, is_measure, index_or}
+use Rattle.it_forms.specs.declared.types.Symbol.TheVariants.{Semicolon, Assign}
+use Rattle.it_forms.specs.declared.types.Code.TheVariants as codes
+use Rattle.it_forms.specs.Letters.{Letter, Word, Number, Sym, End, MarkedLetters, without_mark, letters}
+use Rattle.it_forms.specs.Reads.{Reads, ◌>>=◌}
+use Rattle.it_syntax.specs.Scopes.{Environment}
+use Rattle.it_syntax.specs.NameMarks.{is_measure, index_or}
+use Rattle.it_question.specs.TrySets.{Sets, unnamed_sets, is_named, with_set, is_whole, sets_view, part_mark, try_end_mark, try_mark}
+use Rattle.it_forms.proofs.MarkedReadings.{Answers, answers_ok, answers_cons, answers_bind}
+use Rattle.it_syntax.specs.MeasureReading.{line_end}
 use Rattle.it_question.specs.Keywords.{try_keyword}
 use Rattle.it_question.specs.WrittenQuestions.{WrittenSet, Empty, Listed, WrittenPart, WrittenTry}
-use Rattle.it_question.specs.WrittenTries.{Sets, unnamed_sets, is_named, with_set, is_whole, sets_view, part_mark, spell_set, set_of, spell_part, with_part, spell_parts, with_parts, try_end_mark, spell_try, try_of, try_mark, spell_tries, tries_of}
+use Rattle.it_question.specs.WrittenTries.{spell_set, set_of, spell_part, with_part, spell_parts, with_parts, spell_try, try_of, spell_tries, tries_of}
 use Rattle.it_question.specs.Reading.{after_word, read_assign, read_set, if_unnamed, auxiliary, read_auxiliary, read_part, read_parts, read_try_end, read_try, if_allowed, try_then, if_tried, read_tries}
-use Rattle.it_syntax.proofs.SpelledIsRead.{Answers, answers_ok, answers_cons, answers_bind, NoComma, list_answers}
+use Rattle.it_syntax.proofs.SpelledIsRead.{NoComma, list_answers}
 use Rattle.it_question.proofs.NameAnswers.{answers_at_mark}
 
 -- ---- how many auxiliaries have no set yet

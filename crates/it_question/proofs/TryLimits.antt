@@ -3,13 +3,13 @@ use Rattle.std.proofs.Common.{◌≡◌, ℕ, zero, suc, ◌≤◌, ◌<◌, ◌
 use Rattle.std.specs.Prelude.{All}
 use Rattle.std.proofs.lemmas.List.{length-map}
 use Rattle.std.proofs.lemmas.List.Elements.{All-nil, All-cons, All-head, All-tail, All-map}
-use Rattle.it_syntax.specs.Letters.{Letter, Number, Sym}
-use Rattle.it_syntax.specs.declared.types.Symbol.TheVariants.{Semicolon}
-use Rattle.it_syntax.specs.MeasureReading.{Reads, ◌>>=◌}
-use Rattle.it_syntax.specs.WrittenMeasures.{Environment}
+use Rattle.it_forms.specs.Letters.{Letter, Number, Sym}
+use Rattle.it_forms.specs.Reads.{Reads, ◌>>=◌}
+use Rattle.it_syntax.specs.Scopes.{Environment}
+use Rattle.it_question.specs.TrySets.{Sets, unnamed_sets, with_set, is_whole, set_or, sets_view}
+use Rattle.it_forms.specs.declared.types.Symbol.TheVariants.{Semicolon}
 use Rattle.it_question.specs.Keywords.{try_keyword}
 use Rattle.it_question.specs.Limits.{IsTryOf}
-use Rattle.it_question.specs.WrittenTries.{Sets, unnamed_sets, with_set, is_whole, set_or, sets_view}
 use Rattle.it_question.specs.Reading.{after_word, within_limit, read_assign, read_set, read_auxiliary, read_part, read_parts, read_try_end, read_try, if_allowed, try_then, if_tried, read_tries}
 use Rattle.it_syntax.proofs.LimitLemmas.{Sure, sure_bind, Any, sure_any, Knows, IsBelow, some_sets, list_sure}
 

@@ -2,14 +2,14 @@
 use Rattle.std.proofs.Common.{◌≡◌, ℕ, zero, suc, ◌-◌, Bool, true, false, List, [], ◌∷◌, ◌++◌, Option, Some, None, Ok, Err, refl, sym, ap, ◌∙◌, subst, arith, append_assoc, append-nil}
 use Rattle.it_syntax.specs.declared.rest.Stop.{Stop}
 use Rattle.it_syntax.specs.declared.rest.Stop.TheVariants as stops
-use Rattle.it_syntax.specs.declared.types.Code.TheVariants as codes
-use Rattle.it_syntax.specs.declared.types.Symbol.TheVariants as symbols
-use Rattle.it_syntax.specs.Letters.{Letter, Sym}
+use Rattle.it_forms.specs.declared.types.Code.TheVariants as codes
+use Rattle.it_forms.specs.declared.types.Symbol.TheVariants as symbols
+use Rattle.it_forms.specs.Letters.{Letter, Sym}
+use Rattle.it_forms.specs.Reads.{Reads, ◌>>=◌}
+use Rattle.it_syntax.specs.Scopes.{Environment}
+use Rattle.it_question.specs.TrySets.{Sets, is_whole, unnamed_sets}
 use Rattle.it_syntax.specs.Gives.{StopsAs}
-use Rattle.it_syntax.specs.MeasureReading.{Reads, ◌>>=◌}
-use Rattle.it_syntax.specs.WrittenMeasures.{Environment}
 use Rattle.it_question.specs.Keywords.{try_keyword}
-use Rattle.it_question.specs.WrittenTries.{Sets, is_whole, unnamed_sets}
 use Rattle.it_question.specs.Reading.{after_semicolon, after_word, if_allowed, try_then, if_tried, read_part, read_parts, read_try, read_tries}
 
 is_semicolon : (ls b : List Letter) → after_semicolon ls ≡ Some b → ls ≡ Sym symbols.Semicolon ∷ b

@@ -1,18 +1,22 @@
 -- The `try` lines are traced.
 use Rattle.std.proofs.Common.{◌≡◌, ℕ, zero, suc, ◌-◌, Bool, true, false, cond, List, [], ◌∷◌, Option, Some, None, Ok, Err, refl, sym, ap, ◌∙◌, subst, inl, inr, ◌⊎◌, arith}
-use Rattle.it_syntax.specs.declared.types.Symbol.TheVariants.{Semicolon, Assign}
-use Rattle.it_syntax.specs.declared.types.Code.{Code}
-use Rattle.it_syntax.specs.declared.types.Code.TheVariants as codes
-use Rattle.it_syntax.specs.Letters.{Letter, Word, Number, Sym, End, MarkedLetters, without_mark}
-use Rattle.it_syntax.specs.FirstFault.{head, own_code}
-use Rattle.it_syntax.specs.MeasureReading.{Reads, ◌>>=◌, read_list, line_end}
-use Rattle.it_syntax.specs.WrittenMeasures.{Environment, is_measure, index_or, spell_list, list_set}
+use Rattle.it_forms.specs.declared.types.Symbol.TheVariants.{Semicolon, Assign}
+use Rattle.it_forms.specs.declared.types.Code.{Code}
+use Rattle.it_forms.specs.declared.types.Code.TheVariants as codes
+use Rattle.it_forms.specs.Letters.{Letter, Word, Number, Sym, End, MarkedLetters, without_mark}
+use Rattle.it_forms.specs.FirstFault.{head, own_code}
+use Rattle.it_forms.specs.Reads.{Reads, ◌>>=◌}
+use Rattle.it_syntax.specs.Scopes.{Environment}
+use Rattle.it_syntax.specs.NameMarks.{is_measure, index_or}
+use Rattle.it_question.specs.TrySets.{Sets, is_named, with_set, is_whole, sets_view, part_mark, try_end_mark, try_mark}
+use Rattle.it_syntax.specs.MeasureReading.{read_list, line_end}
+use Rattle.it_syntax.specs.WrittenMeasures.{spell_list, list_set}
 use Rattle.it_syntax.proofs.Traces.{By, Traces, traces_bind, traces_map, letter_then, by_equal_reader, by_renaming}
 use Rattle.it_syntax.proofs.MeasureTraces.{for_same_head, for_no_head, stuck_here, stuck_none, list_traces}
 use Rattle.it_syntax.proofs.LetterReaders.{TakesLetter, after_traces}
 use Rattle.it_question.specs.Keywords.{try_keyword}
 use Rattle.it_question.specs.WrittenQuestions.{WrittenSet, Empty, Listed, WrittenPart, WrittenTry}
-use Rattle.it_question.specs.WrittenTries.{Sets, is_named, with_set, is_whole, sets_view, part_mark, spell_set, set_of, spell_part, with_part, spell_parts, with_parts, try_end_mark, spell_try, try_of, try_mark, spell_tries, tries_of}
+use Rattle.it_question.specs.WrittenTries.{spell_set, set_of, spell_part, with_part, spell_parts, with_parts, spell_try, try_of, spell_tries, tries_of}
 use Rattle.it_question.specs.Reading.{after_word, read_assign, read_set, if_unnamed, auxiliary, read_auxiliary, read_part, read_parts, read_try_end, read_try, if_allowed, try_then, if_tried, read_tries}
 use Rattle.it_question.proofs.NameTraces.{some_name, number_of, IsJudged, marked_here, nothing_read, IsAbsent, at_word, after_traced}
 

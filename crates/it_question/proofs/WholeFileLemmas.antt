@@ -2,16 +2,18 @@
 use Rattle.std.proofs.Common.{◌≡◌, ℕ, zero, suc, ◌-◌, ◌<◌, ◌≤◌, ◌^◌, List, [], ◌∷◌, ◌++◌, length, get_or, Some, Ok, Err, refl, sym, ap, ◌∙◌, subst, inl, inr, ◌⊎◌, append_assoc, length-append, arith}
 use Rattle.std.proofs.lemmas.List.{append-nil}
 use Rattle.std.proofs.lemmas.Option.{slice_get-get_or}
-use Rattle.it_syntax.specs.declared.types.Code.{Code}
+use Rattle.it_forms.specs.declared.types.Code.{Code}
 use Rattle.it_syntax.specs.declared.rest.Stop.{Stop}
 use Rattle.it_syntax.specs.declared.rest.Stop.TheVariants as stops
 use Rattle.it_syntax.specs.Gives.{StopsAs}
-use Rattle.it_syntax.specs.Letters.{Letter, End, Bad, MarkedLetters, without_mark, letters, without_marks}
-use Rattle.it_syntax.specs.FirstFault.{FirstFault}
-use Rattle.it_syntax.specs.MeasureReading.{Reads}
+use Rattle.it_forms.specs.Letters.{Letter, End, Bad, MarkedLetters, without_mark, letters, without_marks}
+use Rattle.it_forms.specs.FirstFault.{FirstFault}
+use Rattle.it_forms.specs.Reads.{Reads}
+use Rattle.it_forms.proofs.MarkedReadings.{Answers}
+use Rattle.it_forms.proofs.LetterLemmas.{letters_append, letters_after, clean_is_clean, letters_cleaned}
+use Rattle.it_forms.proofs.FirstFaults.{one_fault}
 use Rattle.it_syntax.proofs.Traces.{By, Went, Traces}
-use Rattle.it_syntax.proofs.SpelledIsRead.{Answers}
-use Rattle.it_syntax.proofs.FirstFaults.{letters_append, letters_after, first_fault, one_fault, reads_found, reads_only, clean_is_clean, letters_cleaned}
+use Rattle.it_syntax.proofs.FirstFaults.{first_fault, reads_found, reads_only}
 use Rattle.it_question.specs.declared.types.FileFault.{FileFault}
 use Rattle.it_question.specs.declared.types.FileFault.TheVariants.{Memory, Fault}
 use Rattle.it_question.specs.WholeFiles.{SaysWhole, place_of, WholeFaultAt, IsFirstWholeFault}
@@ -110,15 +112,6 @@ module _ {A X : Type 0} {read : List Letter → Reads A} {spell : X → MarkedLe
       let whole : read (letters_of_lines lines) ≡ Ok (y, []) = e ∙ ap (λ (s : List Letter). Ok (y, s)) (nothing_left bytes lines y r cut e) in
       let k = reads_found read spell value g.traces (letters_of_lines lines) y whole in
       record { lines = lines; cut = cut; tree = k.0; spelled = k.1.0; says = ap (after lines) k.1.1 }
-
-  pub whole_is_one : {Y : Type 0} (after : List LineView → A → Y) (bytes : List ℕ) (x y : Y) → SaysWhole (λ x. spell x []) (λ ls x. after ls (value x)) bytes x → SaysWhole (λ x. spell x []) (λ ls x. after ls (value x)) bytes y → x ≡ y
-  whole_is_one after bytes x y f h =
-      let lines : f.lines ≡ h.lines = lines_are_one 1 (split_lines bytes) f.lines h.lines f.cut h.cut in
-      let spelled : spell f.tree [] ≡ without_marks (letters_of_lines h.lines) = f.spelled ∙ ap (λ (ls : List LineView). without_marks (letters_of_lines ls)) lines in
-      let a = says_read (letters_of_lines h.lines) f.tree spelled in
-      let b = says_read (letters_of_lines h.lines) h.tree h.spelled in
-      let pair : (value f.tree, []) ≡ (value h.tree, []) = cc in
-      sym f.says ∙ ap (λ (ls : List LineView). after ls (value f.tree)) lines ∙ ap (λ (p : A × List Letter). after h.lines p.0) pair ∙ h.says
 
   pub whole_has_one : {Y : Type 0} (after : List LineView → A → Y) (bytes : List ℕ) → ((y : Y) × SaysWhole (λ x. spell x []) (λ ls x. after ls (value x)) bytes y) ⊎ ((line : ℕ) × (column : ℕ) × (c : Code) × WholeFaultAt (λ x. spell x []) bytes line column c)
   whole_has_one {Y} after bytes = by_result (lines_there 1 (split_lines bytes)) (read (letters_of_lines (lines_there 1 (split_lines bytes)).0)) refl

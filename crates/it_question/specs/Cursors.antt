@@ -3,7 +3,7 @@ use Rattle.std.specs.Prelude.{List, [], ◌∷◌, ◌++◌, map, Option, Some, 
 use Rattle.it_syntax.specs.declared.rest.Rest.{Rest}
 use Rattle.it_syntax.specs.declared.rest.Piece.{Piece}
 use Rattle.it_syntax.specs.declared.rest.Piece.TheVariants as pieces
-use Rattle.it_syntax.specs.Letters.{Letter, Word, Number, Sym, End, Bad}
+use Rattle.it_forms.specs.Letters.{Letter, Word, Number, Sym, End, Bad}
 use Rattle.it_syntax.specs.Gives as gives
 use Rattle.it_question.specs.declared.cursor.Cursor.{Cursor}
 use Rattle.it_question.specs.declared.cursor.Line.{Line}

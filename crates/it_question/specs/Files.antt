@@ -1,29 +1,27 @@
 -- What a file asks, and the first fault of one that has no reading.
 use Rattle.std.specs.Prelude.{◌≡◌, ℕ, List, [], ◌∷◌, ◌++◌, ◌⊎◌}
-use Rattle.it_syntax.specs.declared.types.Code.{Code}
+use Rattle.it_forms.specs.declared.types.Code.{Code}
+use Rattle.it_forms.specs.Forms.{Spells}
+use Rattle.it_forms.specs.Letters.{Word, MarkedLetters, without_mark}
 use Rattle.it_question.specs.declared.types.FileFault.{FileFault}
-use Rattle.it_question.specs.Lines.{LineView}
-use Rattle.it_question.specs.Questions.{QuestionView}
-use Rattle.it_question.specs.WrittenQuestions.{WrittenQuestion}
-use Rattle.it_question.specs.WrittenFiles.{spell_file, questions_of}
+use Rattle.it_question.specs.Keywords.{vars_keyword}
+use Rattle.it_question.specs.Lines.{file_end}
+use Rattle.it_question.specs.Questions.{BodyView, QuestionView}
+use Rattle.it_question.specs.QuestionForms.{question, file}
 use Rattle.it_question.specs.Texts.{with_texts}
-use Rattle.it_question.specs.WholeFiles.{SaysWhole, WholeFaultAt, IsFirstWholeFault}
-
--- what questions as they are written ask, in these lines
-abbrev pub questions_in : List LineView → List WrittenQuestion → List QuestionView
-questions_in lines trees = with_texts lines (questions_of trees)
+use Rattle.it_question.specs.WholeForms.{SaysInForm, FormFaultAt, IsFirstFormFault}
 
 -- the bytes ask these questions
 abbrev pub IsFile : List ℕ → List QuestionView → Type 0
-IsFile bytes qs = SaysWhole spell_file questions_in bytes qs
+IsFile bytes qs = SaysInForm file with_texts bytes qs
 
 -- Of these bytes the first fault is `code`, at this line and column.
 abbrev pub FileFaultAt : List ℕ → ℕ → ℕ → Code → Type 0
-FileFaultAt bytes line column code = WholeFaultAt spell_file bytes line column code
+FileFaultAt bytes line column code = FormFaultAt file bytes line column code
 
 -- of an error: memory ran out, or it is the first fault
 abbrev pub IsFirstFileFault : List ℕ → FileFault → Type 0
-IsFirstFileFault bytes fault = IsFirstWholeFault spell_file bytes fault
+IsFirstFileFault bytes fault = IsFirstFormFault file bytes fault
 
 -- a file has at most one reading
 abbrev pub FileIsOne : Type 0
@@ -44,3 +42,8 @@ FileHasOne = (bytes : List ℕ) → ((qs : List QuestionView) × IsFile bytes qs
 -- The text of a question reads as that question alone.
 abbrev pub TextReadsBack : Type 0
 TextReadsBack = (bytes : List ℕ) (qs rs : List QuestionView) (q : QuestionView) (front : List QuestionView) → IsFile bytes qs → qs ≡ front ++ q ∷ rs → IsFile q.text (q ∷ [])
+
+-- What says a question says that question alone, between `vars` and the file's end.
+abbrev pub QuestionStandsAlone : Type 0
+QuestionStandsAlone = (q : BodyView) (m k : MarkedLetters) → Spells question q m k
+    → (front : MarkedLetters) × ((m ≡ front ++ k) × Spells file (q ∷ []) (without_mark (Word vars_keyword) ∷ (front ++ without_mark file_end ∷ [])) [])

@@ -19,3 +19,9 @@ pub mod AsciiTexts
 pub mod Limits
 pub mod Stops
 pub mod ReaderSteps
+pub mod QuestionLimits
+pub mod TrySets
+pub mod RateNames
+pub mod QuestionForms
+pub mod WholeForms
+pub mod WrittenNames

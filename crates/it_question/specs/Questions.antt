@@ -1,5 +1,5 @@
 -- What a question file asks, as contracts compare it: each vector by the list of its items.
-use Rattle.std.specs.Prelude.{ℕ, List, map}
+use Rattle.std.specs.Prelude.{ℕ, List, [], map}
 use Rattle.it_syntax.specs.NamesViews.{NamesView}
 use Rattle.it_syntax.specs.Meaning.{RelationView, relation_view}
 use Rattle.it_syntax.specs.Givens.{GivenView, given_view}
@@ -13,6 +13,10 @@ use Rattle.it_question.specs.declared.types.Verb.TheVariants as verbs
 pub record OwnLinesView : Type 0 where
   pub givens : List GivenView
   pub rows : List RelationView
+
+-- neither a `given` nor a `row` line
+abbrev pub no_lines : OwnLinesView
+no_lines = record { givens = []; rows = [] }
 
 -- a region by the names of its variables and of the rates, how many of the variables are its own, and its own lines
 pub record RegionView : Type 0 where

@@ -1,7 +1,7 @@
 -- What the readers' own functions say of their steps. No public clause cites it.
 use Rattle.std.specs.Prelude.{◌≡◌, ℕ, ◌≤◌, List, ◌++◌, length, ◌==◌, Bool, not, [], ◌∷◌, Option, Some, None, ◌⊎◌, if◌then◌else◌}
-use Rattle.it_syntax.specs.declared.types.Code.{Code}
-use Rattle.it_syntax.specs.declared.types.Code.TheVariants as codes
+use Rattle.it_forms.specs.declared.types.Code.{Code}
+use Rattle.it_forms.specs.declared.types.Code.TheVariants as codes
 use Rattle.it_question.specs.Questions.{OwnLinesView, VerbView, Prove, Eliminate, Contain}
 use Rattle.it_syntax.specs.Misspellings.{SpellsUntil}
 use Rattle.it_question.specs.Lines.{plain_text, LineView, IsLine, HasTokens}

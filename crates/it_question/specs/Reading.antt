@@ -1,25 +1,24 @@
 -- Reading the letters of a file from left to right, each part by one function: its value and the letters left, or the fault. The
 -- laws tie it to how files are spelled. No public clause cites it.
 use Rattle.std.specs.Prelude.{ℕ, zero, suc, ◌+◌, ◌-◌, Result, Bool, true, false, List, [], ◌∷◌, ◌++◌, length, Option, Some, None, Ok, Err, if◌then◌else◌, bytes_eq}
-use Rattle.it_syntax.specs.declared.types.Symbol.TheVariants.{Comma, Semicolon, Assign}
-use Rattle.it_syntax.specs.declared.types.Code.TheVariants as codes
+use Rattle.it_forms.specs.declared.types.Symbol.TheVariants.{Comma, Semicolon, Assign}
+use Rattle.it_forms.specs.declared.types.Code.TheVariants as codes
 use Rattle.it_syntax.specs.NamesViews.{NamesView}
-use Rattle.it_syntax.specs.Letters.{Letter, Word, Number, Sym, End, Bad}
-use Rattle.it_syntax.specs.Lines.{to_end}
-use Rattle.it_syntax.specs.MeasureReading.{Fault, Reads, ◌>>=◌, no_rule, read_list, line_end}
-use Rattle.it_syntax.specs.WrittenMeasures.{Environment, is_measure}
-use Rattle.it_syntax.specs.Scopes.{env_of, scope_of}
+use Rattle.it_forms.specs.Letters.{Letter, Word, Number, Sym, End, Bad}
+use Rattle.it_forms.specs.Reads.{Fault, Reads, ◌>>=◌, no_rule}
+use Rattle.it_syntax.specs.NameMarks.{is_measure}
+use Rattle.it_question.specs.TrySets.{Sets, unnamed_sets, is_named, with_set, is_whole, sets_view, auxiliary_env}
+use Rattle.it_question.specs.RateNames.{is_among, rates_env}
+use Rattle.it_question.specs.QuestionLimits.{auxiliaries_left, givens_left, rows_left, most_questions, most_variables, most_rates, most_lines}
+use Rattle.it_syntax.specs.MeasureReading.{read_list, line_end, to_end}
+use Rattle.it_syntax.specs.Scopes.{env_of, scope_of, Environment}
 use Rattle.it_syntax.specs.RelationReading.{read_relation}
 use Rattle.it_syntax.specs.GivenReading.{read_given}
 use Rattle.it_question.specs.Keywords.{vars_keyword, rates_keyword, given_keyword, row_keyword, region_keyword, aux_keyword, try_keyword, prove_keyword, eliminate_keyword, contain_keyword}
-use Rattle.it_question.specs.Questions.{OwnLinesView, RegionView, VerbView, Prove, Eliminate, Contain, BodyView}
+use Rattle.it_question.specs.Questions.{OwnLinesView, RegionView, VerbView, Prove, Eliminate, Contain, BodyView, no_lines}
 use Rattle.it_question.specs.NewNames.{NameSortView, Variable, Rate, with_name, no_names, is_taken}
-use Rattle.it_question.specs.WrittenTries.{Sets, unnamed_sets, is_named, with_set, is_whole, sets_view}
-use Rattle.it_question.specs.WrittenLines.{no_lines, is_among, rates_env}
-use Rattle.it_question.specs.WrittenRegions.{auxiliaries_left, auxiliary_env, givens_left, rows_left}
-use Rattle.it_syntax.specs.declared.types.Code.{Code}
+use Rattle.it_forms.specs.declared.types.Code.{Code}
 use Rattle.it_question.specs.Tables.{givens_alone, size_mark, contain_mark}
-use Rattle.it_question.specs.WrittenQuestions.{most_questions, most_variables, most_rates, most_lines}
 
 -- a word that must stand there
 unfoldable pub read_word : List ℕ → List Letter → Reads (Unit {0})

@@ -1,9 +1,9 @@
 -- What the code tells where reading stopped. No public clause cites it.
 use Rattle.std.specs.Prelude.{◌≡◌, ℕ, ◌-◌, ◌<◌, ◌≤◌, List, length, Option, Some}
-use Rattle.it_syntax.specs.declared.types.Code.{Code}
+use Rattle.it_forms.specs.declared.types.Code.{Code}
 use Rattle.it_syntax.specs.declared.rest.Stop.{Stop}
 use Rattle.it_syntax.specs.declared.rest.Stop.TheVariants as stops
-use Rattle.it_syntax.specs.Letters.{Letter}
+use Rattle.it_forms.specs.Letters.{Letter}
 use Rattle.it_question.specs.declared.types.FileFault.{FileFault}
 use Rattle.it_question.specs.declared.types.FileFault.TheVariants.{Memory, Fault}
 use Rattle.it_question.specs.Lines.{LineView, letters_of_lines, places_of_lines}

@@ -6,8 +6,8 @@ use Rattle.it_space.specs.declared.problems.Constraint.{Constraint}
 use Rattle.it_space.specs.Problems.{ProblemView}
 use Rattle.it_space.specs.Spaces.{size_of}
 use Rattle.it_closure.specs.Sizes.{table_size}
-use Rattle.it_syntax.specs.declared.types.Code.{Code}
-use Rattle.it_syntax.specs.declared.types.Code.TheVariants as codes
+use Rattle.it_forms.specs.declared.types.Code.{Code}
+use Rattle.it_forms.specs.declared.types.Code.TheVariants as codes
 use Rattle.it_syntax.specs.NamesViews.{NamesView}
 use Rattle.it_demand.specs.Demands.{LineDemand}
 use Rattle.it_demand.specs.LineDemands.{space_of, given_demands, row_demands}

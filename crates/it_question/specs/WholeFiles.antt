@@ -1,13 +1,14 @@
--- What a whole file says in a language that is told by its trees, by how each is spelled up to the file's end and by what it says; and its first fault.
+-- What a whole file says in a language that is told by what is written in it, by how each is spelled up to the file's end and
+-- by what it says; and its first fault.
 use Rattle.std.specs.Prelude.{◌≡◌, ℕ, ◌-◌, List, length, Option, Some, slice_get}
-use Rattle.it_syntax.specs.declared.types.Code.{Code}
-use Rattle.it_syntax.specs.Letters.{Letter, MarkedLetters, without_marks}
-use Rattle.it_syntax.specs.FirstFault.{FirstFault}
+use Rattle.it_forms.specs.declared.types.Code.{Code}
+use Rattle.it_forms.specs.Letters.{Letter, MarkedLetters, without_marks}
+use Rattle.it_forms.specs.FirstFault.{FirstFault}
 use Rattle.it_question.specs.declared.types.FileFault.{FileFault}
 use Rattle.it_question.specs.declared.types.FileFault.TheVariants.{Memory, Fault}
 use Rattle.it_question.specs.Lines.{LineView, AreLinesOf, letters_of_lines, places_of_lines}
 
--- the bytes say y: their letters are those of a tree, nothing is said against one, and this is what the tree says in these lines
+-- the bytes say y: their letters are so written, nothing is said against one, and this is what is said in these lines
 pub record SaysWhole {X Y : Type 0} (spell : X → MarkedLetters) (value : List LineView → X → Y) (bytes : List ℕ) (y : Y) : Type 0 where
   pub lines : List LineView
   pub cut : AreLinesOf bytes lines

@@ -1,18 +1,26 @@
--- How the verb's lines, questions and whole files are spelled, and what they ask.
+-- How the verb's lines, questions and whole files are spelled, and what they ask. No public clause cites this module.
 use Rattle.std.specs.Prelude.{ℕ, ◌-◌, true, List, [], ◌∷◌, map}
 use Rattle.it_syntax.specs.NamesViews.{NamesView}
-use Rattle.it_syntax.specs.Letters.{Word, End, MarkedLetters, without_mark}
+use Rattle.it_forms.specs.Letters.{Word, End, MarkedLetters, without_mark}
+use Rattle.it_question.specs.QuestionLimits.{most_questions, most_variables, most_rates, most_lines}
+use Rattle.it_question.specs.WrittenNames.{spell_new_names, new_names_of, spell_names_line, names_line_of}
+use Rattle.it_forms.specs.Words.{limit_mark}
+use Rattle.it_question.specs.RateNames.{rates_env}
 use Rattle.it_syntax.specs.WrittenRelations.{spell_relation, relation_of}
 use Rattle.it_syntax.specs.Scopes.{scope_of}
 use Rattle.it_question.specs.Lines.{file_end}
 use Rattle.it_question.specs.Keywords.{vars_keyword, rates_keyword, prove_keyword, eliminate_keyword}
 use Rattle.it_question.specs.Questions.{OwnLinesView, VerbView, BodyView}
 use Rattle.it_question.specs.Tables.{givens_alone, size_mark}
-use Rattle.it_question.specs.WrittenQuestions.{most_questions, most_variables, most_rates, most_lines, WrittenVerb, Eliminate, Contain, Prove, WrittenQuestion}
-use Rattle.it_question.specs.NewNames.{Rate, Variable, no_names, spell_new_names, new_names_of, spell_names_line, names_line_of}
-use Rattle.it_question.specs.WrittenLines.{limit_mark, spell_own, own_of, spell_distinct, distinct_of, rates_env}
+use Rattle.it_question.specs.WrittenQuestions.{WrittenVerb, Eliminate, Contain, Prove, WrittenQuestion}
+use Rattle.it_question.specs.NewNames.{Rate, Variable, no_names}
+use Rattle.it_question.specs.WrittenLines.{spell_own, own_of, spell_distinct, distinct_of}
 use Rattle.it_question.specs.WrittenRegions.{spell_containment, containment_of}
 use Rattle.it_question.specs.Questions as views
+use Rattle.it_question.specs.Lines.{LineView}
+use Rattle.it_question.specs.Questions.{QuestionView}
+use Rattle.it_question.specs.Texts.{with_texts}
+use Rattle.it_question.specs.WholeFiles.{SaysWhole}
 
 -- the lines of a verb, in a question with these own lines
 abbrev pub spell_verb : OwnLinesView → NamesView → WrittenVerb → MarkedLetters → MarkedLetters
@@ -57,3 +65,11 @@ questions_of xs = map question_of xs
 -- a whole file, up to its end
 abbrev pub spell_file : List WrittenQuestion → MarkedLetters
 spell_file xs = spell_questions most_questions xs (without_mark file_end ∷ [])
+
+-- what questions as they are written ask, in these lines
+abbrev pub questions_in : List LineView → List WrittenQuestion → List QuestionView
+questions_in lines trees = with_texts lines (questions_of trees)
+
+-- as they are written the bytes ask these questions
+abbrev pub AskAsWritten : List ℕ → List QuestionView → Type 0
+AskAsWritten bytes qs = SaysWhole spell_file questions_in bytes qs

@@ -1,24 +1,19 @@
 -- How `given`, `row` and `eliminate` lines are spelled, and what they say. Where g and r stand so many `given` and `row` lines are
--- allowed. Each rate of an `eliminate` line is named once: `Name` stands against a name that is no rate, `Twice` against one that was `seen`.
-use Rattle.std.specs.Prelude.{ℕ, zero, suc, ◌-◌, ◌==◌, Bool, true, false, List, [], ◌∷◌, ◌++◌, map, Option, Some, None, if◌then◌else◌}
-use Rattle.std.specs.List.{list_any}
-use Rattle.it_syntax.specs.declared.types.Symbol.TheVariants.{Comma}
-use Rattle.it_syntax.specs.declared.types.Code.{Code}
-use Rattle.it_syntax.specs.NamesViews.{NamesView, index_of}
-use Rattle.it_syntax.specs.Letters.{Word, Sym, End, MarkedLetters, without_mark}
-use Rattle.it_syntax.specs.WrittenMeasures.{Environment, WrittenList, is_measure, index_or}
+-- allowed. No public clause cites this module.
+use Rattle.std.specs.Prelude.{ℕ, ◌-◌, true, false, List, [], ◌∷◌, ◌++◌, map}
+use Rattle.it_forms.specs.declared.types.Symbol.TheVariants.{Comma}
+use Rattle.it_syntax.specs.NamesViews.{NamesView}
+use Rattle.it_forms.specs.Letters.{Word, Sym, End, MarkedLetters, without_mark}
+use Rattle.it_syntax.specs.NameMarks.{is_measure, index_or}
+use Rattle.it_syntax.specs.WrittenMeasures.{WrittenList}
 use Rattle.it_syntax.specs.WrittenRelations.{spell_relation, relation_of}
-use Rattle.it_syntax.specs.Scopes.{scope_of}
+use Rattle.it_syntax.specs.Scopes.{scope_of, Environment}
 use Rattle.it_syntax.specs.WrittenGivens.{spell_given, given_of}
 use Rattle.it_question.specs.Keywords.{given_keyword, row_keyword}
-use Rattle.it_question.specs.Questions.{OwnLinesView}
+use Rattle.it_question.specs.Questions.{OwnLinesView, no_lines}
 use Rattle.it_question.specs.WrittenQuestions.{RowLine, GivenLine, WrittenOwnLine}
-use Rattle.it_syntax.specs.declared.types.Code.TheVariants as codes
-
--- against a keyword, where n lines that begin with it are allowed
-abbrev pub limit_mark : ℕ → Option Code
-limit_mark zero = Some codes.Many
-limit_mark (suc n) = None
+use Rattle.it_question.specs.RateNames.{once_mark}
+use Rattle.it_forms.specs.Words.{limit_mark}
 
 -- own lines, one after the other
 abbrev pub spell_own : ℕ → ℕ → NamesView → List WrittenOwnLine → MarkedLetters → MarkedLetters
@@ -26,25 +21,11 @@ spell_own g r v [] k = k
 spell_own g r v (GivenLine x ∷ ls) k = (Word given_keyword, limit_mark g) ∷ spell_given (scope_of v false) x (without_mark End ∷ spell_own (g - 1) r v ls k)
 spell_own g r v (RowLine x ∷ ls) k = (Word row_keyword, limit_mark r) ∷ spell_relation (scope_of v true) x (without_mark End ∷ spell_own g (r - 1) v ls k)
 
--- neither a `given` nor a `row` line
-abbrev pub no_lines : OwnLinesView
-no_lines = record { givens = []; rows = [] }
-
 -- what own lines say, each kind in order
 abbrev pub own_of : NamesView → List WrittenOwnLine → OwnLinesView
 own_of v [] = no_lines
 own_of v (GivenLine x ∷ ls) = let own = own_of v ls in record { givens = given_of (scope_of v false) x ∷ own.givens; rows = own.rows }
 own_of v (RowLine x ∷ ls) = let own = own_of v ls in record { givens = own.givens; rows = relation_of (scope_of v true) x ∷ own.rows }
-
--- whether a number is one of those that were seen
-abbrev pub is_among : List ℕ → ℕ → Bool
-is_among seen i = list_any (λ j. j == i) seen
-
--- against the name of a rate: it may be no name, be unknown or have been named
-abbrev pub once_mark : Bool → List ℕ → Option ℕ → Option Code
-once_mark true seen o = Some codes.Word
-once_mark false seen None = Some codes.Name
-once_mark false seen (Some i) = if is_among seen i then Some codes.Twice else None
 
 -- the name of a rate that must not have been named among `seen`
 abbrev pub spell_once : Environment → List ℕ → List ℕ → MarkedLetters → MarkedLetters
@@ -66,7 +47,3 @@ indexes_of env ws = map (λ w. index_or (env w)) ws
 -- which rates an `eliminate` line names, in order
 abbrev pub distinct_of : Environment → WrittenList → List ℕ
 distinct_of env l = index_or (env l.first) ∷ indexes_of env l.more
-
--- which rate a name is
-unfoldable pub rates_env : NamesView → Environment
-rates_env v = index_of v.rates

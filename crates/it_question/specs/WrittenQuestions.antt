@@ -1,28 +1,8 @@
--- Question files as they are written: the trees, and how many of each thing there may be.
+-- Question files as they are written: the trees. No public clause cites this module.
 use Rattle.std.specs.Prelude.{ℕ, List, Option}
 use Rattle.it_syntax.specs.WrittenMeasures.{WrittenList}
 use Rattle.it_syntax.specs.WrittenRelations.{WrittenRelation}
 use Rattle.it_syntax.specs.WrittenGivens.{WrittenGiven}
-
--- how many questions a file has, at most
-abbrev pub most_questions : ℕ
-most_questions = 1000
-
--- how many variables a question has, or a region with its auxiliaries, at most
-abbrev pub most_variables : ℕ
-most_variables = 10
-
--- how many auxiliaries a region has, at most
-abbrev pub most_auxiliaries : ℕ
-most_auxiliaries = 4
-
--- how many rates a question has, at most
-abbrev pub most_rates : ℕ
-most_rates = 16
-
--- of each kind: `given`, `row` and `try` lines of a question
-abbrev pub most_lines : ℕ
-most_lines = 64
 
 -- a `given` or `row` line
 pub data WrittenOwnLine : Type 0 where

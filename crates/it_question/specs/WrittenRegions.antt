@@ -1,21 +1,19 @@
--- How the regions of a containment are spelled, and what they say.
-use Rattle.std.specs.Prelude.{ℕ, ◌-◌, min, nat_lt, ◌∷◌, length, Option, Some, None, if◌then◌else◌}
-use Rattle.it_syntax.specs.NamesViews.{NamesView, index_of}
-use Rattle.it_syntax.specs.Letters.{Word, End, MarkedLetters, without_mark}
-use Rattle.it_syntax.specs.WrittenMeasures.{Environment}
+-- How the regions of a containment are spelled, and what they say. No public clause cites this module.
+use Rattle.std.specs.Prelude.{ℕ, ◌-◌, ◌∷◌, length}
+use Rattle.it_syntax.specs.NamesViews.{NamesView}
+use Rattle.it_forms.specs.Letters.{Word, End, MarkedLetters, without_mark}
+use Rattle.it_question.specs.QuestionLimits.{most_lines, auxiliaries_left, givens_left, rows_left}
+use Rattle.it_question.specs.WrittenNames.{spell_names_line, names_line_of}
+use Rattle.it_question.specs.TrySets.{unnamed_sets, auxiliary_env}
 use Rattle.it_syntax.specs.Scopes.{env_of}
 use Rattle.it_question.specs.Keywords.{region_keyword, aux_keyword, contain_keyword}
 use Rattle.it_question.specs.Questions.{OwnLinesView, RegionView, VerbView}
 use Rattle.it_question.specs.Tables.{contain_mark}
-use Rattle.it_question.specs.WrittenQuestions.{most_variables, most_auxiliaries, most_lines, WrittenRegion, WrittenContainment}
-use Rattle.it_question.specs.NewNames.{Variable, spell_names_line, names_line_of}
+use Rattle.it_question.specs.WrittenQuestions.{WrittenRegion, WrittenContainment}
+use Rattle.it_question.specs.NewNames.{Variable}
 use Rattle.it_question.specs.WrittenLines.{spell_own, own_of}
-use Rattle.it_question.specs.WrittenTries.{unnamed_sets, spell_tries, tries_of}
+use Rattle.it_question.specs.WrittenTries.{spell_tries, tries_of}
 use Rattle.it_question.specs.Questions as views
-
--- how many auxiliaries a region may have beside the question's variables
-abbrev pub auxiliaries_left : NamesView → ℕ
-auxiliaries_left v = min most_auxiliaries (most_variables - length v.variables)
 
 -- a region from its first line on, with g `given` and r `row` lines allowed
 abbrev pub spell_region : ℕ → ℕ → NamesView → WrittenRegion → MarkedLetters → MarkedLetters
@@ -24,23 +22,6 @@ spell_region g r v x k = without_mark (Word region_keyword) ∷ without_mark End
 -- what a region says, in a question with these names
 abbrev pub region_of : NamesView → WrittenRegion → RegionView
 region_of v x = let names = names_line_of Variable v x.auxiliaries in record { names = names; auxiliaries = length names.variables - length v.variables; lines = own_of names x.lines }
-
--- a number after the first n, counted from there
-abbrev pub after_first : ℕ → Option ℕ → Option ℕ
-after_first n None = None
-after_first n (Some i) = if nat_lt i n then None else Some (i - n)
-
--- which of the auxiliaries of a region a name is: they stand after the question's variables
-unfoldable pub auxiliary_env : NamesView → NamesView → Environment
-auxiliary_env v names w = after_first (length v.variables) (index_of names.variables w)
-
--- how many of g `given` lines are still allowed after these own lines
-abbrev pub givens_left : ℕ → OwnLinesView → ℕ
-givens_left g own = g - length own.givens
-
--- how many of r `row` lines are still allowed after these own lines
-abbrev pub rows_left : ℕ → OwnLinesView → ℕ
-rows_left r own = r - length own.rows
 
 -- two regions and the `try` lines, up to `contain`, in a question with these own lines
 abbrev pub spell_containment : OwnLinesView → NamesView → WrittenContainment → MarkedLetters → MarkedLetters

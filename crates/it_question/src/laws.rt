@@ -1,5 +1,5 @@
 //! Laws of the definitions that the contracts cite.
-ghost use Rattle.it_question.specs.Files.{FileIsOne, FileFaultIsOne, FileOrFault, FileHasOne, TextReadsBack};
+ghost use Rattle.it_question.specs.Files.{FileIsOne, FileFaultIsOne, FileOrFault, FileHasOne, TextReadsBack, QuestionStandsAlone};
 ghost use Rattle.it_question.specs.AsciiTexts.{TextsAreAscii};
 
 /// A file has at most one reading, or has at most one first fault, and not both.
@@ -18,6 +18,11 @@ pub fn file_has_one()
 #[tactic(auto, using(crate::proofs::TextLaws::text_reads_back))]
 pub fn text_reads_back()
     ensures { TextReadsBack }
+{}
+
+/// What says a question in a file says that question alone.
+pub fn questions_stand_alone()
+    ensures { QuestionStandsAlone }
 {}
 
 /// The text of a question and the names that it declares are ASCII, also where the file's comments are not.

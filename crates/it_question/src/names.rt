@@ -2,7 +2,7 @@
 ghost use Rattle.std.specs.Prelude.{◌≡◌, ◌-◌, ◌≤◌, false, length, OnOk, IfErr};
 ghost use Rattle.it_syntax.specs.declared.rest.Stop.TheVariants.{Memory};
 ghost use Rattle.it_syntax.specs.Gives.{GivesBy};
-ghost use Rattle.it_syntax.specs.Lines.{to_end};
+ghost use Rattle.it_syntax.specs.MeasureReading.{to_end};
 ghost use Rattle.it_question.specs.Cursors.{letters_left};
 ghost use Rattle.it_question.specs.Reading.{read_new, read_new_more, read_new_names, read_names_line};
 ghost use Rattle.it_question.specs.Sorts.{name_sort_view, HasRoom, KeepsRates};

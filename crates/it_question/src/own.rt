@@ -10,7 +10,7 @@ ghost use Rattle.it_question.specs.Bodies.{with_given_line, with_row_line};
 ghost use Rattle.it_question.specs.Cursors.{letters_left};
 ghost use Rattle.it_question.specs.Questions.{own_lines_view};
 ghost use Rattle.it_question.specs.Reading.{read_lines};
-ghost use Rattle.it_question.specs.WrittenRegions.{givens_left, rows_left};
+ghost use Rattle.it_question.specs.QuestionLimits.{givens_left, rows_left};
 
 use crate::cursor::Cursor;
 use crate::parts::{given, relation};

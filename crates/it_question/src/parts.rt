@@ -5,9 +5,8 @@ ghost use Rattle.it_syntax.specs.RelationReading.{read_relation};
 ghost use Rattle.it_syntax.specs.GivenReading.{read_given};
 ghost use Rattle.it_syntax.specs.Givens.{given_view};
 ghost use Rattle.it_syntax.specs.Gives.{Gives, GivesBy};
-ghost use Rattle.it_syntax.specs.Lines.{to_end};
 ghost use Rattle.it_syntax.specs.Meaning.{relation_view};
-ghost use Rattle.it_syntax.specs.MeasureReading.{read_list};
+ghost use Rattle.it_syntax.specs.MeasureReading.{read_list, to_end};
 ghost use Rattle.it_syntax.specs.Scopes.{env_of};
 ghost use Rattle.it_question.specs.Cursors.{letters_left};
 

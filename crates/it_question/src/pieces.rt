@@ -1,7 +1,7 @@
 //! The pieces of a file, one after the other.
 ghost use Rattle.std.specs.Prelude.{◌≡◌, [], map, IfSome, IfNone};
 ghost use Rattle.it_syntax.specs.declared.rest.Stop.TheVariants.{Fault};
-ghost use Rattle.it_syntax.specs.FirstFault.{own_code};
+ghost use Rattle.it_forms.specs.FirstFault.{own_code};
 ghost use Rattle.it_syntax.specs.ReaderSteps.{HasLength};
 ghost use Rattle.it_question.specs.Cursors.{line_view, letters_left, with_letter};
 ghost use Rattle.it_question.specs.Lines.{letters_of_lines};

@@ -4,10 +4,10 @@ ghost use Rattle.std.specs.Prelude.{◌≡◌, ◌<◌, ◌++◌, [], ◌∷◌,
 ghost use Rattle.it_syntax.specs.declared.rest.Stop.TheVariants.{Memory};
 ghost use Rattle.it_syntax.specs.GivenReading.{with_sets};
 ghost use Rattle.it_syntax.specs.Gives.{Gives, GivesBy};
-ghost use Rattle.it_syntax.specs.Lines.{to_end};
+ghost use Rattle.it_syntax.specs.MeasureReading.{to_end};
+ghost use Rattle.it_question.specs.RateNames.{rates_env};
 ghost use Rattle.it_question.specs.Cursors.{letters_left};
 ghost use Rattle.it_question.specs.Reading.{read_once, read_once_more, read_distinct};
-ghost use Rattle.it_question.specs.WrittenLines.{rates_env};
 
 use crate::cursor::Cursor;
 use crate::words::{comma, line_end};
@@ -17,7 +17,7 @@ use it_syntax::{Names, is_measure};
 use std::alloc::Global;
 
 /// The name of a rate that wasn't named before, by the rate's number.
-#[tactic(auto, unfolding(crate::specs::WrittenLines::rates_env))]
+#[tactic(auto, unfolding(crate::specs::RateNames::rates_env))]
 fn rate(names: &Names, name: &[u8]) -> Option<u8>
     ensures { result ≡ rates_env names.now name.now }
 {

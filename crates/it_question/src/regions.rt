@@ -13,7 +13,7 @@ ghost use Rattle.it_question.specs.Tables.{contain_mark};
 ghost use Rattle.it_question.specs.Reading.{read_names_line, read_region, read_contain, read_containment};
 ghost use Rattle.it_question.specs.Sorts.{HasRoom};
 ghost use Rattle.it_question.specs.NewNames.{Variable};
-ghost use Rattle.it_question.specs.WrittenRegions.{auxiliaries_left};
+ghost use Rattle.it_question.specs.QuestionLimits.{auxiliaries_left};
 
 use crate::cursor::Cursor;
 use crate::names::names_line;

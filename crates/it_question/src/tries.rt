@@ -8,8 +8,7 @@ ghost use Rattle.it_syntax.specs.ReaderSteps.{Passes};
 ghost use Rattle.it_syntax.specs.Scopes.{env_of};
 ghost use Rattle.it_question.specs.Cursors.{letters_left};
 ghost use Rattle.it_question.specs.Reading.{after_semicolon, read_auxiliary, read_assign, read_set, read_part, read_parts, read_try_end, read_try, read_tries};
-ghost use Rattle.it_question.specs.WrittenRegions.{auxiliary_env};
-ghost use Rattle.it_question.specs.WrittenTries.{is_named, with_set, is_whole, set_or, sets_view, unnamed_sets};
+ghost use Rattle.it_question.specs.TrySets.{auxiliary_env, is_named, with_set, is_whole, set_or, sets_view, unnamed_sets};
 
 use crate::cursor::Cursor;
 use crate::parts::names_set;
@@ -33,7 +32,7 @@ pub struct Regions<'a> {
 }
 
 /// Which auxiliary of the second region has this name.
-#[tactic(auto, unfolding(crate::specs::WrittenRegions::auxiliary_env))]
+#[tactic(auto, unfolding(crate::specs::TrySets::auxiliary_env))]
 fn auxiliary_of(regions: Regions<'_>, name: &[u8]) -> Option<u8>
     ensures { result ≡ auxiliary_env regions.entry.question.now regions.entry.second.now name.now }
 {

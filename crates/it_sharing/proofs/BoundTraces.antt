@@ -1,14 +1,16 @@
 -- Two sums with `>=` between them are traced, and each that is spelled so is read up to the first mark.
 use Rattle.std.proofs.Common.{◌≡◌, ℕ, suc, ◌-◌, List, [], ◌∷◌, length, None, Ok, Err, refl, sym, ap}
-use Rattle.it_syntax.specs.declared.types.Symbol.TheVariants as symbols
-use Rattle.it_syntax.specs.declared.types.Code.TheVariants as codes
+use Rattle.it_forms.specs.declared.types.Symbol.TheVariants as symbols
+use Rattle.it_forms.specs.declared.types.Code.TheVariants as codes
 use Rattle.it_syntax.specs.declared.types.Sign.TheVariants.{AtLeast}
 use Rattle.it_syntax.specs.declared.types.Term.{Term}
-use Rattle.it_syntax.specs.Letters.{Letter, Sym, MarkedLetters, without_mark}
-use Rattle.it_syntax.specs.Lines.{to_end}
+use Rattle.it_forms.specs.Letters.{Letter, Sym, MarkedLetters, without_mark}
+use Rattle.it_forms.specs.Reads.{Reads, ◌>>=◌}
+use Rattle.it_syntax.specs.Scopes.{Scope}
+use Rattle.it_syntax.specs.Multiples.{most_terms}
 use Rattle.it_syntax.specs.Meaning.{RelationView, multiple_from}
-use Rattle.it_syntax.specs.MeasureReading.{Reads, ◌>>=◌, read_sign}
-use Rattle.it_syntax.specs.WrittenRelations.{Scope, Zero, WrittenSum, most_terms, spell_sum, sum_of}
+use Rattle.it_syntax.specs.MeasureReading.{read_sign, to_end}
+use Rattle.it_syntax.specs.WrittenRelations.{Zero, WrittenSum, spell_sum, sum_of}
 use Rattle.it_syntax.specs.RelationReading.{read_sum, read_counted, read_term, read_atom}
 use Rattle.it_syntax.proofs.Traces.{Traces, traces_bind, traces_map, letter_then}
 use Rattle.it_syntax.proofs.MeasureTraces.{stuck_here, stuck_none}

@@ -13,3 +13,5 @@ pub mod SharingPuts
 pub mod SharingFileLemmas
 pub mod SharingLimits
 pub mod QuestionLimits
+pub mod SharingReadings
+pub mod SharingOutlines

@@ -1,29 +1,34 @@
 -- A sharing file that is spelled so is read, up to the first mark.
 use Rattle.std.proofs.Common.{◌≡◌, ℕ, zero, suc, ◌-◌, true, false, List, [], ◌∷◌, length, map, None, Ok, refl, arith}
-use Rattle.it_syntax.specs.declared.types.Symbol.TheVariants as symbols
-use Rattle.it_syntax.specs.declared.types.Code.TheVariants as codes
+use Rattle.it_forms.specs.declared.types.Symbol.TheVariants as symbols
+use Rattle.it_forms.specs.declared.types.Code.TheVariants as codes
 use Rattle.it_syntax.specs.declared.types.Sign.TheVariants.{AtLeast}
 use Rattle.it_syntax.specs.NamesViews.{NamesView}
-use Rattle.it_syntax.specs.Letters.{Letter, Word, Sym, End, MarkedLetters, without_mark, letters}
-use Rattle.it_syntax.specs.Lines.{to_end}
+use Rattle.it_forms.specs.Letters.{Letter, Word, Sym, End, MarkedLetters, without_mark, letters}
+use Rattle.it_forms.specs.Reads.{Reads, ◌>>=◌}
+use Rattle.it_syntax.specs.Multiples.{most_terms}
+use Rattle.it_forms.proofs.MarkedReadings.{Answers, answers_ok, answers_cons, answers_bind}
+use Rattle.it_question.specs.WrittenNames.{spell_new, spell_new_names, new_names_of}
+use Rattle.it_sharing.specs.SharingWords.{secret_keyword, parties_keyword, qualified_keyword, best_keyword, most_parties, most_qualified, party_env}
 use Rattle.it_syntax.specs.Meaning.{multiple_from}
-use Rattle.it_syntax.specs.MeasureReading.{Reads, ◌>>=◌, read_list}
+use Rattle.it_syntax.specs.MeasureReading.{read_list, to_end}
 use Rattle.it_syntax.specs.RelationReading.{read_sum, read_relation}
-use Rattle.it_syntax.specs.Scopes.{scope_of}
-use Rattle.it_syntax.specs.WrittenMeasures.{Environment, WrittenList, spell_list, list_set}
-use Rattle.it_syntax.specs.WrittenRelations.{Scope, most_terms, number_of_terms, spell_sum, spell_relation, sum_of, relation_of}
-use Rattle.it_syntax.proofs.SpelledIsRead.{Answers, answers_ok, answers_cons, answers_bind, list_answers}
+use Rattle.it_syntax.specs.Scopes.{scope_of, Environment, Scope}
+use Rattle.it_syntax.specs.WrittenMeasures.{WrittenList, spell_list, list_set}
+use Rattle.it_syntax.specs.WrittenRelations.{number_of_terms, spell_sum, spell_relation, sum_of, relation_of}
+use Rattle.it_syntax.proofs.SpelledIsRead.{list_answers}
 use Rattle.it_syntax.proofs.RelationAnswers.{sum_answers}
 use Rattle.it_syntax.proofs.RelationTraces.{terms_counted}
 use Rattle.it_syntax.proofs.LineEnd.{to_end_answers}
 use Rattle.it_question.specs.Lines.{file_end}
 use Rattle.it_question.specs.Keywords.{prove_keyword}
-use Rattle.it_question.specs.NewNames.{Variable, no_names, with_name, spell_new, spell_new_names, new_names_of}
+use Rattle.it_question.specs.NewNames.{Variable, no_names, with_name}
 use Rattle.it_question.specs.Reading.{after_word, read_word, read_new, read_end}
 use Rattle.it_question.proofs.NameAnswers.{answers_at_mark, new_answers, names_to_end_answers}
 use Rattle.it_question.proofs.LineAnswers.{relation_to_end_answers}
-use Rattle.it_sharing.specs.WrittenSharings.{secret_keyword, parties_keyword, qualified_keyword, best_keyword, most_parties, most_qualified, WrittenBound, WrittenAim, Prove, Best, WrittenSharing, party_env, spell_bound, spell_qualified, spell_aim, names_of, spell_sharing, bound_of, is_best, aim_relation, sharing_of}
-use Rattle.it_sharing.specs.SharingReading.{read_at_least, read_bound, qualified_then, read_qualified, Aim, read_aim, read_secret, read_parties, read_lists, read_sharing}
+use Rattle.it_sharing.specs.WrittenSharings.{WrittenBound, WrittenAim, Prove, Best, WrittenSharing, spell_bound, spell_qualified, spell_aim, names_of, spell_sharing, bound_of, is_best, aim_relation, sharing_of}
+use Rattle.it_sharing.specs.SharingReading.{read_at_least, read_bound, qualified_then, read_qualified, read_aim, read_secret, read_parties, read_lists, read_sharing}
+use Rattle.it_sharing.specs.SharingForms.{Aim}
 
 -- ---- two sums
 

@@ -7,19 +7,20 @@ use Rattle.std.proofs.lemmas.Nat.{or_lt, pow_pos, le_or_l}
 use Rattle.std.proofs.lemmas.Nat.Bits.{bit_at_or, bit_at-zero, bit_at_lowest}
 use Rattle.std.proofs.lemmas.List.Elements.{All-nil, All-cons, All-weaker}
 use Rattle.std.proofs.lemmas.List.Quantifiers.{position-Some}
-use Rattle.it_syntax.specs.declared.types.Symbol.TheVariants.{Comma}
-use Rattle.it_syntax.specs.declared.types.Code.TheVariants as codes
+use Rattle.it_forms.specs.declared.types.Symbol.TheVariants.{Comma}
+use Rattle.it_forms.specs.declared.types.Code.TheVariants as codes
 use Rattle.it_syntax.specs.declared.types.Sign.TheVariants.{AtLeast}
 use Rattle.it_syntax.specs.NamesViews.{NamesView, index_of}
-use Rattle.it_syntax.specs.Letters.{Letter, Word, Sym, Bad}
+use Rattle.it_forms.specs.Letters.{Letter, Word, Sym, Bad}
+use Rattle.it_forms.specs.Reads.{Reads, ◌>>=◌, no_rule}
+use Rattle.it_syntax.specs.NameMarks.{is_measure}
+use Rattle.it_syntax.specs.Multiples.{most_terms}
+use Rattle.it_sharing.specs.SharingWords.{secret_keyword, parties_keyword, qualified_keyword, best_keyword, most_parties, most_qualified, unless_secret, party_env}
 use Rattle.it_syntax.specs.Givens.{IsRelationOf}
-use Rattle.it_syntax.specs.Lines.{to_end}
 use Rattle.it_syntax.specs.Meaning.{RelationView, multiple_from}
-use Rattle.it_syntax.specs.MeasureReading.{Reads, ◌>>=◌, no_rule, variable_or_fault, read_name, read_more, read_list}
+use Rattle.it_syntax.specs.MeasureReading.{variable_or_fault, read_name, read_more, read_list, to_end}
 use Rattle.it_syntax.specs.RelationReading.{read_sum, read_relation}
 use Rattle.it_syntax.specs.Scopes.{scope_of}
-use Rattle.it_syntax.specs.WrittenMeasures.{is_measure}
-use Rattle.it_syntax.specs.WrittenRelations.{most_terms}
 use Rattle.it_syntax.proofs.LimitLemmas.{Sure, sure_bind, Any, sure_any, stuck_sure, AreFew}
 use Rattle.it_syntax.proofs.MultipleLemmas.{one_is_multiple}
 use Rattle.it_syntax.proofs.RelationLimits.{sum_sure, scope_covers, relation_limited}
@@ -30,8 +31,8 @@ use Rattle.it_question.proofs.NameLimits.{ended_sure, IsGrown, new_names_sure}
 use Rattle.it_question.proofs.LineLimits.{sure_if}
 use Rattle.it_sharing.specs.AccessStructures.{IsPartySet}
 use Rattle.it_sharing.specs.Sharings.{SharingView, IsSharing, IsBoundWhereBest}
-use Rattle.it_sharing.specs.WrittenSharings.{secret_keyword, parties_keyword, qualified_keyword, best_keyword, most_parties, most_qualified, unless_secret, party_env}
-use Rattle.it_sharing.specs.SharingReading.{read_at_least, read_bound, qualified_then, if_qualified, read_qualified, Aim, read_aim, read_secret, read_parties, read_lists, read_sharing}
+use Rattle.it_sharing.specs.SharingReading.{read_at_least, read_bound, qualified_then, if_qualified, read_qualified, read_aim, read_secret, read_parties, read_lists, read_sharing}
+use Rattle.it_sharing.specs.SharingForms.{Aim}
 use Rattle.it_sharing.proofs.SecretNames.{IsOne, secret_sure}
 
 -- ---- names

@@ -1,18 +1,21 @@
 -- The spelling of a sharing file puts whole lines before the file's end.
 use Rattle.std.proofs.Common.{ℕ, ◌+◌, ◌-◌, true, List, [], ◌∷◌, length, None, arith}
-use Rattle.it_syntax.specs.declared.types.Symbol.TheVariants as symbols
+use Rattle.it_forms.specs.declared.types.Symbol.TheVariants as symbols
 use Rattle.it_syntax.specs.NamesViews.{NamesView}
-use Rattle.it_syntax.specs.Letters.{Word, Sym, End, MarkedLetters, without_mark}
-use Rattle.it_syntax.specs.Scopes.{scope_of}
-use Rattle.it_syntax.specs.WrittenMeasures.{Environment, WrittenList, spell_list}
-use Rattle.it_syntax.specs.WrittenRelations.{Scope, most_terms, number_of_terms, sum_of}
+use Rattle.it_forms.specs.Letters.{Word, Sym, End, MarkedLetters, without_mark}
+use Rattle.it_syntax.specs.Multiples.{most_terms}
+use Rattle.it_question.specs.WrittenNames.{spell_new, spell_new_names}
+use Rattle.it_forms.specs.Words.{limit_mark}
+use Rattle.it_sharing.specs.SharingWords.{secret_keyword, parties_keyword, qualified_keyword, best_keyword, most_parties, most_qualified, party_env}
+use Rattle.it_syntax.specs.Scopes.{scope_of, Environment, Scope}
+use Rattle.it_syntax.specs.WrittenMeasures.{WrittenList, spell_list}
+use Rattle.it_syntax.specs.WrittenRelations.{number_of_terms, sum_of}
 use Rattle.it_question.specs.Keywords.{prove_keyword}
-use Rattle.it_question.specs.NewNames.{Variable, no_names, with_name, spell_new, spell_new_names}
-use Rattle.it_question.specs.WrittenLines.{limit_mark}
+use Rattle.it_question.specs.NewNames.{Variable, no_names, with_name}
 use Rattle.it_question.proofs.Puts.{AreTokens, HasLines, Puts, tokens_then, token_then, no_lines, line_of_tokens, lines_then, line_then}
 use Rattle.it_question.proofs.TokenPuts.{list_puts, sum_puts, relation_puts}
 use Rattle.it_question.proofs.LinePuts.{new_puts, new_names_puts}
-use Rattle.it_sharing.specs.WrittenSharings.{secret_keyword, parties_keyword, qualified_keyword, best_keyword, most_parties, most_qualified, WrittenAim, Prove, Best, WrittenSharing, party_env, spell_bound, spell_qualified, spell_aim, names_of, WrittenBound}
+use Rattle.it_sharing.specs.WrittenSharings.{WrittenAim, Prove, Best, WrittenSharing, spell_bound, spell_qualified, spell_aim, names_of, WrittenBound}
 use Rattle.it_syntax.specs.Meaning.{multiple_from}
 
 bound_puts : (s : Scope) (x : WrittenBound) → Puts AreTokens (spell_bound s x)

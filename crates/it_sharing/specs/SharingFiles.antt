@@ -1,22 +1,22 @@
 -- What a sharing file says, and the first fault of one that has no reading.
 use Rattle.std.specs.Prelude.{◌≡◌, ℕ, List, ◌⊎◌}
-use Rattle.it_syntax.specs.declared.types.Code.{Code}
+use Rattle.it_forms.specs.declared.types.Code.{Code}
 use Rattle.it_question.specs.declared.types.FileFault.{FileFault}
-use Rattle.it_question.specs.WholeFiles.{SaysWhole, WholeFaultAt, IsFirstWholeFault}
+use Rattle.it_question.specs.WholeForms.{SaysInForm, FormFaultAt, IsFirstFormFault}
 use Rattle.it_sharing.specs.Sharings.{SharingView}
-use Rattle.it_sharing.specs.WrittenSharings.{spell_sharing_file, sharing_of}
+use Rattle.it_sharing.specs.SharingForms.{sharing}
 
 -- the bytes say so
 abbrev pub IsSharingFile : List ℕ → SharingView → Type 0
-IsSharingFile bytes x = SaysWhole spell_sharing_file (λ lines. sharing_of) bytes x
+IsSharingFile bytes x = SaysInForm sharing (λ lines y. y) bytes x
 
 -- Of these bytes the first fault is `code`, at this line and column.
 abbrev pub SharingFaultAt : List ℕ → ℕ → ℕ → Code → Type 0
-SharingFaultAt bytes line column code = WholeFaultAt spell_sharing_file bytes line column code
+SharingFaultAt bytes line column code = FormFaultAt sharing bytes line column code
 
 -- of an error: memory ran out, or it is the first fault
 abbrev pub IsFirstSharingFault : List ℕ → FileFault → Type 0
-IsFirstSharingFault bytes fault = IsFirstWholeFault spell_sharing_file bytes fault
+IsFirstSharingFault bytes fault = IsFirstFormFault sharing bytes fault
 
 -- a file says one thing at most
 abbrev pub SharingIsOne : Type 0

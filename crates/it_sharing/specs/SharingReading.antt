@@ -1,23 +1,23 @@
 -- Reading the letters of a sharing file from left to right, each part by one function: its value and the letters left, or the fault. The laws tie it to how
 -- files are spelled. No public clause cites it.
-use Rattle.std.specs.Prelude.{ℕ, zero, suc, ◌-◌, Result, Bool, true, false, List, [], ◌∷◌, ◌++◌, length, Option, Some, None, Ok, Err, if◌then◌else◌, bytes_eq}
-use Rattle.it_syntax.specs.declared.types.Symbol.TheVariants as symbols
+use Rattle.std.specs.Prelude.{ℕ, zero, suc, ◌-◌, Result, true, false, List, [], ◌∷◌, ◌++◌, length, Option, Some, None, Ok, Err, if◌then◌else◌, bytes_eq}
+use Rattle.it_forms.specs.declared.types.Symbol.TheVariants as symbols
 use Rattle.it_syntax.specs.declared.types.Sign.TheVariants.{AtLeast}
-use Rattle.it_syntax.specs.declared.types.Code.TheVariants as codes
+use Rattle.it_forms.specs.declared.types.Code.TheVariants as codes
 use Rattle.it_syntax.specs.NamesViews.{NamesView}
-use Rattle.it_syntax.specs.Letters.{Letter, Word, Sym}
-use Rattle.it_syntax.specs.Lines.{to_end}
+use Rattle.it_forms.specs.Letters.{Letter, Word, Sym}
+use Rattle.it_forms.specs.Reads.{Fault, Reads, ◌>>=◌, no_rule}
+use Rattle.it_syntax.specs.Multiples.{most_terms}
+use Rattle.it_sharing.specs.SharingWords.{secret_keyword, parties_keyword, qualified_keyword, best_keyword, most_parties, most_qualified, party_env}
 use Rattle.it_syntax.specs.Meaning.{RelationView, multiple_from}
-use Rattle.it_syntax.specs.MeasureReading.{Fault, Reads, ◌>>=◌, no_rule, read_list}
+use Rattle.it_syntax.specs.MeasureReading.{read_list, to_end}
 use Rattle.it_syntax.specs.RelationReading.{read_sum, read_relation}
-use Rattle.it_syntax.specs.Scopes.{scope_of}
-use Rattle.it_syntax.specs.WrittenMeasures.{Environment}
-use Rattle.it_syntax.specs.WrittenRelations.{Scope, most_terms}
+use Rattle.it_syntax.specs.Scopes.{scope_of, Environment, Scope}
 use Rattle.it_question.specs.Keywords.{prove_keyword}
 use Rattle.it_question.specs.NewNames.{Variable, no_names}
 use Rattle.it_question.specs.Reading.{after_word, read_word, read_new, read_new_names, read_end}
 use Rattle.it_sharing.specs.Sharings.{SharingView}
-use Rattle.it_sharing.specs.WrittenSharings.{secret_keyword, parties_keyword, qualified_keyword, best_keyword, most_parties, most_qualified, party_env}
+use Rattle.it_sharing.specs.SharingForms.{Aim}
 
 -- `>=`, which must stand there
 unfoldable pub read_at_least : List Letter → Result (List Letter) Fault
@@ -52,10 +52,6 @@ read_qualified (suc n) env ls = if_qualified (qualified_then (read_qualified n e
 -- lists read before, and those still read
 abbrev pub with_lists : List ℕ → Reads (List ℕ) → Reads (List ℕ)
 with_lists front r = r >>= λ x. Ok (front ++ x.0, x.1)
-
--- whether the least factor is asked for, and of which relation
-abbrev pub Aim : Type 0
-Aim = Bool × RelationView
 
 -- what is asked, up to the line's end
 unfoldable pub read_aim : NamesView → List Letter → Reads Aim

@@ -1,43 +1,21 @@
--- Sharing files as they are written, how each is spelled, and what it says. `Name` stands against the secret in a `qualified` list, `Many` against a ninth
--- party and against the keyword of a `qualified` line past the limit.
-use Rattle.std.specs.Prelude.{ℕ, zero, suc, ◌-◌, Bool, true, false, List, [], ◌∷◌, codes, Option, Some, None, map}
-use Rattle.it_syntax.specs.declared.types.Symbol.TheVariants as symbols
+-- Sharing files as they are written, how each is spelled, and what it says. No public clause cites this module.
+use Rattle.std.specs.Prelude.{ℕ, ◌-◌, Bool, true, false, List, [], ◌∷◌, map}
+use Rattle.it_forms.specs.declared.types.Symbol.TheVariants as symbols
 use Rattle.it_syntax.specs.declared.types.Sign.TheVariants.{AtLeast}
-use Rattle.it_syntax.specs.NamesViews.{NamesView, index_of}
-use Rattle.it_syntax.specs.Letters.{Word, Sym, End, MarkedLetters, without_mark}
+use Rattle.it_syntax.specs.NamesViews.{NamesView}
+use Rattle.it_forms.specs.Letters.{Word, Sym, End, MarkedLetters, without_mark}
+use Rattle.it_syntax.specs.Multiples.{most_terms}
+use Rattle.it_question.specs.WrittenNames.{spell_new, spell_new_names, new_names_of}
+use Rattle.it_forms.specs.Words.{limit_mark}
 use Rattle.it_syntax.specs.Meaning.{RelationView, multiple_from}
-use Rattle.it_syntax.specs.Scopes.{scope_of}
-use Rattle.it_syntax.specs.WrittenMeasures.{Environment, WrittenList, spell_list, list_set}
-use Rattle.it_syntax.specs.WrittenRelations.{Scope, WrittenSum, WrittenRelation, most_terms, number_of_terms, spell_sum, spell_relation, sum_of, relation_of}
+use Rattle.it_syntax.specs.Scopes.{scope_of, Environment, Scope}
+use Rattle.it_syntax.specs.WrittenMeasures.{WrittenList, spell_list, list_set}
+use Rattle.it_syntax.specs.WrittenRelations.{WrittenSum, WrittenRelation, number_of_terms, spell_sum, spell_relation, sum_of, relation_of}
 use Rattle.it_question.specs.Lines.{file_end}
 use Rattle.it_question.specs.Keywords.{prove_keyword}
-use Rattle.it_question.specs.NewNames.{Variable, no_names, with_name, spell_new, spell_new_names, new_names_of}
-use Rattle.it_question.specs.WrittenLines.{limit_mark}
+use Rattle.it_question.specs.NewNames.{Variable, no_names, with_name}
 use Rattle.it_sharing.specs.Sharings.{SharingView}
-
--- the word before the name of the secret
-abbrev pub secret_keyword : List ℕ
-secret_keyword = codes "secret"
-
--- the word before the names of the parties
-abbrev pub parties_keyword : List ℕ
-parties_keyword = codes "parties"
-
--- the word before a list of parties who know the secret together
-abbrev pub qualified_keyword : List ℕ
-qualified_keyword = codes "qualified"
-
--- the word before the two sides of which the least factor is asked for
-abbrev pub best_keyword : List ℕ
-best_keyword = codes "best"
-
--- how many parties there are, at most
-abbrev pub most_parties : ℕ
-most_parties = 8
-
--- how many `qualified` lines there are, at most
-abbrev pub most_qualified : ℕ
-most_qualified = 64
+use Rattle.it_sharing.specs.SharingWords.{secret_keyword, parties_keyword, qualified_keyword, best_keyword, most_parties, most_qualified, party_env}
 
 -- two sums with `>=` between them
 pub record WrittenBound : Type 0 where
@@ -56,16 +34,6 @@ pub record WrittenSharing : Type 0 where
   pub first : WrittenList
   pub more : List WrittenList
   pub aim : WrittenAim
-
--- a variable other than the first
-abbrev pub unless_secret : Option ℕ → Option ℕ
-unless_secret None = None
-unless_secret (Some zero) = None
-unless_secret (Some (suc i)) = Some (suc i)
-
--- which variable a party is; the secret is no party
-unfoldable pub party_env : NamesView → Environment
-party_env v w = unless_secret (index_of v.variables w)
 
 -- two sums of at most 256 terms together
 abbrev pub spell_bound : Scope → WrittenBound → MarkedLetters → MarkedLetters

@@ -2,7 +2,7 @@
 ghost use Rattle.std.specs.Prelude.{true, false};
 ghost use Rattle.it_syntax.specs.Gives.{GivesBy, GivesAll};
 ghost use Rattle.it_syntax.specs.Gives as line;
-ghost use Rattle.it_syntax.specs.Lines.{to_end};
+ghost use Rattle.it_syntax.specs.MeasureReading.{to_end};
 ghost use Rattle.it_syntax.specs.Meaning.{relation_view};
 ghost use Rattle.it_syntax.specs.ReaderSteps.{Passes};
 ghost use Rattle.it_syntax.specs.Scopes.{scope_of};
@@ -52,7 +52,7 @@ fn bound_part(alloc: Global, rest: &mut Rest<'_>, names: &Names) -> Result<Relat
 }
 
 /// Two sums with `>=` between them, up to the line's end.
-#[tactic(auto, unfolding(it_syntax::specs::Lines::to_end))]
+#[tactic(auto, unfolding(it_syntax::specs::MeasureReading::to_end))]
 fn bound_to_end(alloc: Global, rest: &mut Rest<'_>, names: &Names) -> Result<Relation, Stop>
     ensures { GivesAll relation_view result (line.letters_left rest.new) (to_end (read_bound (scope_of names.now true)) (line.letters_left rest.old)) }
 {

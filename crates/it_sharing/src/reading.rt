@@ -28,7 +28,7 @@ const PARTIES: &[u8] = b"parties";
 const MOST_PARTIES: usize = 8;
 
 /// The line of the secret.
-#[tactic(auto, unfolding(crate::specs::SharingReading::read_secret, it_syntax::specs::Lines::to_end))]
+#[tactic(auto, unfolding(crate::specs::SharingReading::read_secret, it_syntax::specs::MeasureReading::to_end))]
 fn secret(cursor: &mut Cursor<'_>, names: &mut Names) -> Result<(), Stop>
     requires { names.old ≡ no_names }
     ensures gives { GivesBy (λ x. names.new) result (letters_left cursor.new) (read_secret (letters_left cursor.old)) }

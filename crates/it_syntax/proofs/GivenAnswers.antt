@@ -3,18 +3,23 @@ use Rattle.std.proofs.Common.{◌≡◌, ℕ, zero, suc, Bool, true, false, cond
 use Rattle.std.specs.Prelude.{bytes_eq, ◌||◌}
 use Rattle.it_syntax.specs.declared.rest.Divider.{Divider}
 use Rattle.it_syntax.specs.declared.rest.Divider.TheVariants.{Arrows, Semicolons}
-use Rattle.it_syntax.specs.declared.types.Symbol.TheVariants.{Arrow, Semicolon, Bar}
-use Rattle.it_syntax.specs.declared.types.Code.TheVariants as codes
-use Rattle.it_syntax.specs.Letters.{Letter, Word, Sym, MarkedLetters, without_mark, letters}
-use Rattle.it_syntax.specs.WrittenMeasures.{Environment, WrittenList, is_measure, unknown_mark, name_mark, spell_more, spell_list, list_set, mark_surplus}
-use Rattle.it_syntax.specs.WrittenRelations.{Scope, spell_relation, relation_of}
-use Rattle.it_syntax.specs.WrittenGivens.{markov_text, indep_text, func_text, of_text, PlainRelation, WrittenChain, WrittenIndependence, WrittenFunction, WrittenGiven, Relation, Markov, Independent, Function, divider_letter, spell_members, spell_chain, spell_bar, spell_independence, spell_function, spell_given, sets_of, bar_set, chain_of, independence_of, function_of, given_of}
+use Rattle.it_forms.specs.declared.types.Symbol.TheVariants.{Arrow, Semicolon, Bar}
+use Rattle.it_forms.specs.declared.types.Code.TheVariants as codes
+use Rattle.it_forms.specs.Letters.{Letter, Word, Sym, MarkedLetters, without_mark, letters}
+use Rattle.it_syntax.specs.Scopes.{Environment, Scope}
+use Rattle.it_syntax.specs.NameMarks.{is_measure, unknown_mark, name_mark}
+use Rattle.it_syntax.specs.GivenWords.{markov_text, indep_text, func_text, of_text}
+use Rattle.it_forms.specs.Reads.{Reads, ◌>>=◌}
+use Rattle.it_forms.proofs.MarkedReadings.{Answers, answers_ok, answers_cons, answers_bind}
+use Rattle.it_syntax.specs.WrittenMeasures.{WrittenList, spell_more, spell_list, list_set, mark_surplus}
+use Rattle.it_syntax.specs.WrittenRelations.{spell_relation, relation_of}
+use Rattle.it_syntax.specs.WrittenGivens.{PlainRelation, WrittenChain, WrittenIndependence, WrittenFunction, WrittenGiven, Relation, Markov, Independent, Function, divider_letter, spell_members, spell_chain, spell_bar, spell_independence, spell_function, spell_given, sets_of, bar_set, chain_of, independence_of, function_of, given_of}
 use Rattle.it_syntax.specs.Givens.{GivenView}
 use Rattle.it_syntax.specs.Givens as given_views
-use Rattle.it_syntax.specs.MeasureReading.{Reads, ◌>>=◌, semicolon, read_list}
+use Rattle.it_syntax.specs.MeasureReading.{semicolon, read_list}
 use Rattle.it_syntax.specs.RelationReading.{read_relation}
 use Rattle.it_syntax.specs.GivenReading.{arrow, read_of, after_divider, surplus_name, read_surplus_member, if_divided, member_then, read_members, with_sets, read_chain, read_bar, read_independence, read_function, read_plain, read_given}
-use Rattle.it_syntax.proofs.SpelledIsRead.{Answers, answers_ok, answers_cons, answers_bind, NoComma, EndsNumber, NoSign, list_answers, list_then}
+use Rattle.it_syntax.proofs.SpelledIsRead.{NoComma, EndsNumber, NoSign, list_answers, list_then}
 use Rattle.it_syntax.proofs.RelationAnswers.{relation_answers, letters_over}
 use Rattle.it_syntax.proofs.GivenTraces.{opens_form, opens_form_first, given_by_word}
 

@@ -1,31 +1,32 @@
--- Constraints of `given` lines have a reader: what the laws of whole lines take.
-use Rattle.std.proofs.Common.{false, [], ◌∷◌, refl}
-use Rattle.it_syntax.specs.WrittenRelations.{Scope}
-use Rattle.it_syntax.specs.Scopes.{scope_of}
-use Rattle.it_syntax.specs.WrittenGivens.{spell_given, given_of}
-use Rattle.it_syntax.specs.GivenLines.{GivenIsOne, GivenFaultIsOne, GivenOrFault}
-use Rattle.it_syntax.specs.GivenReading.{read_given}
-use Rattle.it_syntax.specs.Letters.{End, without_mark}
+-- The lines that are constraints, by their form: how they are read, and that each has one reading or one first fault.
+use Rattle.std.proofs.Common.{◌≡◌, false, List, refl}
+use Rattle.it_forms.specs.Letters.{Letter}
+use Rattle.it_forms.specs.FormReading.{read}
+use Rattle.it_forms.proofs.FormLanguage.{one_meaning, says_or_fault}
+use Rattle.it_forms.proofs.Outlines.{Has, a_line, has_to_end}
+use Rattle.it_syntax.specs.LineForms.{given}
 use Rattle.it_syntax.specs.Lines.{letters_from}
-use Rattle.it_syntax.proofs.GivenTraces.{given_line_traces}
-use Rattle.it_syntax.proofs.GivenAnswers.{EndsCondition, given_line_answers}
-use Rattle.it_syntax.proofs.LineLemmas.{IsReader, says_one, says_or_faulty, fault_at_one}
+use Rattle.it_syntax.specs.MeasureReading.{to_end}
+use Rattle.it_syntax.specs.NamesViews.{NamesView}
+use Rattle.it_syntax.specs.GivenLines.{given_line, GivenIsOne, GivenFaultIsOne, GivenOrFault}
+use Rattle.it_syntax.specs.GivenReading.{read_given}
+use Rattle.it_syntax.specs.Scopes.{scope_of}
+use Rattle.it_syntax.proofs.LineLemmas.{fault_at_one}
+use Rattle.it_syntax.proofs.LineOutlines.{a_given, given_has}
+use Rattle.it_syntax.proofs.MeasureReadings.{same_to_end}
+use Rattle.it_syntax.proofs.GivenReadings.{same_given}
 
-ends_at_end : EndsCondition (without_mark End ∷ [])
-ends_at_end = record { no_comma = tt; no_sign = tt; ends_number = tt; no_bar = tt; no_arrow = refl; no_semicolon = refl }
+pub given_line_has : (v : NamesView) → Has (given_line v) (a_line a_given)
+given_line_has v = has_to_end _ _ (given_has (scope_of v false)) refl
 
-pub given_reader : (s : Scope) → IsReader (read_given s) (spell_given s) (given_of s)
-given_reader s = record { traces = given_line_traces s; answers = λ x. given_line_answers s x (without_mark End ∷ []) ends_at_end }
+pub same_given_line : (v : NamesView) (ls : List Letter) → read (given_line v) ls ≡ to_end (read_given (scope_of v false)) ls
+same_given_line v ls = same_to_end (given (scope_of v false)) (read_given (scope_of v false)) ls (same_given (scope_of v false) ls)
 
 pub given_is_one : GivenIsOne
-given_is_one v line ts from y z =
-    let s = scope_of v false in
-    says_one (read_given s) (spell_given s) (given_of s) (given_reader s) (letters_from line ts from) y z
+given_is_one v line ts from = one_meaning (given_line v) _ (given_line_has v) (letters_from line ts from)
 
 pub given_fault_is_one : GivenFaultIsOne
-given_fault_is_one v = fault_at_one (spell_given (scope_of v false))
+given_fault_is_one v = fault_at_one (given_line v)
 
 pub given_or_fault : GivenOrFault
-given_or_fault v line ts from a c y h f =
-    let s = scope_of v false in
-    says_or_faulty (spell_given s) (given_of s) (letters_from line ts from) (letters_from line ts f.at) c y h f.first
+given_or_fault v line ts from a c y h f = says_or_fault (given_line v) (letters_from line ts from) y c (letters_from line ts f.at) h f.first

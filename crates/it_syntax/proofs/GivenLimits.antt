@@ -4,18 +4,17 @@ use Rattle.std.specs.Prelude.{All, bytes_eq}
 use Rattle.std.proofs.lemmas.List.Elements.{All-nil, All-cons}
 use Rattle.it_syntax.specs.declared.rest.Divider.{Divider}
 use Rattle.it_syntax.specs.declared.rest.Divider.TheVariants.{Arrows, Semicolons}
-use Rattle.it_syntax.specs.declared.types.Symbol.TheVariants.{Bar}
-use Rattle.it_syntax.specs.Letters.{Letter, Word, Sym, Bad}
+use Rattle.it_forms.specs.declared.types.Symbol.TheVariants.{Bar}
+use Rattle.it_forms.specs.Letters.{Letter, Word, Sym, Bad}
+use Rattle.it_syntax.specs.NameMarks.{is_measure}
+use Rattle.it_syntax.specs.GivenWords.{markov_text, indep_text, func_text}
+use Rattle.it_forms.specs.Reads.{Reads, ◌>>=◌}
 use Rattle.it_syntax.specs.NamesViews.{NamesView}
-use Rattle.it_syntax.specs.WrittenMeasures.{Environment, is_measure}
-use Rattle.it_syntax.specs.WrittenRelations.{Scope}
-use Rattle.it_syntax.specs.Scopes.{scope_of}
+use Rattle.it_syntax.specs.Scopes.{scope_of, Environment, Scope}
 use Rattle.it_syntax.specs.RelationReading.{read_relation}
-use Rattle.it_syntax.specs.WrittenGivens.{markov_text, indep_text, func_text}
 use Rattle.it_syntax.specs.GivenReading.{arrow, read_of, after_divider, surplus_name, read_surplus_member, if_divided, member_then, read_members, with_sets, read_chain, read_bar, read_independence, read_function, read_plain, read_given}
 use Rattle.it_syntax.specs.Givens.{GivenView, Relation, Markov, Independent, Function, AreSetsOf, IsGivenOf}
-use Rattle.it_syntax.specs.Lines.{to_end}
-use Rattle.it_syntax.specs.MeasureReading.{Reads, ◌>>=◌, read_list, semicolon, line_end}
+use Rattle.it_syntax.specs.MeasureReading.{read_list, semicolon, line_end, to_end}
 use Rattle.it_syntax.proofs.LimitLemmas.{Sure, sure_bind, Any, sure_any, Knows, IsBelow, some_sets, list_sure}
 use Rattle.it_syntax.proofs.RelationLimits.{Covers, variables_covered, IsWithinLimits, relation_line_sure}
 

@@ -4,18 +4,22 @@ use Rattle.std.specs.Prelude.{bytes_eq, ◌||◌}
 use Rattle.std.proofs.lemmas.Slice.Eq.{bytes_eq-Decides}
 use Rattle.it_syntax.specs.declared.rest.Divider.{Divider}
 use Rattle.it_syntax.specs.declared.rest.Divider.TheVariants.{Arrows, Semicolons}
-use Rattle.it_syntax.specs.declared.types.Symbol.TheVariants.{Arrow, Semicolon, Bar}
-use Rattle.it_syntax.specs.declared.types.Code.{Code}
-use Rattle.it_syntax.specs.declared.types.Code.TheVariants as codes
+use Rattle.it_forms.specs.declared.types.Symbol.TheVariants.{Arrow, Semicolon, Bar}
+use Rattle.it_forms.specs.declared.types.Code.{Code}
+use Rattle.it_forms.specs.declared.types.Code.TheVariants as codes
 use Rattle.it_syntax.specs.declared.types.Sign.TheVariants as signs
-use Rattle.it_syntax.specs.Letters.{Letter, Word, Sym, MarkedLetters, without_mark, letters}
-use Rattle.it_syntax.specs.FirstFault.{head, own_code}
-use Rattle.it_syntax.specs.WrittenMeasures.{Environment, WrittenList, Entropy, EntropyGiven, Mutual, MutualGiven, TermSign, Positive, Negative, is_measure, name_mark, spell_list, list_set, mark_surplus}
-use Rattle.it_syntax.specs.WrittenRelations.{Scope, Measure, RateOf, WrittenTerm, Zero, Once, Times, Over, WrittenRelation, spell_sum, spell_relation, relation_of}
-use Rattle.it_syntax.specs.WrittenGivens.{markov_text, indep_text, func_text, of_text, is_form, is_form_first, WrittenChain, WrittenIndependence, WrittenFunction, WrittenGiven, Relation, Markov, Independent, Function, spell_members, spell_chain, spell_bar, spell_independence, spell_function, spell_given, sets_of, bar_set, chain_of, independence_of, function_of, given_of}
+use Rattle.it_forms.specs.Letters.{Letter, Word, Sym, MarkedLetters, without_mark, letters}
+use Rattle.it_forms.specs.FirstFault.{head, own_code}
+use Rattle.it_syntax.specs.Scopes.{Environment, Scope}
+use Rattle.it_syntax.specs.NameMarks.{is_measure, name_mark}
+use Rattle.it_syntax.specs.GivenWords.{markov_text, indep_text, func_text, of_text}
+use Rattle.it_forms.specs.Reads.{Reads, ◌>>=◌}
+use Rattle.it_syntax.specs.WrittenMeasures.{WrittenList, Entropy, EntropyGiven, Mutual, MutualGiven, TermSign, Positive, Negative, spell_list, list_set, mark_surplus}
+use Rattle.it_syntax.specs.WrittenRelations.{Measure, RateOf, WrittenTerm, Zero, Once, Times, Over, WrittenRelation, spell_sum, spell_relation, relation_of}
+use Rattle.it_syntax.specs.WrittenGivens.{is_form, is_form_first, WrittenChain, WrittenIndependence, WrittenFunction, WrittenGiven, Relation, Markov, Independent, Function, spell_members, spell_chain, spell_bar, spell_independence, spell_function, spell_given, sets_of, bar_set, chain_of, independence_of, function_of, given_of}
 use Rattle.it_syntax.specs.Givens.{GivenView}
 use Rattle.it_syntax.specs.Givens as given_views
-use Rattle.it_syntax.specs.MeasureReading.{Reads, ◌>>=◌, semicolon, read_list}
+use Rattle.it_syntax.specs.MeasureReading.{semicolon, read_list}
 use Rattle.it_syntax.specs.RelationReading.{read_relation}
 use Rattle.it_syntax.specs.GivenReading.{arrow, read_of, surplus_name, read_surplus_member, member_then, read_members, with_sets, read_chain, read_bar, read_independence, read_function, read_plain, read_given}
 use Rattle.it_syntax.proofs.Traces.{Went, Stuck, By, Traces, traces_bind, traces_map, letter_then, by_equal_reader}

@@ -1,11 +1,12 @@
 -- A letter that must stand there, and then another reader: what a reading tells. And trees that meet a condition.
 use Rattle.std.proofs.Common.{◌≡◌, List, [], ◌∷◌, ◌++◌, Some, Result, Ok, Err, refl, sym, ap, ◌∙◌, subst, inl, inr, ◌⊎◌}
-use Rattle.it_syntax.specs.declared.types.Code.{Code}
-use Rattle.it_syntax.specs.Letters.{Letter, MarkedLetters, without_mark, letters, without_marks}
-use Rattle.it_syntax.specs.FirstFault.{head, own_code}
-use Rattle.it_syntax.specs.MeasureReading.{Fault, Reads, ◌>>=◌}
-use Rattle.it_syntax.proofs.Traces.{Why, Stuck, By, Traces, letter_then}
-use Rattle.it_syntax.proofs.FirstFaults.{letters_after, letters_cleaned}
+use Rattle.it_forms.specs.declared.types.Code.{Code}
+use Rattle.it_forms.specs.Letters.{Letter, MarkedLetters, without_mark, letters, without_marks}
+use Rattle.it_forms.specs.FirstFault.{head, own_code}
+use Rattle.it_forms.specs.Reads.{Fault, Reads, ◌>>=◌}
+use Rattle.it_forms.proofs.FirstFaults.{Why}
+use Rattle.it_forms.proofs.LetterLemmas.{letters_after, letters_cleaned}
+use Rattle.it_syntax.proofs.Traces.{Stuck, By, Traces, letter_then}
 
 -- m takes the letter l, and is stuck at each other
 pub record TakesLetter (m : List Letter → Result (List Letter) Fault) (l : Letter) : Type 0 where

@@ -24,3 +24,7 @@ pub mod MemberLemmas
 pub mod GivenLemmas
 pub mod GivenLimits
 pub mod MisspellingLemmas
+pub mod MeasureReadings
+pub mod RelationReadings
+pub mod GivenReadings
+pub mod LineOutlines

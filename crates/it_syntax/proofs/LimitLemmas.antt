@@ -4,18 +4,19 @@ use Rattle.std.specs.Prelude.{All, bit_or, bytes_eq}
 use Rattle.std.proofs.Math.Pow.{pow-lt, ones_lt}
 use Rattle.std.proofs.lemmas.Nat.{or_lt}
 use Rattle.std.proofs.lemmas.List.Quantifiers.{position-Some}
-use Rattle.it_syntax.specs.declared.types.Symbol.TheVariants.{RightParen, Comma}
+use Rattle.it_forms.specs.declared.types.Symbol.TheVariants.{RightParen, Comma}
 use Rattle.it_syntax.specs.declared.types.Atom.{Atom}
 use Rattle.it_syntax.specs.declared.types.Atom.TheVariants.{Entropy, Mutual}
 use Rattle.it_syntax.specs.declared.types.Term.{Term}
-use Rattle.it_syntax.specs.Letters.{Letter, Word, Sym, Bad}
+use Rattle.it_forms.specs.Letters.{Letter, Word, Sym, Bad}
+use Rattle.it_syntax.specs.NameMarks.{entropy_text, mutual_text, is_measure}
+use Rattle.it_forms.specs.Reads.{Fault, ◌>>=◌, no_rule}
 use Rattle.it_syntax.specs.Meaning.{IsAtomOf, multiple_from}
 use Rattle.it_syntax.proofs.MultipleLemmas.{IsMultiple}
 use Rattle.it_number.specs.Gcd.{lcm}
 use Rattle.it_syntax.specs.NamesViews.{NamesView}
-use Rattle.it_syntax.specs.WrittenMeasures.{Environment, entropy_text, mutual_text, is_measure}
-use Rattle.it_syntax.specs.MeasureReading.{Fault, ◌>>=◌, no_rule, variable_or_fault, read_name, read_more, read_list, close_paren, open_paren, semicolon, bar_or_close, read_given_set, read_entropy, read_mutual_information, read_measure}
-use Rattle.it_syntax.specs.Scopes.{env_of}
+use Rattle.it_syntax.specs.MeasureReading.{variable_or_fault, read_name, read_more, read_list, close_paren, open_paren, semicolon, bar_or_close, read_given_set, read_entropy, read_mutual_information, read_measure}
+use Rattle.it_syntax.specs.Scopes.{env_of, Environment}
 
 -- of what was read, if it was
 abbrev pub Sure : {A : Type 0} → (A → Type 0) → Result A Fault → Type 0

@@ -1,11 +1,11 @@
 -- The end of a line is traced, and so is what is read up to it.
 use Rattle.std.proofs.Common.{List, [], ◌∷◌, Ok, refl}
-use Rattle.it_syntax.specs.Letters.{Letter, End, MarkedLetters, without_mark, letters}
-use Rattle.it_syntax.specs.MeasureReading.{Reads, ◌>>=◌, line_end}
-use Rattle.it_syntax.specs.Lines.{to_end}
+use Rattle.it_forms.specs.Letters.{Letter, End, MarkedLetters, without_mark, letters}
+use Rattle.it_forms.specs.Reads.{Reads, ◌>>=◌}
+use Rattle.it_forms.proofs.MarkedReadings.{Answers, answers_ok, answers_cons, answers_bind}
+use Rattle.it_syntax.specs.MeasureReading.{line_end, to_end}
 use Rattle.it_syntax.proofs.Traces.{Traces, traces_bind, traces_map}
 use Rattle.it_syntax.proofs.MeasureTraces.{stuck_here, stuck_none}
-use Rattle.it_syntax.proofs.SpelledIsRead.{Answers, answers_ok, answers_cons, answers_bind}
 
 -- the line's end
 unfoldable pub spell_end : Unit {0} → MarkedLetters → MarkedLetters

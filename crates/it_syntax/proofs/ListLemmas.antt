@@ -3,14 +3,16 @@ use Rattle.std.proofs.Common.{◌≡◌, ℕ, ◌^◌, Bool, true, false, List, 
 use Rattle.std.specs.Prelude.{bit_or}
 use Rattle.std.specs.Int.Bits.{or_zero_l, or_zero_r}
 use Rattle.it_space.proofs.SetLemmas.{or_assoc}
-use Rattle.it_syntax.specs.declared.types.Symbol.TheVariants.{Comma}
-use Rattle.it_syntax.specs.Letters.{Letter, Word, Number, Sym, End, Bad}
+use Rattle.it_forms.specs.declared.types.Symbol.TheVariants.{Comma}
+use Rattle.it_forms.specs.Letters.{Letter, Word, Number, Sym, End, Bad}
+use Rattle.it_forms.specs.Reads.{Reads, Fault, ◌>>=◌}
+use Rattle.it_syntax.specs.Scopes.{Environment}
+use Rattle.it_syntax.specs.NameMarks.{is_measure}
 use Rattle.it_syntax.specs.declared.rest.Stop.{Stop}
 use Rattle.it_syntax.specs.declared.rest.Stop.TheVariants as stops
 use Rattle.it_syntax.specs.Gives.{StopsAs}
-use Rattle.it_syntax.specs.MeasureReading.{Reads, Fault, ◌>>=◌, variable_or_fault, read_name, read_more}
+use Rattle.it_syntax.specs.MeasureReading.{variable_or_fault, read_name, read_more}
 use Rattle.it_syntax.specs.ReaderSteps.{after_comma}
-use Rattle.it_syntax.specs.WrittenMeasures.{Environment, is_measure}
 
 -- what was read before, and what is still read
 abbrev pub with_set : ℕ → Reads ℕ → Reads ℕ

@@ -1,15 +1,18 @@
 -- The readers of a relation, one after the other: what a reading tells.
 use Rattle.std.proofs.Common.{◌≡◌, ℕ, ◌^◌, Bool, true, false, cond, List, [], ◌∷◌, ◌++◌, Option, Some, None, Ok, Err, refl, ap, ◌∙◌, subst, inl, inr}
 use Rattle.std.specs.Prelude.{bit_or}
-use Rattle.it_syntax.specs.declared.types.Symbol.TheVariants.{LeftParen, RightParen, Comma, Bar}
-use Rattle.it_syntax.specs.declared.types.Code.{Code}
-use Rattle.it_syntax.specs.declared.types.Code.TheVariants as codes
+use Rattle.it_forms.specs.declared.types.Symbol.TheVariants.{LeftParen, RightParen, Comma, Bar}
+use Rattle.it_forms.specs.declared.types.Code.{Code}
+use Rattle.it_forms.specs.declared.types.Code.TheVariants as codes
 use Rattle.it_syntax.specs.declared.types.Atom.{Atom}
 use Rattle.it_syntax.specs.declared.types.Atom.TheVariants.{Entropy}
-use Rattle.it_syntax.specs.Letters.{Letter, Word, Sym, MarkedLetters, without_mark}
-use Rattle.it_syntax.specs.WrittenMeasures.{Environment, WrittenList, is_measure, unknown_mark, index_or, more_set, list_set, name_mark, spell_name, spell_more, spell_list}
-use Rattle.it_syntax.specs.FirstFault.{head, own_code}
-use Rattle.it_syntax.specs.MeasureReading.{Reads, ◌>>=◌, variable_or_fault, read_name, read_more, read_list, close_paren, open_paren, bar_or_close, read_given_set, read_entropy}
+use Rattle.it_forms.specs.Letters.{Letter, Word, Sym, MarkedLetters, without_mark}
+use Rattle.it_syntax.specs.Scopes.{Environment}
+use Rattle.it_syntax.specs.NameMarks.{is_measure, unknown_mark, index_or, name_mark}
+use Rattle.it_forms.specs.FirstFault.{head, own_code}
+use Rattle.it_forms.specs.Reads.{Reads, ◌>>=◌}
+use Rattle.it_syntax.specs.WrittenMeasures.{WrittenList, more_set, list_set, spell_name, spell_more, spell_list}
+use Rattle.it_syntax.specs.MeasureReading.{variable_or_fault, read_name, read_more, read_list, close_paren, open_paren, bar_or_close, read_given_set, read_entropy}
 use Rattle.it_syntax.proofs.Traces.{Went, Stuck, By, Traces, traces_bind, traces_map, letter_then}
 
 -- what holds of the letters that begin as r does

@@ -4,11 +4,12 @@ use Rattle.std.proofs.lemmas.List.{append-nil}
 use Rattle.it_syntax.specs.declared.rest.Divider.{Divider}
 use Rattle.it_syntax.specs.declared.rest.Stop.{Stop}
 use Rattle.it_syntax.specs.declared.rest.Stop.TheVariants as stops
-use Rattle.it_syntax.specs.Letters.{Letter}
+use Rattle.it_forms.specs.Letters.{Letter}
+use Rattle.it_forms.specs.Reads.{Reads, ◌>>=◌}
+use Rattle.it_syntax.specs.Scopes.{Environment}
 use Rattle.it_syntax.specs.Gives.{StopsAs}
-use Rattle.it_syntax.specs.MeasureReading.{Reads, ◌>>=◌, read_list}
+use Rattle.it_syntax.specs.MeasureReading.{read_list}
 use Rattle.it_syntax.specs.GivenReading.{after_divider, read_surplus_member, if_divided, member_then, read_members, with_sets}
-use Rattle.it_syntax.specs.WrittenMeasures.{Environment}
 
 divider_some : (n : ℕ) (d : Divider) (env : Environment) (ls t : List Letter) → after_divider d ls ≡ Some t → read_members (suc n) d env ls ≡ member_then (read_members n d env) env t
 unfolding read_members

@@ -1,8 +1,8 @@
 -- A line is one list of tokens, up to at most one misspelling.
 use Rattle.std.proofs.Common.{◌≡◌, ℕ, ◌+◌, ◌-◌, Bool, false, List, [], ◌∷◌, ◌++◌, length, take, drop, Option, Some, None, refl, ap, sym, subst, ◌∙◌, arith, length-drop, length-take, length-append, append_assoc}
 use Rattle.std.proofs.lemmas.List.{append-nil, drop_at, take-append-drop}
-use Rattle.it_syntax.specs.declared.types.Code.{Code}
-use Rattle.it_syntax.specs.declared.types.Code.TheVariants as codes
+use Rattle.it_forms.specs.declared.types.Code.{Code}
+use Rattle.it_forms.specs.declared.types.Code.TheVariants as codes
 use Rattle.it_syntax.specs.declared.types.Misspelling.{Misspelling}
 use Rattle.it_syntax.specs.declared.types.Token.{Token}
 use Rattle.it_syntax.specs.declared.types.TokenKind.{TokenKind}

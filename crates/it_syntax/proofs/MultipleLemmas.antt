@@ -12,7 +12,7 @@ use Rattle.it_number.specs.Gcd.{lcm}
 use Rattle.it_number.proofs.Divisors.{gcd-one, lcm_is, lcm-pos, start_divides}
 use Rattle.it_syntax.specs.declared.types.Term.{Term}
 use Rattle.it_syntax.specs.Meaning.{RelationView, multiple_from, multiple_of}
-use Rattle.it_syntax.specs.WrittenRelations.{most_multiple, multiple_with}
+use Rattle.it_syntax.specs.Multiples.{most_multiple, multiple_with}
 
 -- a denominator 1 leaves the multiple
 pub lcm_one : (m : ℕ) → lcm m 1 ≡ m

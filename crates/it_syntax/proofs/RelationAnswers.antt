@@ -1,8 +1,8 @@
 -- A relation that is spelled so is read, up to the first mark.
 use Rattle.std.proofs.Common.{◌≡◌, ℕ, zero, suc, ◌-◌, Bool, true, false, cond, List, [], ◌∷◌, length, Option, Some, None, Ok, Err, refl, sym, subst, inl, inr}
-use Rattle.it_syntax.specs.declared.types.Symbol.TheVariants.{Plus, Minus, Slash}
-use Rattle.it_syntax.specs.declared.types.Code.{Code}
-use Rattle.it_syntax.specs.declared.types.Code.TheVariants as codes
+use Rattle.it_forms.specs.declared.types.Symbol.TheVariants.{Plus, Minus, Slash}
+use Rattle.it_forms.specs.declared.types.Code.{Code}
+use Rattle.it_forms.specs.declared.types.Code.TheVariants as codes
 use Rattle.it_syntax.specs.declared.types.Atom.{Atom}
 use Rattle.it_syntax.specs.declared.types.Atom.TheVariants.{Rate}
 use Rattle.it_syntax.specs.declared.types.Term.{Term}
@@ -10,12 +10,17 @@ use Rattle.it_syntax.specs.declared.types.Sign.{Sign}
 use Rattle.it_syntax.specs.declared.types.Sign.TheVariants.{AtLeast, AtMost, Equal}
 use Rattle.it_number.specs.Gcd.{lcm}
 use Rattle.it_syntax.specs.Meaning.{multiple_from}
-use Rattle.it_syntax.specs.Letters.{Letter, Word, Number, Sym, MarkedLetters, without_mark, letters}
-use Rattle.it_syntax.specs.WrittenMeasures.{Entropy, EntropyGiven, Mutual, MutualGiven, TermSign, Positive, Negative, entropy_text, mutual_text, unknown_mark, index_or, spell_sign, mark_surplus, is_minus}
-use Rattle.it_syntax.specs.WrittenRelations.{Scope, WrittenAtom, Measure, RateOf, WrittenTerm, Zero, Once, Times, Over, WrittenSum, WrittenRelation, multiple_with, multiple_mark, spell_denominator, denominator_of, spell_atom, spell_term, spell_terms, spell_counted, spell_sum, compare_letter, most_terms, number_of_terms, spell_relation, atom_of, term_of, terms_of, sum_of, relation_of}
-use Rattle.it_syntax.specs.MeasureReading.{Reads, ◌>>=◌, read_measure, read_sign}
+use Rattle.it_forms.specs.Letters.{Letter, Word, Number, Sym, MarkedLetters, without_mark, letters}
+use Rattle.it_syntax.specs.NameMarks.{entropy_text, mutual_text, unknown_mark, index_or}
+use Rattle.it_syntax.specs.Scopes.{Scope}
+use Rattle.it_syntax.specs.Multiples.{multiple_with, multiple_mark, most_terms}
+use Rattle.it_forms.specs.Reads.{Reads, ◌>>=◌}
+use Rattle.it_forms.proofs.MarkedReadings.{Answers, answers_ok, answers_cons, answers_bind}
+use Rattle.it_syntax.specs.WrittenMeasures.{Entropy, EntropyGiven, Mutual, MutualGiven, TermSign, Positive, Negative, spell_sign, mark_surplus, is_minus}
+use Rattle.it_syntax.specs.WrittenRelations.{WrittenAtom, Measure, RateOf, WrittenTerm, Zero, Once, Times, Over, WrittenSum, WrittenRelation, spell_denominator, denominator_of, spell_atom, spell_term, spell_terms, spell_counted, spell_sum, compare_letter, number_of_terms, spell_relation, atom_of, term_of, terms_of, sum_of, relation_of}
+use Rattle.it_syntax.specs.MeasureReading.{read_measure, read_sign}
 use Rattle.it_syntax.specs.RelationReading.{rate_or_fault, read_atom, denominator_or_fault, read_denominator, read_over, after_number, read_term, surplus_rate, read_surplus_term, read_terms, read_counted, read_sum, read_compare, read_relation}
-use Rattle.it_syntax.proofs.SpelledIsRead.{Answers, answers_ok, answers_cons, answers_bind, EndsNumber, NoSign, measure_answers, sign_answers}
+use Rattle.it_syntax.proofs.SpelledIsRead.{EndsNumber, NoSign, measure_answers, sign_answers}
 use Rattle.it_syntax.proofs.RelationTraces.{terms_counted}
 
 rated_answers : (w : List ℕ) (o : Option ℕ) (k : MarkedLetters) → Answers (rate_or_fault w o (letters k)) ((Word w, unknown_mark o) ∷ k) (Rate (index_or o)) k

@@ -3,19 +3,19 @@ use Rattle.std.proofs.Common.{◌≡◌, ℕ, zero, suc, ◌+◌, ◌-◌, ◌<�
 use Rattle.std.specs.Prelude.{All, bytes_eq}
 use Rattle.std.proofs.lemmas.List.Elements.{All-nil, All-cons}
 use Rattle.std.proofs.lemmas.List.Quantifiers.{position-Some}
-use Rattle.it_syntax.specs.declared.types.Symbol.TheVariants.{Plus, Minus, Slash}
-use Rattle.it_syntax.specs.declared.types.Code.TheVariants as codes
+use Rattle.it_forms.specs.declared.types.Symbol.TheVariants.{Plus, Minus, Slash}
+use Rattle.it_forms.specs.declared.types.Code.TheVariants as codes
 use Rattle.it_syntax.specs.declared.types.Term.{Term}
-use Rattle.it_syntax.specs.Letters.{Letter, Word, Number, Sym, Bad}
+use Rattle.it_forms.specs.Letters.{Letter, Word, Number, Sym, Bad}
+use Rattle.it_syntax.specs.NameMarks.{is_measure}
+use Rattle.it_syntax.specs.Multiples.{multiple_with, most_terms}
+use Rattle.it_forms.specs.Reads.{Reads, ◌>>=◌}
 use Rattle.it_syntax.specs.Meaning.{RelationView, multiple_from, multiple_of, IsAtomOf}
 use Rattle.it_number.specs.Gcd.{lcm}
 use Rattle.it_syntax.specs.Givens.{IsRelationOf}
 use Rattle.it_syntax.specs.NamesViews.{NamesView, index_of}
-use Rattle.it_syntax.specs.WrittenMeasures.{is_measure}
-use Rattle.it_syntax.specs.WrittenRelations.{Scope, multiple_with, most_terms}
-use Rattle.it_syntax.specs.Scopes.{scope_of}
-use Rattle.it_syntax.specs.Lines.{to_end}
-use Rattle.it_syntax.specs.MeasureReading.{Reads, ◌>>=◌, read_measure, read_sign, line_end}
+use Rattle.it_syntax.specs.Scopes.{scope_of, Scope}
+use Rattle.it_syntax.specs.MeasureReading.{read_measure, read_sign, line_end, to_end}
 use Rattle.it_syntax.specs.RelationReading.{rate_or_fault, read_atom, denominator_or_fault, read_denominator, read_over, after_number, read_term, surplus_rate, read_surplus_term, read_terms, read_counted, read_sum, read_compare, read_relation}
 use Rattle.it_syntax.proofs.LimitLemmas.{Sure, sure_bind, Any, sure_any, Knows, HasSets, TermHasSets, AreFew, measure_sure, knows_names}
 use Rattle.it_syntax.proofs.RelationAnswers.{fraction_reading, counted_reading}

@@ -2,17 +2,17 @@
 use Rattle.std.proofs.Common.{◌≡◌, ℕ, zero, suc, ◌-◌, ◌<◌, Bool, true, false, List, [], ◌∷◌, ◌++◌, Some, None, Ok, Err, refl, sym, ap, ◌∙◌, append_assoc, arith}
 use Rattle.std.proofs.lemmas.List.{append-nil}
 use Rattle.it_space.proofs.OptionLemmas.{some_same}
-use Rattle.it_syntax.specs.declared.types.Symbol.TheVariants.{Plus, Minus}
+use Rattle.it_forms.specs.declared.types.Symbol.TheVariants.{Plus, Minus}
 use Rattle.it_syntax.specs.declared.types.Term.{Term}
 use Rattle.it_syntax.specs.declared.rest.Stop.{Stop}
 use Rattle.it_syntax.specs.declared.rest.Stop.TheVariants as stops
 use Rattle.it_number.specs.Gcd.{lcm}
-use Rattle.it_syntax.specs.Letters.{Letter, Sym}
+use Rattle.it_forms.specs.Letters.{Letter, Sym}
+use Rattle.it_forms.specs.Reads.{Reads, ◌>>=◌}
+use Rattle.it_syntax.specs.Scopes.{Scope}
 use Rattle.it_syntax.specs.Gives.{StopsAs}
-use Rattle.it_syntax.specs.MeasureReading.{Reads, ◌>>=◌}
 use Rattle.it_syntax.specs.ReaderSteps.{after_sign, with_terms}
 use Rattle.it_syntax.specs.RelationReading.{read_term, read_terms, read_surplus_term}
-use Rattle.it_syntax.specs.WrittenRelations.{Scope}
 use Rattle.it_syntax.proofs.RelationTraces.{term_more}
 
 sign_some : (n m : ℕ) (scope : Scope) (ls t : List Letter) (b : Bool) → after_sign ls ≡ Some (b, t) → read_terms (suc n) m scope ls ≡ term_more n m scope b t

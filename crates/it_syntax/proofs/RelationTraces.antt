@@ -2,22 +2,26 @@
 use Rattle.std.proofs.Common.{◌≡◌, ℕ, zero, suc, ◌-◌, Bool, true, false, cond, List, [], ◌∷◌, length, Option, Some, None, Ok, Err, refl, sym, ap, ◌∙◌, inl, inr}
 use Rattle.std.specs.Prelude.{bytes_eq, ◌||◌}
 use Rattle.std.proofs.lemmas.Slice.Eq.{bytes_eq-Decides}
-use Rattle.it_syntax.specs.declared.types.Symbol.TheVariants as symbols
-use Rattle.it_syntax.specs.declared.types.Symbol.TheVariants.{LeftParen, RightParen, Semicolon, Plus, Minus, Slash}
-use Rattle.it_syntax.specs.declared.types.Code.{Code}
-use Rattle.it_syntax.specs.declared.types.Code.TheVariants as codes
+use Rattle.it_forms.specs.declared.types.Symbol.TheVariants as symbols
+use Rattle.it_forms.specs.declared.types.Symbol.TheVariants.{LeftParen, RightParen, Semicolon, Plus, Minus, Slash}
+use Rattle.it_forms.specs.declared.types.Code.{Code}
+use Rattle.it_forms.specs.declared.types.Code.TheVariants as codes
 use Rattle.it_syntax.specs.declared.types.Atom.{Atom}
 use Rattle.it_syntax.specs.declared.types.Atom.TheVariants.{Rate}
 use Rattle.it_syntax.specs.declared.types.Term.{Term}
 use Rattle.it_syntax.specs.declared.types.Sign.{Sign}
 use Rattle.it_syntax.specs.declared.types.Sign.TheVariants.{AtLeast, AtMost, Equal}
 use Rattle.it_number.specs.Gcd.{lcm}
-use Rattle.it_syntax.specs.Letters.{Letter, Word, Number, Sym, MarkedLetters, without_mark}
+use Rattle.it_forms.specs.Letters.{Letter, Word, Number, Sym, MarkedLetters, without_mark}
+use Rattle.it_forms.specs.FirstFault.{head, own_code}
+use Rattle.it_syntax.specs.NameMarks.{entropy_text, mutual_text, is_measure, unknown_mark, index_or}
+use Rattle.it_syntax.specs.Scopes.{Scope}
+use Rattle.it_syntax.specs.Multiples.{multiple_with, multiple_mark, most_terms}
+use Rattle.it_forms.specs.Reads.{Reads, ◌>>=◌}
 use Rattle.it_syntax.specs.Meaning.{RelationView, multiple_from}
-use Rattle.it_syntax.specs.FirstFault.{head, own_code}
-use Rattle.it_syntax.specs.WrittenMeasures.{Entropy, Mutual, TermSign, Positive, Negative, entropy_text, mutual_text, is_measure, unknown_mark, index_or, measure_of, spell_list, spell_measure, mark_surplus}
-use Rattle.it_syntax.specs.WrittenRelations.{Scope, WrittenAtom, Measure, RateOf, WrittenTerm, Zero, Once, Times, Over, WrittenSum, WrittenRelation, multiple_with, multiple_mark, spell_denominator, denominator_of, spell_atom, spell_term, spell_terms, spell_counted, spell_sum, compare_letter, most_terms, spell_relation, atom_of, term_of, terms_of, sum_of, relation_of}
-use Rattle.it_syntax.specs.MeasureReading.{Reads, ◌>>=◌, read_measure, read_sign}
+use Rattle.it_syntax.specs.WrittenMeasures.{Entropy, Mutual, TermSign, Positive, Negative, measure_of, spell_list, spell_measure, mark_surplus}
+use Rattle.it_syntax.specs.WrittenRelations.{WrittenAtom, Measure, RateOf, WrittenTerm, Zero, Once, Times, Over, WrittenSum, WrittenRelation, spell_denominator, denominator_of, spell_atom, spell_term, spell_terms, spell_counted, spell_sum, compare_letter, spell_relation, atom_of, term_of, terms_of, sum_of, relation_of}
+use Rattle.it_syntax.specs.MeasureReading.{read_measure, read_sign}
 use Rattle.it_syntax.specs.RelationReading.{rate_or_fault, read_atom, denominator_or_fault, read_denominator, read_over, after_number, read_term, surplus_rate, read_surplus_term, read_terms, read_counted, read_sum, read_compare, read_relation}
 use Rattle.it_syntax.proofs.Traces.{Went, Stuck, By, Traces, traces_bind, traces_map, letter_then, by_equal_reader, by_renaming}
 use Rattle.it_syntax.proofs.MeasureTraces.{for_same_head, for_no_head, stuck_here, stuck_none, some_list}

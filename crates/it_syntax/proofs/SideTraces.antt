@@ -2,13 +2,16 @@
 use Rattle.std.proofs.Common.{◌≡◌, ℕ, Bool, true, false, cond, List, [], ◌∷◌, Some, None, Ok, refl, sym, ap, ◌∙◌}
 use Rattle.std.specs.Prelude.{bytes_eq}
 use Rattle.std.proofs.lemmas.Slice.Eq.{bytes_eq-Decides}
-use Rattle.it_syntax.specs.declared.types.Symbol.TheVariants.{LeftParen, Semicolon}
-use Rattle.it_syntax.specs.declared.types.Code.TheVariants as codes
+use Rattle.it_forms.specs.declared.types.Symbol.TheVariants.{LeftParen, Semicolon}
+use Rattle.it_forms.specs.declared.types.Code.TheVariants as codes
 use Rattle.it_syntax.specs.declared.types.Atom.{Atom}
 use Rattle.it_syntax.specs.declared.types.Atom.TheVariants as atoms
-use Rattle.it_syntax.specs.Letters.{Letter, Word, Sym, MarkedLetters, without_mark}
-use Rattle.it_syntax.specs.WrittenMeasures.{Environment, WrittenList, WrittenMeasure, Entropy, EntropyGiven, Mutual, MutualGiven, entropy_text, mutual_text, list_set, measure_of, spell_list, spell_measure}
-use Rattle.it_syntax.specs.MeasureReading.{Reads, ◌>>=◌, no_rule, read_list, semicolon, open_paren, read_given_set, read_entropy, read_mutual_information, read_measure}
+use Rattle.it_forms.specs.Letters.{Letter, Word, Sym, MarkedLetters, without_mark}
+use Rattle.it_syntax.specs.Scopes.{Environment}
+use Rattle.it_syntax.specs.NameMarks.{entropy_text, mutual_text}
+use Rattle.it_forms.specs.Reads.{Reads, ◌>>=◌, no_rule}
+use Rattle.it_syntax.specs.WrittenMeasures.{WrittenList, WrittenMeasure, Entropy, EntropyGiven, Mutual, MutualGiven, list_set, measure_of, spell_list, spell_measure}
+use Rattle.it_syntax.specs.MeasureReading.{read_list, semicolon, open_paren, read_given_set, read_entropy, read_mutual_information, read_measure}
 use Rattle.it_syntax.proofs.Traces.{By, Traces, traces_bind, traces_map, letter_then}
 use Rattle.it_syntax.proofs.MeasureTraces.{stuck_here, stuck_none, Pair, spell_pair, entropy_of, entropy_traces, some_list, list_traces, given_traces, spell_given, given_set}
 

@@ -4,14 +4,15 @@ use Rattle.std.specs.Prelude.{◌==◌}
 use Rattle.std.proofs.lemmas.List.{take_at, drop_at, take-append-drop}
 use Rattle.std.proofs.lemmas.Bool.Decides.{Decides-eqb, eqb_tells, nat_tests}
 use Rattle.it_number.specs.Decimals.{value_from}
-use Rattle.it_syntax.specs.declared.types.Symbol.{Symbol}
-use Rattle.it_syntax.specs.declared.types.Symbol.TheVariants.{LeftParen, RightParen, Comma, Semicolon, Bar, Plus, Minus, Arrow, AtLeast, AtMost, Equal, Assign, Slash}
+use Rattle.it_forms.specs.declared.types.Symbol.{Symbol}
+use Rattle.it_forms.specs.declared.types.Symbol.TheVariants.{LeftParen, RightParen, Comma, Semicolon, Bar, Plus, Minus, Arrow, AtLeast, AtMost, Equal, Assign, Slash}
 use Rattle.it_syntax.specs.declared.types.TokenKind.{TokenKind}
 use Rattle.it_syntax.specs.declared.types.TokenKind.TheVariants as kinds
 use Rattle.it_syntax.specs.declared.types.Token.{Token}
 use Rattle.std.specs.Char.{is_ascii_alphabetic, is_ascii_digit}
 use Rattle.it_space.proofs.BoolLemmas.{both_true}
-use Rattle.it_syntax.specs.Spelling.{is_word_byte, is_space, is_greater, AreAll, StartsWith, Stops, IsText, EndsToken, Cut, symbol_text}
+use Rattle.it_syntax.specs.Spelling.{is_word_byte, is_space, is_greater, AreAll, StartsWith, Stops, IsText, EndsToken, Cut}
+use Rattle.it_forms.specs.SymbolTexts.{symbol_text}
 use Rattle.it_syntax.specs.Fronts.{IsLongestRun, symbol_of, starts_with, find_symbol}
 use Rattle.it_syntax.specs.ReaderSteps.{IsTokenFront}
 use Rattle.it_syntax.proofs.RunLemmas.{value_digits}

@@ -1,13 +1,11 @@
 -- What a reading tells of the letters that it looked at: a tree that begins so, and that no letter further on was looked at.
-use Rattle.std.proofs.Common.{◌≡◌, List, [], ◌∷◌, ◌++◌, Some, Ok, Err, refl, sym, ap, ◌∙◌, subst, ◌⊎◌, append_assoc}
-use Rattle.it_syntax.specs.declared.types.Code.{Code}
-use Rattle.it_syntax.specs.Letters.{Letter, MarkedLetters, without_mark, without_marks}
-use Rattle.it_syntax.specs.FirstFault.{head, own_code}
-use Rattle.it_syntax.specs.MeasureReading.{Reads, ◌>>=◌}
-
--- why the fault is c where r is left, and q would be spelled there: no rule goes on, or the rules mark the letter
-abbrev pub Why : MarkedLetters → Code → List Letter → Type 0
-Why q c r = (own_code r ≡ c) ⊎ ((l : Letter) × (more : MarkedLetters) × ((q ≡ (l, Some c) ∷ more) × (head r ≡ Some l)))
+use Rattle.std.proofs.Common.{◌≡◌, List, [], ◌∷◌, ◌++◌, Ok, Err, refl, sym, ap, ◌∙◌, subst, append_assoc}
+use Rattle.it_forms.specs.declared.types.Code.{Code}
+use Rattle.it_forms.specs.Letters.{Letter, MarkedLetters, without_mark, without_marks}
+use Rattle.it_forms.specs.FirstFault.{head}
+use Rattle.it_forms.specs.Reads.{Reads, ◌>>=◌}
+use Rattle.it_forms.proofs.LetterLemmas.{cleaned_append}
+use Rattle.it_forms.proofs.FirstFaults.{Why}
 
 -- It read y up to r: a tree of that value is spelled by the letters before r, and they are read so whatever follows r's first
 -- letter.
@@ -35,10 +33,6 @@ By f spell res ls (Err e) = Stuck f spell ls e.0 e.1
 -- each reading tells this
 abbrev pub Traces : {A X : Type 0} → (List Letter → Reads A) → (X → MarkedLetters → MarkedLetters) → (X → A) → Type 0
 Traces f spell res = (ls : List Letter) → By f spell res ls (f ls)
-
-pub cleaned_append : (p q : List Letter) → without_marks (p ++ q) ≡ without_marks p ++ without_marks q
-cleaned_append [] q = refl
-cleaned_append (l ∷ p) q = ap (λ (m : MarkedLetters). without_mark l ∷ m) (cleaned_append p q)
 
 unmarked_all_append : (p q : List Letter) (k : MarkedLetters) → without_marks p ++ (without_marks q ++ k) ≡ without_marks (p ++ q) ++ k
 unmarked_all_append p q k = rw (cleaned_append p q, append_assoc) refl

@@ -1,8 +1,9 @@
 -- What stands at the front of some bytes.
 use Rattle.std.specs.Prelude.{ℕ, ◌≤◌, Bool, true, false, ◌&&◌, ◌==◌, List, [], ◌∷◌, length, take, drop, Option, Some, None, if◌then◌else◌}
-use Rattle.it_syntax.specs.declared.types.Symbol.{Symbol}
-use Rattle.it_syntax.specs.declared.types.Symbol.TheVariants.{LeftParen, RightParen, Comma, Semicolon, Bar, Plus, Minus, Arrow, AtLeast, AtMost, Equal, Assign, Slash}
-use Rattle.it_syntax.specs.Spelling.{symbol_text, AreAll, Stops}
+use Rattle.it_forms.specs.declared.types.Symbol.{Symbol}
+use Rattle.it_forms.specs.declared.types.Symbol.TheVariants.{LeftParen, RightParen, Comma, Semicolon, Bar, Plus, Minus, Arrow, AtLeast, AtMost, Equal, Assign, Slash}
+use Rattle.it_syntax.specs.Spelling.{AreAll, Stops}
+use Rattle.it_forms.specs.SymbolTexts.{symbol_text}
 
 -- the n bytes in front are all of a kind, and the next isn't
 pub record IsLongestRun (f : ℕ → Bool) (bytes : List ℕ) (n : ℕ) : Type 0 where

@@ -2,15 +2,16 @@
 use Rattle.std.specs.Prelude.{ℕ, zero, suc, Bool, true, false, List, [], ◌∷◌, ◌++◌, Option, Some, None, Result, Ok, Err, if◌then◌else◌, bytes_eq}
 use Rattle.it_syntax.specs.declared.rest.Divider.{Divider}
 use Rattle.it_syntax.specs.declared.rest.Divider.TheVariants.{Arrows, Semicolons}
-use Rattle.it_syntax.specs.declared.types.Symbol.TheVariants.{Arrow, Semicolon, Bar}
-use Rattle.it_syntax.specs.declared.types.Code.TheVariants as codes
-use Rattle.it_syntax.specs.Letters.{Letter, Word, Sym}
-use Rattle.it_syntax.specs.WrittenMeasures.{Environment, is_measure}
-use Rattle.it_syntax.specs.WrittenRelations.{Scope}
+use Rattle.it_forms.specs.declared.types.Symbol.TheVariants.{Arrow, Semicolon, Bar}
+use Rattle.it_forms.specs.declared.types.Code.TheVariants as codes
+use Rattle.it_forms.specs.Letters.{Letter, Word, Sym}
+use Rattle.it_syntax.specs.Scopes.{Environment, Scope}
+use Rattle.it_syntax.specs.NameMarks.{is_measure}
+use Rattle.it_syntax.specs.GivenWords.{markov_text, indep_text, func_text, of_text}
+use Rattle.it_forms.specs.Reads.{Fault, Reads, ◌>>=◌, no_rule}
 use Rattle.it_syntax.specs.RelationReading.{read_relation}
-use Rattle.it_syntax.specs.WrittenGivens.{markov_text, indep_text, func_text, of_text}
 use Rattle.it_syntax.specs.Givens.{GivenView, Relation, Markov, Independent, Function}
-use Rattle.it_syntax.specs.MeasureReading.{Fault, Reads, ◌>>=◌, no_rule, read_list, semicolon}
+use Rattle.it_syntax.specs.MeasureReading.{read_list, semicolon}
 
 -- a symbol or a word that must stand there
 unfoldable pub arrow : List Letter → Result (List Letter) Fault

@@ -1,30 +1,16 @@
--- What a whole line is in a language that is told by its trees, how each is spelled and what it says; and the column of a fault.
-use Rattle.std.specs.Prelude.{◌≡◌, ℕ, ◌+◌, ◌-◌, ◌≤◌, List, [], ◌∷◌, length, drop, Option, Some, None, slice_get, Ok}
+-- The letters of a line from a token on, and its first fault in a form, with the column.
+use Rattle.std.specs.Prelude.{◌≡◌, ℕ, ◌+◌, ◌-◌, ◌≤◌, List, [], ◌∷◌, length, drop, Option, Some, None, slice_get}
 use Rattle.it_syntax.specs.declared.types.Token.{Token}
-use Rattle.it_syntax.specs.declared.types.Code.{Code}
+use Rattle.it_forms.specs.declared.types.Code.{Code}
 use Rattle.it_syntax.specs.declared.types.Misspelling.{Misspelling}
 use Rattle.it_syntax.specs.declared.types.LineTokens.{LineTokens}
 use Rattle.it_syntax.specs.declared.types.SyntaxFault.{SyntaxFault}
 use Rattle.it_syntax.specs.declared.types.SyntaxFault.TheVariants.{Memory, Fault}
-use Rattle.it_syntax.specs.Letters.{Letter, End, MarkedLetters, without_mark, without_marks}
+use Rattle.it_forms.specs.Letters.{Letter}
+use Rattle.it_forms.specs.FirstFault.{FirstFault}
 use Rattle.it_syntax.specs.Spans.{letters_until, last_letter}
-use Rattle.it_syntax.specs.FirstFault.{FirstFault}
-use Rattle.it_syntax.specs.MeasureReading.{Reads, ◌>>=◌, line_end}
-
--- the tree, and then the line's end
-abbrev pub spell_with_end : {X : Type 0} → (X → MarkedLetters → MarkedLetters) → X → MarkedLetters
-spell_with_end spell x = spell x (without_mark End ∷ [])
-
--- these letters are a line that says y, and nothing is said against one
-abbrev pub SaysAs : {X Y : Type 0} → (X → MarkedLetters → MarkedLetters) → (X → Y) → List Letter → Y → Type 0
-SaysAs spell value ls y = (x : _) × ((spell_with_end spell x ≡ without_marks ls) × (value x ≡ y))
-
--- a reader up to the line's end
-unfoldable pub to_end : {A : Type 0} → (List Letter → Reads A) → List Letter → Reads A
-to_end f ls = do
-  x ← f ls
-  e ← line_end x.1
-  Ok (x.0, e.1)
+use Rattle.it_forms.specs.Forms.{Form}
+use Rattle.it_forms.specs.FormTexts.{spelling}
 
 -- the letters of a line from its token number `from` on
 abbrev pub letters_from : List ℕ → LineTokens → ℕ → List Letter
@@ -45,15 +31,15 @@ abbrev pub column_of : List Token → ℕ → ℕ
 column_of [] after = after
 column_of (t ∷ ts) after = t.start + 1
 
--- Of a line from its token number `from` on, the first fault is `code`, at this column.
-pub record FaultAt {X : Type 0} (spell : X → MarkedLetters → MarkedLetters) (line : List ℕ) (ts : LineTokens) (from : ℕ) (column : ℕ) (code : Code) : Type 0 where
+-- Of a line from its token number `from` on, the first fault in this form is `code`, at this column.
+pub record FaultAt {A : Type 0} (f : Form A) (line : List ℕ) (ts : LineTokens) (from : ℕ) (column : ℕ) (code : Code) : Type 0 where
   -- the number of the token that it comes at, or the number of tokens
   pub at : ℕ
   pub within : at ≤ length ts.tokens.items
-  pub first : FirstFault (spell_with_end spell) (letters_from line ts from) code (letters_from line ts at)
+  pub first : FirstFault (spelling f) (letters_from line ts from) code (letters_from line ts at)
   pub place : column ≡ column_of (drop at ts.tokens.items) (column_after ts.tokens.items ts.misspelling)
 
 -- of an error: memory ran out, or it is the first fault
-abbrev pub IsFirstFault : {X : Type 0} → (X → MarkedLetters → MarkedLetters) → List ℕ → LineTokens → ℕ → SyntaxFault → Type 0
-IsFirstFault spell line ts from Memory = Unit {0}
-IsFirstFault spell line ts from (Fault column code) = FaultAt spell line ts from column code
+abbrev pub IsFirstFault : {A : Type 0} → Form A → List ℕ → LineTokens → ℕ → SyntaxFault → Type 0
+IsFirstFault f line ts from Memory = Unit {0}
+IsFirstFault f line ts from (Fault column code) = FaultAt f line ts from column code

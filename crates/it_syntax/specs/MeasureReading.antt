@@ -1,32 +1,14 @@
 -- Reading letters from left to right, each part of an entropy or a mutual information by one function: its value and the letters left, or the fault. The
 -- laws tie it to how trees are spelled.
 use Rattle.std.specs.Prelude.{ℕ, ◌^◌, bit_or, Bool, true, false, List, ◌∷◌, Option, Some, None, Result, Ok, Err, if◌then◌else◌, bytes_eq}
-use Rattle.it_syntax.specs.declared.types.Symbol.TheVariants.{LeftParen, RightParen, Comma, Semicolon, Bar, Plus, Minus}
-use Rattle.it_syntax.specs.declared.types.Code.{Code}
+use Rattle.it_forms.specs.declared.types.Symbol.TheVariants.{LeftParen, RightParen, Comma, Semicolon, Bar, Plus, Minus}
 use Rattle.it_syntax.specs.declared.types.Atom.{Atom}
 use Rattle.it_syntax.specs.declared.types.Atom.TheVariants.{Entropy, Mutual}
-use Rattle.it_syntax.specs.Letters.{Letter, Word, Sym, End}
-use Rattle.it_syntax.specs.FirstFault.{own_code}
-use Rattle.it_syntax.specs.WrittenMeasures.{Environment, entropy_text, mutual_text, is_measure}
-use Rattle.it_syntax.specs.declared.types.Code.TheVariants as codes
-
--- a fault and what is left at it
-abbrev pub Fault : Type 0
-Fault = Code × List Letter
-
--- a value and what is left after it, or a fault
-abbrev pub Reads : Type 0 → Type 0
-Reads A = Result (A × List Letter) Fault
-
--- what is read next by `f`, unless there was a fault
-infixl 10 ◌>>=◌
-abbrev pub ◌>>=◌ : {A B : Type 0} → Result A Fault → (A → Result B Fault) → Result B Fault
-(Ok x) >>= f = f x
-(Err e) >>= f = Err e
-
--- no rule goes on with what stands there
-abbrev pub no_rule : {A : Type 0} → List Letter → Result A Fault
-no_rule ls = Err (own_code ls, ls)
+use Rattle.it_forms.specs.Letters.{Letter, Word, Sym, End}
+use Rattle.it_syntax.specs.Scopes.{Environment}
+use Rattle.it_syntax.specs.NameMarks.{entropy_text, mutual_text, is_measure}
+use Rattle.it_forms.specs.declared.types.Code.TheVariants as codes
+use Rattle.it_forms.specs.Reads.{Fault, Reads, ◌>>=◌, no_rule}
 
 -- the variable of a word that may be no name (true), and may be unknown
 abbrev pub variable_or_fault : List ℕ → Bool → Option ℕ → List Letter → Reads ℕ
@@ -115,3 +97,10 @@ read_sign ls = (false, ls)
 unfoldable pub line_end : List Letter → Reads (Unit {0})
 line_end (End ∷ ls) = Ok (tt, ls)
 line_end ls = no_rule ls
+
+-- a reader up to the line's end
+unfoldable pub to_end : {A : Type 0} → (List Letter → Reads A) → List Letter → Reads A
+to_end f ls = do
+  x ← f ls
+  e ← line_end x.1
+  Ok (x.0, e.1)

@@ -3,13 +3,14 @@ use Rattle.std.specs.Prelude.{◌≡◌, ◌≤◌, List, [], ◌∷◌, length,
 use Rattle.it_number.specs.Decimals.{value_from}
 use Rattle.it_syntax.specs.declared.rest.Stop.{Stop}
 use Rattle.it_syntax.specs.declared.rest.Piece.{Piece}
-use Rattle.it_syntax.specs.Letters.{Letter, Word, Number, Sym, End, Bad}
-use Rattle.it_syntax.specs.MeasureReading.{Reads, Fault, ◌>>=◌}
-use Rattle.it_syntax.specs.declared.types.Symbol.TheVariants.{Comma, Plus, Minus}
+use Rattle.it_forms.specs.Letters.{Letter, Word, Number, Sym, End, Bad}
+use Rattle.it_forms.specs.Reads.{Reads, Fault, ◌>>=◌}
+use Rattle.it_forms.specs.SymbolTexts.{symbol_text}
+use Rattle.it_forms.specs.declared.types.Symbol.TheVariants.{Comma, Plus, Minus}
 use Rattle.it_syntax.specs.declared.types.Term.{Term}
 use Rattle.it_syntax.specs.declared.types.TokenKind.{TokenKind}
 use Rattle.std.specs.Char.{is_ascii_alphabetic, is_ascii_digit}
-use Rattle.it_syntax.specs.Spelling.{is_word_byte, symbol_text, StartsWith}
+use Rattle.it_syntax.specs.Spelling.{is_word_byte, StartsWith}
 use Rattle.it_syntax.specs.declared.types.Token.{Token}
 use Rattle.it_syntax.specs.Gives.{StopsAs}
 use Rattle.it_syntax.specs.Fronts.{IsLongestRun, symbol_of}

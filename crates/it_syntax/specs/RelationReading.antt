@@ -1,19 +1,21 @@
 -- Reading a relation from left to right, each part by one function: its value and the letters left, or the fault.
 use Rattle.std.specs.Prelude.{ℕ, zero, suc, ◌-◌, Bool, true, false, List, [], ◌∷◌, length, Option, Some, None, Ok, Err, if◌then◌else◌}
-use Rattle.it_syntax.specs.declared.types.Symbol.TheVariants as symbols
+use Rattle.it_forms.specs.declared.types.Symbol.TheVariants as symbols
 use Rattle.it_number.specs.Gcd.{lcm}
-use Rattle.it_syntax.specs.declared.types.Symbol.TheVariants.{Plus, Minus, Slash}
-use Rattle.it_syntax.specs.declared.types.Code.TheVariants as codes
+use Rattle.it_forms.specs.declared.types.Symbol.TheVariants.{Plus, Minus, Slash}
+use Rattle.it_forms.specs.declared.types.Code.TheVariants as codes
 use Rattle.it_syntax.specs.declared.types.Atom.{Atom}
 use Rattle.it_syntax.specs.declared.types.Atom.TheVariants.{Nothing, Rate}
 use Rattle.it_syntax.specs.declared.types.Term.{Term}
 use Rattle.it_syntax.specs.declared.types.Sign.{Sign}
 use Rattle.it_syntax.specs.declared.types.Sign.TheVariants.{AtLeast, AtMost, Equal}
-use Rattle.it_syntax.specs.Letters.{Letter, Word, Number, Sym}
+use Rattle.it_forms.specs.Letters.{Letter, Word, Number, Sym}
+use Rattle.it_syntax.specs.NameMarks.{is_measure}
+use Rattle.it_syntax.specs.Scopes.{Scope}
+use Rattle.it_syntax.specs.Multiples.{multiple_with, most_terms}
+use Rattle.it_forms.specs.Reads.{Reads, ◌>>=◌, no_rule}
 use Rattle.it_syntax.specs.Meaning.{RelationView, multiple_from}
-use Rattle.it_syntax.specs.WrittenMeasures.{is_measure}
-use Rattle.it_syntax.specs.WrittenRelations.{Scope, multiple_with, most_terms}
-use Rattle.it_syntax.specs.MeasureReading.{Reads, ◌>>=◌, no_rule, read_measure, read_sign}
+use Rattle.it_syntax.specs.MeasureReading.{read_measure, read_sign}
 
 -- a word that may be an unknown rate
 abbrev pub rate_or_fault : List ℕ → Option ℕ → List Letter → Reads Atom

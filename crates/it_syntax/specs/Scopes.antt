@@ -1,8 +1,15 @@
 -- The names of a question as the grammar takes them: the variables, and where rates may stand the rates too.
 use Rattle.it_syntax.specs.NamesViews.{NamesView, index_of}
-use Rattle.it_syntax.specs.WrittenMeasures.{Environment}
-use Rattle.std.specs.Prelude.{Bool, None, if◌then◌else◌}
-use Rattle.it_syntax.specs.WrittenRelations.{Scope}
+use Rattle.std.specs.Prelude.{ℕ, Bool, List, Option, None, if◌then◌else◌}
+
+-- which variable a name is
+abbrev pub Environment : Type 0
+Environment = List ℕ → Option ℕ
+
+-- which variable a name is, and which rate, where rates may stand
+pub record Scope : Type 0 where
+  pub variables : Environment
+  pub rates : Environment
 
 -- which of the variables a name is
 unfoldable pub env_of : NamesView → Environment

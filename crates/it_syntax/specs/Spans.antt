@@ -4,7 +4,7 @@ use Rattle.std.specs.Prelude.{ℕ, ◌-◌, ◌≤◌, List, [], ◌∷◌, leng
 use Rattle.it_syntax.specs.declared.types.Token.{Token}
 use Rattle.it_syntax.specs.declared.types.TokenKind.{TokenKind}
 use Rattle.it_syntax.specs.declared.types.Misspelling.{Misspelling}
-use Rattle.it_syntax.specs.Letters.{Letter, Word, Number, Sym, End, Bad}
+use Rattle.it_forms.specs.Letters.{Letter, Word, Number, Sym, End, Bad}
 use Rattle.it_syntax.specs.declared.types.TokenKind.TheVariants as kinds
 
 -- the letter of a token, which takes the bytes from `start` up to `end`

@@ -1,13 +1,13 @@
 -- The tokens of a line: words, numbers and symbols with spaces between them, each token as long as it can be.
-use Rattle.std.specs.Prelude.{◌≡◌, ℕ, ◌+◌, ◌^◌, ◌<◌, ◌≤◌, Bool, true, false, ◌||◌, ◌==◌, List, [], ◌∷◌, ◌++◌, length, Some, codes}
+use Rattle.std.specs.Prelude.{◌≡◌, ℕ, ◌+◌, ◌^◌, ◌<◌, ◌≤◌, Bool, true, false, ◌||◌, ◌==◌, List, [], ◌∷◌, ◌++◌, length, Some}
 use Rattle.std.specs.List.{AllByRecursion}
 use Rattle.std.specs.Char.{is_ascii_alphabetic, is_ascii_digit}
 use Rattle.it_number.specs.Decimals.{value_from}
-use Rattle.it_syntax.specs.declared.types.Symbol.{Symbol}
-use Rattle.it_syntax.specs.declared.types.Symbol.TheVariants.{LeftParen, RightParen, Comma, Semicolon, Bar, Plus, Minus, Arrow, AtLeast, AtMost, Equal, Assign, Slash}
+use Rattle.it_forms.specs.declared.types.Symbol.TheVariants.{Minus}
 use Rattle.it_syntax.specs.declared.types.TokenKind.{TokenKind}
 use Rattle.it_syntax.specs.declared.types.TokenKind.TheVariants as kinds
 use Rattle.it_syntax.specs.declared.types.Token.{Token}
+use Rattle.it_forms.specs.SymbolTexts.{symbol_text}
 
 -- ---- bytes, by their ASCII codes
 
@@ -38,22 +38,6 @@ Stops f [] = Unit {0}
 Stops f (b ∷ bs) = f b ≡ false
 
 -- ---- tokens
-
--- how a symbol is written
-abbrev pub symbol_text : Symbol → List ℕ
-symbol_text LeftParen = codes "("
-symbol_text RightParen = codes ")"
-symbol_text Comma = codes ","
-symbol_text Semicolon = codes ";"
-symbol_text Bar = codes "|"
-symbol_text Plus = codes "+"
-symbol_text Minus = codes "-"
-symbol_text Arrow = codes "->"
-symbol_text AtLeast = codes ">="
-symbol_text AtMost = codes "<="
-symbol_text Equal = codes "="
-symbol_text Assign = codes ":="
-symbol_text Slash = codes "/"
 
 -- The text of a token of this kind: a word has a letter first and at most 16 bytes, a number is below 2 ^ 64.
 abbrev pub IsText : TokenKind → List ℕ → Type 0

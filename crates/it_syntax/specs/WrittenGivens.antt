@@ -1,31 +1,15 @@
--- The constraints of `given` lines as they are written, and how each is spelled. A relation holds no rates; `markov A -> B -> C`
--- is a chain of 3 to 16 lists, `indep A ; B | W` an independence of 2 to 16, `func A of B` a function. What begins with `markov`,
--- `indep` or `func` is never a relation.
-use Rattle.std.specs.Prelude.{◌≡◌, ℕ, zero, suc, Bool, false, List, [], ◌∷◌, Option, Some, None, ◌||◌, bytes_eq, codes}
+-- The constraints of `given` lines as they are written, and how each is spelled. No public clause cites this module.
+use Rattle.std.specs.Prelude.{◌≡◌, ℕ, zero, suc, Bool, false, List, [], ◌∷◌, Option, Some, None, ◌||◌, bytes_eq}
 use Rattle.it_syntax.specs.declared.rest.Divider.{Divider}
 use Rattle.it_syntax.specs.declared.rest.Divider.TheVariants.{Arrows, Semicolons}
-use Rattle.it_syntax.specs.declared.types.Symbol.TheVariants.{Arrow, Semicolon, Bar}
-use Rattle.it_syntax.specs.Letters.{Letter, Word, Sym, MarkedLetters, without_mark}
-use Rattle.it_syntax.specs.WrittenMeasures.{Environment, WrittenList, TermSign, spell_list, list_set, mark_surplus}
-use Rattle.it_syntax.specs.WrittenRelations.{Scope, WrittenTerm, Once, RateOf, WrittenRelation, spell_relation, relation_of}
+use Rattle.it_forms.specs.declared.types.Symbol.TheVariants.{Arrow, Semicolon, Bar}
+use Rattle.it_forms.specs.Letters.{Letter, Word, Sym, MarkedLetters, without_mark}
+use Rattle.it_syntax.specs.Scopes.{Environment, Scope}
+use Rattle.it_syntax.specs.WrittenMeasures.{WrittenList, TermSign, spell_list, list_set, mark_surplus}
+use Rattle.it_syntax.specs.WrittenRelations.{WrittenTerm, Once, RateOf, WrittenRelation, spell_relation, relation_of}
 use Rattle.it_syntax.specs.Givens.{GivenView}
 use Rattle.it_syntax.specs.Givens as given_views
-
--- the word before a chain
-abbrev pub markov_text : List ℕ
-markov_text = codes "markov"
-
--- the word before an independence
-abbrev pub indep_text : List ℕ
-indep_text = codes "indep"
-
--- the word before a function
-abbrev pub func_text : List ℕ
-func_text = codes "func"
-
--- the word between a function and its argument
-abbrev pub of_text : List ℕ
-of_text = codes "of"
+use Rattle.it_syntax.specs.GivenWords.{markov_text, indep_text, func_text, of_text}
 
 -- `markov`, `indep` or `func`
 abbrev pub is_form : List ℕ → Bool

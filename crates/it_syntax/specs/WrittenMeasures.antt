@@ -1,16 +1,13 @@
 -- Entropies and mutual informations as they are written, and how each is spelled: by letters, each with what the rules have
--- against it where it stands. `Word` stands against H or I in the place of a name, `Name` against a name that is no variable.
-use Rattle.std.specs.Prelude.{ℕ, ◌^◌, bit_or, Bool, true, false, List, [], ◌∷◌, Option, Some, None, ◌||◌, if◌then◌else◌, bytes_eq, codes}
-use Rattle.it_syntax.specs.declared.types.Symbol.TheVariants.{LeftParen, RightParen, Comma, Semicolon, Bar, Plus, Minus}
-use Rattle.it_syntax.specs.declared.types.Code.{Code}
-use Rattle.it_syntax.specs.declared.types.Code.TheVariants as codes
+-- against it where it stands. No public clause cites this module.
+use Rattle.std.specs.Prelude.{ℕ, ◌^◌, bit_or, Bool, true, false, List, [], ◌∷◌, Option, Some, None}
+use Rattle.it_forms.specs.declared.types.Symbol.TheVariants.{LeftParen, RightParen, Comma, Semicolon, Bar, Plus, Minus}
+use Rattle.it_forms.specs.declared.types.Code.TheVariants as codes
 use Rattle.it_syntax.specs.declared.types.Atom.{Atom}
 use Rattle.it_syntax.specs.declared.types.Atom.TheVariants as atoms
-use Rattle.it_syntax.specs.Letters.{Letter, Word, Sym, MarkedLetters, without_mark}
-
--- which variable a name is
-abbrev pub Environment : Type 0
-Environment = List ℕ → Option ℕ
+use Rattle.it_forms.specs.Letters.{Letter, Word, Sym, MarkedLetters, without_mark}
+use Rattle.it_syntax.specs.Scopes.{Environment}
+use Rattle.it_syntax.specs.NameMarks.{entropy_text, mutual_text, name_mark, index_or}
 
 -- one or more names
 pub record WrittenList : Type 0 where
@@ -28,27 +25,6 @@ pub data WrittenMeasure : Type 0 where
 pub data TermSign : Type 0 where
   Positive : TermSign
   Negative : TermSign
-
--- the word of an entropy; it and that of a mutual information are no names
-abbrev pub entropy_text : List ℕ
-entropy_text = codes "H"
-
--- the word of a mutual information
-abbrev pub mutual_text : List ℕ
-mutual_text = codes "I"
-
--- whether it stands for one of Shannon's information measures
-abbrev pub is_measure : List ℕ → Bool
-is_measure w = bytes_eq w entropy_text || bytes_eq w mutual_text
-
--- against a name that is unknown
-abbrev pub unknown_mark : Option ℕ → Option Code
-unknown_mark (Some i) = None
-unknown_mark None = Some codes.Name
-
--- against a word in the place of a variable: it may be no name, or be unknown
-abbrev pub name_mark : Environment → List ℕ → Option Code
-name_mark env w = if is_measure w then Some codes.Word else unknown_mark (env w)
 
 -- the name of a variable, before the letters that follow
 abbrev pub spell_name : Environment → List ℕ → MarkedLetters → MarkedLetters
@@ -87,11 +63,6 @@ mark_surplus ((l, None) ∷ m) = (l, Some codes.Many) ∷ m
 mark_surplus ((l, Some c) ∷ m) = (l, Some c) ∷ m
 
 -- ---- what a tree names; 0 stands in for a name that is unknown, which is marked
-
--- the number of a name
-abbrev pub index_or : Option ℕ → ℕ
-index_or (Some i) = i
-index_or None = 0
 
 -- the set of further names
 abbrev pub more_set : Environment → List (List ℕ) → ℕ

@@ -1,24 +1,19 @@
 -- Relations as they are written, and how each is spelled: a sum, `>=`, `<=` or `=`, and a sum. A sum counts entropies, mutual
--- informations and rates. `Name` stands against a rate that is unknown or that may not stand there, `Many` against the first letter
--- of a term past the limit, `Number` against a denominator that is 0 or with which the least common multiple passes the limit.
-use Rattle.std.specs.Prelude.{◌≡◌, ℕ, zero, suc, ◌-◌, ◌^◌, Bool, false, ◌||◌, nat_eq, nat_lt, List, [], ◌∷◌, length, Option, Some, None, if◌then◌else◌}
+-- informations and rates. No public clause cites this module.
+use Rattle.std.specs.Prelude.{◌≡◌, ℕ, zero, suc, ◌-◌, Bool, false, List, [], ◌∷◌, length, Option}
 use Rattle.it_number.specs.Gcd.{lcm}
-use Rattle.it_syntax.specs.declared.types.Symbol.TheVariants as symbols
-use Rattle.it_syntax.specs.declared.types.Code.{Code}
-use Rattle.it_syntax.specs.declared.types.Code.TheVariants as codes
+use Rattle.it_forms.specs.declared.types.Symbol.TheVariants as symbols
 use Rattle.it_syntax.specs.declared.types.Atom.{Atom}
 use Rattle.it_syntax.specs.declared.types.Atom.TheVariants.{Nothing, Rate}
 use Rattle.it_syntax.specs.declared.types.Term.{Term}
 use Rattle.it_syntax.specs.declared.types.Sign.{Sign}
 use Rattle.it_syntax.specs.declared.types.Sign.TheVariants.{AtLeast, AtMost, Equal}
 use Rattle.it_syntax.specs.Meaning.{RelationView, multiple_from}
-use Rattle.it_syntax.specs.Letters.{Letter, Word, Number, Sym, MarkedLetters, without_mark}
-use Rattle.it_syntax.specs.WrittenMeasures.{Environment, WrittenMeasure, TermSign, is_measure, unknown_mark, spell_measure, sign_letter, spell_sign, mark_surplus, index_or, measure_of, is_negative, is_minus}
-
--- which variable a name is, and which rate, where rates may stand
-pub record Scope : Type 0 where
-  pub variables : Environment
-  pub rates : Environment
+use Rattle.it_forms.specs.Letters.{Letter, Word, Number, Sym, MarkedLetters, without_mark}
+use Rattle.it_syntax.specs.NameMarks.{is_measure, unknown_mark, index_or}
+use Rattle.it_syntax.specs.WrittenMeasures.{WrittenMeasure, TermSign, spell_measure, sign_letter, spell_sign, mark_surplus, measure_of, is_negative, is_minus}
+use Rattle.it_syntax.specs.Scopes.{Scope}
+use Rattle.it_syntax.specs.Multiples.{most_terms, multiple_with, multiple_mark}
 
 -- a word other than H and I
 pub record RateName : Type 0 where
@@ -53,19 +48,6 @@ pub record WrittenRelation : Type 0 where
 abbrev pub spell_atom : Scope → WrittenAtom → MarkedLetters → MarkedLetters
 spell_atom s (Measure m) k = spell_measure s.variables m k
 spell_atom s (RateOf r) k = (Word r.text, unknown_mark (s.rates r.text)) ∷ k
-
--- the most that the least common multiple of a relation's denominators is
-abbrev pub most_multiple : ℕ
-most_multiple = 2 ^ 32
-
--- the least common multiple m of denominators with one more, unless that is 0 or the multiple passes the limit
-unfoldable pub multiple_with : ℕ → ℕ → Option ℕ
-multiple_with m d = if nat_eq d 0 || nat_lt most_multiple (lcm m d) then None else Some (lcm m d)
-
--- against a denominator with which there is no such multiple
-abbrev pub multiple_mark : Option ℕ → Option Code
-multiple_mark (Some m) = None
-multiple_mark None = Some codes.Number
 
 -- a denominator, after others with the least common multiple m
 abbrev pub spell_denominator : ℕ → ℕ → MarkedLetters → MarkedLetters
@@ -105,10 +87,6 @@ abbrev pub compare_letter : Sign → Letter
 compare_letter AtLeast = Sym symbols.AtLeast
 compare_letter AtMost = Sym symbols.AtMost
 compare_letter Equal = Sym symbols.Equal
-
--- how many terms both sides have together, at most
-abbrev pub most_terms : ℕ
-most_terms = 256
 
 -- how many terms a sum has
 abbrev pub number_of_terms : WrittenSum → ℕ

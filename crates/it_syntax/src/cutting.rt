@@ -5,7 +5,8 @@ ghost use Rattle.it_syntax.specs.ReaderSteps.{IsTokenFront};
 ghost use Rattle.it_syntax.specs.Misspellings.{IsWrong, SpellsUntil, IsMisspelled};
 ghost use Rattle.it_syntax.specs.Spans.{InLine};
 ghost use Rattle.std.specs.Char.{is_ascii_alphabetic, is_ascii_digit};
-ghost use Rattle.it_syntax.specs.Spelling.{is_space, symbol_text, AreAll, StartsWith, Stops};
+ghost use Rattle.it_syntax.specs.Spelling.{is_space, AreAll, StartsWith, Stops};
+ghost use Rattle.it_forms.specs.SymbolTexts.{symbol_text};
 
 use crate::runs::{digits, spaces, symbol, word_bytes};
 use crate::types::{Code, LineTokens, Misspelling, Symbol, SyntaxFault, Token, TokenKind};

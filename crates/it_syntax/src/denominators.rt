@@ -3,7 +3,7 @@ ghost use Rattle.std.specs.Prelude.{◌≡◌, ◌≤◌, ◌^◌, pos, IfOk, Ok
 ghost use Rattle.it_number.specs.Limit.{IsWithin};
 ghost use Rattle.it_number.specs.Gcd.{lcm};
 ghost use Rattle.it_syntax.specs.Meaning.{relation_view, multiple_from, multiple_of};
-ghost use Rattle.it_syntax.specs.WrittenRelations.{multiple_with};
+ghost use Rattle.it_syntax.specs.Multiples.{multiple_with};
 ghost use Rattle.it_syntax.specs.RelationReading.{read_denominator};
 ghost use Rattle.it_syntax.specs.Gives.{GivesBy, letters_left};
 

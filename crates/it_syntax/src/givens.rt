@@ -3,13 +3,13 @@
 ghost use Rattle.std.specs.Prelude.{◌≡◌, ◌≤◌, false, [], ◌∷◌, length, IfOk, IfErr};
 ghost use Rattle.it_syntax.specs.declared.rest.Stop.TheVariants.{Memory};
 ghost use Rattle.it_syntax.specs.Scopes.{scope_of};
-ghost use Rattle.it_syntax.specs.WrittenGivens.{spell_given};
-ghost use Rattle.it_syntax.specs.GivenLines.{IsGiven};
+ghost use Rattle.it_syntax.specs.GivenLines.{IsGiven, given_line};
 ghost use Rattle.it_syntax.specs.GivenReading.{arrow, read_of, read_bar, read_chain, read_independence, read_function, read_plain, read_given};
 ghost use Rattle.it_syntax.specs.Gives.{Gives, GivesBy, GivesAll, letters_left};
 ghost use Rattle.it_syntax.specs.ReaderSteps.{Passes};
 ghost use Rattle.it_syntax.specs.Givens.{given_view, IsGivenOf};
-ghost use Rattle.it_syntax.specs.Lines.{IsFirstFault, to_end};
+ghost use Rattle.it_syntax.specs.Lines.{IsFirstFault};
+ghost use Rattle.it_syntax.specs.MeasureReading.{to_end};
 ghost use Rattle.it_syntax.specs.Scopes.{env_of};
 ghost use Rattle.it_syntax.specs.Spans.{InLine};
 
@@ -197,7 +197,7 @@ pub fn given_part(alloc: Global, rest: &mut Rest<'_>, names: &Names) -> Result<G
 }
 
 /// A constraint, up to the line's end.
-#[tactic(auto, unfolding(crate::specs::Lines::to_end))]
+#[tactic(auto, unfolding(crate::specs::MeasureReading::to_end))]
 pub fn given_to_end(alloc: Global, rest: &mut Rest<'_>, names: &Names) -> Result<Given, Stop>
     ensures { GivesAll given_view result (letters_left rest.new) (to_end (read_given (scope_of names.now false)) (letters_left rest.old)) }
 {
@@ -225,7 +225,7 @@ pub fn given(
     requires within { from ≤ length tokens.now.tokens.items }
     ensures read { IfOk result (λ g. IsGiven names.now line.now tokens.now from (given_view g)) }
     ensures limits { IfOk result (λ g. IsGivenOf (length names.now.variables) (given_view g)) }
-    ensures fault { IfErr result (IsFirstFault (spell_given (scope_of names.now false)) line.now tokens.now from) }
+    ensures fault { IfErr result (IsFirstFault (given_line names.now) line.now tokens.now from) }
 {
     let all = Rest {
         line,

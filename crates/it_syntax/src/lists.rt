@@ -4,7 +4,7 @@ ghost use Rattle.std.specs.Prelude.{◌≡◌, ◌<◌, IfSome, OnOk, IfOk, Some
 ghost use Rattle.it_syntax.specs.Gives.{Gives, letters_left};
 ghost use Rattle.it_syntax.specs.MeasureReading.{read_name, read_more, read_list};
 ghost use Rattle.it_syntax.specs.ReaderSteps.{after_comma};
-ghost use Rattle.it_syntax.specs.WrittenMeasures.{is_measure};
+ghost use Rattle.it_syntax.specs.NameMarks.{is_measure};
 ghost use Rattle.it_syntax.specs.Scopes.{env_of};
 
 use crate::names::Names;

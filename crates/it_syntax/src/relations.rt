@@ -1,14 +1,13 @@
 //! The reader of a relation between two sums.
 ghost use Rattle.std.specs.Prelude.{◌≤◌, length, IfOk, IfErr};
-ghost use Rattle.it_syntax.specs.WrittenRelations.{spell_relation};
-ghost use Rattle.it_syntax.specs.RelationLines.{IsRelation};
+ghost use Rattle.it_syntax.specs.RelationLines.{IsRelation, relation_line};
 ghost use Rattle.it_syntax.specs.Scopes.{scope_of};
 ghost use Rattle.it_syntax.specs.RelationReading.{read_compare, read_relation};
 ghost use Rattle.it_syntax.specs.Givens.{IsRelationOf};
 ghost use Rattle.it_syntax.specs.Gives.{Gives, GivesBy, GivesAll, letters_left};
-ghost use Rattle.it_syntax.specs.Lines.{IsFirstFault, to_end};
+ghost use Rattle.it_syntax.specs.Lines.{IsFirstFault};
 ghost use Rattle.it_syntax.specs.Meaning.{relation_view};
-ghost use Rattle.it_syntax.specs.MeasureReading.{line_end};
+ghost use Rattle.it_syntax.specs.MeasureReading.{line_end, to_end};
 ghost use Rattle.it_syntax.specs.Spans.{InLine};
 
 use crate::names::Names;
@@ -74,7 +73,7 @@ pub fn line_end(rest: &Rest<'_>) -> Result<(), Stop>
 }
 
 /// A relation, up to the line's end.
-#[tactic(auto, unfolding(crate::specs::Lines::to_end))]
+#[tactic(auto, unfolding(crate::specs::MeasureReading::to_end))]
 pub fn relation_to_end(
     alloc: Global,
     rest: &mut Rest<'_>,
@@ -111,7 +110,7 @@ pub fn relation(
     requires within { from ≤ length tokens.now.tokens.items }
     ensures read { IfOk result (λ r. IsRelation names.now rates line.now tokens.now from (relation_view r)) }
     ensures limits { IfOk result (λ r. IsRelationOf (length names.now.variables) (length names.now.rates) (relation_view r)) }
-    ensures fault { IfErr result (IsFirstFault (spell_relation (scope_of names.now rates)) line.now tokens.now from) }
+    ensures fault { IfErr result (IsFirstFault (relation_line names.now rates) line.now tokens.now from) }
 {
     let all = Rest {
         line,

@@ -1,25 +1,8 @@
 //! What reading a line gives: tokens, relations, and faults.
 
+pub use it_forms::{Code, Symbol};
 use it_space::VarSet;
 use std::alloc::{AllocError, AllocFailed};
-
-/// The symbols, in order: `(` `)` `,` `;` `|` `+` `-` `->` `>=` `<=` `=` `:=` `/`.
-#[derive(Clone, Copy, Debug, PartialEq, Eq)]
-pub enum Symbol {
-    LeftParen,
-    RightParen,
-    Comma,
-    Semicolon,
-    Bar,
-    Plus,
-    Minus,
-    Arrow,
-    AtLeast,
-    AtMost,
-    Equal,
-    Assign,
-    Slash,
-}
 
 /// What a token is: a word of at most 16 bytes, a number with its value, or a symbol.
 #[derive(Clone, Copy, Debug, PartialEq, Eq)]
@@ -35,21 +18,6 @@ pub struct Token {
     pub kind: TokenKind,
     pub start: u32,
     pub end: u32,
-}
-
-/// What is wrong with a line: a byte that begins no token; a word that no rule allows there; an unknown name; a name
-/// that is taken; a number that is too large, or a denominator that is 0 or makes the least common multiple too large;
-/// something past a limit; a file that ends too early; a question whose table is too large.
-#[derive(Clone, Copy, Debug, PartialEq, Eq)]
-pub enum Code {
-    Byte,
-    Word,
-    Name,
-    Twice,
-    Number,
-    Many,
-    Unfinished,
-    Large,
 }
 
 /// Where a line has no token: a byte that begins none (`Byte`), a number that is too large (`Number`) or a word that is

@@ -3,12 +3,11 @@ use Rattle.std.proofs.Common.{◌≡◌, true, ℕ, suc, ◌+◌, ◌-◌, List,
 use Rattle.it_syntax.specs.declared.types.Token.{Token}
 use Rattle.it_syntax.specs.declared.types.TokenKind.{TokenKind}
 use Rattle.it_syntax.specs.declared.types.TokenKind.TheVariants as kinds
-use Rattle.it_syntax.specs.Letters.{Letter, Word, End}
-use Rattle.it_syntax.specs.Lines.{SaysAs}
+use Rattle.it_forms.specs.Letters.{Letter, Word, End}
+use Rattle.it_forms.specs.FormTexts.{Says}
+use Rattle.it_syntax.specs.RelationLines.{relation_line}
 use Rattle.it_syntax.specs.Misspellings.{SpellsUntil}
-use Rattle.it_syntax.specs.Scopes.{scope_of}
 use Rattle.it_syntax.specs.Spans.{letter_of, letters_until}
-use Rattle.it_syntax.specs.WrittenRelations.{spell_relation, relation_of}
 use Rattle.it_terms.specs.Tells.{TextsMove}
 
 moved : ℕ → Token → Token
@@ -42,5 +41,5 @@ pub texts_move : TextsMove
 texts_move v front text r h = record {
   tokens = map (moved (length front)) h.tokens;
   spelled = moved_spelling (length front) 0 (length front) text h.tokens (let e : length front ≡ length front + 0 = omega arith in e) h.spelled;
-  says = subst (λ (ls : List Letter). SaysAs (spell_relation (scope_of v true)) (relation_of (scope_of v true)) ls r) (sym (moved_letters front text h.tokens End)) h.says;
+  says = subst (λ (ls : List Letter). Says (relation_line v true) ls r) (sym (moved_letters front text h.tokens End)) h.says;
 }

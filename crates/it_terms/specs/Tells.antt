@@ -2,20 +2,19 @@
 use Rattle.std.specs.Prelude.{◌≡◌, ◌↔◌, ℕ, ℤ, pos, ◌≤ℤ◌, ◌++◌, true, List, length, None}
 use Rattle.it_space.specs.Rows.{Terms, value}
 use Rattle.it_syntax.specs.declared.types.Token.{Token}
-use Rattle.it_syntax.specs.Letters.{End}
-use Rattle.it_syntax.specs.Lines.{SaysAs}
+use Rattle.it_forms.specs.Letters.{End}
+use Rattle.it_forms.specs.FormTexts.{Says}
+use Rattle.it_syntax.specs.RelationLines.{relation_line}
 use Rattle.it_syntax.specs.Meaning.{RelationView, Holds}
 use Rattle.it_syntax.specs.Misspellings.{SpellsUntil}
 use Rattle.it_syntax.specs.NamesViews.{NamesView}
-use Rattle.it_syntax.specs.Scopes.{scope_of}
 use Rattle.it_syntax.specs.Spans.{letters_until}
-use Rattle.it_syntax.specs.WrittenRelations.{spell_relation, relation_of}
 
 -- under these names the text is this relation, as what stands after the word of a `row` or `prove` line
 pub record IsRelationText (v : NamesView) (text : List ℕ) (r : RelationView) : Type 0 where
   pub tokens : List Token
   pub spelled : SpellsUntil 0 text tokens None
-  pub says : SaysAs (spell_relation (scope_of v true)) (relation_of (scope_of v true)) (letters_until text tokens End) r
+  pub says : Says (relation_line v true) (letters_until text tokens End) r
 
 -- the relation of n variables holds exactly where the row is at least 0, of the maps that are 0 at the empty set
 abbrev pub SaysRow : ℕ → RelationView → Terms → Type 0
@@ -31,7 +30,7 @@ pub record TellsRow (v : NamesView) (row : Terms) (text : List ℕ) : Type 0 whe
 pub record Follows (v : NamesView) (front text : List ℕ) (r : RelationView) : Type 0 where
   pub tokens : List Token
   pub spelled : SpellsUntil (length front) text tokens None
-  pub says : SaysAs (spell_relation (scope_of v true)) (relation_of (scope_of v true)) (letters_until (front ++ text) tokens End) r
+  pub says : Says (relation_line v true) (letters_until (front ++ text) tokens End) r
 
 -- A text that is a relation is the same one after whatever stands before it in a line, as `row ` or `prove `.
 abbrev pub TextsMove : Type 0

@@ -3,7 +3,7 @@ use Rattle.it_question.specs.Bodies.{body_view}
 use Rattle.it_question.specs.Cursors.{letters_left}
 use Rattle.it_question.specs.Questions.{BodyView}
 use Rattle.it_question.specs.Reading.{read_questions, read_file}
-use Rattle.it_question.specs.WrittenQuestions.{most_questions}
+use Rattle.it_question.specs.QuestionLimits.{most_questions}
 use Rattle.it_question.proofs.QuestionLemmas.{with_questions, goes_on, stops_at_fault, too_many, is_done, no_end}
 use Rattle.it_question.proofs.asking.bodies.Goals as goal
 

@@ -2,7 +2,7 @@ use Rattle.std.proofs.Common.{◌≡◌, map}
 use Rattle.it_question.specs.Bodies.{body_view}
 use Rattle.it_question.specs.Cursors.{letters_left}
 use Rattle.it_question.specs.Reading.{read_questions}
-use Rattle.it_question.specs.WrittenQuestions.{most_questions}
+use Rattle.it_question.specs.QuestionLimits.{most_questions}
 use Rattle.it_question.proofs.QuestionLemmas.{with_questions}
 use Rattle.it_question.proofs.asking.bodies.Given as goal
 

@@ -1,8 +1,8 @@
 use Rattle.std.proofs.Common.{◌≡◌, refl, ◌≤◌, List, length, map, sym, ap, ◌∙◌, subst}
 use Rattle.it_syntax.specs.declared.rest.Stop.{Stop}
 use Rattle.it_syntax.specs.Gives.{StopsAs}
-use Rattle.it_syntax.specs.Letters.{Letter}
-use Rattle.it_syntax.specs.MeasureReading.{Reads}
+use Rattle.it_forms.specs.Letters.{Letter}
+use Rattle.it_forms.specs.Reads.{Reads}
 use Rattle.it_question.specs.Bodies.{body_view}
 use Rattle.it_question.specs.Cursors.{line_view, letters_left}
 use Rattle.it_question.specs.WholeFiles.{place_of}
@@ -13,7 +13,8 @@ use Rattle.it_question.specs.Questions.{BodyView}
 use Rattle.it_question.specs.Reading.{read_file}
 use Rattle.it_question.specs.Texts.{with_texts}
 use Rattle.it_question.proofs.FileReadings.{file_read, bodies_limited, questions_limited}
-use Rattle.it_question.proofs.FileLemmas.{file_language}
+use Rattle.it_question.proofs.FileLanguage.{file_language}
+use Rattle.it_question.proofs.FileLemmas.{written_fault_is_first}
 use Rattle.it_question.proofs.WholeFileLemmas.{few_letters, some_left, first_whole_fault}
 use Rattle.it_question.proofs.files.questions.Goals as goal
 
@@ -50,5 +51,5 @@ stop_fault-requires-clause-there c = same_lines (λ ls. IfFault c.in-Err.stop (I
 
 pub returns-clause-fault : goal.returns-clause-fault
 returns-clause-fault c =
-    first_whole_fault file_language c.args.bytes.now (map line_view c.in_ok-lines.lines.items) c.in-Err.stop (letters_left c.bodies.new.cursor) c.stop_fault.result c.in_ok-lines.ensures (begun_stop c.in_ok-lines.lines.items _ _ c.in-Err.stop (letters_left c.bodies.new.cursor) c.at-cursor.ensures c.as_slice.ensures.value c.in-Err.ensures)
-    (subst (λ (ls : List Line). IsStopAt (place_of (map line_view ls) (letters_left c.bodies.new.cursor)) c.in-Err.stop c.stop_fault.result) c.as_slice-in-Err.ensures.value c.stop_fault.ensures)
+    written_fault_is_first c.args.bytes.now c.stop_fault.result (first_whole_fault file_language c.args.bytes.now (map line_view c.in_ok-lines.lines.items) c.in-Err.stop (letters_left c.bodies.new.cursor) c.stop_fault.result c.in_ok-lines.ensures (begun_stop c.in_ok-lines.lines.items _ _ c.in-Err.stop (letters_left c.bodies.new.cursor) c.at-cursor.ensures c.as_slice.ensures.value c.in-Err.ensures)
+    (subst (λ (ls : List Line). IsStopAt (place_of (map line_view ls) (letters_left c.bodies.new.cursor)) c.in-Err.stop c.stop_fault.result) c.as_slice-in-Err.ensures.value c.stop_fault.ensures))

@@ -1,5 +1,5 @@
 use Rattle.std.proofs.Common.{rules}
-use Rattle.it_syntax.specs.Lines.{to_end}
+use Rattle.it_syntax.specs.MeasureReading.{to_end}
 use Rattle.it_question.proofs.names.names_to_end.Goals as goal
 
 pub returns-in_err-new_names-clause-gives : goal.returns-in_err-new_names-clause-gives

@@ -3,7 +3,7 @@ use Rattle.it_syntax.specs.GivenReading.{with_sets}
 use Rattle.it_syntax.specs.Gives.{StopsAs}
 use Rattle.it_question.specs.Cursors.{letters_left}
 use Rattle.it_question.specs.Reading.{read_once, read_once_more}
-use Rattle.it_question.specs.WrittenLines.{rates_env}
+use Rattle.it_question.specs.RateNames.{rates_env}
 use Rattle.it_question.proofs.RateLemmas.{goes_on, stops_at_fault, is_done}
 use Rattle.it_question.proofs.rates.more_rates.Goals as goal
 

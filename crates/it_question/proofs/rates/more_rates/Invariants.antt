@@ -2,7 +2,7 @@ use Rattle.std.proofs.Common.{◌≡◌, length}
 use Rattle.it_syntax.specs.GivenReading.{with_sets}
 use Rattle.it_question.specs.Cursors.{letters_left}
 use Rattle.it_question.specs.Reading.{read_once_more}
-use Rattle.it_question.specs.WrittenLines.{rates_env}
+use Rattle.it_question.specs.RateNames.{rates_env}
 use Rattle.it_question.proofs.rates.more_rates.Given as goal
 
 -- the rates so far with those still read are the whole

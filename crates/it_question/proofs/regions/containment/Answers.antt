@@ -7,8 +7,7 @@ use Rattle.it_question.specs.Cursors.{letters_left}
 use Rattle.it_question.specs.Questions.{own_lines_view, region_view}
 use Rattle.it_question.proofs.LimitLemmas.{region_limited, region_counted}
 use Rattle.it_question.proofs.RegionLemmas.{tries_stop, contain_stops, region_under}
-use Rattle.it_question.specs.WrittenQuestions.{most_lines}
-use Rattle.it_question.specs.WrittenRegions.{givens_left, rows_left}
+use Rattle.it_question.specs.QuestionLimits.{most_lines, givens_left, rows_left}
 use Rattle.it_question.proofs.regions.containment.Goals as goal
 
 pub returns-in_err-tries : goal.returns-in_err-tries

@@ -1,5 +1,5 @@
 use Rattle.std.proofs.Common.{◌≡◌, drop}
-use Rattle.it_question.specs.WrittenTries.{is_whole}
+use Rattle.it_question.specs.TrySets.{is_whole}
 use Rattle.it_question.proofs.tries.is_whole.Given as goal
 
 abbrev pub invariant-loop-set : goal.invariant-loop-set

@@ -1,8 +1,8 @@
 use Rattle.std.proofs.Common.{List, Ok, sym, ap, ◌∙◌}
-use Rattle.it_syntax.specs.Letters.{Letter}
-use Rattle.it_syntax.specs.MeasureReading.{Reads}
+use Rattle.it_forms.specs.Letters.{Letter}
+use Rattle.it_forms.specs.Reads.{Reads}
+use Rattle.it_question.specs.TrySets.{Sets}
 use Rattle.it_question.specs.Cursors.{letters_left}
-use Rattle.it_question.specs.WrittenTries.{Sets}
 use Rattle.it_question.proofs.TryLoopLemmas.{parts_stop, parts_last, parts_more, parts_end}
 use Rattle.it_question.proofs.tries.parts.Goals as goal
 

@@ -2,7 +2,7 @@ use Rattle.std.proofs.Common.{◌≡◌}
 use Rattle.it_syntax.specs.Scopes.{env_of}
 use Rattle.it_question.specs.Cursors.{letters_left}
 use Rattle.it_question.specs.Reading.{read_parts}
-use Rattle.it_question.specs.WrittenRegions.{auxiliary_env}
+use Rattle.it_question.specs.TrySets.{auxiliary_env}
 use Rattle.it_question.proofs.tries.parts.Given as goal
 
 abbrev pub invariant-loop-cursor : goal.invariant-loop-cursor

@@ -1,5 +1,5 @@
 use Rattle.it_question.specs.Cursors.{letters_left}
-use Rattle.it_question.specs.WrittenTries.{unnamed_sets}
+use Rattle.it_question.specs.TrySets.{unnamed_sets}
 use Rattle.it_question.proofs.TryLoopLemmas.{tries_unmeant, tries_many, tries_stop, tries_more, tries_end, whole_is_none, some_is_left}
 use Rattle.it_question.proofs.tries.tries.Goals as goal
 

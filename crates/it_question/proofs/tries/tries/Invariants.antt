@@ -2,8 +2,7 @@ use Rattle.std.proofs.Common.{◌≡◌}
 use Rattle.it_syntax.specs.Scopes.{env_of}
 use Rattle.it_question.specs.Cursors.{letters_left}
 use Rattle.it_question.specs.Reading.{read_tries}
-use Rattle.it_question.specs.WrittenRegions.{auxiliary_env}
-use Rattle.it_question.specs.WrittenTries.{unnamed_sets}
+use Rattle.it_question.specs.TrySets.{auxiliary_env, unnamed_sets}
 use Rattle.it_question.proofs.TryLoopLemmas.{with_tries}
 use Rattle.it_question.proofs.tries.tries.Given as goal
 

@@ -1,8 +1,8 @@
 use Rattle.std.proofs.Common.{◌≡◌, refl, ◌≤◌, List, length, map, sym, ap, ◌∙◌, subst, arith}
 use Rattle.it_syntax.specs.declared.rest.Stop.{Stop}
 use Rattle.it_syntax.specs.Gives.{StopsAs}
-use Rattle.it_syntax.specs.Letters.{Letter}
-use Rattle.it_syntax.specs.MeasureReading.{Reads}
+use Rattle.it_forms.specs.Letters.{Letter}
+use Rattle.it_forms.specs.Reads.{Reads}
 use Rattle.it_question.specs.declared.cursor.Line.{Line}
 use Rattle.it_question.specs.Cursors.{line_view, letters_left}
 use Rattle.it_question.specs.WholeFiles.{place_of}
@@ -11,7 +11,7 @@ use Rattle.it_question.specs.Lines.{LineView, letters_of_lines}
 use Rattle.it_sharing.specs.Sharings.{SharingView}
 use Rattle.it_sharing.specs.SharingReading.{read_sharing}
 use Rattle.it_question.proofs.WholeFileLemmas.{read_says, few_letters, some_left, first_whole_fault}
-use Rattle.it_sharing.proofs.SharingFileLemmas.{sharing_language}
+use Rattle.it_sharing.proofs.SharingFileLemmas.{sharing_language, written_is_shared, written_fault_is_first}
 use Rattle.it_sharing.proofs.SharingLimits.{sharing_limited}
 use Rattle.it_sharing.proofs.reading.sharing.Goals as goal
 
@@ -27,7 +27,7 @@ same_lines P items lines e h = subst (λ (ls : List Line). P (map line_view ls))
 
 pub returns-in-Ok-clause-read : goal.returns-in-Ok-clause-read
 returns-in-Ok-clause-read c =
-    read_says sharing_language (λ lines x. x) c.args.bytes.now (map line_view c.in_ok-lines.lines.items) _ (letters_left c.whole.new.cursor) c.in_ok-lines.ensures (items_are_read _ _ _ _ c.at-cursor.ensures c.as_slice.ensures.value c.in-Ok.ensures)
+    written_is_shared c.args.bytes.now _ (read_says sharing_language (λ lines x. x) c.args.bytes.now (map line_view c.in_ok-lines.lines.items) _ (letters_left c.whole.new.cursor) c.in_ok-lines.ensures (items_are_read _ _ _ _ c.at-cursor.ensures c.as_slice.ensures.value c.in-Ok.ensures))
 
 pub returns-in-Ok-clause-limits : goal.returns-in-Ok-clause-limits
 returns-in-Ok-clause-limits c = (sharing_limited _ (letters_left c.whole.new.cursor) _ c.in-Ok.ensures).0
@@ -45,5 +45,5 @@ stop_fault-requires-clause-there c = same_lines (λ ls. IfFault c.in-Err.stop (I
 
 pub returns-clause-fault : goal.returns-clause-fault
 returns-clause-fault c =
-    first_whole_fault sharing_language c.args.bytes.now (map line_view c.in_ok-lines.lines.items) c.in-Err.stop (letters_left c.whole.new.cursor) c.stop_fault.result c.in_ok-lines.ensures (begun_stop c.in_ok-lines.lines.items _ _ c.in-Err.stop (letters_left c.whole.new.cursor) c.at-cursor.ensures c.as_slice.ensures.value c.in-Err.ensures)
-    (subst (λ (ls : List Line). IsStopAt (place_of (map line_view ls) (letters_left c.whole.new.cursor)) c.in-Err.stop c.stop_fault.result) c.as_slice-in-Err.ensures.value c.stop_fault.ensures)
+    written_fault_is_first c.args.bytes.now c.stop_fault.result (first_whole_fault sharing_language c.args.bytes.now (map line_view c.in_ok-lines.lines.items) c.in-Err.stop (letters_left c.whole.new.cursor) c.stop_fault.result c.in_ok-lines.ensures (begun_stop c.in_ok-lines.lines.items _ _ c.in-Err.stop (letters_left c.whole.new.cursor) c.at-cursor.ensures c.as_slice.ensures.value c.in-Err.ensures)
+    (subst (λ (ls : List Line). IsStopAt (place_of (map line_view ls) (letters_left c.whole.new.cursor)) c.in-Err.stop c.stop_fault.result) c.as_slice-in-Err.ensures.value c.stop_fault.ensures))

@@ -1,7 +1,7 @@
 use Rattle.std.proofs.Common.{List, sym, ap, ◌∙◌}
 use Rattle.it_syntax.specs.declared.rest.Stop.TheVariants.{Fault}
-use Rattle.it_syntax.specs.Letters.{Letter}
-use Rattle.it_syntax.specs.FirstFault.{own_code}
+use Rattle.it_forms.specs.Letters.{Letter}
+use Rattle.it_forms.specs.FirstFault.{own_code}
 use Rattle.it_question.proofs.CursorLemmas.{later_letters, left_none, left_some, own_code-line}
 use Rattle.it_question.proofs.cursor.Cursor.fault.Goals as goal
 

@@ -1,0 +1,47 @@
+-- The grammar of files with a head, whose lines ask for copies. `Word` stands against H and I in the place of a name, `Many`
+-- against the first letter past a limit.
+use Rattle.std.specs.Prelude.{ℕ, ◌-◌, List, [], ◌∷◌, ◌++◌, length}
+use Rattle.it_forms.specs.declared.types.Symbol.TheVariants.{Comma}
+use Rattle.it_syntax.specs.NameMarks.{is_measure}
+use Rattle.it_question.specs.QuestionForms.{file}
+use Rattle.it_question.specs.Questions.{BodyView}
+use Rattle.it_copy.specs.CopyLines.{CopyView, most_copies, copy_keyword, of_keyword, over_keyword, most_members, member_mark}
+use Rattle.it_forms.specs.Forms.{Form, Give, Take, If}
+use Rattle.it_forms.specs.Words.{◌>>=◌, ◌>>◌, word, marked_word, any_word, each_after, each_marked, to_end, zero_alone, limit_mark}
+
+-- a name, of which n are allowed
+unfoldable pub member : ℕ → Form (List ℕ)
+member n = Take (any_word (λ w. (member_mark (is_measure w) n, w)))
+
+-- further names, each after a comma
+unfoldable pub more_members : List (List ℕ) → Form (List (List ℕ))
+more_members names = each_after Comma (λ names. member (most_members - length names)) (λ names w. names ++ w ∷ []) names
+
+-- `0`, or names
+unfoldable pub over : Form (List (List ℕ))
+over = If zero_alone (λ u. Give []) (member most_members >>= λ w. more_members (w ∷ []))
+
+-- after `copy`
+unfoldable pub copy : Form CopyView
+copy = do
+  fresh ← member 1
+  Take (word of_keyword)
+  old ← member 1
+  Take (word over_keyword)
+  set ← over
+  Give (record { fresh = fresh; old = old; over = set })
+
+-- a line but for its end, of which n are allowed
+unfoldable pub copy_line : ℕ → Form CopyView
+copy_line n = Take (marked_word copy_keyword (limit_mark n)) >> copy
+
+-- lines that ask for copies, after others
+unfoldable pub more_copies : List CopyView → Form (List CopyView)
+more_copies cs = each_marked copy_keyword (λ cs. limit_mark (most_copies - length cs)) (λ cs. to_end copy) (λ cs c. cs ++ c ∷ []) cs
+
+-- a head, and the question file after it
+unfoldable pub copy_file : Form (List CopyView × List BodyView)
+copy_file = do
+  copies ← more_copies []
+  questions ← file
+  Give (copies, questions)

@@ -1,0 +1,55 @@
+-- A reading of marked letters: what they say, or the fault at the first mark.
+use Rattle.std.proofs.Common.{◌≡◌, List, [], ◌∷◌, ◌++◌, Some, Ok, Err, refl, ap, ◌∙◌, inl, inr, ◌⊎◌, append_assoc}
+use Rattle.it_forms.specs.Letters.{Letter, MarkedLetters, without_mark, letters, without_marks}
+use Rattle.it_forms.proofs.LetterLemmas.{cleaned_append}
+use Rattle.it_forms.specs.Reads.{Fault, Reads, ◌>>=◌}
+
+-- m is k after letters that nothing is said against
+pub record Clears (m k : MarkedLetters) : Type 0 where
+  pub front : List Letter
+  pub is : m ≡ without_marks front ++ k
+
+-- m has its first mark at a place whose fault is f
+pub record Marks (m : MarkedLetters) (f : Fault) : Type 0 where
+  pub front : List Letter
+  pub letter : Letter
+  pub rest : MarkedLetters
+  pub is : m ≡ without_marks front ++ ((letter, Some f.0) ∷ rest)
+  pub left : f.1 ≡ letter ∷ letters rest
+
+-- a reading of m, which spells x and then k: x, or the fault at the first mark before k
+abbrev pub Answers : {A : Type 0} → Reads A → MarkedLetters → A → MarkedLetters → Type 0
+Answers r m x k = ((r ≡ Ok (x, letters k)) × Clears m k) ⊎ ((f : Fault) × ((r ≡ Err f) × Marks m f))
+
+passes_none : (k : MarkedLetters) → Clears k k
+passes_none k = record { front = []; is = refl }
+
+passes_cons : (l : Letter) (m k : MarkedLetters) → Clears m k → Clears (without_mark l ∷ m) k
+passes_cons l m k p = record { front = l ∷ p.front; is = ap (λ (q : MarkedLetters). without_mark l ∷ q) p.is }
+
+marks_cons : (l : Letter) (m : MarkedLetters) (f : Fault) → Marks m f → Marks (without_mark l ∷ m) f
+marks_cons l m f p = record { front = l ∷ p.front; letter = p.letter; rest = p.rest; is = ap (λ (q : MarkedLetters). without_mark l ∷ q) p.is; left = p.left }
+
+append_cleaned : (p q : List Letter) (m n k : MarkedLetters) → m ≡ without_marks p ++ n → n ≡ without_marks q ++ k → m ≡ without_marks (p ++ q) ++ k
+append_cleaned p q m n k g h = g ∙ ap (λ (t : MarkedLetters). without_marks p ++ t) h ∙ rw (cleaned_append p q, append_assoc) refl
+
+passes_then : (m n k : MarkedLetters) → Clears m n → Clears n k → Clears m k
+passes_then m n k p q = record { front = p.front ++ q.front; is = append_cleaned p.front q.front m n k p.is q.is }
+
+marks_then : (m n : MarkedLetters) (f : Fault) → Clears m n → Marks n f → Marks m f
+marks_then m n f p q = record { front = p.front ++ q.front; letter = q.letter; rest = q.rest; is = append_cleaned p.front q.front m n ((q.letter, Some f.0) ∷ q.rest) p.is q.is; left = q.left }
+
+-- nothing more to read
+pub answers_ok : {A : Type 0} (x : A) (k : MarkedLetters) → Answers (Ok (x, letters k)) k x k
+answers_ok x k = inl (refl, passes_none k)
+
+-- a letter that nothing is said against stands in front
+pub answers_cons : {A : Type 0} (l : Letter) (r : Reads A) (m : MarkedLetters) (x : A) (k : MarkedLetters) → Answers r m x k → Answers r (without_mark l ∷ m) x k
+answers_cons l r m x k (inl a) = inl (a.0, passes_cons l m k a.1)
+answers_cons l r m x k (inr b) = inr (b.0, (b.1.0, marks_cons l m b.0 b.1.1))
+
+-- one reading, and then another that may depend on its value
+pub answers_bind : {A B : Type 0} (r : Reads A) (f : (A × List Letter) → Reads B) (m n k : MarkedLetters) (x : A) (y : B) → Answers r m x n → Answers (f (x, letters n)) n y k → Answers (r >>= f) m y k
+answers_bind r f m n k x y (inl a) (inl b) = inl (ap (λ (q : Reads _). q >>= f) a.0 ∙ b.0, passes_then m n k a.1 b.1)
+answers_bind r f m n k x y (inl a) (inr b) = inr (b.0, (ap (λ (q : Reads _). q >>= f) a.0 ∙ b.1.0, marks_then m n b.0 a.1 b.1.1))
+answers_bind r f m n k x y (inr a) b = inr (a.0, (ap (λ (q : Reads _). q >>= f) a.1.0, a.1.1))

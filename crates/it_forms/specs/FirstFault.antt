@@ -1,0 +1,32 @@
+-- The first fault of letters, for a language that is told by what is written in it and how each is spelled.
+use Rattle.std.specs.Prelude.{◌≡◌, ◌⊎◌, List, [], ◌∷◌, ◌++◌, Option, Some, None}
+use Rattle.it_forms.specs.declared.types.Code.{Code}
+use Rattle.it_forms.specs.declared.types.Code.TheVariants as codes
+use Rattle.it_forms.specs.Letters.{Letter, Bad, MarkedLetters, letters, without_marks}
+
+-- the first of these letters, if there is one
+abbrev pub head : List Letter → Option Letter
+head [] = None
+head (l ∷ ls) = Some l
+
+-- the code where no rule goes on: that of a letter that is no token, and else `word`
+abbrev pub own_code : List Letter → Code
+own_code (Bad c ∷ ls) = c
+own_code ls = codes.Word
+
+-- what is spelled begins with these letters, nothing is said against them, and the next is marked by c
+abbrev pub MarkedAt : MarkedLetters → List Letter → Code → Type 0
+MarkedAt m front c = (l : Letter) × (more : MarkedLetters) × (m ≡ without_marks front ++ ((l, Some c) ∷ more))
+
+-- Fault c comes where r is left.
+pub record FirstFault {X : Type 0} (spell : X → MarkedLetters) (ls : List Letter) (c : Code) (r : List Letter) : Type 0 where
+  pub front : List Letter
+  pub parts : ls ≡ front ++ r
+  -- what stands before can go on to a line
+  pub tree : X
+  pub more : MarkedLetters
+  pub viable : spell tree ≡ without_marks front ++ more
+  -- with the letter that stands there no line goes on that the rules don't mark there
+  pub each : (x : X) (q : List Letter) → head q ≡ head r → letters (spell x) ≡ front ++ q → MarkedAt (spell x) front c
+  -- the code is that mark, or where no line goes on the letter's own
+  pub code : (own_code r ≡ c) ⊎ ((x : X) × (q : List Letter) × ((head q ≡ head r) × (letters (spell x) ≡ front ++ q)))

@@ -1,0 +1,187 @@
+-- The grammar of question files. `Word` stands against H or I in the place of a name, `Twice` against a name that is taken
+-- or was named before, `Name` against one that is unknown, `Many` against the first letter past a limit, `Large` against the
+-- word of a verb whose question's table is too large.
+use Rattle.std.specs.Prelude.{ℕ, ◌+◌, ◌-◌, Bool, true, false, List, [], ◌∷◌, ◌++◌, length, Option, if◌then◌else◌}
+use Rattle.it_forms.specs.declared.types.Symbol.TheVariants.{Comma, Semicolon, Assign}
+use Rattle.it_forms.specs.declared.types.Code.{Code}
+use Rattle.it_forms.specs.Letters.{Letter}
+use Rattle.it_syntax.specs.NameMarks.{is_measure, index_or}
+use Rattle.it_question.specs.RateNames.{once_mark, rates_env}
+use Rattle.it_question.specs.TrySets.{Sets, unnamed_sets, with_set, is_whole, sets_view, part_mark, try_end_mark, try_mark, auxiliary_env}
+use Rattle.it_question.specs.QuestionLimits.{auxiliaries_left, givens_left, rows_left, most_questions, most_variables, most_rates, most_lines}
+use Rattle.it_syntax.specs.LineForms.{names, relation, given}
+use Rattle.it_syntax.specs.NamesViews.{NamesView}
+use Rattle.it_syntax.specs.Scopes.{env_of, scope_of, Environment}
+use Rattle.it_question.specs.Keywords.{vars_keyword, rates_keyword, given_keyword, row_keyword, region_keyword, aux_keyword, try_keyword, prove_keyword, eliminate_keyword, contain_keyword}
+use Rattle.it_question.specs.Questions.{OwnLinesView, RegionView, VerbView, BodyView, Prove, Eliminate, Contain, no_lines}
+use Rattle.it_question.specs.Bodies.{with_given_line, with_row_line}
+use Rattle.it_question.specs.NewNames.{NameSortView, Variable, Rate, with_name, no_names, is_taken, new_mark}
+use Rattle.it_question.specs.Tables.{givens_alone, size_mark, contain_mark}
+use Rattle.it_forms.specs.Forms.{Kind, Keyword, LineEnd, is_of, Terminal, Form, Give, Take, If, While}
+use Rattle.it_forms.specs.Words.{◌>>=◌, ◌>>◌, word, marked_word, any_word, symbol, each_after, each_marked, zero_alone, line_end, to_end, file_end, limit_mark}
+
+-- ---- names that are declared
+
+-- how many names of this sort there are
+abbrev pub count : NameSortView → NamesView → ℕ
+count Variable v = length v.variables
+count Rate v = length v.rates
+
+-- a new name, of which there may be so many in all
+unfoldable pub new_name : NameSortView → ℕ → NamesView → Form NamesView
+new_name sort most v = Take (any_word (λ w. (new_mark (is_measure w) (is_taken v w) (most - count sort v), with_name sort v w)))
+
+-- further new names, each after a comma
+unfoldable pub more_new : NameSortView → ℕ → NamesView → Form NamesView
+more_new sort most v = each_after Comma (new_name sort most) (λ v more. more) v
+
+-- new names with commas between them, up to the line's end
+unfoldable pub new_names : NameSortView → ℕ → NamesView → Form NamesView
+new_names sort most v = do
+  first ← new_name sort most v
+  all ← more_new sort most first
+  line_end
+  Give all
+
+-- a line of new names that begins with this keyword, or none
+unfoldable pub names_line : NameSortView → ℕ → List ℕ → NamesView → Form NamesView
+names_line sort most keyword v = If (word keyword) (λ u. new_names sort most v) (Give v)
+
+-- ---- `given` and `row` lines
+
+-- a `given` line (true) or a `row` line, after its keyword
+unfoldable pub own_line : NamesView → OwnLinesView → Bool → Form OwnLinesView
+own_line v own true = do
+  x ← to_end (given (scope_of v false))
+  Give (with_given_line own x)
+own_line v own false = do
+  x ← to_end (relation (scope_of v true))
+  Give (with_row_line own x)
+
+-- `given` and `row`
+abbrev pub own_words : List Kind
+own_words = Keyword given_keyword ∷ Keyword row_keyword ∷ []
+
+-- how many more lines of a kind are allowed
+abbrev pub lines_left : ℕ → ℕ → OwnLinesView → Bool → ℕ
+lines_left g r own is_given = if is_given then givens_left g own else rows_left r own
+
+-- `given` or `row`, where g and r of them are allowed
+abbrev pub own_keyword : ℕ → ℕ → OwnLinesView → Letter → Option Code × Bool
+own_keyword g r own l = let is_given = is_of (Keyword given_keyword) l in (limit_mark (lines_left g r own is_given), is_given)
+
+-- own lines in any order, after others
+unfoldable pub more_own_lines : ℕ → ℕ → NamesView → OwnLinesView → Form OwnLinesView
+more_own_lines g r v own = While own_words (own_keyword g r) (own_line v) own
+
+-- own lines
+abbrev pub own_lines : ℕ → ℕ → NamesView → Form OwnLinesView
+own_lines g r v = more_own_lines g r v no_lines
+
+-- ---- the rates of an `eliminate` line
+
+-- a rate that isn't among these
+unfoldable pub once : Environment → List ℕ → Form ℕ
+once env seen = Take (any_word (λ w. (once_mark (is_measure w) seen (env w), index_or (env w))))
+
+-- further rates, each after a comma
+unfoldable pub more_once : Environment → List ℕ → Form (List ℕ)
+more_once env seen = each_after Comma (once env) (λ seen i. seen ++ i ∷ []) seen
+
+-- rates with commas between them, each once
+unfoldable pub distinct : Environment → Form (List ℕ)
+distinct env = do
+  first ← once env []
+  more_once env (first ∷ [])
+
+-- ---- `try` lines
+
+-- an auxiliary that has no set yet
+unfoldable pub auxiliary : Environment → Sets → Form ℕ
+auxiliary aux sets = Take (any_word (λ w. (part_mark (is_measure w) sets (aux w), index_or (aux w))))
+
+-- `0`, or names
+unfoldable pub set : Environment → Form ℕ
+set env = If zero_alone (λ u. Give 0) (names env)
+
+-- an auxiliary, `:=` and its set
+unfoldable pub part : Environment → Environment → Sets → Form Sets
+part aux env sets = do
+  i ← auxiliary aux sets
+  Take (symbol Assign)
+  s ← set env
+  Give (with_set sets i s)
+
+-- further parts, each after `;`
+unfoldable pub more_parts : Environment → Environment → Sets → Form Sets
+more_parts aux env sets = each_after Semicolon (part aux env) (λ sets more. more) sets
+
+-- the line's end, where each auxiliary must have its set
+abbrev pub try_end : Sets → Terminal (Unit {0})
+try_end sets = record { kinds = LineEnd ∷ []; says = λ l. (try_end_mark (is_whole sets), tt) }
+
+-- after `try`
+unfoldable pub try_line : Environment → Environment → Sets → Form (List ℕ)
+try_line aux env sets = do
+  first ← part aux env sets
+  all ← more_parts aux env first
+  Take (try_end all)
+  Give (sets_view all)
+
+-- `try` lines, after others, of which a region without auxiliaries has none
+unfoldable pub more_tries : Environment → Environment → Sets → List (List ℕ) → Form (List (List ℕ))
+more_tries aux env sets ts = each_marked try_keyword (λ ts. try_mark (is_whole sets) (most_lines - length ts)) (λ ts. try_line aux env sets) (λ ts t. ts ++ t ∷ []) ts
+
+-- ---- regions
+
+-- after `region`
+unfoldable pub region : ℕ → ℕ → NamesView → Form RegionView
+region g r v = do
+  line_end
+  names ← names_line Variable (length v.variables + auxiliaries_left v) aux_keyword v
+  own ← own_lines g r names
+  Give (record { names = names; auxiliaries = length names.variables - length v.variables; lines = own })
+
+-- after the first `region`, in a question with these own lines
+unfoldable pub containment : OwnLinesView → NamesView → Form VerbView
+containment own v = do
+  first ← region (givens_left most_lines own) (rows_left most_lines own) v
+  Take (word region_keyword)
+  second ← region (givens_left (givens_left most_lines own) first.lines) (rows_left (rows_left most_lines own) first.lines) v
+  tries ← more_tries (auxiliary_env v second.names) (env_of first.names) (unnamed_sets second.auxiliaries) []
+  Take (marked_word contain_keyword (contain_mark own first))
+  line_end
+  Give (Contain first second tries)
+
+-- ---- verbs, questions and files
+
+-- `prove`, `eliminate` or regions, in a question with these own lines
+unfoldable pub verb : OwnLinesView → NamesView → Form VerbView
+verb own v =
+    If (marked_word prove_keyword (size_mark v own)) (λ u. do
+      x ← to_end (relation (scope_of v true))
+      Give (Prove x))
+    (If (marked_word eliminate_keyword (size_mark v (givens_alone own))) (λ u. do
+      rates ← to_end (distinct (rates_env v))
+      Give (Eliminate rates))
+    (Take (word region_keyword) >> containment own v))
+
+-- after `vars`
+unfoldable pub question : Form BodyView
+question = do
+  variables ← new_names Variable most_variables no_names
+  names ← names_line Rate most_rates rates_keyword variables
+  own ← own_lines most_lines most_lines names
+  aim ← verb own names
+  Give (record { names = names; lines = own; verb = aim })
+
+-- questions, after others
+unfoldable pub more_questions : List BodyView → Form (List BodyView)
+more_questions qs = each_marked vars_keyword (λ qs. limit_mark (most_questions - length qs)) (λ qs. question) (λ qs q. qs ++ q ∷ []) qs
+
+-- questions up to the file's end
+unfoldable pub file : Form (List BodyView)
+file = do
+  qs ← more_questions []
+  file_end
+  Give qs
