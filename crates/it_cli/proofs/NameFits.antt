@@ -6,38 +6,38 @@ use Rattle.std.proofs.lemmas.Bool.{ne_eqb}
 use Rattle.std.proofs.lemmas.Bool.Decides.{nat_tests}
 use Rattle.std.proofs.lemmas.List.{take_at, drop_at}
 use Rattle.std.proofs.lemmas.Slice.Eq.{bytes_eq-Decides}
-use Rattle.it_space.proofs.EveryLemmas.{every-append}
-use Rattle.it_forms.specs.declared.types.Code.{Code}
 use Rattle.it_syntax.specs.declared.types.Misspelling.{Misspelling}
 use Rattle.it_syntax.specs.declared.types.Token.{Token}
 use Rattle.it_syntax.specs.declared.types.TokenKind.{TokenKind}
 use Rattle.it_syntax.specs.declared.types.TokenKind.TheVariants as kinds
 use Rattle.it_forms.specs.declared.types.Symbol.TheVariants.{Comma}
-use Rattle.it_forms.specs.Letters.{Letter, Word, Number, Sym, End, Bad, MarkedLetters, without_mark, without_marks}
+use Rattle.it_forms.specs.Letters.{Letter, Word, Number, Sym, End, Bad}
 use Rattle.it_syntax.specs.NameMarks.{is_measure}
-use Rattle.it_question.specs.WrittenNames.{spell_new_more, spell_new_names, with_names, new_names_of, spell_names_line, names_line_of}
-use Rattle.it_forms.specs.Words.{limit_mark}
-use Rattle.it_question.specs.QuestionLimits.{most_questions, most_variables, most_rates}
 use Rattle.it_syntax.specs.Misspellings.{SpellsUntil}
 use Rattle.it_syntax.specs.NamesViews.{NamesView, index_of, IsNew}
 use Rattle.it_syntax.specs.Spans.{letter_of, letters_until, last_letter}
 use Rattle.it_syntax.specs.Spelling.{StartsWith, IsText}
-use Rattle.it_syntax.specs.WrittenMeasures.{WrittenList}
 use Rattle.it_syntax.proofs.NameLemmas.{nowhere_all, distinct_insert, differs_both_ways}
 use Rattle.it_question.specs.Files.{IsFile}
 use Rattle.it_question.specs.Keywords.{vars_keyword, rates_keyword}
 use Rattle.it_question.specs.Lines.{LineView, AreLines, split_lines, letters_of_lines}
 use Rattle.it_question.specs.NewNames.{NameSortView, Variable, Rate, with_name, no_names, is_taken, new_mark}
-use Rattle.it_question.specs.Questions.{QuestionView}
 use Rattle.it_question.specs.Texts.{text_of_lines, question_line_count, with_texts}
-use Rattle.it_question.specs.WrittenQuestions.{WrittenQuestion}
-use Rattle.it_question.specs.WrittenFiles.{names_of, spell_question, question_of, questions_of, spell_file}
-use Rattle.it_question.proofs.FileLemmas.{asked_is_written}
 use Rattle.it_question.proofs.NewNameLemmas.{new_of}
 use Rattle.it_certificate.specs.AnswerShapes.{IsFoundIn}
 use Rattle.it_number.specs.Decimals.{value_from}
 use Rattle.it_certificate.specs.Numerals.{up_to_limit, magnitude_of, negative_of, integer_of, count_of_integer, step_of}
 use Rattle.it_certificate.specs.Values.{rate_name}
+use Rattle.it_space.proofs.EveryLemmas.{every-append, every_front, every_back}
+use Rattle.it_forms.specs.Forms.{Keyword, Punctuation, Give, Then}
+use Rattle.it_forms.specs.Words.{limit_mark}
+use Rattle.it_forms.proofs.FormParts.{Fact, OfEach, Always, always_weaker, loop_keeps}
+use Rattle.it_question.specs.QuestionForms.{count, new_name, more_new, new_names, names_line, own_lines, verb, question, more_questions, file}
+use Rattle.it_question.specs.QuestionLimits.{most_questions, most_variables, most_rates, most_lines}
+use Rattle.it_question.specs.Questions.{BodyView, QuestionView}
+use Rattle.it_question.proofs.QuestionOutlines.{file_has}
+use Rattle.it_question.proofs.WholeFileLemmas.{said}
+use Rattle.it_forms.proofs.FormFacts.{always_any, always_said}
 
 -- ---- words begin with a letter
 
@@ -101,76 +101,77 @@ good_name Rate v w g new h = record {
   lettered = every-append IsLettered v.rates (w ∷ []) g.lettered (h, tt);
 }
 
--- the first of some letters that nothing is said against, and those after it
-record First (l : Letter) (mark : Option Code) (m : MarkedLetters) : Type 0 where
-  more : List Letter
-  sound : Every IsSound more
-  after : m ≡ without_marks more
-  here : IsSound l
-  none : mark ≡ None
-
-first_of : (l : Letter) (mark : Option Code) (m : MarkedLetters) (ls : List Letter) → Every IsSound ls → (l, mark) ∷ m ≡ without_marks ls → First l mark m
-first_of l mark m [] a e = absurd cc
-first_of l mark m (x ∷ ls) a e =
-    let first : (l, mark) ≡ without_mark x = cc in
-    let tails : m ≡ without_marks ls = cc in
-    record {
-      more = ls;
-      sound = a.1;
-      after = tails;
-      here = subst IsSound (sym (ap (λ (y : Letter × Option Code). y.0) first)) a.0;
-      none = ap (λ (y : Letter × Option Code). y.1) first;
-    }
+-- what is to hold of names and of the letters that declare them
+abbrev IfSound : Fact NamesView
+IfSound p v = Every IsSound p → AreGood v
 
 not_taken : (measure taken : Bool) (n : ℕ) → new_mark measure taken n ≡ None → taken ≡ false
 not_taken true taken n e = absurd cc
 not_taken false true n e = absurd cc
 not_taken false false n e = refl
 
--- the names with further ones, and the letters that follow
-record Grown (w : NamesView) (k : MarkedLetters) : Type 0 where
-  good : AreGood w
-  more : List Letter
-  sound : Every IsSound more
-  after : k ≡ without_marks more
+new_name_keeps : (sort : NameSortView) (most : ℕ) (p : List Letter) (v : NamesView) → IfSound p v → Always (new_name sort most v) (λ q w. IfSound (p ++ q) w)
+unfolding Always new_name
+new_name_keeps sort most p v s (Word w) e m all =
+    good_name sort v w (s (every_front IsSound p (Word w ∷ []) all)) (new_of v w (not_taken (is_measure w) (is_taken v w) (most - count sort v) m)) (every_back IsSound p (Word w ∷ []) all).0
+new_name_keeps sort most p v s l e m all = absurd cc
 
-more_good : (sort : NameSortView) (n : ℕ) (v : NamesView) (ws : List (List ℕ)) (k : MarkedLetters) (ls : List Letter) → AreGood v → Every IsSound ls → spell_new_more sort n v ws k ≡ without_marks ls → Grown (with_names sort v ws) k
-more_good sort n v [] k ls g a e = record { good = g; more = ls; sound = a; after = e }
-more_good sort n v (w ∷ ws) k ls g a e =
-    let rest = spell_new_more sort (n - 1) (with_name sort v w) ws k in
-    let comma = first_of (Sym Comma) None ((Word w, new_mark (is_measure w) (is_taken v w) n) ∷ rest) ls a e in
-    let name = first_of (Word w) (new_mark (is_measure w) (is_taken v w) n) rest comma.more comma.sound comma.after in
-    let new = new_of v w (not_taken (is_measure w) (is_taken v w) n name.none) in
-    more_good sort (n - 1) (with_name sort v w) ws k name.more (good_name sort v w g new name.here) name.sound name.after
+more_new_keeps : (sort : NameSortView) (most : ℕ) (p : List Letter) (v : NamesView) → IfSound p v → Always (more_new sort most v) (λ q w. IfSound (p ++ q) w)
+unfolding Always more_new
+more_new_keeps sort most p v s = loop_keeps (Punctuation Comma ∷ []) (λ v l. (None, tt {0})) (λ v u. Then (new_name sort most v) Give) IfSound turn p v s
+  where
+    turn : (p : List Letter) (v : NamesView) → IfSound p v → OfEach (record { kinds = Punctuation Comma ∷ []; says = λ l. (None, tt {0}) }) (λ p0 b. Always (Then (new_name sort most v) Give) (λ q w. IfSound (p ++ (p0 ++ q)) w))
+    turn p v s l e m = always_weaker (new_name sort most v) (λ q w. IfSound ((p ++ (l ∷ [])) ++ q) w) (λ q w. IfSound (p ++ ((l ∷ []) ++ (q ++ []))) w)
+        (λ q w h all. h (subst (Every IsSound) (sym (append_assoc p (l ∷ []) q)) (subst (λ (r : List Letter). Every IsSound (p ++ (l ∷ r))) (append-nil q) all)))
+        (new_name_keeps sort most (p ++ (l ∷ [])) v (λ all. s (every_front IsSound p (l ∷ []) all)))
 
-new_good : (sort : NameSortView) (n : ℕ) (v : NamesView) (l : WrittenList) (k : MarkedLetters) (ls : List Letter) → AreGood v → Every IsSound ls → spell_new_names sort n v l k ≡ without_marks ls → Grown (new_names_of sort v l) k
-new_good sort n v l k ls g a e =
-    let w = l.first in
-    let rest = spell_new_more sort (n - 1) (with_name sort v w) l.more k in
-    let name = first_of (Word w) (new_mark (is_measure w) (is_taken v w) n) rest ls a e in
-    let new = new_of v w (not_taken (is_measure w) (is_taken v w) n name.none) in
-    more_good sort (n - 1) (with_name sort v w) l.more k name.more (good_name sort v w g new name.here) name.sound name.after
+new_names_keep : (sort : NameSortView) (most : ℕ) (p : List Letter) (v : NamesView) → IfSound p v → Always (new_names sort most v) (λ q w. IfSound (p ++ q) w)
+unfolding Always new_names
+new_names_keep sort most p v s =
+    always_weaker (new_name sort most v) (λ q w. IfSound (p ++ q) w) _ (λ q w h.
+    always_weaker (more_new sort most w) (λ r x. IfSound ((p ++ q) ++ r) x) _ (λ r x k l e m all. k (every_front IsSound ((p ++ q) ++ r) (l ∷ []) (subst (Every IsSound) (simp append_assoc) all))) (more_new_keeps sort most (p ++ q) w h))
+    (new_name_keeps sort most p v s)
 
-line_good : (sort : NameSortView) (n : ℕ) (keyword : List ℕ) (v : NamesView) (o : Option WrittenList) (k : MarkedLetters) (ls : List Letter) → AreGood v → Every IsSound ls → spell_names_line sort n keyword v o k ≡ without_marks ls
-    → AreGood (names_line_of sort v o)
-line_good sort n keyword v None k ls g a e = g
-line_good sort n keyword v (Some l) k ls g a e =
-    let word = first_of (Word keyword) None (spell_new_names sort n v l (without_mark End ∷ k)) ls a e in
-    (new_good sort n v l (without_mark End ∷ k) word.more g word.sound word.after).good
+names_line_keeps : (sort : NameSortView) (most : ℕ) (keyword : List ℕ) (p : List Letter) (v : NamesView) → IfSound p v → Always (names_line sort most keyword v) (λ q w. IfSound (p ++ q) w)
+unfolding Always names_line
+names_line_keeps sort most keyword p v s = (
+  λ l e m. always_weaker (new_names sort most v) (λ q w. IfSound ((p ++ (l ∷ [])) ++ q) w) _ (λ q w h all. h (subst (Every IsSound) (sym (append_assoc p (l ∷ []) q)) all)) (new_names_keep sort most (p ++ (l ∷ [])) v (λ all. s (every_front IsSound p (l ∷ []) all))),
+  λ all. s (every_front IsSound p [] all),
+)
 
-question_good : (mark : Option Code) (x : WrittenQuestion) (k : MarkedLetters) (ls : List Letter) → Every IsSound ls → (Word vars_keyword, mark) ∷ spell_question x k ≡ without_marks ls → AreGood (names_of x)
-question_good mark x k ls a e =
-    let word = first_of (Word vars_keyword) mark (spell_question x k) ls a e in
-    let variables = new_good Variable most_variables no_names x.variables _ word.more no_names_good word.sound word.after in
-    let end = first_of End None _ variables.more variables.sound variables.after in
-    line_good Rate most_rates rates_keyword (new_names_of Variable no_names x.variables) x.rates _ end.more variables.good end.sound end.after
+question_keeps : Always question (λ p q. IfSound p q.names)
+unfolding Always question
+question_keeps =
+    always_weaker (new_names Variable most_variables no_names) (λ p v. IfSound p v) _ (λ p v h.
+    always_weaker (names_line Rate most_rates rates_keyword v) (λ q w. IfSound (p ++ q) w) _ (λ q w k.
+    always_any (own_lines most_lines most_lines w) _ (λ r own.
+    always_any (verb own w) _ (λ t aim all. k (every_front IsSound (p ++ q) (r ++ (t ++ [])) (subst (Every IsSound) (sym (append_assoc p q (r ++ (t ++ [])))) all)))))
+    (names_line_keeps Rate most_rates rates_keyword p v h))
+    (new_names_keep Variable most_variables [] no_names (λ all. no_names_good))
 
-read_good : (q : QuestionView) (lines : List LineView) (trees : List WrittenQuestion) → Every IsSound (letters_of_lines lines) → spell_file trees ≡ without_marks (letters_of_lines lines) → with_texts lines (questions_of trees) ≡ q ∷ [] → AreGood q.body.names
-read_good q lines [] a s e = absurd cc
-read_good q lines (x ∷ xs) a s e =
-    let p : QuestionView = record { body = question_of x; text = text_of_lines (take (question_line_count (question_of x)) lines) } in
+-- the names of questions
+abbrev IfSoundAll : Fact (List BodyView)
+IfSoundAll p qs = Every IsSound p → Every (λ q. AreGood q.names) qs
+
+more_questions_keep : (p : List Letter) (qs : List BodyView) → IfSoundAll p qs → Always (more_questions qs) (λ q rs. IfSoundAll (p ++ q) rs)
+unfolding Always more_questions
+more_questions_keep p qs s = loop_keeps (Keyword vars_keyword ∷ []) (λ qs l. (limit_mark (most_questions - length qs), tt {0})) (λ qs u. Then question (λ q. Give (qs ++ q ∷ []))) IfSoundAll turn p qs s
+  where
+    turn : (p : List Letter) (qs : List BodyView) → IfSoundAll p qs → OfEach (record { kinds = Keyword vars_keyword ∷ []; says = λ l. (limit_mark (most_questions - length qs), tt {0}) }) (λ p0 b. Always (Then question (λ q. Give (qs ++ q ∷ []))) (λ q rs. IfSoundAll (p ++ (p0 ++ q)) rs))
+    turn p qs s l e m = always_weaker question (λ q b. IfSound q b.names) _ (λ q b h all.
+        let parts = every_back IsSound p ((l ∷ []) ++ (q ++ [])) all in
+        every-append (λ b. AreGood b.names) qs (b ∷ []) (s (every_front IsSound p ((l ∷ []) ++ (q ++ [])) all)) (h (every_front IsSound q [] parts.1), tt)) question_keeps
+
+file_keeps : Always file IfSoundAll
+unfolding Always file
+file_keeps = always_weaker (more_questions []) IfSoundAll _ (λ p qs h l e m all. h (every_front IsSound p ((l ∷ []) ++ []) all)) (more_questions_keep [] [] (λ all. tt))
+
+first_good : (q : QuestionView) (lines : List LineView) (bodies : List BodyView) → Every (λ b. AreGood b.names) bodies → with_texts lines bodies ≡ q ∷ [] → AreGood q.body.names
+first_good q lines [] g e = absurd cc
+first_good q lines (b ∷ bodies) g e =
+    let p : QuestionView = record { body = b; text = text_of_lines (take (question_line_count b) lines) } in
     let first : p ≡ q = cc in
-    subst (λ (y : QuestionView). AreGood y.body.names) first (question_good (limit_mark most_questions) x _ (letters_of_lines lines) a s)
+    subst (λ (y : QuestionView). AreGood y.body.names) first g.0
 
 -- ---- such names are found, and are no numbers
 
@@ -217,6 +218,7 @@ no_number (c ∷ cs) h =
 -- a rate of the question that a text asks
 pub rates_found : (q : QuestionView) (r : ℕ) → IsFile q.text (q ∷ []) → r < length q.body.names.rates → IsFoundIn q.body.names r × (step_of (rate_name q.body.names r) ≡ None)
 rates_found q r asked h =
-    let f = asked_is_written q.text (q ∷ []) asked in
-    let g = read_good q f.lines f.tree (lines_sound 1 (split_lines q.text) f.lines f.cut) f.spelled f.says in
+    let ls = letters_of_lines asked.lines in
+    let all = always_said file _ file_has IfSoundAll file_keeps ls asked.tree.0 (said file with_texts q.text (q ∷ []) asked) (lines_sound 1 (split_lines q.text) asked.lines asked.cut) in
+    let g = first_good q asked.lines asked.tree.0 all asked.says in
     (found_at q.body.names.rates r g.distinct h, no_number (rate_name q.body.names r) (every_at IsLettered q.body.names.rates r g.lettered h))

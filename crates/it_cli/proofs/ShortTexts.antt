@@ -1,23 +1,18 @@
 -- The text of each question of a file has at most one byte more than the file.
-use Rattle.std.proofs.Common.{◌≡◌, inl, inr, ℕ, zero, suc, ◌+◌, ◌-◌, ◌≤◌, ◌==◌, Bool, true, false, if◌then◌else◌, List, [], ◌∷◌, take, drop, length, All, Option, Some, None, refl, sym, ap, subst, ◌∙◌, arith, length-append}
+use Rattle.std.proofs.Common.{◌≡◌, inl, inr, ℕ, zero, suc, ◌+◌, ◌≤◌, ◌==◌, Bool, true, false, if◌then◌else◌, List, [], ◌∷◌, take, drop, length, All, Option, Some, None, refl, sym, ap, subst, arith, length-append}
 use Rattle.std.proofs.lemmas.List.{length-map}
 use Rattle.std.proofs.lemmas.List.Elements.{All-nil, All-cons}
 use Rattle.it_syntax.specs.declared.types.Misspelling.{Misspelling}
-use Rattle.it_forms.specs.Letters.{without_mark, letters, without_marks}
-use Rattle.it_forms.specs.Words.{limit_mark}
-use Rattle.it_question.specs.QuestionLimits.{most_questions}
 use Rattle.it_question.proofs.LetterLemmas.{length_with_ends, split_length}
 use Rattle.it_question.specs.Files.{IsFile}
-use Rattle.it_question.specs.Lines.{LineView, AreLines, split_lines, without_return, before_comment, without_tab, plain_text, file_end, letters_of_lines}
-use Rattle.it_question.specs.Questions.{QuestionView}
+use Rattle.it_question.specs.Lines.{LineView, AreLines, split_lines, without_return, before_comment, without_tab, plain_text}
 use Rattle.it_question.specs.Texts.{without_leading, unless_blank, without_trailing, trimmed_line, text_of_lines, question_line_count, with_texts}
-use Rattle.it_question.specs.WrittenQuestions.{WrittenQuestion}
-use Rattle.it_question.specs.WrittenFiles.{question_of, spell_questions, questions_of}
-use Rattle.it_question.proofs.FileLemmas.{asked_is_written}
-use Rattle.it_question.proofs.CleanLetters.{clean_parts}
-use Rattle.it_question.proofs.LineParts.{AreWhole, AreSound, lines_sound, letters_of_first_lines}
-use Rattle.it_question.proofs.LinePuts.{question_puts}
 use Rattle.it_question.proofs.FileLineLemmas.{return_shorter, comment_shorter}
+use Rattle.it_question.specs.QuestionForms.{file}
+use Rattle.it_question.specs.Questions.{BodyView, QuestionView}
+use Rattle.it_question.proofs.LineParts.{AreWhole, lines_sound}
+use Rattle.it_question.proofs.QuestionParts.{AreAt, questions_at}
+use Rattle.it_question.proofs.WholeFileLemmas.{said}
 
 -- ---- lines get no longer
 
@@ -96,25 +91,19 @@ taken_given (suc i) (l ∷ lines) = let k = taken_given i lines in omega (arith,
 abbrev IsShortBy : ℕ → QuestionView → Type 0
 IsShortBy most q = length q.text ≤ most
 
-all_short : (most n : ℕ) (xs : List WrittenQuestion) (lines : List LineView) → spell_questions n xs (without_mark file_end ∷ []) ≡ without_marks (letters_of_lines lines) → AreSound lines → given_all lines ≤ most
-    → All (IsShortBy most) (with_texts lines (questions_of xs))
-all_short most n [] lines e s h = All-nil (IsShortBy most)
-all_short most n (x ∷ xs) lines e s h =
-    let i = question_line_count (question_of x) in
-    let k = spell_questions (n - 1) xs (without_mark file_end ∷ []) in
-    let p = question_puts (limit_mark n) x in
-    let c = clean_parts p.front k (letters_of_lines lines) (sym (p.is k) ∙ e) in
-    let d = letters_of_first_lines i lines (letters p.front) (letters k) p.kind c.all s in
-    let q : QuestionView = record { body = question_of x; text = text_of_lines (take i lines) } in
+all_short : (most : ℕ) (lines : List LineView) (qs : List BodyView) → AreAt lines qs → given_all lines ≤ most → All (IsShortBy most) (with_texts lines qs)
+all_short most lines [] at h = All-nil (IsShortBy most)
+all_short most lines (x ∷ xs) at h =
+    let i = question_line_count x in
+    let q : QuestionView = record { body = x; text = text_of_lines (take i lines) } in
     let sum = taken_given i lines in
-    let text = whole_text (take i lines) d.whole in
+    let text = whole_text (take i lines) at.0.whole in
     let short : IsShortBy most q = omega (arith, sum, text, h) in
-    All-cons (IsShortBy most) q (with_texts (drop i lines) (questions_of xs)) short
-    (all_short most (n - 1) xs (drop i lines) (c.after ∙ ap without_marks (sym d.after)) d.sound (omega (arith, sum, h)))
+    All-cons (IsShortBy most) q (with_texts (drop i lines) xs) short (all_short most (drop i lines) xs at.1 (omega (arith, sum, h)))
 
 pub texts_are_short : (bytes : List ℕ) (qs : List QuestionView) → IsFile bytes qs → All (λ q. length q.text ≤ length bytes + 1) qs
 texts_are_short bytes qs asked =
-    let f = asked_is_written bytes qs asked in
-    let a = lines_short 1 (split_lines bytes) f.lines f.cut in
+    let a = lines_short 1 (split_lines bytes) asked.lines asked.cut in
     let b = split_length bytes in
-    subst (All (IsShortBy (length bytes + 1))) f.says (all_short (length bytes + 1) most_questions f.tree f.lines f.spelled (lines_sound 1 (split_lines bytes) f.lines f.cut) (omega (arith, a, b)))
+    let at = questions_at asked.lines asked.tree.0 (lines_sound 1 (split_lines bytes) asked.lines asked.cut) (said file with_texts bytes qs asked) in
+    subst (All (IsShortBy (length bytes + 1))) asked.says (all_short (length bytes + 1) asked.lines asked.tree.0 at (omega (arith, a, b)))

@@ -12,5 +12,4 @@ pub mod PointLemmas
 pub mod MisfitLemmas
 pub mod SizeLemmas
 pub mod CopyOutlines
-pub mod CopyReadings
 pub mod CopyFileLemmas

@@ -1,5 +1,4 @@
 pub mod CopyLines
-pub mod CopyReading
 pub mod Heads
 pub mod HeadSteps
 pub mod Files

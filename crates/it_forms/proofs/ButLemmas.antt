@@ -1,12 +1,13 @@
 -- Where none of some words stands, a form without them in front reads as the form.
-use Rattle.std.proofs.Common.{◌≡◌, Bool, true, false, cond, ◌||◌, List, [], ◌∷◌, ◌++◌, ℕ, refl, ap, ◌∙◌}
+use Rattle.std.proofs.Common.{◌≡◌, Bool, true, false, cond, ◌||◌, List, [], ◌∷◌, ◌++◌, ℕ, Option, Some, None, refl, ap, ◌∙◌}
 use Rattle.std.specs.Prelude.{bytes_eq, not}
 use Rattle.std.specs.List.{list_any}
+use Rattle.it_forms.specs.declared.types.Code.{Code}
 use Rattle.it_forms.specs.Reads.{Reads, ◌>>=◌}
 use Rattle.it_forms.specs.Letters.{Letter, Word, Number, Sym, End, Bad}
 use Rattle.it_forms.specs.Forms.{Kind, WordBut, is_of, is_among, Terminal, Form, Give, Take, Then, If, While}
-use Rattle.it_forms.specs.FormReading.{if_unmarked, if_taken, read}
-use Rattle.it_forms.specs.Words.{without, all_without, terminal_but, but}
+use Rattle.it_forms.specs.FormReading.{if_unmarked, if_taken, read, after}
+use Rattle.it_forms.specs.Words.{word, without, all_without, terminal_but, but}
 use Rattle.it_forms.proofs.FormTraces.{Reader}
 
 abbrev pub NoneStands : List (List ℕ) → List Letter → Type 0
@@ -44,3 +45,20 @@ read_but ts (Take t) ls h = same_terminal ts t ls _ _ _ h refl
 read_but ts (Then f g) ls h = ap (λ (r : Reads _). r >>= λ x. read (g x.0) x.1) (read_but ts f ls h)
 read_but ts (If t g other) ls h = same_terminal ts t ls _ _ _ h (read_but ts other ls h)
 read_but ts (While ks says step a) ls h = refl
+
+-- ---- where three words were looked for
+
+no_word : (t w : List ℕ) (ls : List Letter) → after (word t) (Word w ∷ ls) ≡ None → bytes_eq w t ≡ false
+no_word t w ls e = by_test (bytes_eq w t) e
+  where
+    by_test : (b : Bool) → cond {A = Option ((Option Code × Unit {0}) × List Letter)} (b || false) (Some ((None, tt), ls)) None ≡ None → b ≡ false
+    by_test true e = absurd cc
+    by_test false e = refl
+
+pub none_stands : (t u v : List ℕ) (ls : List Letter) → after (word t) ls ≡ None → after (word u) ls ≡ None → after (word v) ls ≡ None → NoneStands (t ∷ u ∷ v ∷ []) ls
+none_stands t u v (Word w ∷ ls) a b c = rw (no_word t w ls a, no_word u w ls b, no_word v w ls c) refl
+none_stands t u v [] a b c = tt
+none_stands t u v (Number n ∷ ls) a b c = tt
+none_stands t u v (Sym x ∷ ls) a b c = tt
+none_stands t u v (End ∷ ls) a b c = tt
+none_stands t u v (Bad d ∷ ls) a b c = tt

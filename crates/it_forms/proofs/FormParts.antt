@@ -5,6 +5,7 @@ use Rattle.it_forms.specs.Letters.{Letter}
 use Rattle.it_forms.specs.Reads.{Reads, ◌>>=◌, no_rule}
 use Rattle.it_forms.specs.Forms.{Kind, Terminal, is_among, Form, Give, Take, Then, If, While}
 use Rattle.it_forms.specs.FormReading.{if_unmarked, if_taken, read_turns, read}
+use Rattle.it_forms.specs.Words.{each, to_end}
 use Rattle.it_forms.proofs.FormTraces.{Reader}
 
 -- a fact of letters and of what they say
@@ -106,3 +107,20 @@ loop_keeps {A} {B} ks says step P h p a s n = turns n p a s
           (λ q c k. turns_weaker (λ c. record { kinds = ks; says = says c }) (λ c b Q. Always (step c b) Q) (λ c b P Q i w. always_weaker (step c b) P Q i w) n c (λ r y. P ((p ++ ((l ∷ []) ++ q)) ++ r) y) (λ r y. P (p ++ ((l ∷ []) ++ (q ++ r))) y)
           (λ r y w. subst (λ (x : List Letter). P x y) (append_assoc p ((l ∷ []) ++ q) r) w) (turns n (p ++ ((l ∷ []) ++ q)) c k)) (h p a s l e m),
     )
+
+-- ---- facts of the values alone
+
+-- of each that is put to others
+pub each_keeps : {A B C : Type 0} (ks : List Kind) (says : A → Letter → Option Code × B) (item : A → B → Form C) (put : A → C → A) (P : A → Type 0)
+    → ((a : A) → P a → OfEach (record { kinds = ks; says = says a }) (λ p b. Always (item a b) (λ q c. P (put a c)))) → (a : A) → P a → Always (each ks says item put a) (λ p y. P y)
+unfolding Always
+each_keeps ks says item put P h a s = loop_keeps ks says (λ a b. Then (item a b) (λ c. Give (put a c))) (λ p y. P y) (λ p a k. h a k) [] a s
+
+-- up to the line's end
+pub line_keeps : {A : Type 0} (f : Form A) (P : A → Type 0) → Always f (λ p y. P y) → Always (to_end f) (λ p y. P y)
+unfolding Always
+line_keeps f P h = always_weaker f _ _ (λ p y e l k m. e) h
+
+-- what always holds of the value holds of the one that is read
+pub value_read : {A : Type 0} (f : Form A) (P : A → Type 0) (ls r : List Letter) (y : A) → Always f (λ p y. P y) → read f ls ≡ Ok (y, r) → P y
+value_read f P ls r y h e = (subst (IfRead (λ p y. P y) ls) e (always_read f (λ p y. P y) ls h)).holds

@@ -10,6 +10,9 @@ pub mod FormWritten
 pub mod FormFaults
 pub mod FormLanguage
 pub mod FormParts
+pub mod FormFacts
+pub mod MarkedParts
+pub mod LineEnds
 pub mod MarkLemmas
 pub mod ButLemmas
-pub mod ReadingLemmas
+pub mod SymbolLemmas

@@ -5,7 +5,7 @@ use Rattle.it_forms.specs.Forms.{Form, Give, Take, Then, If, While}
 use Rattle.it_forms.specs.FormReading.{read}
 use Rattle.it_forms.specs.Words.{marked, allowed}
 
-unmarked_same : {A : Type 0} (f : Form A) → marked None f ≡ f
+pub unmarked_same : {A : Type 0} (f : Form A) → marked None f ≡ f
 unfolding marked
 unmarked_same (Give a) = refl
 unmarked_same (Take t) = refl

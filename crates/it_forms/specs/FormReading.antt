@@ -28,3 +28,8 @@ read (Take t) ls = if_taken t ls (λ a rest. Ok (a, rest)) (no_rule ls)
 read (Then f g) ls = read f ls >>= λ x. read (g x.0) x.1
 read (If t g h) ls = if_taken t ls (λ a rest. read (g a) rest) (read h ls)
 read (While ks says step a) ls = read_turns (λ a. record { kinds = ks; says = says a }) (λ a b. read (step a b)) (length ls) a ls
+
+-- what is said of the terminal that stands there, and what is after it
+abbrev pub after : {A : Type 0} → Terminal A → List Letter → Option ((Option Code × A) × List Letter)
+after t [] = None
+after t (l ∷ ls) = if is_among t.kinds l then Some (t.says l, ls) else None

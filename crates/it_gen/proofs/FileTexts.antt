@@ -1,94 +1,85 @@
 -- The file of drawn questions is read as these questions.
-use Rattle.std.proofs.Common.{◌≡◌, ℕ, zero, suc, ◌+◌, ◌-◌, ◌≤◌, true, List, [], ◌∷◌, ◌++◌, length, Option, None, codes, refl, sym, ap, ◌∙◌, subst, inr, append_assoc, append-nil, arith}
+use Rattle.std.proofs.Common.{◌≡◌, ℕ, zero, suc, ◌+◌, ◌-◌, ◌≤◌, List, [], ◌∷◌, ◌++◌, length, Option, None, codes, refl, sym, ap, ◌∙◌, subst, inr, append_assoc, append-nil, arith, inl, length-append, ◌<◌}
 use Rattle.std.proofs.lemmas.List.Elements.{All-nil, All-cons}
 use Rattle.std.specs.Prelude.{All}
-use Rattle.it_syntax.specs.declared.types.Sign.TheVariants.{AtLeast}
 use Rattle.it_forms.specs.declared.types.Symbol.TheVariants as symbols
 use Rattle.it_syntax.specs.declared.types.Token.{Token}
 use Rattle.it_syntax.specs.declared.types.TokenKind.TheVariants as kinds
 use Rattle.it_forms.specs.declared.types.Code.{Code}
 use Rattle.it_syntax.specs.Givens.{IsGivenOf}
-use Rattle.it_forms.specs.Letters.{Word, Sym, End, MarkedLetters, without_mark, letters, without_marks}
 use Rattle.it_forms.proofs.LetterLemmas.{cleaned_append}
-use Rattle.it_question.specs.WrittenNames.{spell_new_names, new_names_of}
-use Rattle.it_question.specs.Questions.{no_lines}
-use Rattle.it_question.specs.QuestionLimits.{most_variables}
-use Rattle.it_syntax.specs.Scopes.{scope_of}
 use Rattle.it_syntax.specs.Spans.{letters_until}
 use Rattle.it_syntax.specs.Spelling.{is_word_byte, Stops, IsText}
-use Rattle.it_syntax.specs.WrittenMeasures.{Positive}
-use Rattle.it_syntax.specs.WrittenRelations.{WrittenRelation, spell_relation}
 use Rattle.it_question.specs.Keywords.{vars_keyword, prove_keyword}
 use Rattle.it_question.specs.Lines.{LineView, AreLines, IsFilled, split_lines, file_end, end_line, letters_of_lines}
-use Rattle.it_question.specs.NewNames.{Variable, no_names, is_taken}
 use Rattle.it_question.specs.Tables.{size_mark}
-use Rattle.it_question.proofs.FileLemmas.{written_is_asked}
 use Rattle.it_question.proofs.TableLemmas.{few_variables}
 use Rattle.it_question.specs.Texts.{with_texts}
-use Rattle.it_question.specs.WrittenFiles.{spell_question, spell_questions, questions_of, AskAsWritten}
-use Rattle.it_question.specs.WrittenQuestions.{WrittenQuestion, Prove}
 use Rattle.it_question.proofs.PlainLines.{spelled_plain, plain_same, plain_first}
 use Rattle.it_gen.specs.Draws.{state_after}
-use Rattle.it_gen.specs.GeneratedFiles.{generated_term_text, bound_text, question_text, generated_file, IsProve, GeneratedIsFile}
-use Rattle.it_gen.proofs.SpelledLines.{IsSpelled, line_end, Writes, Anything, writes_then, writes_space, writes_word, writes_symbol}
-use Rattle.it_gen.proofs.PartTexts.{four_variables, term_tree, bound_tree, term_writes, bound_writes}
+use Rattle.it_gen.specs.GeneratedFiles.{question_text, generated_file, IsProve, GeneratedIsFile}
+use Rattle.it_gen.proofs.SpelledLines.{IsSpelled, end_spelled, Writes, Anything, writes_then, writes_space, writes_word, writes_symbol}
 use Rattle.it_gen.proofs.Lengths.{generated_short}
+use Rattle.it_forms.specs.Forms.{Punctuation, Then, Spells}
+use Rattle.it_forms.specs.Letters.{Word, Sym, End, MarkedLetters, without_mark, letters, without_marks}
+use Rattle.it_forms.specs.Words.{line_end, limit_mark}
+use Rattle.it_syntax.specs.NameMarks.{is_measure}
+use Rattle.it_syntax.specs.NamesViews.{NamesView}
+use Rattle.it_question.specs.Files.{IsFile}
+use Rattle.it_question.specs.NewNames.{Variable, no_names, with_name, is_taken, new_mark}
+use Rattle.it_question.specs.QuestionForms.{new_name, more_new, new_names, names_line, own_lines, more_own_lines, verb, question, more_questions, file}
+use Rattle.it_question.specs.QuestionLimits.{most_questions, most_variables, most_lines}
+use Rattle.it_question.specs.Questions.{BodyView, Prove, no_lines}
+use Rattle.it_gen.proofs.SpelledForms.{IsLetter, IsWritten, letter_written, then_written, none_written, one_written}
+use Rattle.it_gen.proofs.PartTexts.{four_variables, relation_text, relation_written}
 
--- ---- the two lines of a question
-
-relation_tree : ℕ → WrittenRelation
-relation_tree x = record {
-  left = record { sign = None; first = term_tree x; more = (Positive, term_tree (state_after 2 x)) ∷ (Positive, term_tree (state_after 4 x)) ∷ [] };
-  sign = AtLeast;
-  right = record { sign = None; first = bound_tree (state_after 6 x); more = [] };
-}
-
-question_tree : ℕ → WrittenQuestion
-question_tree x = record { variables = record { first = codes "A"; more = codes "B" ∷ codes "C" ∷ codes "D" ∷ [] }; rates = None; lines = []; verb = Prove (relation_tree x) }
+-- ---- the lines of a question
 
 keyword : (w : List ℕ) → IsText kinds.Word w → Writes Anything (w ++ 32 ∷ []) (λ k. without_mark (Word w) ∷ k)
 unfolding is_word_byte
 keyword w h = writes_then (writes_word w h) writes_space (λ rest d. refl)
 
--- a name, and `, ` after it
-name_and_comma : (w : List ℕ) → IsText kinds.Word w → Writes Anything (w ++ codes ", ") (λ k. without_mark (Word w) ∷ without_mark (Sym symbols.Comma) ∷ k)
-unfolding is_word_byte
-name_and_comma w h = writes_then (writes_word w h) (writes_then (writes_symbol symbols.Comma) writes_space (λ rest d. tt)) (λ rest d. refl)
+new_written : (v : NamesView) (w : List ℕ) → IsText kinds.Word w → new_mark (is_measure w) (is_taken v w) (most_variables - length v.variables) ≡ None → IsWritten (Stops is_word_byte) w (new_name Variable most_variables v)
+unfolding new_name
+new_written v w h e = letter_written (record { letter = Word w; writes = writes_word w h; among = refl; says = ap (λ (mark : Option Code). (mark, with_name Variable v w)) e })
+
+comma : IsLetter Anything (codes ", ") (record { kinds = Punctuation symbols.Comma ∷ []; says = λ l. (None, tt {0}) }) tt
+comma = record { letter = Sym symbols.Comma; writes = writes_then (writes_symbol symbols.Comma) writes_space (λ rest d. tt); among = refl; says = refl }
+
+-- variables without rates
+abbrev variables_alone : List (List ℕ) → NamesView
+variables_alone names = record { variables = names; rates = [] }
+
+-- the names of the variables
+declared : IsWritten (Stops is_word_byte) (codes "A, B, C, D") (Then (new_name Variable most_variables no_names) (more_new Variable most_variables))
+unfolding more_new is_word_byte is_taken new_written letter_written
+declared =
+    let short : 1 ≤ 16 = omega arith in
+    then_written (new_written no_names (codes "A") (refl, (refl, tt), short) refl)
+    (one_written comma (new_written (variables_alone (codes "A" ∷ [])) (codes "B") (refl, (refl, tt), short) refl)
+    (one_written comma (new_written (variables_alone (codes "A" ∷ codes "B" ∷ [])) (codes "C") (refl, (refl, tt), short) refl) (one_written comma (new_written (variables_alone (codes "A" ∷ codes "B" ∷ codes "C" ∷ [])) (codes "D") (refl, (refl, tt), short) refl) (none_written _) (λ rest d. d)) (λ rest d. refl)) (λ rest d. refl)) (λ rest d. refl)
 
 vars_line : List ℕ
 vars_line = codes "vars A, B, C, D"
 
-vars_writes : Writes (Stops is_word_byte) vars_line (λ k. without_mark (Word vars_keyword) ∷ spell_new_names Variable most_variables no_names (question_tree 0).variables k)
-unfolding vars_line is_word_byte is_taken question_tree
-vars_writes =
-    let short : 1 ≤ 16 = omega arith in
-    let short_vars : 4 ≤ 16 = omega arith in
-    writes_then (keyword (codes "vars") (refl, (refl, (refl, (refl, (refl, tt)))), short_vars))
-    (writes_then (name_and_comma (codes "A") (refl, (refl, tt), short))
-    (writes_then (name_and_comma (codes "B") (refl, (refl, tt), short))
-    (writes_then (name_and_comma (codes "C") (refl, (refl, tt), short)) (writes_word (codes "D") (refl, (refl, tt), short)) (λ rest d. tt)) (λ rest d. tt)) (λ rest d. tt)) (λ rest d. tt)
+vars_writes : Writes (Stops is_word_byte) vars_line (λ k. without_mark (Word vars_keyword) ∷ declared.front k)
+unfolding vars_line is_word_byte
+vars_writes = let short : 4 ≤ 16 = omega arith in writes_then (keyword (codes "vars") (refl, (refl, (refl, (refl, (refl, tt)))), short)) declared.writes (λ rest d. tt)
 
 prove_line : ℕ → List ℕ
-prove_line x = codes "prove " ++ generated_term_text x ++ codes " + " ++ generated_term_text (state_after 2 x) ++ codes " + " ++ generated_term_text (state_after 4 x) ++ codes " >= " ++ bound_text (state_after 6 x)
+prove_line x = codes "prove " ++ relation_text x
 
-plus_writes : Writes Anything (codes " + ") (λ k. without_mark (Sym symbols.Plus) ∷ k)
-plus_writes = writes_then writes_space (writes_then (writes_symbol symbols.Plus) writes_space (λ rest d. tt)) (λ rest d. tt)
+prove_writes : (x : ℕ) → Writes Anything (prove_line x) (λ k. without_mark (Word prove_keyword) ∷ (relation_written x).front k)
+unfolding prove_line is_word_byte
+prove_writes x = let short : 5 ≤ 16 = omega arith in writes_then (keyword (codes "prove") (refl, (refl, (refl, (refl, (refl, (refl, tt))))), short)) (relation_written x).writes (λ rest d. tt)
 
-at_least_writes : Writes Anything (codes " >= ") (λ k. without_mark (Sym symbols.AtLeast) ∷ k)
-at_least_writes = writes_then writes_space (writes_then (writes_symbol symbols.AtLeast) writes_space (λ rest d. tt)) (λ rest d. tt)
+-- the letters of a question after `vars`, before k
+question_letters : ℕ → MarkedLetters → MarkedLetters
+question_letters x k = declared.front (without_mark End ∷ (without_mark (Word prove_keyword) ∷ (relation_written x).front (without_mark End ∷ k)))
 
--- whatever follows each of these parts
-writes_both : {a b : List ℕ} {s t : MarkedLetters → MarkedLetters} → Writes Anything a s → Writes Anything b t → Writes Anything (a ++ b) (λ k. s (t k))
-writes_both p q = writes_then p q (λ rest d. tt)
-
-prove_writes : (x : ℕ) → Writes Anything (prove_line x) (λ k. without_mark (Word prove_keyword) ∷ spell_relation (scope_of four_variables true) (relation_tree x) k)
-unfolding prove_line relation_tree is_word_byte
-prove_writes x =
-    let short : 5 ≤ 16 = omega arith in
-    let first = writes_both (keyword (codes "prove") (refl, (refl, (refl, (refl, (refl, (refl, tt))))), short)) (term_writes 1 x) in
-    let second = writes_both (writes_both first plus_writes) (term_writes 1 (state_after 2 x)) in
-    let third = writes_both (writes_both second plus_writes) (term_writes 1 (state_after 4 x)) in
-    writes_both (writes_both third at_least_writes) (bound_writes 1 (state_after 6 x))
+-- what they say
+body : ℕ → BodyView
+body x = record { names = four_variables; lines = no_lines; verb = Prove (relation_written x).value }
 
 -- ---- lines
 
@@ -115,54 +106,97 @@ line_read n line more w k tail h r =
 
 -- a whole line
 line_is_spelled : {C : List ℕ → Type 0} {text : List ℕ} {s : MarkedLetters → MarkedLetters} → Writes C text s → C [] → (tail : MarkedLetters) → IsSpelled tail [] text (s (without_mark End ∷ tail))
-line_is_spelled {C} {text} {s} p c tail = subst (λ (bytes : List ℕ). IsSpelled tail [] bytes (s (without_mark End ∷ tail))) (append-nil text) (p.go tail [] [] (without_mark End ∷ tail) c (line_end tail text))
+line_is_spelled {C} {text} {s} p c tail = subst (λ (bytes : List ℕ). IsSpelled tail [] bytes (s (without_mark End ∷ tail))) (append-nil text) (p.go tail [] [] (without_mark End ∷ tail) c (end_spelled tail text))
 
 question_lines_are : (x : ℕ) (more : List ℕ) → question_text x ++ more ≡ vars_line ++ 10 ∷ (prove_line x ++ 10 ∷ more)
 unfolding question_text vars_line prove_line
 question_lines_are x more = simp append_assoc
 
 -- four variables without lines have a small table
-four_small : size_mark (new_names_of Variable no_names (question_tree 0).variables) no_lines ≡ None
-unfolding question_tree
-four_small = few_variables (new_names_of Variable no_names (question_tree 0).variables) no_lines (omega arith) (omega arith) (All-nil (IsGivenOf 4)) (omega arith) (omega arith)
+four_small : size_mark four_variables no_lines ≡ None
+four_small = few_variables four_variables no_lines (omega arith) (omega arith) (All-nil (IsGivenOf 4)) (omega arith) (omega arith)
 
-question_read : (n : ℕ) (x : ℕ) (more : List ℕ) (k : MarkedLetters) → AreRead (n + 1 + 1) more k → AreRead n (question_text x ++ more) (without_mark (Word vars_keyword) ∷ spell_question (question_tree x) k)
-unfolding question_tree is_taken
+end_says : (k : MarkedLetters) → Spells line_end tt (without_mark End ∷ k) k
+unfolding Spells
+end_says k = (End, refl, refl, refl)
+
+names_say : (k : MarkedLetters) → Spells (new_names Variable most_variables no_names) four_variables (declared.front (without_mark End ∷ k)) k
+unfolding Spells new_names more_new declared new_written letter_written then_written one_written none_written
+names_say k = let d = declared.says (without_mark End ∷ k) in (d.0, d.1, d.2, (four_variables, without_mark End ∷ k, d.3, (tt, k, end_says k, (refl, refl))))
+
+question_says : (x : ℕ) (k : MarkedLetters) → Spells question (body x) (question_letters x k) k
+unfolding Spells question body question_letters names_line more_own_lines verb
+question_says x k =
+    let r = (relation_written x).front (without_mark End ∷ k) in
+    let p = without_mark (Word prove_keyword) ∷ r in
+    let own : Spells (own_lines most_lines most_lines four_variables) no_lines p p = (zero, (refl, refl)) in
+    let aim : Spells (verb no_lines four_variables) (Prove (relation_written x).value) p k =
+    inl (
+      tt,
+      r,
+      (Word prove_keyword, refl, refl, ap (λ (c : Option Code). (Word prove_keyword, c) ∷ r) (sym four_small)),
+      ((relation_written x).value, k, ((relation_written x).value, without_mark End ∷ k, (relation_written x).says (without_mark End ∷ k), (tt, k, end_says k, (refl, refl))), (refl, refl)),
+    ) in
+    (four_variables, p, names_say p, (four_variables, p, inr (refl, refl), (no_lines, p, own, (Prove (relation_written x).value, k, aim, (refl, refl)))))
+
+question_read : (n : ℕ) (x : ℕ) (more : List ℕ) (k : MarkedLetters) → AreRead (n + 1 + 1) more k → AreRead n (question_text x ++ more) (without_mark (Word vars_keyword) ∷ question_letters x k)
+unfolding question_letters
 question_read n x more k h =
-    let relation = spell_relation (scope_of four_variables true) (relation_tree x) (without_mark End ∷ k) in
-    let marked : AreRead n (vars_line ++ 10 ∷ (prove_line x ++ 10 ∷ more)) (without_mark (Word vars_keyword) ∷ spell_question (question_tree x) k) =
-    subst (λ (c : Option Code). AreRead n (vars_line ++ 10 ∷ (prove_line x ++ 10 ∷ more)) (without_mark (Word vars_keyword) ∷ spell_new_names Variable most_variables no_names (question_tree 0).variables (without_mark End ∷ ((Word prove_keyword, c) ∷ relation)))) (sym four_small)
-    (line_read n vars_line (prove_line x ++ 10 ∷ more) vars_keyword _ (without_mark (Word prove_keyword) ∷ relation) (line_is_spelled vars_writes tt _)
-    (line_read (n + 1) (prove_line x) more prove_keyword relation k (line_is_spelled (prove_writes x) tt k) h)) in
-    subst (λ (bytes : List ℕ). AreRead n bytes (without_mark (Word vars_keyword) ∷ spell_question (question_tree x) k)) (sym (question_lines_are x more)) marked
+    let r = (relation_written x).front (without_mark End ∷ k) in
+    subst (λ (bytes : List ℕ). AreRead n bytes (without_mark (Word vars_keyword) ∷ question_letters x k)) (sym (question_lines_are x more))
+    (line_read n vars_line (prove_line x ++ 10 ∷ more) vars_keyword _ (without_mark (Word prove_keyword) ∷ r) (line_is_spelled vars_writes tt _)
+    (line_read (n + 1) (prove_line x) more prove_keyword r k (line_is_spelled (prove_writes x) tt k) h))
 
 -- ---- the file
 
-trees : ℕ → ℕ → List WrittenQuestion
-trees seed zero = []
-trees seed (suc count) = question_tree seed ∷ trees (state_after 8 seed) count
+bodies : ℕ → ℕ → List BodyView
+bodies seed zero = []
+bodies seed (suc count) = body seed ∷ bodies (state_after 8 seed) count
 
-file_read : (seed count n limit : ℕ) → count ≤ limit → AreRead n (generated_file seed count) (spell_questions limit (trees seed count) (without_mark file_end ∷ []))
-unfolding trees
-file_read seed zero n limit le = record { lines = end_line n ∷ []; cut = refl; same = refl }
-file_read seed (suc count) n zero le = absurd (omega (arith, le))
-file_read seed (suc count) n (suc limit) le =
-    let less : suc limit - 1 ≡ limit = omega arith in
-    subst (λ (i : ℕ). AreRead n (generated_file seed (suc count)) (without_mark (Word vars_keyword) ∷ spell_question (question_tree seed) (spell_questions i (trees (state_after 8 seed) count) (without_mark file_end ∷ [])))) (sym less)
-    (question_read n seed (generated_file (state_after 8 seed) count) (spell_questions limit (trees (state_after 8 seed) count) (without_mark file_end ∷ [])) (file_read (state_after 8 seed) count (n + 1 + 1) limit (omega (arith, le))))
+file_letters : ℕ → ℕ → MarkedLetters
+file_letters seed zero = without_mark file_end ∷ []
+file_letters seed (suc count) = without_mark (Word vars_keyword) ∷ question_letters seed (file_letters (state_after 8 seed) count)
 
-question_count : (seed count : ℕ) (lines : List LineView) → length (with_texts lines (questions_of (trees seed count))) ≡ count
-unfolding trees
+file_read : (seed count n : ℕ) → AreRead n (generated_file seed count) (file_letters seed count)
+unfolding file_letters
+file_read seed zero n = record { lines = end_line n ∷ []; cut = refl; same = refl }
+file_read seed (suc count) n = question_read n seed (generated_file (state_after 8 seed) count) (file_letters (state_after 8 seed) count) (file_read (state_after 8 seed) count (n + 1 + 1))
+
+not_many : (i : ℕ) → i < most_questions → limit_mark (most_questions - i) ≡ None
+not_many i h = by_number (most_questions - i) (omega (arith, h))
+  where
+    by_number : (n : ℕ) → 0 < n → limit_mark n ≡ None
+    by_number zero h = absurd (omega (arith, h))
+    by_number (suc n) h = refl
+
+questions_say : (seed count : ℕ) (qs : List BodyView) → length qs + count ≤ most_questions → Spells (more_questions qs) (qs ++ bodies seed count) (file_letters seed count) (without_mark file_end ∷ [])
+unfolding Spells more_questions bodies file_letters
+questions_say seed zero qs few = (zero, (sym (append-nil qs), refl))
+questions_say seed (suc count) qs few =
+    let q = body seed in
+    let next = file_letters (state_after 8 seed) count in
+    let m = question_letters seed next in
+    let w = subst (λ (all : List BodyView). Spells (more_questions (qs ++ q ∷ [])) all next (without_mark file_end ∷ [])) (append_assoc qs (q ∷ []) (bodies (state_after 8 seed) count))
+    (questions_say (state_after 8 seed) count (qs ++ q ∷ []) (omega (arith, few, length-append qs (q ∷ [])))) in
+    (suc w.0, (tt, m, qs ++ q ∷ [], next, (Word vars_keyword, refl, refl, ap (λ (c : Option Code). (Word vars_keyword, c) ∷ m) (sym (not_many (length qs) (omega (arith, few))))), (q, next, question_says seed next, (refl, refl)), w.1))
+
+file_says : (seed count : ℕ) → count ≤ most_questions → Spells file (bodies seed count) (file_letters seed count) []
+unfolding Spells file
+file_says seed count few = (bodies seed count, without_mark file_end ∷ [], questions_say seed count [] (omega (arith, few)), (tt, [], (file_end, refl, refl, refl), (refl, refl)))
+
+question_count : (seed count : ℕ) (lines : List LineView) → length (with_texts lines (bodies seed count)) ≡ count
+unfolding bodies
 question_count seed zero lines = refl
 question_count seed (suc count) lines = ap suc (question_count (state_after 8 seed) count _)
 
-all_prove : (seed count : ℕ) (lines : List LineView) → All IsProve (with_texts lines (questions_of (trees seed count)))
-unfolding trees question_tree
+all_prove : (seed count : ℕ) (lines : List LineView) → All IsProve (with_texts lines (bodies seed count))
+unfolding bodies body
 all_prove seed zero lines = All-nil IsProve
 all_prove seed (suc count) lines = All-cons IsProve _ _ tt (all_prove (state_after 8 seed) count _)
 
 pub generated_is_file : GeneratedIsFile
 generated_is_file seed count few =
-    let r = file_read seed count 1 1000 few in
-    let asked : AskAsWritten (generated_file seed count) (with_texts r.lines (questions_of (trees seed count))) = record { lines = r.lines; cut = r.cut; tree = trees seed count; spelled = r.same; says = refl } in
-    record { questions = _; asked = written_is_asked (generated_file seed count) (with_texts r.lines (questions_of (trees seed count))) asked; counted = question_count seed count r.lines; prove = all_prove seed count r.lines; short = generated_short seed count few }
+    let r = file_read seed count 1 in
+    let qs = with_texts r.lines (bodies seed count) in
+    let asked : IsFile (generated_file seed count) qs = record { lines = r.lines; cut = r.cut; tree = (bodies seed count, file_letters seed count, file_says seed count few); spelled = r.same; says = refl } in
+    record { questions = qs; asked = asked; counted = question_count seed count r.lines; prove = all_prove seed count r.lines; short = generated_short seed count few }

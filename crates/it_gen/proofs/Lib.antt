@@ -1,4 +1,5 @@
 pub mod SpelledLines
+pub mod SpelledForms
 pub mod PartTexts
 pub mod QuestionSteps
 pub mod Lengths

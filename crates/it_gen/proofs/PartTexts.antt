@@ -1,6 +1,6 @@
--- The parts of a drawn question as they are written, and their texts.
-use Rattle.std.proofs.Common.{◌≡◌, ℕ, zero, suc, ◌+◌, ◌-◌, ◌/◌, ◌^◌, ◌<◌, ◌≤◌, ◌==◌, Bool, true, false, cond, List, [], ◌∷◌, ◌++◌, length, Option, None, codes, refl, sym, subst, arith}
-use Rattle.std.specs.Prelude.{nat_eq, decimal}
+-- The parts of a drawn question are written in their forms.
+use Rattle.std.proofs.Common.{◌≡◌, ℕ, zero, suc, ◌+◌, ◌-◌, ◌/◌, ◌^◌, ◌<◌, ◌≤◌, ◌==◌, Bool, true, false, cond, List, [], ◌∷◌, ◌++◌, length, Option, None, codes, refl, sym, ap, subst, arith, append_assoc, append-nil}
+use Rattle.std.specs.Prelude.{nat_eq, decimal, bit_or}
 use Rattle.std.specs.Int.{bit_at}
 use Rattle.std.proofs.lemmas.Nat.Bits.{bit_at-lt}
 use Rattle.std.proofs.Math.Dec.{lit<}
@@ -13,20 +13,24 @@ use Rattle.it_elemental.specs.Views.{IsElemental}
 use Rattle.it_elemental.proofs.PlaceLemmas.{is_elemental}
 use Rattle.it_forms.specs.declared.types.Code.{Code}
 use Rattle.it_forms.specs.declared.types.Symbol.TheVariants as symbols
-use Rattle.it_syntax.specs.declared.types.TokenKind.TheVariants as kinds
+use Rattle.it_forms.specs.Forms.{Form}
 use Rattle.it_forms.specs.Letters.{Word, Number, Sym, without_mark}
-use Rattle.it_syntax.specs.NameMarks.{entropy_text, mutual_text, name_mark}
+use Rattle.it_forms.specs.Words.{symbol, word, any_word, marked}
+use Rattle.it_syntax.specs.declared.types.Atom.{Atom}
+use Rattle.it_syntax.specs.declared.types.Sign.TheVariants.{AtLeast}
+use Rattle.it_syntax.specs.declared.types.TokenKind.TheVariants as kinds
+use Rattle.it_syntax.specs.LineForms.{variable, more_names, names, given_set, entropy, mutual_information, measure_or, atom, atom_or_nothing, term, signs, is_minus, more_terms, terms, sum, compare, relation}
+use Rattle.it_syntax.specs.Meaning.{multiple_from}
+use Rattle.it_syntax.specs.Multiples.{most_terms}
+use Rattle.it_syntax.specs.NameMarks.{entropy_text, mutual_text, name_mark, index_or}
 use Rattle.it_syntax.specs.NamesViews.{NamesView}
-use Rattle.it_syntax.specs.Scopes.{env_of, scope_of, Environment}
+use Rattle.it_syntax.specs.Scopes.{Environment, Scope, env_of, scope_of}
 use Rattle.it_syntax.specs.Spelling.{is_word_byte, Stops, IsText}
-use Rattle.it_syntax.specs.WrittenMeasures.{WrittenList, WrittenMeasure, spell_name, spell_more, spell_list, spell_measure}
-use Rattle.it_syntax.specs.WrittenMeasures as written
-use Rattle.it_syntax.specs.WrittenRelations.{WrittenTerm, Times, Measure, spell_term}
-use Rattle.it_syntax.proofs.TokenLemmas.{empty_len}
-use Rattle.it_print.specs.Lines.{joined_texts, one_if, members_from, set_text, given_set_text, elemental_text}
+use Rattle.it_print.specs.Lines.{joined_texts, one_if, members_from, set_text, elemental_text}
 use Rattle.it_gen.specs.Draws.{state_after, draw}
 use Rattle.it_gen.specs.GeneratedFiles.{four_names, generated_term_text, bound_text}
-use Rattle.it_gen.proofs.SpelledLines.{Writes, Anything, writes_then, writes_nothing, writes_space, writes_word, writes_number, writes_symbol}
+use Rattle.it_gen.proofs.SpelledLines.{Writes, Anything, writes_then, writes_space, writes_word, writes_number, writes_symbol}
+use Rattle.it_gen.proofs.SpelledForms.{IsLetter, IsWritten, same_text, letter_written, then_written, last_written, first_written, other_written, none_written, one_written, give_written}
 
 -- ---- names
 
@@ -58,11 +62,12 @@ members_known i (w ∷ ws) set h = by_test (has_member set i) (members_known (i 
     by_test true more = (h.0, more)
     by_test false more = more
 
-name_writes : (w : List ℕ) → IsKnown w → Writes (Stops is_word_byte) w (spell_name env w)
-name_writes w h = subst (λ (mark : Option Code). Writes (Stops is_word_byte) w (λ k. (Word w, mark) ∷ k)) (sym h.1) (writes_word w h.0)
+name_letter : (w : List ℕ) → IsKnown w → IsLetter (Stops is_word_byte) w (any_word (λ w. (name_mark env w, index_or (env w)))) (index_or (env w))
+name_letter w h = record { letter = Word w; writes = writes_word w h.0; among = refl; says = ap (λ (mark : Option Code). (mark, index_or (env w))) h.1 }
 
-comma_writes : Writes Anything (codes ",") (λ k. without_mark (Sym symbols.Comma) ∷ k)
-comma_writes = writes_symbol symbols.Comma
+variable_written : (w : List ℕ) → IsKnown w → IsWritten (Stops is_word_byte) w (variable env)
+unfolding variable
+variable_written w h = letter_written (name_letter w h)
 
 -- what follows a name is a comma, or follows the last name
 after_name : (ws : List (List ℕ)) (rest : List ℕ) → Stops is_word_byte rest → Stops is_word_byte (joined_texts (codes ",") true ws ++ rest)
@@ -70,25 +75,22 @@ unfolding is_word_byte
 after_name [] rest h = h
 after_name (w ∷ ws) rest h = refl
 
-more_writes : (ws : List (List ℕ)) → AreKnown ws → Writes (Stops is_word_byte) (joined_texts (codes ",") true ws) (spell_more env ws)
-more_writes [] h = writes_nothing
-more_writes (w ∷ ws) h = writes_then comma_writes (writes_then (name_writes w h.0) (more_writes ws h.1) (after_name ws)) (λ rest d. tt)
+more_written : (ws : List (List ℕ)) (set : ℕ) → AreKnown ws → IsWritten (Stops is_word_byte) (joined_texts (codes ",") true ws) (more_names env set)
+unfolding more_names
+more_written [] set h = none_written set
+more_written (w ∷ ws) set h =
+    let name = variable_written w h.0 in
+    one_written (record { letter = Sym symbols.Comma; writes = writes_symbol symbols.Comma; among = refl; says = refl }) name (more_written ws (bit_or set (2 ^ name.value)) h.1) (after_name ws)
 
-list_writes : (w : List ℕ) (ws : List (List ℕ)) → AreKnown (w ∷ ws) → Writes (Stops is_word_byte) (joined_texts (codes ",") false (w ∷ ws)) (spell_list env (record { first = w; more = ws }))
-list_writes w ws h = writes_then (name_writes w h.0) (more_writes ws h.1) (after_name ws)
+names_written : (w : List ℕ) (ws : List (List ℕ)) → AreKnown (w ∷ ws) → IsWritten (Stops is_word_byte) (joined_texts (codes ",") false (w ∷ ws)) (names env)
+unfolding names
+names_written w ws h = let name = variable_written w h.0 in then_written name (more_written ws (2 ^ name.value) h.1) (after_name ws)
 
 -- ---- sets
 
 -- one that isn't empty, of four variables
 abbrev IsSome : ℕ → Type 0
 IsSome s = (1 ≤ s) × (s < 16)
-
-abbrev names_list : List (List ℕ) → WrittenList
-names_list [] = record { first = []; more = [] }
-names_list (w ∷ ws) = record { first = w; more = ws }
-
-abbrev pub set_tree : ℕ → WrittenList
-set_tree s = names_list (members_from 0 four_names s)
 
 abbrev HasFirst : List (List ℕ) → Type 0
 HasFirst ws = (first : List ℕ) × (more : List (List ℕ)) × (ws ≡ first ∷ more)
@@ -115,81 +117,77 @@ has_first s h = by_test (has_member s 0) (has_member s 1) (has_member s 2) (has_
     by_test false false false true e f g i = (codes "D", [], refl)
     by_test false false false false e f g i = absurd (not_all_absent (no_bit s 0 e) (no_bit s 1 f) (no_bit s 2 g) (no_bit s 3 i))
 
-set_writes : (s : ℕ) → IsSome s → Writes (Stops is_word_byte) (set_text four_names s) (spell_list env (set_tree s))
+set_written : (s : ℕ) → IsSome s → IsWritten (Stops is_word_byte) (set_text four_names s) (names env)
 unfolding set_text
-set_writes s h = by_list (members_from 0 four_names s) (has_first s h) (members_known 0 four_names s names_known)
+set_written s h = by_list (members_from 0 four_names s) (has_first s h) (members_known 0 four_names s names_known)
   where
-    by_list : (ws : List (List ℕ)) → HasFirst ws → AreKnown ws → Writes (Stops is_word_byte) (joined_texts (codes ",") false ws) (spell_list env (names_list ws))
+    by_list : (ws : List (List ℕ)) → HasFirst ws → AreKnown ws → IsWritten (Stops is_word_byte) (joined_texts (codes ",") false ws) (names env)
     by_list [] f k = absurd (elim_none f.0 f.1 f.2)
       where
         elim_none : (first : List ℕ) (more : List (List ℕ)) → [] ≡ first ∷ more → ⊥
         elim_none first more e = absurd cc
-    by_list (w ∷ ws) f k = list_writes w ws k
+    by_list (w ∷ ws) f k = names_written w ws k
 
 -- ---- elemental inequalities
 
-abbrev mutual_tree : Bool → ℕ → ℕ → ℕ → WrittenMeasure
-mutual_tree true a b c = written.Mutual (set_tree a) (set_tree b)
-mutual_tree false a b c = written.MutualGiven (set_tree a) (set_tree b) (set_tree c)
+right_paren : IsLetter Anything (codes ")") (symbol symbols.RightParen) tt
+right_paren = record { letter = Sym symbols.RightParen; writes = writes_symbol symbols.RightParen; among = refl; says = refl }
 
-abbrev pub elemental_tree : Elemental → WrittenMeasure
-elemental_tree (Conditional i) = written.EntropyGiven (set_tree (2 ^ i)) (set_tree (2 ^ 4 - 1 - 2 ^ i))
-elemental_tree (Mutual i j k) = mutual_tree (k == 0) (2 ^ i) (2 ^ j) k
+left_paren : IsLetter Anything (codes "(") (symbol symbols.LeftParen) tt
+left_paren = record { letter = Sym symbols.LeftParen; writes = writes_symbol symbols.LeftParen; among = refl; says = refl }
 
-right_paren_writes : Writes Anything (codes ")") (λ k. without_mark (Sym symbols.RightParen) ∷ k)
-right_paren_writes = writes_symbol symbols.RightParen
+semicolon : IsLetter Anything (codes ";") (symbol symbols.Semicolon) tt
+semicolon = record { letter = Sym symbols.Semicolon; writes = writes_symbol symbols.Semicolon; among = refl; says = refl }
 
-word_opening : (w : List ℕ) → IsText kinds.Word w → Writes Anything (w ++ codes "(") (λ k. without_mark (Word w) ∷ without_mark (Sym symbols.LeftParen) ∷ k)
+bar : IsLetter Anything (codes "|") (symbol symbols.Bar) tt
+bar = record { letter = Sym symbols.Bar; writes = writes_symbol symbols.Bar; among = refl; says = refl }
+
+entropy_letter : IsLetter (Stops is_word_byte) (codes "H") (word entropy_text) tt
 unfolding is_word_byte
-word_opening w h = writes_then (writes_word w h) (writes_symbol symbols.LeftParen) (λ rest d. refl)
+entropy_letter = let short : 1 ≤ 16 = omega arith in record { letter = Word (codes "H"); writes = writes_word (codes "H") (refl, (refl, tt), short); among = refl; says = refl }
 
-entropy_opening : Writes Anything (codes "H(") (λ k. without_mark (Word entropy_text) ∷ without_mark (Sym symbols.LeftParen) ∷ k)
+mutual_letter : IsLetter (Stops is_word_byte) (codes "I") (word mutual_text) tt
 unfolding is_word_byte
-entropy_opening = let short : 1 ≤ 16 = omega arith in word_opening (codes "H") (refl, (refl, tt), short)
+mutual_letter = let short : 1 ≤ 16 = omega arith in record { letter = Word (codes "I"); writes = writes_word (codes "I") (refl, (refl, tt), short); among = refl; says = refl }
 
-mutual_opening : Writes Anything (codes "I(") (λ k. without_mark (Word mutual_text) ∷ without_mark (Sym symbols.LeftParen) ∷ k)
+some_of : (c : ℕ) → c < 16 → (c == 0) ≡ false → IsSome c
+some_of zero l e = absurd cc
+some_of (suc c) l e = (omega arith, l)
+
+-- what is given, after a bar, or nothing
+abbrev given_or_nothing : Bool → ℕ → List ℕ
+given_or_nothing z c = cond z [] (codes "|" ++ set_text four_names c)
+
+given_written : (c : ℕ) → c < 16 → (z : Bool) → (c == 0) ≡ z → IsWritten Anything (given_or_nothing z c ++ codes ")") (given_set env)
+unfolding given_set is_word_byte
+given_written c l true e = other_written (last_written (letter_written right_paren))
+given_written c l false e = first_written bar (then_written (set_written c (some_of c l e)) (last_written (letter_written right_paren)) (λ rest d. refl)) (λ rest d. tt)
+
+-- a set ends where what is given begins
+set_ends : (z : Bool) (c : ℕ) (rest : List ℕ) → Stops is_word_byte (given_or_nothing z c ++ codes ")" ++ rest)
 unfolding is_word_byte
-mutual_opening = let short : 1 ≤ 16 = omega arith in word_opening (codes "I") (refl, (refl, tt), short)
+set_ends true c rest = refl
+set_ends false c rest = refl
 
--- after `|`
-bar_writes : (s : ℕ) → IsSome s → Writes (Stops is_word_byte) (codes "|" ++ set_text four_names s) (λ k. without_mark (Sym symbols.Bar) ∷ spell_list env (set_tree s) k)
-bar_writes s h = writes_then (writes_symbol symbols.Bar) (set_writes s h) (λ rest d. tt)
+entropy_written : (a c : ℕ) → IsSome a → c < 16 → (z : Bool) → (c == 0) ≡ z → (other : Form Atom) → IsWritten Anything (codes "H(" ++ (set_text four_names a ++ (given_or_nothing z c ++ codes ")"))) (measure_or env other)
+unfolding measure_or entropy is_word_byte
+entropy_written a c h l z e other =
+    first_written entropy_letter (then_written (letter_written left_paren) (then_written (set_written a h) (last_written (given_written c l z e)) (λ rest d. set_ends z c rest)) (λ rest d. tt)) (λ rest d. refl)
 
-given_text : (s : ℕ) → IsSome s → given_set_text four_names s ≡ codes "|" ++ set_text four_names s
-given_text s h = by_test (s == 0) refl
-  where
-    by_test : (z : Bool) → (s == 0) ≡ z → cond z [] (codes "|" ++ set_text four_names s) ≡ codes "|" ++ set_text four_names s
-    by_test true e = absurd (omega (arith, h.0, empty_len s (sym e)))
-    by_test false e = refl
-
-conditional_writes : (a c : ℕ) → IsSome a → IsSome c → Writes Anything (codes "H(" ++ set_text four_names a ++ given_set_text four_names c ++ codes ")") (spell_measure env (written.EntropyGiven (set_tree a) (set_tree c)))
-unfolding is_word_byte
-conditional_writes a c h g = subst (λ (t : List ℕ). Writes Anything (codes "H(" ++ set_text four_names a ++ t ++ codes ")") (spell_measure env (written.EntropyGiven (set_tree a) (set_tree c)))) (sym (given_text c g))
-    (writes_then (writes_then (writes_then entropy_opening (set_writes a h) (λ rest d. tt)) (bar_writes c g) (λ rest d. refl)) right_paren_writes (λ rest d. refl))
-
-pair_writes : (a b : ℕ) → IsSome a → IsSome b → Writes (Stops is_word_byte) (codes "I(" ++ set_text four_names a ++ codes ";" ++ set_text four_names b) (λ k. without_mark (Word mutual_text) ∷ without_mark (Sym symbols.LeftParen) ∷ spell_list env (set_tree a) (without_mark (Sym symbols.Semicolon) ∷ spell_list env (set_tree b) k))
-unfolding is_word_byte
-pair_writes a b h g = writes_then (writes_then (writes_then mutual_opening (set_writes a h) (λ rest d. tt)) (writes_symbol symbols.Semicolon) (λ rest d. refl)) (set_writes b g) (λ rest d. tt)
-
-mutual_writes : (a b c : ℕ) → IsSome a → IsSome b → c < 16 → (z : Bool) → (c == 0) ≡ z → Writes Anything (codes "I(" ++ set_text four_names a ++ codes ";" ++ set_text four_names b ++ cond z [] (codes "|" ++ set_text four_names c) ++ codes ")") (spell_measure env (mutual_tree z a b c))
-unfolding is_word_byte
-mutual_writes a b c h g l true e = writes_then (writes_then (pair_writes a b h g) writes_nothing (λ rest d. d)) right_paren_writes (λ rest d. refl)
-mutual_writes a b c h g l false e = writes_then (writes_then (pair_writes a b h g) (bar_writes c (not_zero c e, l)) (λ rest d. refl)) right_paren_writes (λ rest d. refl)
-  where
-    not_zero : (c : ℕ) → (c == 0) ≡ false → 1 ≤ c
-    not_zero zero e = absurd cc
-    not_zero (suc c) e = omega arith
+mutual_written : (a b c : ℕ) → IsSome a → IsSome b → c < 16 → (z : Bool) → (c == 0) ≡ z → (other : Form Atom)
+    → IsWritten Anything (codes "I(" ++ (set_text four_names a ++ (codes ";" ++ (set_text four_names b ++ (given_or_nothing z c ++ codes ")"))))) (measure_or env other)
+unfolding measure_or mutual_information is_word_byte
+mutual_written a b c h g l z e other =
+    other_written
+    (first_written mutual_letter (then_written (letter_written left_paren) (then_written (set_written a h) (then_written (letter_written semicolon) (then_written (set_written b g) (last_written (given_written c l z e)) (λ rest d. set_ends z c rest)) (λ rest d. tt)) (λ rest d. refl)) (λ rest d. tt)) (λ rest d. refl))
 
 power_some : (i : ℕ) → i < 4 → IsSome (2 ^ i)
 power_some i h = (pow_mono {i = 0} {j = i} (omega arith), pow_below i 4 h)
 
-others_some : (i : ℕ) → i < 4 → IsSome (2 ^ 4 - 1 - 2 ^ i)
-others_some i h = let most : 2 ^ i ≤ 2 ^ 3 = pow_mono {i = i} {j = 3} (omega (arith, h)) in let some = power_some i h in (omega (arith, most), omega (arith, some.0))
-
-elemental_writes : (e : Elemental) → IsElemental 4 e → Writes Anything (elemental_text four_names e) (spell_measure env (elemental_tree e))
+elemental_written : (e : Elemental) → IsElemental 4 e → (other : Form Atom) → IsWritten Anything (elemental_text four_names e) (measure_or env other)
 unfolding elemental_text
-elemental_writes (Conditional i) h = conditional_writes (2 ^ i) (2 ^ 4 - 1 - 2 ^ i) (power_some i h) (others_some i h)
-elemental_writes (Mutual i j k) h = mutual_writes (2 ^ i) (2 ^ j) k (power_some i (omega (arith, h.0, h.1))) (power_some j h.1) h.2 (k == 0) refl
+elemental_written (Conditional i) h other = let c = 2 ^ 4 - 1 - 2 ^ i in same_text (simp append_assoc) (entropy_written (2 ^ i) c (power_some i h) (omega arith) (c == 0) refl other)
+elemental_written (Mutual i j k) h other = same_text (simp append_assoc) (mutual_written (2 ^ i) (2 ^ j) k (power_some i (omega (arith, h.0, h.1))) (power_some j h.1) h.2 (k == 0) refl other)
 
 -- ---- terms
 
@@ -204,15 +202,17 @@ digit_text c h = subst (IsText (kinds.Number c)) (sym (decimal_digit c (omega (a
     by_digit (suc (suc (suc (suc zero)))) h = (refl, refl, lit< tt)
     by_digit (suc (suc (suc (suc (suc c))))) h = absurd (omega (arith, h))
 
--- a digit and a space
+abbrev pub scope : Scope
+scope = scope_of four_variables true
+
 digit_writes : (c : ℕ) → c < 5 → Writes Anything (decimal c ++ codes " ") (λ k. without_mark (Number c) ∷ k)
 digit_writes c h = writes_then (writes_number c (decimal c) (digit_text c h)) writes_space (λ rest d. refl)
 
-abbrev pub term_tree : ℕ → WrittenTerm
-term_tree x = Times (1 + draw 1 4 x) (Measure (elemental_tree (elemental_at 4 (draw 2 28 x))))
-
-abbrev pub bound_tree : ℕ → WrittenTerm
-bound_tree x = Times (draw 1 3 x) (Measure (written.Entropy (set_tree (1 + draw 2 15 x))))
+-- a digit, a space and an atom
+counted_written : (m c : ℕ) → c < 5 → (text : List ℕ) → ((other : Form Atom) → IsWritten Anything text (measure_or env other)) → IsWritten Anything (decimal c ++ codes " " ++ text) (marked None (term m scope false))
+unfolding marked term atom atom_or_nothing scope_of
+counted_written m zero h text p = first_written (record { letter = Number 0; writes = digit_writes 0 h; among = refl; says = refl }) (other_written (last_written (p _))) (λ rest d. tt)
+counted_written m (suc c) h text p = other_written (first_written (record { letter = Number (suc c); writes = digit_writes (suc c) h; among = refl; says = refl }) (other_written (last_written (p _))) (λ rest d. tt))
 
 -- a drawn number is below its bound
 pub drawn_below : (n m x : ℕ) → 0 < m → draw n m x < m
@@ -221,17 +221,57 @@ drawn_below n m x h = mod_below (state_after n x / 65536) m h
 pub drawn_listed : (x : ℕ) → draw 2 28 x < length (elementals 4)
 drawn_listed x = drawn_below 2 28 x (omega arith)
 
-pub term_writes : (m x : ℕ) → Writes Anything (generated_term_text x) (spell_term m (scope_of four_variables true) (term_tree x))
-unfolding generated_term_text scope_of
-term_writes m x =
+-- a drawn term
+term_written : (m x : ℕ) → IsWritten Anything (generated_term_text x) (marked None (term m scope false))
+unfolding generated_term_text
+term_written m x =
     let e = elemental_at 4 (draw 2 28 x) in
-    writes_then (digit_writes (1 + draw 1 4 x) (omega (arith, drawn_below 1 4 x (omega arith)))) (elemental_writes e (is_elemental 4 (draw 2 28 x) (drawn_listed x))) (λ rest d. tt)
+    counted_written m (1 + draw 1 4 x) (omega (arith, drawn_below 1 4 x (omega arith))) (elemental_text four_names e) (elemental_written e (is_elemental 4 (draw 2 28 x) (drawn_listed x)))
 
-pub bound_writes : (m x : ℕ) → Writes Anything (bound_text x) (spell_term m (scope_of four_variables true) (bound_tree x))
-unfolding bound_text scope_of is_word_byte
-bound_writes m x =
+-- the drawn bound
+bound_written : (m x : ℕ) → IsWritten Anything (bound_text x) (marked None (term m scope false))
+unfolding bound_text
+bound_written m x =
     let s = 1 + draw 2 15 x in
     let some : IsSome s = (omega arith, omega (arith, drawn_below 2 15 x (omega arith))) in
-    let number = writes_number (draw 1 3 x) (decimal (draw 1 3 x)) (digit_text (draw 1 3 x) (omega (arith, drawn_below 1 3 x (omega arith)))) in
-    let open_entropy : Writes Anything (codes " H(") (λ k. without_mark (Word entropy_text) ∷ without_mark (Sym symbols.LeftParen) ∷ k) = writes_then writes_space entropy_opening (λ rest d. tt) in
-    writes_then (writes_then (writes_then number open_entropy (λ rest d. refl)) (set_writes s some) (λ rest d. tt)) right_paren_writes (λ rest d. refl)
+    same_text (simp append_assoc) (counted_written m (draw 1 3 x) (omega (arith, drawn_below 1 3 x (omega arith))) (codes "H(" ++ (set_text four_names s ++ (given_or_nothing true 0 ++ codes ")"))) (entropy_written s 0 some (omega arith) true refl))
+
+-- ---- the relation
+
+plus : IsLetter Anything (codes " + ") (record { kinds = signs; says = λ l. (None, is_minus l) }) false
+plus = record { letter = Sym symbols.Plus; writes = writes_then writes_space (writes_then (writes_symbol symbols.Plus) writes_space (λ rest d. tt)) (λ rest d. tt); among = refl; says = refl }
+
+-- three terms with plus signs between them
+three_text : ℕ → List ℕ
+three_text x = generated_term_text x ++ codes " + " ++ generated_term_text (state_after 2 x) ++ codes " + " ++ generated_term_text (state_after 4 x)
+
+three_written : (x : ℕ) → IsWritten Anything (three_text x) (sum most_terms 1 scope)
+unfolding three_text sum terms more_terms
+three_written x =
+    same_text (simp (append_assoc, append-nil))
+    (other_written (other_written (then_written (term_written 1 x)
+    (one_written plus (term_written _ (state_after 2 x)) (one_written plus (term_written _ (state_after 4 x)) (none_written _) (λ rest d. d)) (λ rest d. tt)) (λ rest d. tt))))
+
+three_long : (x : ℕ) → length (three_written x).value ≡ 3
+unfolding three_written same_text other_written then_written one_written none_written
+three_long x = refl
+
+at_least_written : IsWritten Anything (codes " >= ") compare
+unfolding compare
+at_least_written = same_text refl (first_written (record { letter = Sym symbols.AtLeast; writes = writes_then writes_space (writes_then (writes_symbol symbols.AtLeast) writes_space (λ rest d. tt)) (λ rest d. tt); among = refl; says = refl }) (give_written AtLeast) (λ rest d. tt))
+
+-- a sum of the drawn bound alone
+one_term_written : (n m x : ℕ) → IsWritten Anything (bound_text x) (sum (suc n) m scope)
+unfolding sum terms more_terms
+one_term_written n m x = same_text (append-nil (bound_text x)) (other_written (other_written (then_written (bound_written m x) (none_written _) (λ rest d. d))))
+
+abbrev pub relation_text : ℕ → List ℕ
+relation_text x = generated_term_text x ++ codes " + " ++ generated_term_text (state_after 2 x) ++ codes " + " ++ generated_term_text (state_after 4 x) ++ codes " >= " ++ bound_text (state_after 6 x)
+
+pub relation_written : (x : ℕ) → IsWritten Anything (relation_text x) (relation scope)
+unfolding relation three_text
+relation_written x =
+    let m = multiple_from 1 (three_written x).value in
+    let right : IsWritten Anything (bound_text (state_after 6 x)) (sum (most_terms - length (three_written x).value) m scope) =
+    subst (λ (n : ℕ). IsWritten Anything (bound_text (state_after 6 x)) (sum (most_terms - n) m scope)) (sym (three_long x)) (one_term_written 252 m (state_after 6 x)) in
+    same_text (simp append_assoc) (then_written (three_written x) (then_written at_least_written (last_written right) (λ rest d. tt)) (λ rest d. tt))

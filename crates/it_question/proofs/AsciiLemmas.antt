@@ -1,8 +1,7 @@
 -- A line that is tokens and spaces is ASCII, so the texts and the names of a file's questions are.
-use Rattle.std.proofs.Common.{◌≡◌, ℕ, ◌-◌, ◌<◌, ◌==◌, Bool, true, false, cond, List, [], ◌∷◌, ◌++◌, take, drop, All, IsAscii, Option, Some, None, sym, ap, ◌∙◌, subst, arith}
+use Rattle.std.proofs.Common.{◌≡◌, ℕ, zero, suc, ◌-◌, ◌<◌, ◌==◌, Bool, true, false, cond, List, [], ◌∷◌, ◌++◌, take, drop, All, IsAscii, Option, None, inl, inr, sym, ap, ◌∙◌, subst, arith}
 use Rattle.std.specs.Char.{is_ascii_digit}
 use Rattle.std.proofs.lemmas.Bool.Decides.{nat_tests}
-use Rattle.std.proofs.lemmas.List.{append-nil}
 use Rattle.std.proofs.lemmas.List.Elements.{All-nil, All-cons, All-append}
 use Rattle.std.proofs.lemmas.Str.{IsAscii-take, IsAscii-drop, IsAscii-append}
 use Rattle.std.proofs.lemmas.Str.Ascii.{IsAscii-nil, IsAscii-cons}
@@ -12,29 +11,28 @@ use Rattle.it_forms.specs.declared.types.Symbol.TheVariants.{LeftParen, RightPar
 use Rattle.it_syntax.specs.declared.types.Token.{Token}
 use Rattle.it_syntax.specs.declared.types.TokenKind.{TokenKind}
 use Rattle.it_syntax.specs.declared.types.TokenKind.TheVariants as kinds
-use Rattle.it_forms.specs.Letters.{Letter, Word, Number, Sym, End, Bad, MarkedLetters, without_mark, letters, without_marks}
+use Rattle.it_forms.specs.Letters.{Letter, Word, Number, Sym, End, Bad, MarkedLetters, letters, without_marks}
 use Rattle.it_forms.specs.SymbolTexts.{symbol_text}
-use Rattle.it_question.specs.WrittenNames.{spell_new_more, spell_new_names, with_names, new_names_of, spell_names_line, names_line_of}
-use Rattle.it_forms.specs.Words.{limit_mark}
-use Rattle.it_question.specs.QuestionLimits.{most_questions, most_variables, most_rates}
 use Rattle.it_syntax.specs.Misspellings.{SpellsUntil}
 use Rattle.it_syntax.specs.NamesViews.{NamesView}
 use Rattle.it_syntax.specs.Spans.{letter_of, letters_until, last_letter}
 use Rattle.it_syntax.specs.Spelling.{is_word_byte, is_space, AreAll, IsText}
-use Rattle.it_syntax.specs.WrittenMeasures.{WrittenList}
 use Rattle.it_syntax.proofs.RunLemmas.{value_digits}
 use Rattle.it_question.specs.AsciiTexts.{IsAsciiQuestion, TextsAreAscii}
-use Rattle.it_question.specs.Keywords.{vars_keyword, rates_keyword}
 use Rattle.it_question.specs.Lines.{LineView, split_lines, file_end, line_letters, letters_of_lines}
 use Rattle.it_question.specs.NewNames.{NameSortView, Variable, Rate, with_name, no_names}
-use Rattle.it_question.specs.Questions.{QuestionView}
+use Rattle.it_question.specs.Keywords.{rates_keyword}
+use Rattle.it_question.specs.QuestionLimits.{most_variables, most_rates}
+use Rattle.it_question.specs.QuestionForms.{new_name, more_new, new_names, names_line, question, file}
+use Rattle.it_question.specs.Questions.{BodyView, QuestionView}
+use Rattle.it_question.proofs.LineParts.{AreWhole, lines_sound}
+use Rattle.it_question.proofs.QuestionParts.{AreAt, questions_at}
+use Rattle.it_question.proofs.WholeFileLemmas.{the_end, said}
+use Rattle.it_forms.specs.Forms.{WordBut, is_among, AreTurns, Form, Take, Then, Give, Spells}
+use Rattle.it_forms.specs.Words.{text_of, symbol, word}
+use Rattle.it_forms.proofs.FormLanguage.{front_moves}
+use Rattle.it_forms.proofs.LetterLemmas.{letters_append, letters_cleaned}
 use Rattle.it_question.specs.Texts.{without_leading, unless_blank, without_trailing, trimmed_line, text_of_lines, question_line_count, with_texts}
-use Rattle.it_question.specs.WrittenQuestions.{WrittenQuestion}
-use Rattle.it_question.specs.WrittenFiles.{names_of, spell_question, question_of, spell_questions, questions_of}
-use Rattle.it_question.proofs.CleanLetters.{clean_parts}
-use Rattle.it_question.proofs.LineParts.{AreWhole, AreSound, lines_sound, letters_of_first_lines}
-use Rattle.it_question.proofs.LinePuts.{question_puts}
-use Rattle.it_question.proofs.FileLemmas.{asked_is_written}
 
 -- ---- bytes of tokens
 
@@ -163,46 +161,66 @@ name_ascii : (sort : NameSortView) (v : NamesView) (w : List ℕ) → AsciiNames
 name_ascii Variable v w a h = record { variables = All-append IsAscii v.variables (w ∷ []) a.variables (one_name w h); rates = a.rates }
 name_ascii Rate v w a h = record { variables = a.variables; rates = All-append IsAscii v.rates (w ∷ []) a.rates (one_name w h) }
 
--- the names with further ones, where the words of their spelling are ASCII, and those that follow
-abbrev Spelled : NamesView → MarkedLetters → Type 0
-Spelled v k = AsciiNames v × AsciiWords (letters k)
+-- the words of what follows a form are ASCII
+words_after : {A : Type 0} (f : Form A) (y : A) (m k : MarkedLetters) → Spells f y m k → AsciiWords (letters m) → AsciiWords (letters k)
+words_after f y m k s h = let w = front_moves f y m k s in words_behind (letters w.front) (letters k) (subst AsciiWords (ap letters w.is ∙ letters_append w.front k) h)
+  where
+    words_behind : (a b : List Letter) → AsciiWords (a ++ b) → AsciiWords b
+    words_behind [] b h = h
+    words_behind (Word w ∷ a) b h = words_behind a b h.1
+    words_behind (l ∷ a) b h = words_behind a b h
 
-more_spelled : (sort : NameSortView) (n : ℕ) (v : NamesView) (ws : List (List ℕ)) (k : MarkedLetters) → AsciiNames v → AsciiWords (letters (spell_new_more sort n v ws k)) → Spelled (with_names sort v ws) k
-more_spelled sort n v [] k a h = (a, h)
-more_spelled sort n v (w ∷ ws) k a h = more_spelled sort (n - 1) (with_name sort v w) ws k (name_ascii sort v w a h.0) h.1
+new_name_ascii : (sort : NameSortView) (most : ℕ) (v y : NamesView) (m k : MarkedLetters) → Spells (new_name sort most v) y m k → AsciiNames v → AsciiWords (letters m) → AsciiNames y
+unfolding new_name Spells
+new_name_ascii sort most v y m k s a h = subst AsciiNames s.2 (by_letter s.0 s.1 (subst (λ (q : MarkedLetters). AsciiWords (letters q)) s.3 h))
+  where
+    by_letter : (l : Letter) → is_among (WordBut [] ∷ []) l ≡ true → AsciiWords (l ∷ letters k) → AsciiNames (with_name sort v (text_of l))
+    by_letter (Word w) e h = name_ascii sort v w a h.0
+    by_letter l e h = absurd cc
 
-new_spelled : (sort : NameSortView) (n : ℕ) (v : NamesView) (l : WrittenList) (k : MarkedLetters) → AsciiNames v → AsciiWords (letters (spell_new_names sort n v l k)) → Spelled (new_names_of sort v l) k
-new_spelled sort n v l k a h = more_spelled sort (n - 1) (with_name sort v l.first) l.more k (name_ascii sort v l.first a h.0) h.1
+more_names_ascii : (sort : NameSortView) (most : ℕ) (v y : NamesView) (m k : MarkedLetters) → Spells (more_new sort most v) y m k → AsciiNames v → AsciiWords (letters m) → AsciiNames y
+unfolding more_new Spells
+more_names_ascii sort most v y m k s a h = turns s.0 v m s.1 a h
+  where
+    turns : (n : ℕ) (v : NamesView) (m : MarkedLetters) → AreTurns (λ (v : NamesView). symbol Comma) (λ v u. Spells (Then (new_name sort most v) (λ more. Give more))) n v y m k → AsciiNames v → AsciiWords (letters m) → AsciiNames y
+    turns zero v m t a h = subst AsciiNames t.0 a
+    turns (suc n) v m t a h =
+        let words = words_after (Take (symbol Comma)) t.0 m t.1 t.4 h in
+        turns n t.2 t.3 t.6 (subst AsciiNames t.5.3.0 (new_name_ascii sort most v t.5.0 t.1 t.5.1 t.5.2 a words)) (words_after (Then (new_name sort most v) (λ more. Give more)) t.2 t.1 t.3 t.5 words)
 
-line_spelled : (sort : NameSortView) (n : ℕ) (keyword : List ℕ) (v : NamesView) (o : Option WrittenList) (k : MarkedLetters) → AsciiNames v → AsciiWords (letters (spell_names_line sort n keyword v o k)) → AsciiNames (names_line_of sort v o)
-line_spelled sort n keyword v None k a h = a
-line_spelled sort n keyword v (Some l) k a h = (new_spelled sort n v l (without_mark End ∷ k) a h.1).0
+new_names_ascii : (sort : NameSortView) (most : ℕ) (v y : NamesView) (m k : MarkedLetters) → Spells (new_names sort most v) y m k → AsciiNames v → AsciiWords (letters m) → AsciiNames y
+unfolding new_names Spells
+new_names_ascii sort most v y m k s a h =
+    let first = new_name_ascii sort most v s.0 m s.1 s.2 a h in
+    subst AsciiNames s.3.3.3.0 (more_names_ascii sort most s.0 s.3.0 s.1 s.3.1 s.3.2 first (words_after (new_name sort most v) s.0 m s.1 s.2 h))
+
+names_line_ascii : (sort : NameSortView) (most : ℕ) (keyword : List ℕ) (v y : NamesView) (m k : MarkedLetters) → Spells (names_line sort most keyword v) y m k → AsciiNames v → AsciiWords (letters m) → AsciiNames y
+unfolding names_line Spells
+names_line_ascii sort most keyword v y m k (inl s) a h = new_names_ascii sort most v y s.1 k s.3 a (words_after (Take (word keyword)) s.0 m s.1 s.2 h)
+names_line_ascii sort most keyword v y m k (inr s) a h = subst AsciiNames s.0 a
 
 no_names_ascii : AsciiNames no_names
 no_names_ascii = record { variables = All-nil IsAscii; rates = All-nil IsAscii }
 
-names_ascii : (x : WrittenQuestion) (k : MarkedLetters) → AsciiWords (letters (spell_question x k)) → AsciiNames (names_of x)
-names_ascii x k h =
-    let first = new_spelled Variable most_variables no_names x.variables _ no_names_ascii h in
-    line_spelled Rate most_rates rates_keyword (new_names_of Variable no_names x.variables) x.rates _ first.0 first.1
+names_ascii : (q : BodyView) (m k : MarkedLetters) → Spells question q m k → AsciiWords (letters m) → AsciiNames q.names
+unfolding question Spells
+names_ascii q m k s h =
+    let first = new_names_ascii Variable most_variables no_names s.0 m s.1 s.2 no_names_ascii h in
+    subst (λ (x : BodyView). AsciiNames x.names) s.3.3.3.3.0 (names_line_ascii Rate most_rates rates_keyword s.0 s.3.0 s.1 s.3.1 s.3.2 first (words_after (new_names Variable most_variables no_names) s.0 m s.1 s.2 h))
 
 -- ---- files
 
-all_questions : (n : ℕ) (xs : List WrittenQuestion) (lines : List LineView) → spell_questions n xs (without_mark file_end ∷ []) ≡ without_marks (letters_of_lines lines) → AreSound lines → All IsAsciiQuestion (with_texts lines (questions_of xs))
-all_questions n [] lines e s = All-nil IsAsciiQuestion
-all_questions n (x ∷ xs) lines e s =
-    let i = question_line_count (question_of x) in
-    let k = spell_questions (n - 1) xs (without_mark file_end ∷ []) in
-    let p = question_puts (limit_mark n) x in
-    let c = clean_parts p.front k (letters_of_lines lines) (sym (p.is k) ∙ e) in
-    let d = letters_of_first_lines i lines (letters p.front) (letters k) p.kind c.all s in
-    let same : letters_of_lines (take i lines) ≡ letters ((Word vars_keyword, limit_mark n) ∷ spell_question x []) = d.front ∙ ap letters (sym (append-nil p.front) ∙ sym (p.is [])) in
-    let words : AsciiWords (letters ((Word vars_keyword, limit_mark n) ∷ spell_question x [])) = subst AsciiWords same (lines_words (take i lines) d.whole) in
-    let names = names_ascii x [] words.1 in
-    let q : QuestionView = record { body = question_of x; text = text_of_lines (take i lines) } in
-    let first : IsAsciiQuestion q = record { text = lines_ascii (take i lines) d.whole; variables = names.variables; rates = names.rates } in
-    All-cons IsAsciiQuestion q (with_texts (drop i lines) (questions_of xs)) first
-    (all_questions (n - 1) xs (drop i lines) (c.after ∙ ap without_marks (sym d.after)) d.sound)
+all_questions : (lines : List LineView) (qs : List BodyView) → AreAt lines qs → All IsAsciiQuestion (with_texts lines qs)
+all_questions lines [] a = All-nil IsAsciiQuestion
+all_questions lines (b ∷ qs) a =
+    let i = question_line_count b in
+    let h = a.0 in
+    let words : AsciiWords h.said = (subst AsciiWords h.first (lines_words (take i lines) h.whole)).1 in
+    let all : AsciiWords (letters (without_marks h.said ++ the_end)) = subst AsciiWords (sym (letters_append (without_marks h.said) the_end ∙ ap (λ (ls : List Letter). ls ++ file_end ∷ []) (letters_cleaned h.said))) (words_append h.said (file_end ∷ []) words tt) in
+    let names = names_ascii b (without_marks h.said ++ the_end) the_end h.says all in
+    let q : QuestionView = record { body = b; text = text_of_lines (take i lines) } in
+    let first : IsAsciiQuestion q = record { text = lines_ascii (take i lines) h.whole; variables = names.variables; rates = names.rates } in
+    All-cons IsAsciiQuestion q (with_texts (drop i lines) qs) first (all_questions (drop i lines) qs a.1)
 
 pub texts_are_ascii : TextsAreAscii
-texts_are_ascii bytes qs asked = let f = asked_is_written bytes qs asked in subst (All IsAsciiQuestion) f.says (all_questions most_questions f.tree f.lines f.spelled (lines_sound 1 (split_lines bytes) f.lines f.cut))
+texts_are_ascii bytes qs asked = subst (All IsAsciiQuestion) asked.says (all_questions asked.lines asked.tree.0 (questions_at asked.lines asked.tree.0 (lines_sound 1 (split_lines bytes) asked.lines asked.cut) (said file with_texts bytes qs asked)))

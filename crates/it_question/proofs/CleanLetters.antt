@@ -1,5 +1,5 @@
 -- Letters that nothing is said against, and their parts.
-use Rattle.std.proofs.Common.{◌≡◌, List, [], ◌∷◌, ◌++◌, Option, None, refl, sym, ap, ◌∙◌}
+use Rattle.std.proofs.Common.{◌≡◌, List, [], ◌∷◌, ◌++◌, Option, refl, sym, ap, ◌∙◌}
 use Rattle.it_forms.specs.declared.types.Code.{Code}
 use Rattle.it_forms.specs.Letters.{Letter, MarkedLetters, without_mark, letters, without_marks}
 
@@ -33,7 +33,3 @@ clean_parts (x ∷ p) k (l ∷ ls) e =
       after = c.after;
       all = ap (λ (y : Letter). y ∷ ls) (sym letter) ∙ ap (λ (q : List Letter). x.0 ∷ q) c.all;
     }
-
-pub no_mark : (l : Letter) (mark : Option Code) (m : MarkedLetters) (ls : List Letter) → (l, mark) ∷ m ≡ without_marks ls → mark ≡ None
-no_mark l mark m [] e = absurd cc
-no_mark l mark m (x ∷ ls) e = let first : (l, mark) ≡ without_mark x = cc in ap (λ (y : Letter × Option Code). y.1) first

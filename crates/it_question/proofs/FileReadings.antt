@@ -1,62 +1,62 @@
 -- What the reading of a file's letters says of the file.
 use Rattle.std.proofs.Common.{◌≡◌, ℕ, List, [], ◌∷◌, drop, map, All, Ok, refl, sym, ap, ◌∙◌, subst, arith}
-use Rattle.std.proofs.lemmas.List.Elements.{All-cons, All-head, All-tail}
+use Rattle.std.proofs.lemmas.List.Elements.{All-cons, All-head, All-tail, All-weaker}
+use Rattle.it_forms.specs.FormReading.{read}
 use Rattle.it_forms.specs.Letters.{Letter}
-use Rattle.it_question.specs.declared.types.Question.{Question}
 use Rattle.it_question.specs.declared.bodies.Body.{Body}
+use Rattle.it_question.specs.declared.types.Question.{Question}
 use Rattle.it_question.specs.Bodies.{body_view}
 use Rattle.it_question.specs.Files.{IsFile}
-use Rattle.it_question.specs.Lines.{LineView, AreLinesOf, letters_of_lines}
 use Rattle.it_question.specs.Limits.{IsQuestion}
+use Rattle.it_question.specs.Lines.{LineView, AreLinesOf, letters_of_lines}
+use Rattle.it_question.specs.QuestionForms.{file}
 use Rattle.it_question.specs.Questions.{BodyView, QuestionView, question_body, question_view}
-use Rattle.it_question.specs.Reading.{read_file}
-use Rattle.it_question.specs.WrittenFiles.{questions_of}
-use Rattle.it_question.specs.Texts.{question_line_count, with_texts}
-use Rattle.it_question.proofs.FileLanguage.{file_language}
-use Rattle.it_question.proofs.FileLemmas.{asked_is_written, written_is_asked}
-use Rattle.it_question.proofs.WholeFileLemmas.{says_read, read_says}
 use Rattle.it_question.specs.Tables.{HasSmallTable}
-use Rattle.it_question.proofs.LimitLemmas.{each_of_file, file_limited}
-use Rattle.it_question.proofs.SmallTables.{question_small}
+use Rattle.it_question.specs.Texts.{question_line_count, with_texts}
+use Rattle.it_question.proofs.FileLemmas.{file_ends}
+use Rattle.it_question.proofs.LimitLemmas.{IsRead, file_limited}
+use Rattle.it_question.proofs.QuestionOutlines.{file_has}
+use Rattle.it_question.proofs.WholeFileLemmas.{asked_is_read, read_says}
 
 -- a file whose letters were read
-pub file_read : (bytes : List ℕ) (lines : List LineView) (ys : List BodyView) (r : List Letter) (qs : List QuestionView) → AreLinesOf bytes lines → read_file (letters_of_lines lines) ≡ Ok (ys, r) → qs ≡ with_texts lines ys → IsFile bytes qs
-file_read bytes lines ys r qs cut e are = subst (IsFile bytes) (sym are) (written_is_asked bytes (with_texts lines ys) (read_says file_language with_texts bytes lines ys r cut e))
+pub file_read : (bytes : List ℕ) (lines : List LineView) (ys : List BodyView) (r : List Letter) (qs : List QuestionView) → AreLinesOf bytes lines → read file (letters_of_lines lines) ≡ Ok (ys, r) → qs ≡ with_texts lines ys → IsFile bytes qs
+file_read bytes lines ys r qs cut e are = subst (IsFile bytes) (sym are) (read_says file _ file_has file_ends with_texts bytes lines ys r cut e)
 
 -- the questions with their texts are those that were read
-body_again : (lines : List LineView) (ys : List BodyView) → map (λ (q : QuestionView). q.body) (with_texts lines ys) ≡ ys
+pub body_again : (lines : List LineView) (ys : List BodyView) → map (λ (q : QuestionView). q.body) (with_texts lines ys) ≡ ys
 body_again lines [] = refl
 body_again lines (y ∷ ys) = ap (λ (qs : List BodyView). y ∷ qs) (body_again (drop (question_line_count y) lines) ys)
 
 -- what holds of each of some values holds of what they are made from
-from_map : {X Y : Type 0} (P : Y → Type 0) (f : X → Y) (xs : List X) → All P (map f xs) → All (λ x. P (f x)) xs
+pub from_map : {X Y : Type 0} (P : Y → Type 0) (f : X → Y) (xs : List X) → All P (map f xs) → All (λ x. P (f x)) xs
 from_map P f [] h = λ k d lt. absurd (omega (arith, lt))
 from_map P f (x ∷ xs) h = All-cons (λ y. P (f y)) x xs (All-head P (f x) (map f xs) h) (from_map P f xs (All-tail P (f x) (map f xs) h))
 
-pub bodies_limited : (bodies : List Body) (lines : List LineView) (r : List Letter) → read_file (letters_of_lines lines) ≡ Ok (map body_view bodies, r) → All (λ b. IsQuestion (body_view b)) bodies
-bodies_limited bodies lines r e = from_map IsQuestion body_view bodies (file_limited (letters_of_lines lines) r (map body_view bodies) e)
+all_limited : (ls r : List Letter) (ys : List BodyView) → read file ls ≡ Ok (ys, r) → All IsQuestion ys
+all_limited ls r ys e = All-weaker IsRead IsQuestion (λ q h. h.limits) ys (file_limited ls r ys e)
 
-pub questions_limited : (qs : List Question) (lines : List LineView) (ys : List BodyView) (r : List Letter) → read_file (letters_of_lines lines) ≡ Ok (ys, r) → map question_view qs ≡ with_texts lines ys → All (λ q. IsQuestion (question_body q)) qs
+pub bodies_limited : (bodies : List Body) (lines : List LineView) (r : List Letter) → read file (letters_of_lines lines) ≡ Ok (map body_view bodies, r) → All (λ b. IsQuestion (body_view b)) bodies
+bodies_limited bodies lines r e = from_map IsQuestion body_view bodies (all_limited (letters_of_lines lines) r (map body_view bodies) e)
+
+pub questions_limited : (qs : List Question) (lines : List LineView) (ys : List BodyView) (r : List Letter) → read file (letters_of_lines lines) ≡ Ok (ys, r) → map question_view qs ≡ with_texts lines ys → All (λ q. IsQuestion (question_body q)) qs
 questions_limited qs lines ys r e are =
     let same : map question_body qs ≡ ys = map_twice qs ∙ ap (map (λ (q : QuestionView). q.body)) are ∙ body_again lines ys in
-    from_map IsQuestion question_body qs (subst (All IsQuestion) (sym same) (file_limited (letters_of_lines lines) r ys e))
+    from_map IsQuestion question_body qs (subst (All IsQuestion) (sym same) (all_limited (letters_of_lines lines) r ys e))
   where
     map_twice : (qs : List Question) → map question_body qs ≡ map (λ (q : QuestionView). q.body) (map question_view qs)
     map_twice [] = refl
     map_twice (q ∷ qs) = ap (λ (xs : List BodyView). question_body q ∷ xs) (map_twice qs)
 
--- what holds of each question that is read holds of those of a file
-of_file : (P : BodyView → Type 0) → ((ls r : List Letter) (ys : List BodyView) → read_file ls ≡ Ok (ys, r) → All P ys) → (bytes : List ℕ) (qs : List QuestionView) → IsFile bytes qs → All (λ (q : QuestionView). P q.body) qs
-of_file P each bytes qs asked =
-    let f = asked_is_written bytes qs asked in
-    let bodies = questions_of f.tree in
-    from_map P (λ (q : QuestionView). q.body) qs (subst (All P) (sym (body_again f.lines bodies) ∙ ap (map (λ (q : QuestionView). q.body)) f.says)
-    (each (letters_of_lines f.lines) [] bodies (says_read file_language (letters_of_lines f.lines) f.tree f.spelled)))
+-- the questions of a file are read
+file_is_read : (bytes : List ℕ) (qs : List QuestionView) → IsFile bytes qs → All (λ (q : QuestionView). IsRead q.body) qs
+file_is_read bytes qs asked =
+    from_map IsRead (λ (q : QuestionView). q.body) qs (subst (All IsRead) (sym (body_again asked.lines asked.tree.0) ∙ ap (map (λ (q : QuestionView). q.body)) asked.says)
+    (file_limited (letters_of_lines asked.lines) [] asked.tree.0 (asked_is_read file _ file_has with_texts bytes qs asked)))
 
--- the questions of a file keep the limits
+-- so they keep the limits
 pub file_limits : (bytes : List ℕ) (qs : List QuestionView) → IsFile bytes qs → All (λ (q : QuestionView). IsQuestion q.body) qs
-file_limits = of_file IsQuestion file_limited
+file_limits bytes qs asked = All-weaker (λ (q : QuestionView). IsRead q.body) (λ (q : QuestionView). IsQuestion q.body) (λ q h. h.limits) qs (file_is_read bytes qs asked)
 
 -- and their tables aren't too large
 pub file_has_small_tables : (bytes : List ℕ) (qs : List QuestionView) → IsFile bytes qs → All (λ (q : QuestionView). HasSmallTable q.body) qs
-file_has_small_tables = of_file HasSmallTable (each_of_file HasSmallTable question_small)
+file_has_small_tables bytes qs asked = All-weaker (λ (q : QuestionView). IsRead q.body) (λ (q : QuestionView). HasSmallTable q.body) (λ q h. h.small) qs (file_is_read bytes qs asked)

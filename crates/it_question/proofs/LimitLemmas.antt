@@ -1,224 +1,360 @@
--- The questions of a file that is read keep the limits.
-use Rattle.std.proofs.Common.{◌≡◌, ℕ, zero, suc, ◌+◌, ◌-◌, ◌≤◌, Bool, true, false, cond, List, [], ◌∷◌, ◌++◌, length, Option, None, Some, Ok, Err, refl, sym, ap, ◌∙◌, subst, arith, length-append}
-use Rattle.std.specs.Prelude.{All, bytes_eq}
+-- The questions that are read keep the limits, and their tables aren't too large.
+use Rattle.std.proofs.Common.{◌≡◌, ℕ, zero, suc, ◌+◌, ◌-◌, ◌≤◌, ◌<◌, ◌^◌, Bool, true, false, cond, nat_lt, List, [], ◌∷◌, ◌++◌, length, Option, None, Some, Ok, refl, ap, ◌∙◌, arith, length-append}
+use Rattle.std.specs.Prelude.{All, ◌||◌, eqb, ◌==◌, bytes_eq}
+use Rattle.std.specs.List.{IsDistinct, AllByRecursion}
 use Rattle.std.proofs.Math.Nat.{min-le_left, min-le_right}
-use Rattle.std.proofs.lemmas.List.Elements.{All-nil, All-cons}
-use Rattle.it_forms.specs.declared.types.Code.TheVariants as codes
-use Rattle.it_syntax.specs.NamesViews.{NamesView}
-use Rattle.it_forms.specs.Letters.{Letter, Word, Bad}
-use Rattle.it_forms.specs.Reads.{Reads, ◌>>=◌, no_rule}
-use Rattle.it_question.specs.QuestionLimits.{most_questions, most_variables, most_rates, most_lines, auxiliaries_left, givens_left, rows_left}
-use Rattle.it_question.specs.TrySets.{auxiliary_env, unnamed_sets}
-use Rattle.it_question.specs.RateNames.{rates_env}
-use Rattle.it_syntax.specs.Meaning.{RelationView}
-use Rattle.it_syntax.specs.MeasureReading.{line_end, to_end}
-use Rattle.it_syntax.specs.Scopes.{env_of, scope_of}
-use Rattle.it_syntax.specs.RelationReading.{read_relation}
-use Rattle.it_question.specs.Keywords.{vars_keyword, rates_keyword, region_keyword, aux_keyword, prove_keyword, eliminate_keyword}
-use Rattle.it_forms.specs.declared.types.Code.{Code}
-use Rattle.it_space.specs.Spaces.{IsSpace}
+use Rattle.std.proofs.lemmas.Bool.Decides.{nat_tests}
+use Rattle.std.proofs.lemmas.List.{length-map}
+use Rattle.std.proofs.lemmas.List.Elements.{All-nil, All-cons, All-head, All-tail, All-append, All-map}
+use Rattle.std.proofs.lemmas.List.Quantifiers.{position-Some}
+use Rattle.it_closure.specs.Sizes.{table_size}
 use Rattle.it_demand.specs.LineDemands.{space_of}
-use Rattle.it_question.specs.Tables.{givens_alone, size_mark, contain_mark}
-use Rattle.it_question.specs.Limits.{AreRatesOf, AreLinesOver, IsRegionOf, IsVerbOver, IsQuestion}
-use Rattle.it_question.specs.Questions.{OwnLinesView, RegionView, VerbView, Prove, Eliminate, Contain, BodyView}
-use Rattle.it_question.specs.NewNames.{Variable, Rate, no_names}
-use Rattle.it_question.specs.Reading.{after_word, read_word, read_new_names, read_names_line, read_lines, read_distinct, read_tries, read_region, read_containment, read_proof, read_elimination, unless_marked, read_contain, read_verb, read_question, read_end, question_then, if_question, read_questions, read_file}
-use Rattle.it_syntax.proofs.LimitLemmas.{Sure, sure_bind, Any, sure_any, knows_names}
-use Rattle.it_question.proofs.NameLimits.{ended_sure, IsGrown, Grows, new_names_sure, names_line_sure}
-use Rattle.it_question.proofs.LineLimits.{OverRelation, relation_sure, AreOwn, Own, lines_sure}
-use Rattle.it_question.proofs.RateLimits.{knows_rates, Rates, distinct_sure}
-use Rattle.it_question.proofs.TryLimits.{AreTries, tries_sure}
-use Rattle.it_question.proofs.RegionTraces.{region_of_lines}
+use Rattle.it_space.specs.Spaces.{IsSpace}
+use Rattle.it_forms.specs.declared.types.Code.TheVariants as codes
+use Rattle.it_forms.specs.declared.types.Symbol.TheVariants.{Comma, Semicolon}
+use Rattle.it_forms.specs.Letters.{Letter}
+use Rattle.it_forms.specs.Forms.{Keyword, Punctuation, is_of}
+use Rattle.it_forms.specs.FormReading.{read}
+use Rattle.it_forms.specs.Words.{text_of, limit_mark, to_end}
+use Rattle.it_forms.proofs.FormParts.{Always, always_weaker, loop_keeps, each_keeps, line_keeps, value_read}
+use Rattle.it_syntax.specs.Givens.{GivenView, IsRelationOf, IsGivenOf}
+use Rattle.it_syntax.specs.Meaning.{RelationView}
+use Rattle.it_question.specs.Bodies.{with_given_line, with_row_line}
+use Rattle.it_syntax.specs.LineForms.{names, relation, given}
+use Rattle.it_syntax.specs.NameMarks.{is_measure, index_or}
+use Rattle.it_syntax.specs.NamesViews.{NamesView}
+use Rattle.it_syntax.specs.Scopes.{Environment, env_of, scope_of}
+use Rattle.it_syntax.proofs.FormLimits.{Knows, empty_is_set, names_keep, relation_keeps, given_keeps, knows_names, scope_covers, variables_covered}
+use Rattle.it_question.specs.Keywords.{vars_keyword, rates_keyword, given_keyword, aux_keyword, try_keyword}
+use Rattle.it_question.specs.Limits.{AreLinesOver, IsRegionOf, IsTryOf, AreRatesOf, IsVerbOver, IsQuestion}
+use Rattle.it_question.specs.NewNames.{NameSortView, Variable, Rate, with_name, no_names, is_taken, new_mark}
+use Rattle.it_question.specs.QuestionForms.{count, new_name, more_new, new_names, names_line, own_line, own_words, lines_left, own_keyword, more_own_lines, own_lines, once, more_once, distinct, auxiliary, set, part, more_parts, try_line, more_tries, region, containment, verb, question, more_questions, file}
+use Rattle.it_question.specs.QuestionLimits.{most_questions, most_variables, most_rates, most_lines, auxiliaries_left, givens_left, rows_left}
+use Rattle.it_question.specs.Questions.{OwnLinesView, RegionView, VerbView, Prove, Eliminate, Contain, BodyView, no_lines}
+use Rattle.it_question.specs.RateNames.{is_among, once_mark, rates_env}
+use Rattle.it_question.specs.Tables.{givens_alone, problem_names_by, problem_lines_by, problem_of_lines, most_entries, size_mark, HasSmallTable}
+use Rattle.it_question.specs.TrySets.{Sets, unnamed_sets, with_set, is_whole, set_or, try_mark, auxiliary_env}
+use Rattle.it_question.proofs.QuestionLines.{IsGrown, not_grown, grown_more}
 
--- ---- regions
+-- ---- names
+
+count_more : (sort : NameSortView) (v : NamesView) (w : List ℕ) → count sort (with_name sort v w) ≡ suc (count sort v)
+count_more Variable v w = omega (arith, length-append v.variables (w ∷ []))
+count_more Rate v w = omega (arith, length-append v.rates (w ∷ []))
+
+name_allowed : (measure taken : Bool) (n : ℕ) → new_mark measure taken n ≡ None → 1 ≤ n
+name_allowed true taken n e = absurd cc
+name_allowed false true n e = absurd cc
+name_allowed false false zero e = absurd cc
+name_allowed false false (suc n) e = omega arith
+
+-- names after those that there are, and no more than may be
+record AreNamed (sort : NameSortView) (most : ℕ) (v w : NamesView) : Type 0 where
+  grown : IsGrown sort 1 v w
+  few : count sort w ≤ most
+
+name_keeps : (sort : NameSortView) (least most : ℕ) (v w : NamesView) → IsGrown sort least v w → Always (new_name sort most w) (λ p y. AreNamed sort most v y)
+unfolding new_name Always
+name_keeps sort least most v w g l e m =
+    let some = name_allowed (is_measure (text_of l)) (is_taken w (text_of l)) (most - count sort w) m in
+    record { grown = grown_more sort least v w (text_of l) g; few = omega (arith, some, count_more sort w (text_of l)) }
+
+more_names_keep : (sort : NameSortView) (most : ℕ) (v w : NamesView) → AreNamed sort most v w → Always (more_new sort most w) (λ p y. AreNamed sort most v y)
+unfolding more_new
+more_names_keep sort most v w h = each_keeps (Punctuation Comma ∷ []) (λ a l. (None, tt {0})) (λ a u. new_name sort most a) (λ v more. more) (AreNamed sort most v) (λ a ha l e m. name_keeps sort 1 most v a ha.grown) w h
+
+new_names_keep : (sort : NameSortView) (most : ℕ) (v : NamesView) → Always (new_names sort most v) (λ p y. AreNamed sort most v y)
+unfolding new_names Always
+new_names_keep sort most v = always_weaker (new_name sort most v) _ _ (λ p a ha. always_weaker (more_new sort most a) _ _ (λ q b hb l e m. hb) (more_names_keep sort most v a ha)) (name_keeps sort 0 most v v (not_grown sort v))
+
+-- a line with names, or none
+record MayBeNamed (sort : NameSortView) (most : ℕ) (v w : NamesView) : Type 0 where
+  grown : IsGrown sort 0 v w
+  few : count sort v ≤ most → count sort w ≤ most
+
+names_line_keeps : (sort : NameSortView) (most : ℕ) (keyword : List ℕ) (v : NamesView) → Always (names_line sort most keyword v) (λ p y. MayBeNamed sort most v y)
+unfolding names_line Always
+names_line_keeps sort most keyword v = (
+  λ l e m. always_weaker (new_names sort most v) _ _ (λ p y h. record { grown = record { own = h.grown.own; is = h.grown.is; some = omega arith }; few = λ k. h.few }) (new_names_keep sort most v),
+  record { grown = not_grown sort v; few = λ k. k },
+)
+
+-- ---- `given` and `row` lines
+
+some_allowed : (n : ℕ) → limit_mark n ≡ None → 1 ≤ n
+some_allowed zero e = absurd cc
+some_allowed (suc n) e = omega arith
+
+-- at most so many constraints, over these names
+record AreOwn (g r : ℕ) (v : NamesView) (own : OwnLinesView) : Type 0 where
+  few_givens : length own.givens ≤ g
+  few_rows : length own.rows ≤ r
+  givens : All (IsGivenOf (length v.variables)) own.givens
+  rows : All (IsRelationOf (length v.variables) (length v.rates)) own.rows
+
+all_and_one : {X : Type 0} (P : X → Type 0) (xs : List X) (x : X) → All P xs → P x → All P (xs ++ x ∷ [])
+all_and_one P xs x h k = All-append P xs (x ∷ []) h (All-cons P x [] k (All-nil P))
+
+own_line_keeps : (g r : ℕ) (v : NamesView) (own : OwnLinesView) (b : Bool) → AreOwn g r v own → limit_mark (lines_left g r own b) ≡ None → Always (own_line v own b) (λ p y. AreOwn g r v y)
+unfolding own_line Always
+own_line_keeps g r v own true h m =
+    let some = some_allowed (givens_left g own) m in
+    let more : (x : GivenView) → IsGivenOf (length v.variables) x → AreOwn g r v (with_given_line own x) = λ x hx. record { few_givens = omega (arith, some, length-append own.givens (x ∷ [])); few_rows = h.few_rows; givens = all_and_one (IsGivenOf (length v.variables)) own.givens x h.givens hx; rows = h.rows } in
+    always_weaker (to_end (given (scope_of v false))) (λ p x. IsGivenOf (length v.variables) x) (λ p x. AreOwn g r v (with_given_line own x)) (λ p x hx. more x hx)
+    (line_keeps (given (scope_of v false)) (IsGivenOf (length v.variables)) (given_keeps (scope_of v false) (length v.variables) (variables_covered v)))
+own_line_keeps g r v own false h m =
+    let some = some_allowed (rows_left r own) m in
+    let more : (x : RelationView) → IsRelationOf (length v.variables) (length v.rates) x → AreOwn g r v (with_row_line own x) = λ x hx. record { few_givens = h.few_givens; few_rows = omega (arith, some, length-append own.rows (x ∷ [])); givens = h.givens; rows = all_and_one (IsRelationOf (length v.variables) (length v.rates)) own.rows x h.rows hx } in
+    always_weaker (to_end (relation (scope_of v true))) (λ p x. IsRelationOf (length v.variables) (length v.rates) x) (λ p x. AreOwn g r v (with_row_line own x)) (λ p x hx. more x hx)
+    (line_keeps (relation (scope_of v true)) (IsRelationOf (length v.variables) (length v.rates)) (relation_keeps (scope_of v true) (length v.variables) (length v.rates) (scope_covers v true)))
+
+own_lines_keep : (g r : ℕ) (v : NamesView) → Always (own_lines g r v) (λ p own. AreOwn g r v own)
+unfolding more_own_lines
+own_lines_keep g r v =
+    loop_keeps own_words (own_keyword g r) (own_line v) (λ p own. AreOwn g r v own) (λ p own h l e m. own_line_keeps g r v own (is_of (Keyword given_keyword) l) h m) [] no_lines
+    (record { few_givens = omega arith; few_rows = omega arith; givens = All-nil (IsGivenOf (length v.variables)); rows = All-nil (IsRelationOf (length v.variables) (length v.rates)) })
 
 lines_over : (g r : ℕ) (v : NamesView) (own : OwnLinesView) → g ≤ 64 → r ≤ 64 → AreOwn g r v own → AreLinesOver v own
 lines_over g r v own few_g few_r h = record { few_givens = omega (arith, few_g, h.few_givens); few_rows = omega (arith, few_r, h.few_rows); givens = h.givens; rows = h.rows }
 
-region_of_own : (v : NamesView) (names : NamesView) (own : OwnLinesView) → length v.variables ≤ 10 → IsGrown Variable 0 (auxiliaries_left v) v names → AreLinesOver names own → IsRegionOf v (region_of_lines v names own)
+-- ---- the rates of an `eliminate` line
+
+-- the names are those of the rates of a vocabulary
+knows_rates : (v : NamesView) → Knows (rates_env v) (length v.rates)
+unfolding rates_env
+knows_rates v w i e = (position-Some (bytes_eq w) v.rates i [] e).0
+
+unseen : (m : ℕ) (measure : Bool) (seen : List ℕ) (o : Option ℕ) → ((i : ℕ) → o ≡ Some i → i < m) → once_mark measure seen o ≡ None → (index_or o < m) × (is_among seen (index_or o) ≡ false)
+unseen m true seen o k e = absurd cc
+unseen m false seen None k e = absurd cc
+unseen m false seen (Some i) k e = (k i refl, by_test (is_among seen i) e)
+  where
+    by_test : (b : Bool) → cond b (Some codes.Twice) None ≡ None → b ≡ false
+    by_test true e = absurd cc
+    by_test false e = refl
+
+once_keeps : (env : Environment) (m : ℕ) → Knows env m → (seen : List ℕ) → Always (once env seen) (λ p i. (i < m) × (is_among seen i ≡ false))
+unfolding once Always
+once_keeps env m k seen l e u = unseen m (is_measure (text_of l)) seen (env (text_of l)) (k (text_of l)) u
+
+both_are_false : (a b : Bool) → (a || b) ≡ false → (a ≡ false) × (b ≡ false)
+both_are_false true b e = absurd cc
+both_are_false false b e = (refl, e)
+
+distinct_more : (seen : List ℕ) (i : ℕ) → IsDistinct eqb seen → is_among seen i ≡ false → IsDistinct eqb (seen ++ i ∷ [])
+unfolding IsDistinct
+distinct_more [] i d e = (tt, tt)
+distinct_more (j ∷ seen) i d e = let b = both_are_false (j == i) (is_among seen i) e in (others seen d.0 b.0, distinct_more seen i d.1 b.1)
+  where
+    others : (xs : List ℕ) → AllByRecursion (λ x. eqb j x ≡ false) xs → eqb j i ≡ false → AllByRecursion (λ x. eqb j x ≡ false) (xs ++ i ∷ [])
+    others [] a f = (f, tt)
+    others (x ∷ xs) a f = (a.0, others xs a.1 f)
+
+one_distinct : (i : ℕ) → IsDistinct eqb (i ∷ [])
+unfolding IsDistinct
+one_distinct i = (tt, tt)
+
+distinct_keeps : (env : Environment) (m : ℕ) → Knows env m → Always (distinct env) (λ p rates. AreRatesOf m rates)
+unfolding distinct more_once Always
+distinct_keeps env m k = always_weaker (once env []) _ _
+    (λ p i hi. each_keeps (Punctuation Comma ∷ []) (λ a l. (None, tt {0})) (λ seen u. once env seen) (λ seen i. seen ++ i ∷ []) (AreRatesOf m)
+    (λ seen hs l e u. always_weaker (once env seen) _ _ (λ q j hj. record { some = omega (arith, length-append seen (j ∷ [])); within = all_and_one (λ (r : ℕ). r < m) seen j hs.within hj.0; distinct = distinct_more seen j hs.distinct hj.1 }) (once_keeps env m k seen)) (i ∷ [])
+    (record { some = omega arith; within = all_and_one (λ (r : ℕ). r < m) [] i (All-nil (λ (r : ℕ). r < m)) hi.0; distinct = one_distinct i })) (once_keeps env m k [])
+
+-- ---- `try` lines
+
+abbrev IsWithin : ℕ → Option ℕ → Type 0
+IsWithin n o = set_or o < 2 ^ n
+
+-- four places, and what is there is a set of n variables
+record AreWithin (n : ℕ) (sets : Sets) : Type 0 where
+  four : length sets ≡ 4
+  within : All (IsWithin n) sets
+
+unnamed_within : (n k : ℕ) → AreWithin n (unnamed_sets k)
+unnamed_within n k = by_count k
+  where
+    none : IsWithin n None
+    none = empty_is_set n
+
+    empty : IsWithin n (Some 0)
+    empty = empty_is_set n
+
+    of_four : (a b c d : Option ℕ) → IsWithin n a → IsWithin n b → IsWithin n c → IsWithin n d → AreWithin n (a ∷ b ∷ c ∷ d ∷ [])
+    of_four a b c d ha hb hc hd = record { four = refl; within = All-cons (IsWithin n) a (b ∷ c ∷ d ∷ []) ha (All-cons (IsWithin n) b (c ∷ d ∷ []) hb (All-cons (IsWithin n) c (d ∷ []) hc (All-cons (IsWithin n) d [] hd (All-nil (IsWithin n))))) }
+
+    by_count : (k : ℕ) → AreWithin n (unnamed_sets k)
+    by_count zero = of_four (Some 0) (Some 0) (Some 0) (Some 0) empty empty empty empty
+    by_count (suc zero) = of_four None (Some 0) (Some 0) (Some 0) none empty empty empty
+    by_count (suc (suc zero)) = of_four None None (Some 0) (Some 0) none none empty empty
+    by_count (suc (suc (suc zero))) = of_four None None None (Some 0) none none none empty
+    by_count (suc (suc (suc (suc k)))) = of_four None None None None none none none none
+
+with_set_within : (n : ℕ) (sets : Sets) (i set : ℕ) → set < 2 ^ n → AreWithin n sets → AreWithin n (with_set sets i set)
+with_set_within n sets i set small h = record { four = same_length sets i ∙ h.four; within = all_within sets i h.within }
+  where
+    same_length : (sets : Sets) (i : ℕ) → length (with_set sets i set) ≡ length sets
+    same_length [] i = refl
+    same_length (s ∷ sets) zero = refl
+    same_length (s ∷ sets) (suc i) = ap suc (same_length sets i)
+
+    all_within : (sets : Sets) (i : ℕ) → All (IsWithin n) sets → All (IsWithin n) (with_set sets i set)
+    all_within [] i h = All-nil (IsWithin n)
+    all_within (s ∷ sets) zero h = All-cons (IsWithin n) (Some set) sets small (All-tail (IsWithin n) s sets h)
+    all_within (s ∷ sets) (suc i) h = All-cons (IsWithin n) s (with_set sets i set) (All-head (IsWithin n) s sets h) (all_within sets i (All-tail (IsWithin n) s sets h))
+
+part_keeps : (aux env : Environment) (n : ℕ) → Knows env n → (sets : Sets) → AreWithin n sets → Always (part aux env sets) (λ p y. AreWithin n y)
+unfolding part auxiliary set Always
+part_keeps aux env n k sets h = λ w e m l' e' m'. (
+  λ l e m. with_set_within n sets (index_or (aux (text_of w))) 0 (empty_is_set n) h,
+  always_weaker (names env) (λ p s. s < 2 ^ n) _ (λ p s hs. with_set_within n sets (index_or (aux (text_of w))) s hs h) (names_keep env n k),
+)
+
+try_line_keeps : (aux env : Environment) (n : ℕ) → Knows env n → (sets : Sets) → AreWithin n sets → Always (try_line aux env sets) (λ p t. IsTryOf n t)
+unfolding try_line more_parts Always
+try_line_keeps aux env n k sets h = always_weaker (part aux env sets) _ _
+    (λ p first hf. always_weaker (more_parts aux env first) _ _ (λ q all ha l e m. record { four = length-map all set_or ∙ ha.four; within = All-map (λ (s : ℕ). s < 2 ^ n) set_or all ha.within })
+    (each_keeps (Punctuation Semicolon ∷ []) (λ a l. (None, tt {0})) (λ sets u. part aux env sets) (λ sets more. more) (AreWithin n) (λ sets hs l e m. part_keeps aux env n k sets hs) first hf)) (part_keeps aux env n k sets h)
+
+try_allowed : (whole : Bool) (n : ℕ) → try_mark whole n ≡ None → 1 ≤ n
+try_allowed true n e = absurd cc
+try_allowed false n e = some_allowed n e
+
+-- at most 64 lines with sets of n variables
+abbrev AreTries : ℕ → List (List ℕ) → Type 0
+AreTries n ts = (length ts ≤ 64) × All (IsTryOf n) ts
+
+tries_keep : (aux env : Environment) (n : ℕ) → Knows env n → (auxiliaries : ℕ) → Always (more_tries aux env (unnamed_sets auxiliaries) []) (λ p ts. AreTries n ts)
+unfolding more_tries
+tries_keep aux env n k auxiliaries =
+    let sets = unnamed_sets auxiliaries in
+    each_keeps (Keyword try_keyword ∷ []) (λ ts l. (try_mark (is_whole sets) (most_lines - length ts), tt {0})) (λ ts u. try_line aux env sets) (λ ts t. ts ++ t ∷ []) (AreTries n)
+    (λ ts h l e m. always_weaker (try_line aux env sets) _ _ (λ p t ht. (let some = try_allowed (is_whole sets) (most_lines - length ts) m in omega (arith, some, length-append ts (t ∷ [])), all_and_one (IsTryOf n) ts t h.1 ht)) (try_line_keeps aux env n k sets (unnamed_within n auxiliaries))) []
+    (omega arith, All-nil (IsTryOf n))
+
+-- ---- regions
+
+region_of_own : (v names : NamesView) (own : OwnLinesView) → length v.variables ≤ 10 → MayBeNamed Variable (length v.variables + auxiliaries_left v) v names → AreLinesOver names own → IsRegionOf v (record { names = names; auxiliaries = length names.variables - length v.variables; lines = own })
 region_of_own v names own few h lines =
-    let variables : names.variables ≡ v.variables ++ h.own = ap (λ (w : NamesView). w.variables) h.is in
-    let total : length names.variables ≡ length v.variables + length h.own = ap (λ (ws : List (List ℕ)). length ws) variables ∙ length-append v.variables h.own in
+    let variables : names.variables ≡ v.variables ++ h.grown.own = ap (λ (w : NamesView). w.variables) h.grown.is in
+    let total : length names.variables ≡ length v.variables + length h.grown.own = ap (λ (ws : List (List ℕ)). length ws) variables ∙ length-append v.variables h.grown.own in
+    let most = h.few (omega arith) in
     let left = min-le_left 4 (10 - length v.variables) in
     let right = min-le_right 4 (10 - length v.variables) in
     record {
-      own = h.own;
+      own = h.grown.own;
       variables = variables;
-      rates = ap (λ (w : NamesView). w.rates) h.is;
+      rates = ap (λ (w : NamesView). w.rates) h.grown.is;
       counted = omega (arith, total);
-      few = omega (arith, h.few, left);
-      few_variables = omega (arith, h.few, right, total, few);
+      few = omega (arith, most, left, total);
+      few_variables = omega (arith, most, right, total, few);
       lines = lines;
     }
 
-abbrev Region : NamesView → RegionView × List Letter → Type 0
-Region v x = IsRegionOf v x.0
+-- a region with as many lines as are allowed
+pub record IsCounted (g r : ℕ) (v : NamesView) (x : RegionView) : Type 0 where
+  pub region : IsRegionOf v x
+  pub givens : length x.lines.givens ≤ g
+  pub rows : length x.lines.rows ≤ r
 
-region_sure : (g r : ℕ) (v : NamesView) → g ≤ 64 → r ≤ 64 → length v.variables ≤ 10 → (ls : List Letter) → Sure (Region v) (read_region g r v ls)
-unfolding read_region
-region_sure g r v few_g few_r few ls =
-    sure_bind Any (Region v) (line_end ls) (λ e. read_names_line Variable (auxiliaries_left v) aux_keyword v e.1 >>= λ names. read_lines g r names.0 names.1 >>= λ own. Ok (region_of_lines v names.0 own.0, own.1)) (sure_any (line_end ls))
-    (λ e u. sure_bind (Grows Variable 0 (auxiliaries_left v) v) (Region v) (read_names_line Variable (auxiliaries_left v) aux_keyword v e.1) (λ names. read_lines g r names.0 names.1 >>= λ own. Ok (region_of_lines v names.0 own.0, own.1)) (names_line_sure Variable (auxiliaries_left v) aux_keyword v e.1)
-    (λ names hn. sure_bind (Own g r names.0) (Region v) (read_lines g r names.0 names.1) (λ own. Ok (region_of_lines v names.0 own.0, own.1)) (lines_sure g r names.0 names.1)
-    (λ own ho. region_of_own v names.0 own.0 few hn (lines_over g r names.0 own.0 few_g few_r ho))))
-
-abbrev Counted : ℕ → ℕ → RegionView × List Letter → Type 0
-Counted g r x = (length x.0.lines.givens ≤ g) × (length x.0.lines.rows ≤ r)
-
--- it has as many lines as are allowed
-counted_sure : (g r : ℕ) (v : NamesView) (ls : List Letter) → Sure (Counted g r) (read_region g r v ls)
-unfolding read_region
-counted_sure g r v ls =
-    sure_bind Any (Counted g r) (line_end ls) (λ e. read_names_line Variable (auxiliaries_left v) aux_keyword v e.1 >>= λ names. read_lines g r names.0 names.1 >>= λ own. Ok (region_of_lines v names.0 own.0, own.1)) (sure_any (line_end ls))
-    (λ e u. sure_bind Any (Counted g r) (read_names_line Variable (auxiliaries_left v) aux_keyword v e.1) (λ names. read_lines g r names.0 names.1 >>= λ own. Ok (region_of_lines v names.0 own.0, own.1)) (sure_any (read_names_line Variable (auxiliaries_left v) aux_keyword v e.1))
-    (λ names w. sure_bind (Own g r names.0) (Counted g r) (read_lines g r names.0 names.1) (λ own. Ok (region_of_lines v names.0 own.0, own.1)) (lines_sure g r names.0 names.1)
-    (λ own ho. (ho.few_givens, ho.few_rows))))
+region_keeps : (g r : ℕ) (v : NamesView) → g ≤ 64 → r ≤ 64 → length v.variables ≤ 10 → Always (region g r v) (λ p x. IsCounted g r v x)
+unfolding region Always
+region_keeps g r v few_g few_r few = λ l e m.
+    always_weaker (names_line Variable (length v.variables + auxiliaries_left v) aux_keyword v) _ _
+    (λ p names hn. always_weaker (own_lines g r names) _ _ (λ q own ho. record { region = region_of_own v names own few hn (lines_over g r names own few_g few_r ho); givens = ho.few_givens; rows = ho.few_rows }) (own_lines_keep g r names))
+    (names_line_keeps Variable (length v.variables + auxiliaries_left v) aux_keyword v)
 
 -- ---- what a question wants
 
-abbrev Over : NamesView → VerbView × List Letter → Type 0
-Over v x = IsVerbOver v x.0
-
-containment_sure : (lines : OwnLinesView) (v : NamesView) → length v.variables ≤ 10 → (ls : List Letter) → Sure (Over v) (read_containment lines v ls)
-unfolding read_containment
-containment_sure lines v few ls =
-    let g = givens_left most_lines lines in
-    let r = rows_left most_lines lines in
-    let few_g : g ≤ 64 = omega arith in
-    let few_r : r ≤ 64 = omega arith in
-    sure_bind (Region v) (Over v) (read_region g r v ls) (λ first. read_word region_keyword first.1 >>= λ x. read_region (givens_left g first.0.lines) (rows_left r first.0.lines) v x.1 >>= λ second. read_tries most_lines (auxiliary_env v second.0.names) (env_of first.0.names) (unnamed_sets second.0.auxiliaries) second.1 >>= λ tries. read_contain (contain_mark lines first.0) tries.1 >>= λ e. Ok (Contain first.0 second.0 tries.0, e.1)) (region_sure g r v few_g few_r few ls)
-    (λ first hf.
-    let givens = givens_left g first.0.lines in
-    let rows = rows_left r first.0.lines in
-    let env = env_of first.0.names in
-    let n = length first.0.names.variables in
-    sure_bind Any (Over v) (read_word region_keyword first.1) (λ x. read_region givens rows v x.1 >>= λ second. read_tries most_lines (auxiliary_env v second.0.names) env (unnamed_sets second.0.auxiliaries) second.1 >>= λ tries. read_contain (contain_mark lines first.0) tries.1 >>= λ e. Ok (Contain first.0 second.0 tries.0, e.1)) (sure_any (read_word region_keyword first.1))
-    (λ x u. sure_bind (Region v) (Over v) (read_region givens rows v x.1) (λ second. read_tries most_lines (auxiliary_env v second.0.names) env (unnamed_sets second.0.auxiliaries) second.1 >>= λ tries. read_contain (contain_mark lines first.0) tries.1 >>= λ e. Ok (Contain first.0 second.0 tries.0, e.1)) (region_sure givens rows v (omega (arith, few_g)) (omega (arith, few_r)) few x.1)
-    (λ second hs. sure_bind (AreTries n most_lines) (Over v) (read_tries most_lines (auxiliary_env v second.0.names) env (unnamed_sets second.0.auxiliaries) second.1) (λ tries. read_contain (contain_mark lines first.0) tries.1 >>= λ e. Ok (Contain first.0 second.0 tries.0, e.1)) (tries_sure most_lines (auxiliary_env v second.0.names) env n (knows_names first.0.names) second.0.auxiliaries second.1)
-    (λ tries ht. sure_bind Any (Over v) (read_contain (contain_mark lines first.0) tries.1) (λ e. Ok (Contain first.0 second.0 tries.0, e.1)) (sure_any (read_contain (contain_mark lines first.0) tries.1)) (λ e w. (hf, hs, ht.0, ht.1))))))
-
-proof_sure : (v : NamesView) (ls : List Letter) → Sure (Over v) (read_proof v ls)
-unfolding read_proof
-proof_sure v ls = sure_bind (λ (x : RelationView × List Letter). OverRelation v x.0) (Over v) (to_end (read_relation (scope_of v true)) ls) (λ x. Ok (Prove x.0, x.1)) (relation_sure v ls) (λ x hx. hx)
-
-elimination_sure : (v : NamesView) (ls : List Letter) → Sure (Over v) (read_elimination v ls)
-unfolding read_elimination
-elimination_sure v ls =
-    let m = length v.rates in
-    let f = read_distinct (rates_env v) in
-    sure_bind (Rates m) (Over v) (to_end f ls) (λ x. Ok (Eliminate x.0, x.1)) (ended_sure (AreRatesOf m) f (distinct_sure (rates_env v) m (knows_rates v)) ls) (λ x hx. hx)
-
--- what is read after a letter tells that nothing is said against it
-pub marked_sure : {A : Type 0} (P : A × List Letter → Type 0) (c : Option Code) (f : List Letter → Reads A) (after ls : List Letter) → (c ≡ None → Sure P (f after)) → Sure P (unless_marked c f after ls)
-marked_sure P None f after ls h = h refl
-marked_sure P (Some c) f after ls h = tt
-
-verb_sure : (own : OwnLinesView) (v : NamesView) → length v.variables ≤ 10 → (ls : List Letter) → Sure (Over v) (read_verb own v ls)
-unfolding read_verb
-verb_sure own v few (Word w ∷ ls) = by_tests (bytes_eq w prove_keyword) (bytes_eq w eliminate_keyword) (bytes_eq w region_keyword)
+-- a table against which nothing is said
+unmarked_is_small : (v : NamesView) (own : OwnLinesView) → size_mark v own ≡ None → table_size (problem_of_lines v own) ≤ most_entries
+unfolding size_mark
+unmarked_is_small v own e = by_test (nat_lt most_entries (table_size (problem_of_lines v own))) refl e
   where
-    by_tests : (a b c : Bool) → Sure (Over v) (cond a (unless_marked (size_mark v own) (read_proof v) ls (Word w ∷ ls)) (cond b (unless_marked (size_mark v (givens_alone own)) (read_elimination v) ls (Word w ∷ ls)) (cond c (read_containment own v ls) (no_rule (Word w ∷ ls)))))
-    by_tests true b c = marked_sure (Over v) (size_mark v own) (read_proof v) ls (Word w ∷ ls) (λ e. proof_sure v ls)
-    by_tests false true c = marked_sure (Over v) (size_mark v (givens_alone own)) (read_elimination v) ls (Word w ∷ ls) (λ e. elimination_sure v ls)
-    by_tests false false true = containment_sure own v few ls
-    by_tests false false false = tt
-verb_sure own v few [] = tt
-verb_sure own v few (Bad c ∷ ls) = tt
-verb_sure own v few (l ∷ ls) = tt
+    by_test : (b : Bool) → nat_lt most_entries (table_size (problem_of_lines v own)) ≡ b → cond b (Some codes.Large) None ≡ None → table_size (problem_of_lines v own) ≤ most_entries
+    by_test true t k = absurd cc
+    by_test false t k = grind (arith, nat_tests)
+
+-- what a question with these lines may want
+record IsWanted (own : OwnLinesView) (v : NamesView) (y : VerbView) : Type 0 where
+  over : IsVerbOver v y
+  small : table_size (problem_of_lines (problem_names_by v y) (problem_lines_by own y)) ≤ most_entries
+
+containment_keeps : (own : OwnLinesView) (v : NamesView) → length v.variables ≤ 10 → Always (containment own v) (λ p y. IsWanted own v y)
+unfolding containment Always
+containment_keeps own v few =
+    let g = givens_left most_lines own in
+    let r = rows_left most_lines own in
+    always_weaker (region g r v) _ _
+    (λ p first hf l e m. always_weaker (region (givens_left g first.lines) (rows_left r first.lines) v) _ _
+    (λ q second hs. always_weaker (more_tries (auxiliary_env v second.names) (env_of first.names) (unnamed_sets second.auxiliaries) []) _ _
+    (λ s tries ht l e none l' e' m'. record { over = (hf.region, hs.region, ht.0, ht.1); small = unmarked_is_small first.names (problem_lines_by own (Contain first second tries)) none })
+    (tries_keep (auxiliary_env v second.names) (env_of first.names) (length first.names.variables) (knows_names first.names) second.auxiliaries))
+    (region_keeps (givens_left g first.lines) (rows_left r first.lines) v (omega arith) (omega arith) few))
+    (region_keeps g r v (omega arith) (omega arith) few)
+
+verb_keeps : (own : OwnLinesView) (v : NamesView) → length v.variables ≤ 10 → Always (verb own v) (λ p y. IsWanted own v y)
+unfolding verb Always
+verb_keeps own v few = (
+  λ l e m. always_weaker (to_end (relation (scope_of v true))) (λ p x. IsRelationOf (length v.variables) (length v.rates) x) (λ p x. IsWanted own v (Prove x)) (λ p x hx. record { over = hx; small = unmarked_is_small v own m }) (line_keeps (relation (scope_of v true)) (IsRelationOf (length v.variables) (length v.rates)) (relation_keeps (scope_of v true) (length v.variables) (length v.rates) (scope_covers v true))),
+  (
+    λ l e m. always_weaker (to_end (distinct (rates_env v))) (λ p x. AreRatesOf (length v.rates) x) (λ p x. IsWanted own v (Eliminate x)) (λ p x hx. record { over = hx; small = unmarked_is_small v (givens_alone own) m }) (line_keeps (distinct (rates_env v)) (AreRatesOf (length v.rates)) (distinct_keeps (rates_env v) (length v.rates) (knows_rates v))),
+    λ l e m. containment_keeps own v few,
+  ),
+)
 
 -- ---- questions
 
-abbrev Asks : BodyView × List Letter → Type 0
-Asks x = IsQuestion x.0
+-- within the limits, with a table that isn't too large
+pub record IsRead (q : BodyView) : Type 0 where
+  pub limits : IsQuestion q
+  pub small : HasSmallTable q
 
--- rates leave the variables as they are
-own_variables : (variables names : NamesView) (hv : IsGrown Variable 1 10 no_names variables) → IsGrown Rate 0 16 variables names → names.variables ≡ hv.own
-own_variables variables names hv hn = ap (λ (w : NamesView). w.variables) hn.is ∙ ap (λ (w : NamesView). w.variables) hv.is
+-- the names of a question: variables, and perhaps rates
+record AreNames (names : NamesView) : Type 0 where
+  some : 1 ≤ length names.variables
+  few : length names.variables ≤ 10
+  few_rates : length names.rates ≤ 16
 
-few_variables : (variables names : NamesView) → IsGrown Variable 1 10 no_names variables → IsGrown Rate 0 16 variables names → length names.variables ≤ 10
-few_variables variables names hv hn = subst (λ (ws : List (List ℕ)). length ws ≤ 10) (sym (own_variables variables names hv hn)) hv.few
-
-question_over : (variables names : NamesView) (own : OwnLinesView) (aim : VerbView) → IsGrown Variable 1 10 no_names variables → IsGrown Rate 0 16 variables names → AreLinesOver names own → IsVerbOver names aim → IsQuestion (record { names = names; lines = own; verb = aim })
-question_over variables names own aim hv hn lines over =
-    let rated : names.rates ≡ hn.own = ap (λ (w : NamesView). w.rates) hn.is ∙ ap (λ (w : NamesView). w.rates ++ hn.own) hv.is in
+are_names : (variables names : NamesView) → AreNamed Variable most_variables no_names variables → MayBeNamed Rate most_rates variables names → AreNames names
+are_names variables names hv hn =
+    let own : names.variables ≡ variables.variables = ap (λ (w : NamesView). w.variables) hn.grown.is in
+    let first : variables.variables ≡ hv.grown.own = ap (λ (w : NamesView). w.variables) hv.grown.is in
+    let none : variables.rates ≡ [] = ap (λ (w : NamesView). w.rates) hv.grown.is in
     record {
-      some = subst (λ (ws : List (List ℕ)). 1 ≤ length ws) (sym (own_variables variables names hv hn)) hv.some;
-      few = few_variables variables names hv hn;
-      few_rates = subst (λ (ws : List (List ℕ)). length ws ≤ 16) (sym rated) hn.few;
-      lines = lines;
-      verb = over;
+      some = let n = ap (λ (ws : List (List ℕ)). length ws) (own ∙ first) in omega (arith, n, hv.grown.some);
+      few = let n = ap (λ (ws : List (List ℕ)). length ws) own in omega (arith, n, hv.few);
+      few_rates = hn.few (let n = ap (λ (ws : List (List ℕ)). length ws) none in omega (arith, n));
     }
 
-question_sure : (ls : List Letter) → Sure Asks (read_question ls)
-unfolding read_question
-question_sure ls =
-    let f = read_new_names Variable most_variables no_names in
-    sure_bind (Grows Variable 1 10 no_names) Asks (to_end f ls) (λ variables. read_names_line Rate most_rates rates_keyword variables.0 variables.1 >>= λ names. read_lines most_lines most_lines names.0 names.1 >>= λ own. read_verb own.0 names.0 own.1 >>= λ aim. Ok (record { names = names.0; lines = own.0; verb = aim.0 }, aim.1)) (ended_sure (IsGrown Variable 1 10 no_names) f (new_names_sure Variable most_variables no_names) ls)
-    (λ variables hv. sure_bind (Grows Rate 0 16 variables.0) Asks (read_names_line Rate most_rates rates_keyword variables.0 variables.1) (λ names. read_lines most_lines most_lines names.0 names.1 >>= λ own. read_verb own.0 names.0 own.1 >>= λ aim. Ok (record { names = names.0; lines = own.0; verb = aim.0 }, aim.1)) (names_line_sure Rate most_rates rates_keyword variables.0 variables.1)
-    (λ names hn. sure_bind (Own 64 64 names.0) Asks (read_lines most_lines most_lines names.0 names.1) (λ own. read_verb own.0 names.0 own.1 >>= λ aim. Ok (record { names = names.0; lines = own.0; verb = aim.0 }, aim.1)) (lines_sure most_lines most_lines names.0 names.1)
-    (λ own ho. sure_bind (Over names.0) Asks (read_verb own.0 names.0 own.1) (λ aim. Ok (record { names = names.0; lines = own.0; verb = aim.0 }, aim.1)) (verb_sure own.0 names.0 (few_variables variables.0 names.0 hv hn) own.1)
-    (λ aim ha. question_over variables.0 names.0 own.0 aim.0 hv hn (lines_over 64 64 names.0 own.0 (omega arith) (omega arith) ho) ha))))
+question_keeps : Always question (λ p q. IsRead q)
+unfolding question Always
+question_keeps = always_weaker (new_names Variable most_variables no_names) _ _
+    (λ p variables hv. always_weaker (names_line Rate most_rates rates_keyword variables) _ _
+    (λ q names hn. let n = are_names variables names hv hn in
+    always_weaker (own_lines most_lines most_lines names) _ _
+    (λ r own ho. always_weaker (verb own names) _ _ (λ s aim ha. record { limits = record { some = n.some; few = n.few; few_rates = n.few_rates; lines = lines_over most_lines most_lines names own (omega arith) (omega arith) ho; verb = ha.over }; small = ha.small })
+    (verb_keeps own names n.few)) (own_lines_keep most_lines most_lines names)) (names_line_keeps Rate most_rates rates_keyword variables)) (new_names_keep Variable most_variables no_names)
 
--- what holds of each question that is read holds of those of a file
-module _ (P : BodyView → Type 0) (each : (ls : List Letter) → Sure (λ (x : BodyView × List Letter). P x.0) (read_question ls)) where
-  abbrev AreAll : List BodyView × List Letter → Type 0
-  AreAll x = All P x.0
+file_keeps : Always file (λ p qs. All IsRead qs)
+unfolding file more_questions Always
+file_keeps = always_weaker (more_questions []) _ _ (λ p qs h l e m. h)
+    (each_keeps (Keyword vars_keyword ∷ []) (λ qs l. (limit_mark (most_questions - length qs), tt {0})) (λ qs u. question) (λ qs q. qs ++ q ∷ []) (All IsRead) (λ qs h l e m. always_weaker question _ _ (λ p q hq. all_and_one IsRead qs q h hq) question_keeps) [] (All-nil IsRead))
 
-  end_sure : (ls : List Letter) → Sure AreAll (read_end ls)
-  unfolding read_end
-  end_sure (Bad codes.Unfinished ∷ ls) = All-nil P
-  end_sure [] = tt
-  end_sure (Bad c ∷ ls) = tt
-  end_sure (l ∷ ls) = tt
+-- ---- what the readers hand on
 
-  question_list_sure : (f : List Letter → Reads (List BodyView)) → ((ls : List Letter) → Sure AreAll (f ls)) → (o : Option (List Letter)) (ls : List Letter) → Sure AreAll (if_question f o ls)
-  question_list_sure f h (Some after) ls = h after
-  question_list_sure f h None ls = end_sure ls
+pub file_limited : (ls r : List Letter) (qs : List BodyView) → read file ls ≡ Ok (qs, r) → All IsRead qs
+file_limited ls r qs e = value_read file (All IsRead) ls r qs file_keeps e
 
-  question_then_sure : (f : List Letter → Reads (List BodyView)) → ((ls : List Letter) → Sure AreAll (f ls)) → (ls : List Letter) → Sure AreAll (question_then f ls)
-  question_then_sure f h ls =
-      sure_bind (λ (x : BodyView × List Letter). P x.0) AreAll (read_question ls) (λ q. f q.1 >>= λ qs. Ok (q.0 ∷ qs.0, qs.1)) (each ls)
-      (λ q hq. sure_bind AreAll AreAll (f q.1) (λ qs. Ok (q.0 ∷ qs.0, qs.1)) (h q.1) (λ qs hs. All-cons P q.0 qs.0 hq hs))
+pub names_limited : (variables names : NamesView) (ls a b r : List Letter) → read (new_names Variable most_variables no_names) ls ≡ Ok (variables, a) → read (names_line Rate most_rates rates_keyword variables) b ≡ Ok (names, r) → IsSpace (space_of names)
+names_limited variables names ls a b r e f =
+    let hv = value_read (new_names Variable most_variables no_names) (AreNamed Variable most_variables no_names) ls a variables (new_names_keep Variable most_variables no_names) e in
+    let hn = value_read (names_line Rate most_rates rates_keyword variables) (MayBeNamed Rate most_rates variables) b r names (names_line_keeps Rate most_rates rates_keyword variables) f in
+    let n = are_names variables names hv hn in
+    record { some = n.some; few = n.few; few_rates = n.few_rates }
 
-  questions_sure : (n : ℕ) (ls : List Letter) → Sure AreAll (read_questions n ls)
-  unfolding read_questions
-  questions_sure zero ls = question_list_sure (λ after. Err (codes.Many, ls)) (λ after. tt) (after_word vars_keyword ls) ls
-  questions_sure (suc n) ls = question_list_sure (question_then (read_questions n)) (question_then_sure (read_questions n) (questions_sure n)) (after_word vars_keyword ls) ls
+pub lines_limited : (v : NamesView) (ls r : List Letter) (own : OwnLinesView) → read (own_lines most_lines most_lines v) ls ≡ Ok (own, r) → AreLinesOver v own
+lines_limited v ls r own e = lines_over most_lines most_lines v own (omega arith) (omega arith) (value_read (own_lines most_lines most_lines v) (AreOwn most_lines most_lines v) ls r own (own_lines_keep most_lines most_lines v) e)
 
-  pub each_of_file : (ls r : List Letter) (qs : List BodyView) → read_file ls ≡ Ok (qs, r) → All P qs
-  unfolding read_file
-  each_of_file ls r qs e = subst (Sure AreAll) e (questions_sure most_questions ls)
-
--- a file that is read
-pub file_limited : (ls r : List Letter) (qs : List BodyView) → read_file ls ≡ Ok (qs, r) → All IsQuestion qs
-file_limited = each_of_file IsQuestion question_sure
-
--- ---- what the code's readers of a question read
-
--- the names are a space's
-pub names_limited : (ls a b : List Letter) (v w : NamesView) → to_end (read_new_names Variable most_variables no_names) ls ≡ Ok (v, a) → read_names_line Rate most_rates rates_keyword v a ≡ Ok (w, b) → IsSpace (space_of w)
-names_limited ls a b v w e h =
-    let f = read_new_names Variable most_variables no_names in
-    let hv = subst (Sure (Grows Variable 1 10 no_names)) e (ended_sure (IsGrown Variable 1 10 no_names) f (new_names_sure Variable most_variables no_names) ls) in
-    let hn = subst (Sure (Grows Rate 0 16 v)) h (names_line_sure Rate most_rates rates_keyword v a) in
-    let rated : w.rates ≡ hn.own = ap (λ (x : NamesView). x.rates) hn.is ∙ ap (λ (x : NamesView). x.rates ++ hn.own) hv.is in
-    record {
-      some = subst (λ (ws : List (List ℕ)). 1 ≤ length ws) (sym (own_variables v w hv hn)) hv.some;
-      few = few_variables v w hv hn;
-      few_rates = subst (λ (ws : List (List ℕ)). length ws ≤ 16) (sym rated) hn.few;
-    }
-
-pub lines_limited : (v : NamesView) (ls r : List Letter) (own : OwnLinesView) → read_lines most_lines most_lines v ls ≡ Ok (own, r) → AreLinesOver v own
-lines_limited v ls r own e = lines_over 64 64 v own (omega arith) (omega arith) (subst (Sure (Own 64 64 v)) e (lines_sure most_lines most_lines v ls))
-
-pub region_limited : (own : OwnLinesView) (v : NamesView) (ls r : List Letter) (x : RegionView) → IsSpace (space_of v) → read_region (givens_left most_lines own) (rows_left most_lines own) v ls ≡ Ok (x, r) → IsRegionOf v x
-region_limited own v ls r x k e = subst (Sure (Region v)) e (region_sure (givens_left most_lines own) (rows_left most_lines own) v (omega arith) (omega arith) k.few ls)
-
--- and with the question's own lines its region's are within the limits
-pub region_counted : (own : OwnLinesView) (v : NamesView) (ls r : List Letter) (x : RegionView) → AreLinesOver v own → read_region (givens_left most_lines own) (rows_left most_lines own) v ls ≡ Ok (x, r)
-    → (length own.givens + length x.lines.givens ≤ 64) × (length own.rows + length x.lines.rows ≤ 64)
-region_counted own v ls r x k e =
-    let g = givens_left most_lines own in
-    let m = rows_left most_lines own in
-    let h = subst (Sure (Counted g m)) e (counted_sure g m v ls) in
-    (omega (arith, h.0, k.few_givens), omega (arith, h.1, k.few_rows))
+pub region_limited : (own : OwnLinesView) (v : NamesView) (ls r : List Letter) (x : RegionView) → length v.variables ≤ 10 → read (region (givens_left most_lines own) (rows_left most_lines own) v) ls ≡ Ok (x, r) → IsCounted (givens_left most_lines own) (rows_left most_lines own) v x
+region_limited own v ls r x few e = value_read (region (givens_left most_lines own) (rows_left most_lines own) v) (IsCounted (givens_left most_lines own) (rows_left most_lines own) v) ls r x (region_keeps (givens_left most_lines own) (rows_left most_lines own) v (omega arith) (omega arith) few) e

@@ -1,47 +1,41 @@
 -- The numbers in the questions of a file are below 2 ^ 64: those of its letters are, and a question has no others.
-use Rattle.std.proofs.Common.{ℕ, zero, suc, ◌+◌, ◌-◌, ◌<◌, ◌^◌, lit<, Bool, true, false, List, [], ◌∷◌, ◌++◌, drop, Option, Some, None, inl, inr, sym, subst}
+use Rattle.std.proofs.Common.{◌≡◌, ℕ, ◌+◌, ◌-◌, ◌<◌, ◌^◌, lit<, Bool, true, false, List, [], ◌∷◌, ◌++◌, length, drop, Option, Some, None, inl, inr, sym, subst, refl}
 use Rattle.std.specs.List.{AllByRecursion as Every}
-use Rattle.it_syntax.specs.declared.rest.Divider.{Divider}
-use Rattle.it_syntax.specs.declared.rest.Divider.TheVariants.{Arrows, Semicolons}
+use Rattle.it_forms.specs.Forms.{Positive, Keyword, is_of, is_among, Form, Give, Then}
+use Rattle.it_forms.specs.Letters.{Letter, Number}
+use Rattle.it_forms.specs.Words.{number_of, allowed, limit_mark, to_end}
+use Rattle.it_forms.proofs.FormFacts.{always_any, always_said}
+use Rattle.it_forms.proofs.FormParts.{Always, always_weaker, loop_keeps}
+use Rattle.it_forms.proofs.MarkedParts.{always_marked, always_but}
+use Rattle.it_syntax.specs.declared.types.Atom.{Atom}
 use Rattle.it_syntax.specs.declared.types.Misspelling.{Misspelling}
-use Rattle.it_syntax.specs.declared.types.Sign.{Sign}
-use Rattle.it_syntax.specs.declared.types.Sign.TheVariants.{AtLeast, AtMost, Equal}
 use Rattle.it_syntax.specs.declared.types.Term.{Term}
 use Rattle.it_syntax.specs.declared.types.Token.{Token}
 use Rattle.it_syntax.specs.declared.types.TokenKind.{TokenKind}
 use Rattle.it_syntax.specs.declared.types.TokenKind.TheVariants as kinds
 use Rattle.it_syntax.specs.Givens.{GivenView}
 use Rattle.it_syntax.specs.Givens as given_views
-use Rattle.it_forms.specs.Letters.{Letter, Number, End, MarkedLetters, without_mark, without_marks}
-use Rattle.it_syntax.specs.NameMarks.{index_or}
-use Rattle.it_syntax.specs.Multiples.{most_terms}
-use Rattle.it_question.specs.WrittenNames.{spell_new_more, spell_new_names, new_names_of, spell_names_line, names_line_of}
-use Rattle.it_question.specs.RateNames.{rates_env}
-use Rattle.it_question.specs.QuestionLimits.{most_questions, most_rates, most_lines, most_variables, auxiliaries_left, givens_left, rows_left}
-use Rattle.it_question.specs.TrySets.{auxiliary_env, Sets, unnamed_sets}
+use Rattle.it_syntax.specs.LineForms.{names, atom, atom_or_nothing, over_or, term, signs, is_minus, more_terms, terms, sum, compare, relation, more_members, chain, after_bar, independence, function, given}
 use Rattle.it_syntax.specs.Meaning.{RelationView, multiple_from}
 use Rattle.it_syntax.specs.Misspellings.{SpellsUntil}
+use Rattle.it_syntax.specs.Multiples.{most_terms}
 use Rattle.it_syntax.specs.NamesViews.{NamesView}
-use Rattle.it_syntax.specs.Scopes.{scope_of, env_of, Environment, Scope}
+use Rattle.it_syntax.specs.Scopes.{Scope, scope_of, env_of}
 use Rattle.it_syntax.specs.Spans.{letter_of, letters_until, last_letter}
 use Rattle.it_syntax.specs.Spelling.{IsText}
-use Rattle.it_syntax.specs.WrittenMeasures.{WrittenList, WrittenMeasure, Entropy, EntropyGiven, Mutual, MutualGiven, TermSign, Positive, Negative, sign_letter, mark_surplus, is_negative, is_minus, spell_more, spell_list, spell_measure, spell_sign}
-use Rattle.it_number.specs.Gcd.{lcm}
-use Rattle.it_syntax.specs.WrittenRelations.{WrittenAtom, Measure, RateOf, WrittenTerm, Zero, Once, Times, Over, WrittenSum, WrittenRelation, number_of_terms, denominator_of, spell_atom, spell_term, spell_terms, spell_counted, spell_sum, compare_letter, spell_relation, term_of, terms_of, sum_of, relation_of}
-use Rattle.it_syntax.specs.WrittenGivens.{WrittenGiven, Relation, Markov, Independent, Function, divider_letter, spell_members, spell_bar, spell_given, given_of}
 use Rattle.it_question.specs.Files.{IsFile}
 use Rattle.it_question.specs.Lines.{LineView, AreLines, letters_of_lines, split_lines}
-use Rattle.it_question.specs.NewNames.{NameSortView, Variable, Rate, with_name, no_names}
-use Rattle.it_question.specs.Questions.{OwnLinesView, VerbView, BodyView, QuestionView}
+use Rattle.it_question.specs.QuestionForms.{own_words, own_keyword, own_line, more_own_lines, own_lines, names_line, new_names, distinct, more_tries, region, containment, verb, question, more_questions, file}
+use Rattle.it_question.specs.Keywords.{vars_keyword, rates_keyword, given_keyword, aux_keyword}
+use Rattle.it_question.specs.QuestionLimits.{most_questions, most_lines, most_variables, most_rates, auxiliaries_left, givens_left, rows_left}
+use Rattle.it_question.specs.Questions.{OwnLinesView, RegionView, VerbView, BodyView, QuestionView, no_lines}
 use Rattle.it_question.specs.Questions as views
+use Rattle.it_question.specs.RateNames.{rates_env}
 use Rattle.it_question.specs.Texts.{question_line_count, with_texts}
-use Rattle.it_question.specs.WrittenFiles.{spell_verb, verb_of, names_of, spell_question, question_of, spell_questions, questions_of}
-use Rattle.it_question.specs.WrittenLines.{spell_own, own_of, spell_once_more}
-use Rattle.it_question.specs.WrittenQuestions.{WrittenOwnLine, GivenLine, RowLine, WrittenRegion, WrittenSet, Empty, Listed, WrittenPart, WrittenTry, WrittenVerb, Prove, Eliminate, Contain, WrittenQuestion}
-use Rattle.it_question.specs.Keywords.{aux_keyword, rates_keyword}
-use Rattle.it_question.specs.WrittenRegions.{spell_region, region_of}
-use Rattle.it_question.specs.WrittenTries.{spell_set, spell_part, with_part, spell_parts, spell_try, spell_tries}
-use Rattle.it_question.proofs.FileLemmas.{asked_is_written}
+use Rattle.it_question.specs.TrySets.{auxiliary_env, unnamed_sets}
+use Rattle.it_question.specs.NewNames.{Variable, Rate, no_names}
+use Rattle.it_question.proofs.QuestionOutlines.{file_has}
+use Rattle.it_question.proofs.WholeFileLemmas.{said}
 
 -- ---- numbers of 64 bits
 
@@ -67,215 +61,154 @@ abbrev pub QuestionHasSmallNumbers : BodyView → Type 0
 QuestionHasSmallNumbers q = LinesHaveSmallNumbers q.lines × VerbHasSmallNumbers q.verb
 
 -- the numbers among letters
-abbrev AreSmall : MarkedLetters → Type 0
+abbrev AreSmall : List Letter → Type 0
 AreSmall [] = Unit {0}
-AreSmall ((Number n, o) ∷ m) = (n < 2 ^ 64) × AreSmall m
-AreSmall ((l, o) ∷ m) = AreSmall m
+AreSmall (Number n ∷ ls) = (n < 2 ^ 64) × AreSmall ls
+AreSmall (l ∷ ls) = AreSmall ls
 
--- ---- what is spelled within a line
+front_small : (p q : List Letter) → AreSmall (p ++ q) → AreSmall p
+front_small [] q h = tt
+front_small (Number n ∷ p) q h = (h.0, front_small p q h.1)
+front_small (l ∷ p) q h = front_small p q h
 
-after_more : (env : Environment) (ws : List (List ℕ)) (k : MarkedLetters) → AreSmall (spell_more env ws k) → AreSmall k
-after_more env [] k h = h
-after_more env (w ∷ ws) k h = after_more env ws k h
+rest_small : (p q : List Letter) → AreSmall (p ++ q) → AreSmall q
+rest_small [] q h = h
+rest_small (Number n ∷ p) q h = rest_small p q h.1
+rest_small (l ∷ p) q h = rest_small p q h
 
-after_list : (env : Environment) (l : WrittenList) (k : MarkedLetters) → AreSmall (spell_list env l k) → AreSmall k
-after_list env l k h = after_more env l.more k h
+every_more : {X : Type 0} (P : X → Type 0) (xs : List X) (x : X) → Every P xs → P x → Every P (xs ++ x ∷ [])
+every_more P [] x h k = (k, tt)
+every_more P (y ∷ xs) x h k = (h.0, every_more P xs x h.1 k)
 
-after_measure : (env : Environment) (a : WrittenMeasure) (k : MarkedLetters) → AreSmall (spell_measure env a k) → AreSmall k
-after_measure env (Entropy a) k h = after_list env a _ h
-after_measure env (EntropyGiven a c) k h = after_list env c _ (after_list env a _ h)
-after_measure env (Mutual a b) k h = after_list env b _ (after_list env a _ h)
-after_measure env (MutualGiven a b c) k h = after_list env c _ (after_list env b _ (after_list env a _ h))
+-- ---- relations
 
-after_atom : (s : Scope) (q : WrittenAtom) (k : MarkedLetters) → AreSmall (spell_atom s q k) → AreSmall k
-after_atom s (Measure a) k h = after_measure s.variables a k h
-after_atom s (RateOf r) k h = h
+abbrev IsSmall : Term → Type 0
+IsSmall t = t.number < 2 ^ 64
 
-after_term : (m : ℕ) (s : Scope) (minus : Bool) (t : WrittenTerm) (k : MarkedLetters) → AreSmall (spell_term m s t k) → ((term_of s minus t).number < 2 ^ 64) × AreSmall k
-after_term m s minus Zero k h = h
-after_term m s minus (Once q) k h = (lit< tt, after_atom s q k h)
-after_term m s minus (Times n q) k h = (h.0, after_atom s q k h.1)
-after_term m s minus (Over n d q) k h = (h.0, after_atom s q k h.1.1)
+number_small : (l : Letter) (q : List Letter) → is_among (Positive ∷ []) l ≡ true → AreSmall (l ∷ q) → number_of l < 2 ^ 64
+number_small (Number n) q e h = h.0
+number_small l q e h = absurd cc
 
-after_mark : (m : MarkedLetters) → AreSmall (mark_surplus m) → AreSmall m
-after_mark [] h = h
-after_mark ((Number n, None) ∷ m) h = h
-after_mark ((l, None) ∷ m) h = h
-after_mark ((l, Some c) ∷ m) h = h
+over_number : (m : ℕ) (s : Scope) (minus : Bool) (n : ℕ) (f : Form Atom) → Always (over_or m s minus n f) (λ p t. t.number ≡ n)
+unfolding Always
+over_number m s minus n f = (λ l e u l' e' u'. always_any (atom s) _ (λ q a. refl), always_any f _ (λ q a. refl))
 
-after_sign : (s : TermSign) (k : MarkedLetters) → AreSmall (without_mark (sign_letter s) ∷ k) → AreSmall k
-after_sign Positive k h = h
-after_sign Negative k h = h
+term_small : (m : ℕ) (s : Scope) (minus : Bool) → Always (term m s minus) (λ p t. AreSmall p → IsSmall t)
+unfolding term Always
+term_small m s minus = (
+  λ l e u. always_weaker (over_or m s minus 0 (atom_or_nothing s)) (λ p t. t.number ≡ 0) (λ q t. AreSmall ((l ∷ []) ++ q) → IsSmall t) (λ q t h small. subst (λ (n : ℕ). n < 2 ^ 64) (sym h) (lit< tt)) (over_number m s minus 0 (atom_or_nothing s)),
+  (
+    λ l e u. always_weaker (over_or m s minus (number_of l) (atom s)) (λ p t. t.number ≡ number_of l) (λ q t. AreSmall ((l ∷ []) ++ q) → IsSmall t) (λ q t h small. subst (λ (n : ℕ). n < 2 ^ 64) (sym h) (number_small l q e small)) (over_number m s minus (number_of l) (atom s)),
+    always_any (atom s) _ (λ q a small. lit< tt),
+  ),
+)
 
-after_terms : (n m : ℕ) (s : Scope) (ts : List (TermSign × WrittenTerm)) (k : MarkedLetters) → AreSmall (spell_terms n m s ts k) → Every (λ (t : Term). t.number < 2 ^ 64) (terms_of s ts) × AreSmall k
-after_terms n m s [] k h = (tt, h)
-after_terms zero m s (t ∷ ts) k h =
-    let next = lcm m (denominator_of t.1) in
-    let one = after_term m s (is_negative t.0) t.1 (spell_terms zero next s ts k) (after_mark (spell_term m s t.1 (spell_terms zero next s ts k)) (after_sign t.0 _ h)) in
-    let rest = after_terms zero next s ts k one.1 in
-    ((one.0, rest.0), rest.1)
-after_terms (suc n) m s (t ∷ ts) k h =
-    let next = lcm m (denominator_of t.1) in
-    let one = after_term m s (is_negative t.0) t.1 (spell_terms n next s ts k) (after_sign t.0 _ h) in
-    let rest = after_terms n next s ts k one.1 in
-    ((one.0, rest.0), rest.1)
+terms_small : (most m : ℕ) (s : Scope) (minus : Bool) → Always (terms most m s minus) (λ p ts. AreSmall p → Every IsSmall ts)
+unfolding terms more_terms Always
+terms_small most m s minus =
+    always_marked _ (term m s minus) _ (always_weaker (term m s minus) _ _
+    (λ p t h. loop_keeps signs (λ ts l. (None, is_minus l)) (λ ts minus. Then (allowed (most - length ts) (term (multiple_from m ts) s minus)) (λ t. Give (ts ++ t ∷ []))) (λ p ts. AreSmall p → Every IsSmall ts)
+    (λ p ts h l e u. always_marked _ (term (multiple_from m ts) s (is_minus l)) _ (always_weaker (term (multiple_from m ts) s (is_minus l)) _ _ (λ q t k small. every_more IsSmall ts t (h (front_small p _ small)) (k (front_small q _ (rest_small (l ∷ []) _ (rest_small p _ small))))) (term_small (multiple_from m ts) s (is_minus l))))
+    p (t ∷ []) (λ small. (h small, tt))) (term_small m s minus))
 
-after_counted : (n m : ℕ) (s : Scope) (minus : Bool) (t : WrittenTerm) (ts : List (TermSign × WrittenTerm)) (k : MarkedLetters) → AreSmall (spell_counted n m s t ts k)
-    → (((term_of s minus t).number < 2 ^ 64) × Every (λ (t : Term). t.number < 2 ^ 64) (terms_of s ts)) × AreSmall k
-after_counted zero m s minus t ts k h =
-    let next = lcm m (denominator_of t) in
-    let one = after_term m s minus t (spell_terms zero next s ts k) (after_mark (spell_term m s t (spell_terms zero next s ts k)) h) in
-    let rest = after_terms zero next s ts k one.1 in
-    ((one.0, rest.0), rest.1)
-after_counted (suc n) m s minus t ts k h =
-    let next = lcm m (denominator_of t) in
-    let one = after_term m s minus t (spell_terms n next s ts k) h in
-    let rest = after_terms n next s ts k one.1 in
-    ((one.0, rest.0), rest.1)
+sum_small : (most m : ℕ) (s : Scope) → Always (sum most m s) (λ p ts. AreSmall p → Every IsSmall ts)
+unfolding sum Always
+sum_small most m s = (
+  λ l e u. always_weaker (terms most m s false) _ _ (λ q ts h small. h (rest_small (l ∷ []) q small)) (terms_small most m s false),
+  (λ l e u. always_weaker (terms most m s true) _ _ (λ q ts h small. h (rest_small (l ∷ []) q small)) (terms_small most m s true), terms_small most m s false),
+)
 
-after_first_sign : (o : Option TermSign) (k : MarkedLetters) → AreSmall (spell_sign o k) → AreSmall k
-after_first_sign None k h = h
-after_first_sign (Some s) k h = after_sign s k h
+relation_small : (s : Scope) → Always (relation s) (λ p r. AreSmall p → HasSmallNumbers r)
+unfolding relation Always
+relation_small s = always_weaker (sum most_terms 1 s) _ _
+    (λ p left hl. always_any compare _ (λ q sign. always_weaker (sum (most_terms - length left) (multiple_from 1 left) s) _ _ (λ r right hr small. (hl (front_small p _ small), hr (front_small r _ (rest_small q _ (rest_small p _ small)))))
+    (sum_small (most_terms - length left) (multiple_from 1 left) s))) (sum_small most_terms 1 s)
 
-after_sum : (n m : ℕ) (s : Scope) (e : WrittenSum) (k : MarkedLetters) → AreSmall (spell_sum n m s e k) → Every (λ (t : Term). t.number < 2 ^ 64) (sum_of s e) × AreSmall k
-after_sum n m s e k h = after_counted n m s (is_minus e.sign) e.first e.more k (after_first_sign e.sign (spell_counted n m s e.first e.more k) h)
-
-after_compare : (s : Sign) (k : MarkedLetters) → AreSmall (without_mark (compare_letter s) ∷ k) → AreSmall k
-after_compare AtLeast k h = h
-after_compare AtMost k h = h
-after_compare Equal k h = h
-
-after_relation : (s : Scope) (x : WrittenRelation) (k : MarkedLetters) → AreSmall (spell_relation s x k) → HasSmallNumbers (relation_of s x) × AreSmall k
-after_relation s x k h =
-    let n = most_terms - number_of_terms x.left in
-    let m = multiple_from 1 (sum_of s x.left) in
-    let left = after_sum most_terms 1 s x.left (without_mark (compare_letter x.sign) ∷ spell_sum n m s x.right k) h in
-    let right = after_sum n m s x.right k (after_compare x.sign _ left.1) in
-    ((left.0, right.0), right.1)
-
--- ---- `given` and `row` lines
-
-after_divider : (d : Divider) (k : MarkedLetters) → AreSmall (without_mark (divider_letter d) ∷ k) → AreSmall k
-after_divider Arrows k h = h
-after_divider Semicolons k h = h
-
-after_members : (n : ℕ) (d : Divider) (env : Environment) (ls : List WrittenList) (k : MarkedLetters) → AreSmall (spell_members n d env ls k) → AreSmall k
-after_members n d env [] k h = h
-after_members zero d env (l ∷ ls) k h = after_members zero d env ls k (after_list env l (spell_members zero d env ls k) (after_mark (spell_list env l (spell_members zero d env ls k)) (after_divider d _ h)))
-after_members (suc n) d env (l ∷ ls) k h = after_members n d env ls k (after_list env l (spell_members n d env ls k) (after_divider d _ h))
-
-after_bar : (env : Environment) (o : Option WrittenList) (k : MarkedLetters) → AreSmall (spell_bar env o k) → AreSmall k
-after_bar env None k h = h
-after_bar env (Some c) k h = after_list env c k h
-
-after_given : (s : Scope) (x : WrittenGiven) (k : MarkedLetters) → AreSmall (spell_given s x k) → GivenHasSmallNumbers (given_of s x) × AreSmall k
-after_given s (Relation x) k h = after_relation s x.relation k h
-after_given s (Markov x) k h =
-    (tt, after_members 13 Arrows s.variables x.more k (after_list s.variables x.third _ (after_list s.variables x.second _ (after_list s.variables x.first _ h))))
-after_given s (Independent x) k h =
-    (tt, after_bar s.variables x.given k (after_members 14 Semicolons s.variables x.more _ (after_list s.variables x.second _ (after_list s.variables x.first _ h))))
-after_given s (Function x) k h = (tt, after_list s.variables x.argument k (after_list s.variables x.value _ h))
-
-after_own : (g r : ℕ) (v : NamesView) (ls : List WrittenOwnLine) (k : MarkedLetters) → AreSmall (spell_own g r v ls k) → LinesHaveSmallNumbers (own_of v ls) × AreSmall k
-after_own g r v [] k h = ((tt, tt), h)
-after_own g r v (GivenLine x ∷ ls) k h =
-    let one = after_given (scope_of v false) x _ h in
-    let rest = after_own (g - 1) r v ls k one.1 in
-    (((one.0, rest.0.0), rest.0.1), rest.1)
-after_own g r v (RowLine x ∷ ls) k h =
-    let one = after_relation (scope_of v true) x _ h in
-    let rest = after_own g (r - 1) v ls k one.1 in
-    ((rest.0.0, (one.0, rest.0.1)), rest.1)
-
--- ---- names, rates and sets
-
-after_new_more : (sort : NameSortView) (n : ℕ) (v : NamesView) (ws : List (List ℕ)) (k : MarkedLetters) → AreSmall (spell_new_more sort n v ws k) → AreSmall k
-after_new_more sort n v [] k h = h
-after_new_more sort n v (w ∷ ws) k h = after_new_more sort (n - 1) (with_name sort v w) ws k h
-
-after_new_names : (sort : NameSortView) (n : ℕ) (v : NamesView) (l : WrittenList) (k : MarkedLetters) → AreSmall (spell_new_names sort n v l k) → AreSmall k
-after_new_names sort n v l k h = after_new_more sort (n - 1) (with_name sort v l.first) l.more k h
-
-after_names_line : (sort : NameSortView) (n : ℕ) (keyword : List ℕ) (v : NamesView) (o : Option WrittenList) (k : MarkedLetters) → AreSmall (spell_names_line sort n keyword v o k) → AreSmall k
-after_names_line sort n keyword v None k h = h
-after_names_line sort n keyword v (Some l) k h = after_new_names sort n v l _ h
-
-after_set : (env : Environment) (x : WrittenSet) (k : MarkedLetters) → AreSmall (spell_set env x k) → AreSmall k
-after_set env Empty k h = h.1
-after_set env (Listed l) k h = after_list env l k h
-
-after_part : (aux env : Environment) (sets : Sets) (x : WrittenPart) (k : MarkedLetters) → AreSmall (spell_part aux env sets x k) → AreSmall k
-after_part aux env sets x k h = after_set env x.set k h
-
-after_parts : (aux env : Environment) (sets : Sets) (xs : List WrittenPart) (k : MarkedLetters) → AreSmall (spell_parts aux env sets xs k) → AreSmall k
-after_parts aux env sets [] k h = h
-after_parts aux env sets (x ∷ xs) k h = after_parts aux env (with_part aux env sets x) xs k (after_part aux env sets x _ h)
-
-after_try : (aux env : Environment) (sets : Sets) (x : WrittenTry) (k : MarkedLetters) → AreSmall (spell_try aux env sets x k) → AreSmall k
-after_try aux env sets x k h = after_parts aux env (with_part aux env sets x.first) x.more _ (after_part aux env sets x.first _ h)
-
-after_tries : (n : ℕ) (aux env : Environment) (sets : Sets) (xs : List WrittenTry) (k : MarkedLetters) → AreSmall (spell_tries n aux env sets xs k) → AreSmall k
-after_tries n aux env sets [] k h = h
-after_tries n aux env sets (x ∷ xs) k h = after_tries (n - 1) aux env sets xs k (after_try aux env sets x _ h)
+given_small : (s : Scope) → Always (given s) (λ p g. AreSmall p → GivenHasSmallNumbers g)
+unfolding given chain independence after_bar function Always
+given_small s =
+    let env = s.variables in (
+      λ l e u. always_any (names env) _ (λ p a l e u. always_any (names env) _ (λ q b l e u. always_any (names env) _ (λ r c. always_any (more_members _ env _) _ (λ w sets small. tt)))),
+      (
+        λ l e u. always_any (names env) _ (λ p a l e u. always_any (names env) _ (λ q b. always_any (more_members _ env _) _ (λ r sets. (λ l e u. always_any (names env) _ (λ w c small. tt), λ small. tt)))),
+        (
+          λ l e u. always_any (names env) _ (λ p value l e u. always_any (names env) _ (λ q argument small. tt)),
+          always_but _ (relation s) _ (always_weaker (relation s) _ _ (λ p r h small. h (front_small p _ small)) (relation_small s)),
+        ),
+      ),
+    )
 
 -- ---- questions
 
-after_region : (g r : ℕ) (v : NamesView) (x : WrittenRegion) (k : MarkedLetters) → AreSmall (spell_region g r v x k) → LinesHaveSmallNumbers (region_of v x).lines × AreSmall k
-after_region g r v x k h = after_own g r (names_line_of Variable v x.auxiliaries) x.lines k (after_names_line Variable (auxiliaries_left v) aux_keyword v x.auxiliaries _ h)
+own_line_small : (v : NamesView) (own : OwnLinesView) (b : Bool) → Always (own_line v own b) (λ p y. AreSmall p → LinesHaveSmallNumbers own → LinesHaveSmallNumbers y)
+unfolding own_line Always
+own_line_small v own true = always_weaker (given (scope_of v false)) _ _ (λ p x h l e u small k. (every_more GivenHasSmallNumbers own.givens x k.0 (h (front_small p ((l ∷ []) ++ []) (front_small (p ++ ((l ∷ []) ++ [])) [] small))), k.1)) (given_small (scope_of v false))
+own_line_small v own false = always_weaker (relation (scope_of v true)) _ _ (λ p x h l e u small k. (k.0, every_more HasSmallNumbers own.rows x k.1 (h (front_small p ((l ∷ []) ++ []) (front_small (p ++ ((l ∷ []) ++ [])) [] small))))) (relation_small (scope_of v true))
 
-verb_small : (own : OwnLinesView) (v : NamesView) (x : WrittenVerb) (k : MarkedLetters) → AreSmall (spell_verb own v x k) → VerbHasSmallNumbers (verb_of v x) × AreSmall k
-verb_small own v (Prove x) k h = after_relation (scope_of v true) x (without_mark End ∷ k) h
-verb_small own v (Eliminate l) k h = (tt, after_rates (index_or (rates_env v l.first) ∷ []) l.more h)
-  where
-    after_rates : (seen : List ℕ) (ws : List (List ℕ)) → AreSmall (spell_once_more (rates_env v) seen ws (without_mark End ∷ k)) → AreSmall k
-    after_rates seen [] h = h
-    after_rates seen (w ∷ ws) h = after_rates (seen ++ index_or (rates_env v w) ∷ []) ws h
-verb_small own v (Contain x) k h =
-    let first = region_of v x.first in
-    let second = region_of v x.second in
+own_lines_small : (g r : ℕ) (v : NamesView) → Always (own_lines g r v) (λ p own. AreSmall p → LinesHaveSmallNumbers own)
+unfolding more_own_lines
+own_lines_small g r v = loop_keeps own_words (own_keyword g r) (own_line v) (λ p own. AreSmall p → LinesHaveSmallNumbers own)
+    (λ p own h l e u. always_weaker (own_line v own (is_of (Keyword given_keyword) l)) _ _ (λ q y k small. k (rest_small (l ∷ []) _ (rest_small p _ small)) (h (front_small p _ small))) (own_line_small v own (is_of (Keyword given_keyword) l))) [] no_lines (λ small. (tt, tt))
+
+region_small : (g r : ℕ) (v : NamesView) → Always (region g r v) (λ p x. AreSmall p → LinesHaveSmallNumbers x.lines)
+unfolding region Always
+region_small g r v = λ l e u. always_any (names_line Variable (length v.variables + auxiliaries_left v) aux_keyword v) _ (λ p names. always_weaker (own_lines g r names) _ _ (λ q own h small. h (front_small q _ (rest_small p _ (rest_small (l ∷ []) _ small)))) (own_lines_small g r names))
+
+containment_small : (own : OwnLinesView) (v : NamesView) → Always (containment own v) (λ p y. AreSmall p → VerbHasSmallNumbers y)
+unfolding containment Always
+containment_small own v =
     let g = givens_left most_lines own in
     let r = rows_left most_lines own in
-    let one = after_region g r v x.first _ h in
-    let two = after_region (givens_left g first.lines) (rows_left r first.lines) v x.second _ one.1 in
-    ((one.0, two.0), after_tries most_lines (auxiliary_env v second.names) (env_of first.names) (unnamed_sets second.auxiliaries) x.tries _ two.1)
+    always_weaker (region g r v) _ _
+    (λ p first hf l e u. always_weaker (region (givens_left g first.lines) (rows_left r first.lines) v) _ _ (λ q second hs. always_any (more_tries (auxiliary_env v second.names) (env_of first.names) (unnamed_sets second.auxiliaries) []) _ (λ r tries l' e' u' l'' e'' u'' small. (hf (front_small p _ small), hs (front_small q _ (rest_small (l ∷ []) _ (rest_small p _ small)))))) (region_small (givens_left g first.lines) (rows_left r first.lines) v)) (region_small g r v)
 
-after_question : (x : WrittenQuestion) (k : MarkedLetters) → AreSmall (spell_question x k) → QuestionHasSmallNumbers (question_of x) × AreSmall k
-after_question x k h =
-    let variables = new_names_of Variable no_names x.variables in
-    let names = names_of x in
-    let own = own_of names x.lines in
-    let lines = after_own most_lines most_lines names x.lines _ (after_names_line Rate most_rates rates_keyword variables x.rates _ (after_new_names Variable most_variables no_names x.variables _ h)) in
-    let verb = verb_small own names x.verb k lines.1 in
-    ((lines.0, verb.0), verb.1)
+relation_line_small : (v : NamesView) → Always (to_end (relation (scope_of v true))) (λ p x. AreSmall p → HasSmallNumbers x)
+unfolding Always
+relation_line_small v = always_weaker (relation (scope_of v true)) _ _ (λ p x h l e u small. h (front_small p _ small)) (relation_small (scope_of v true))
 
-questions_small : (n : ℕ) (xs : List WrittenQuestion) (k : MarkedLetters) → AreSmall (spell_questions n xs k) → Every QuestionHasSmallNumbers (questions_of xs)
-questions_small n [] k h = tt
-questions_small n (x ∷ xs) k h = let one = after_question x (spell_questions (n - 1) xs k) h in (one.0, questions_small (n - 1) xs k one.1)
+verb_small : (own : OwnLinesView) (v : NamesView) → Always (verb own v) (λ p y. AreSmall p → VerbHasSmallNumbers y)
+unfolding verb Always
+verb_small own v = (
+  λ l e u. always_weaker (to_end (relation (scope_of v true))) (λ p x. AreSmall p → HasSmallNumbers x) (λ p x. AreSmall ((l ∷ []) ++ (p ++ [])) → HasSmallNumbers x) (λ p x h small. h (front_small p [] (rest_small (l ∷ []) (p ++ []) small))) (relation_line_small v),
+  (λ l e u. always_any (to_end (distinct (rates_env v))) (λ q x. AreSmall ((l ∷ []) ++ (q ++ [])) → Unit {0}) (λ q x small. tt), λ l e u. always_weaker (containment own v) _ _ (λ q y h small. h (rest_small (l ∷ []) q small)) (containment_small own v)),
+)
+
+question_small : Always question (λ p q. AreSmall p → QuestionHasSmallNumbers q)
+unfolding question Always
+question_small = always_any (new_names Variable most_variables no_names) _ (λ p variables. always_any (names_line Rate most_rates rates_keyword variables) _
+    (λ q names. always_weaker (own_lines most_lines most_lines names) _ _ (λ r own ho. always_weaker (verb own names) _ _ (λ w aim ha small.
+    let after = rest_small q _ (rest_small p _ small) in (ho (front_small r _ after), ha (front_small w _ (rest_small r _ after)))) (verb_small own names)) (own_lines_small most_lines most_lines names)))
+
+file_small : Always file (λ p qs. AreSmall p → Every QuestionHasSmallNumbers qs)
+unfolding file more_questions Always
+file_small = always_weaker (more_questions []) _ _ (λ p qs h l e u small. h (front_small p _ small))
+    (loop_keeps (Keyword vars_keyword ∷ []) (λ qs l. (limit_mark (most_questions - length qs), tt {0})) (λ qs u. Then question (λ q. Give (qs ++ q ∷ []))) (λ p qs. AreSmall p → Every QuestionHasSmallNumbers qs)
+    (λ p qs h l e u. always_weaker question _ _ (λ q b k small. every_more QuestionHasSmallNumbers qs b (h (front_small p _ small)) (k (front_small q _ (rest_small (l ∷ []) _ (rest_small p _ small))))) question_small) [] [] (λ small. tt))
 
 -- ---- the letters of lines
 
-before_small : (ls : List Letter) (more : List Letter) → AreSmall (without_marks ls) → AreSmall (without_marks more) → AreSmall (without_marks (ls ++ more))
+before_small : (ls more : List Letter) → AreSmall ls → AreSmall more → AreSmall (ls ++ more)
 before_small [] more h k = k
 before_small (Number n ∷ ls) more h k = (h.0, before_small ls more h.1 k)
 before_small (l ∷ ls) more h k = before_small ls more h k
 
-token_small : (line : List ℕ) (start end : ℕ) (kind : TokenKind) (text : List ℕ) (ls : List Letter) → IsText kind text → AreSmall (without_marks ls) → AreSmall (without_marks (letter_of line start end kind ∷ ls))
+token_small : (line : List ℕ) (start end : ℕ) (kind : TokenKind) (text : List ℕ) (ls : List Letter) → IsText kind text → AreSmall ls → AreSmall (letter_of line start end kind ∷ ls)
 token_small line start end kinds.Word text ls h k = k
 token_small line start end (kinds.Number n) text ls h k = (h.2, k)
 token_small line start end (kinds.Symbol s) text ls h k = k
 
-end_small : (m : Option Misspelling) → AreSmall (without_marks (last_letter m ∷ []))
+end_small : (m : Option Misspelling) → AreSmall (last_letter m ∷ [])
 end_small None = tt
 end_small (Some m) = tt
 
-line_small : (line : List ℕ) (at : ℕ) (bytes : List ℕ) (ts : List Token) (m : Option Misspelling) → SpellsUntil at bytes ts m → AreSmall (without_marks (letters_until line ts (last_letter m)))
+line_small : (line : List ℕ) (at : ℕ) (bytes : List ℕ) (ts : List Token) (m : Option Misspelling) → SpellsUntil at bytes ts m → AreSmall (letters_until line ts (last_letter m))
 line_small line at bytes [] m h = end_small m
 line_small line at bytes (t ∷ ts) m h = token_small line t.start t.end t.kind h.1.text (letters_until line ts (last_letter m)) h.1.spelled (line_small line t.end h.0 ts m h.2)
 
-lines_small : (n : ℕ) (split : List (List ℕ)) (lines : List LineView) → AreLines n split lines → AreSmall (without_marks (letters_of_lines lines))
-lines_small n [] lines h = subst (λ (ls : List LineView). AreSmall (without_marks (letters_of_lines ls))) (sym h) tt
+lines_small : (n : ℕ) (split : List (List ℕ)) (lines : List LineView) → AreLines n split lines → AreSmall (letters_of_lines lines)
+lines_small n [] lines h = subst (λ (ls : List LineView). AreSmall (letters_of_lines ls)) (sym h) tt
 lines_small n (bytes ∷ more) lines (inl h) = lines_small (n + 1) more lines h.1
-lines_small n (bytes ∷ more) lines (inr h) = subst (λ (ls : List LineView). AreSmall (without_marks (letters_of_lines ls))) (sym h.2)
+lines_small n (bytes ∷ more) lines (inr h) = subst (λ (ls : List LineView). AreSmall (letters_of_lines ls)) (sym h.2)
     (before_small (letters_until h.0.text h.0.tokens (last_letter h.0.misspelling)) (letters_of_lines h.1) (line_small h.0.text 0 h.0.text h.0.tokens h.0.misspelling h.3.spelled) (lines_small (n + 1) more h.1 h.5))
 
 -- ---- files
@@ -287,6 +220,6 @@ texts_apart lines (q ∷ qs) h = (h.0, texts_apart (drop (question_line_count q)
 -- the questions of a file count by numbers of 64 bits
 pub file_has_small_numbers : (bytes : List ℕ) (qs : List QuestionView) → IsFile bytes qs → Every (λ (q : QuestionView). QuestionHasSmallNumbers q.body) qs
 file_has_small_numbers bytes qs asked =
-    let f = asked_is_written bytes qs asked in
-    let small = subst AreSmall (sym f.spelled) (lines_small 1 (split_lines bytes) f.lines f.cut) in
-    subst (Every (λ (q : QuestionView). QuestionHasSmallNumbers q.body)) f.says (texts_apart f.lines (questions_of f.tree) (questions_small most_questions f.tree _ small))
+    let small = lines_small 1 (split_lines bytes) asked.lines asked.cut in
+    let all = always_said file _ file_has (λ p qs. AreSmall p → Every QuestionHasSmallNumbers qs) file_small (letters_of_lines asked.lines) asked.tree.0 (said file with_texts bytes qs asked) small in
+    subst (Every (λ (q : QuestionView). QuestionHasSmallNumbers q.body)) asked.says (texts_apart asked.lines asked.tree.0 all)

@@ -1,29 +1,42 @@
--- A file says one thing or has one first fault, in any language whose reader is tied to how its trees are spelled, and how the file's letters are read tells which.
+-- A file says one thing in a form or has one first fault, if the next letter tells what goes on, and whole lines and the file's end are written; how the file's letters are read tells which.
 use Rattle.std.proofs.Common.{◌≡◌, ℕ, zero, suc, ◌-◌, ◌<◌, ◌≤◌, ◌^◌, List, [], ◌∷◌, ◌++◌, length, get_or, Some, Ok, Err, refl, sym, ap, ◌∙◌, subst, inl, inr, ◌⊎◌, append_assoc, length-append, arith}
 use Rattle.std.proofs.lemmas.List.{append-nil}
 use Rattle.std.proofs.lemmas.Option.{slice_get-get_or}
 use Rattle.it_forms.specs.declared.types.Code.{Code}
+use Rattle.it_forms.specs.Letters.{Letter, End, Bad, MarkedLetters, without_mark, letters, without_marks}
+use Rattle.it_forms.specs.FirstFault.{FirstFault}
+use Rattle.it_forms.specs.Forms.{Form, Spells}
+use Rattle.it_forms.specs.FormReading.{read}
+use Rattle.it_forms.specs.FormTexts.{Says, IsFirstFault}
+use Rattle.it_forms.specs.Reads.{Reads}
+use Rattle.it_forms.proofs.FirstFaults.{one_fault}
+use Rattle.it_forms.proofs.FormFaults.{first_fault, read_is_said, said_is_read}
+use Rattle.it_forms.proofs.FormFound.{reading_tells}
+use Rattle.it_forms.proofs.FormLanguage.{one_meaning}
+use Rattle.it_forms.proofs.FormTraces.{Went, By}
+use Rattle.it_forms.proofs.LetterLemmas.{letters_append, letters_after, clean_is_clean, letters_cleaned}
+use Rattle.it_forms.proofs.Outlines.{Outline, Has}
 use Rattle.it_syntax.specs.declared.rest.Stop.{Stop}
 use Rattle.it_syntax.specs.declared.rest.Stop.TheVariants as stops
 use Rattle.it_syntax.specs.Gives.{StopsAs}
-use Rattle.it_forms.specs.Letters.{Letter, End, Bad, MarkedLetters, without_mark, letters, without_marks}
-use Rattle.it_forms.specs.FirstFault.{FirstFault}
-use Rattle.it_forms.specs.Reads.{Reads}
-use Rattle.it_forms.proofs.MarkedReadings.{Answers}
-use Rattle.it_forms.proofs.LetterLemmas.{letters_append, letters_after, clean_is_clean, letters_cleaned}
-use Rattle.it_forms.proofs.FirstFaults.{one_fault}
-use Rattle.it_syntax.proofs.Traces.{By, Went, Traces}
-use Rattle.it_syntax.proofs.FirstFaults.{first_fault, reads_found, reads_only}
 use Rattle.it_question.specs.declared.types.FileFault.{FileFault}
 use Rattle.it_question.specs.declared.types.FileFault.TheVariants.{Memory, Fault}
-use Rattle.it_question.specs.WholeFiles.{SaysWhole, place_of, WholeFaultAt, IsFirstWholeFault}
 use Rattle.it_question.specs.Lines.{LineView, AreLinesOf, split_lines, file_end, letters_of_lines, places_of_lines}
 use Rattle.it_question.specs.Stops.{IsLeft, IfFault, IsStopAt}
-use Rattle.it_question.proofs.LineListLemmas.{lines_are_one, lines_there}
+use Rattle.it_question.specs.WholeFiles.{SaysWhole, place_of, WholeFaultAt}
+use Rattle.it_question.specs.WholeForms.{SaysInForm, FormFaultAt, IsFirstFormFault}
 use Rattle.it_question.proofs.LetterLemmas.{EndsOnce, once_more, once_alone, lines_once, lines_end, letters_bound, places_length}
+use Rattle.it_question.proofs.LineListLemmas.{lines_are_one, lines_there}
 use Rattle.it_question.proofs.Puts.{HasLines, Puts}
 
--- ---- a tree is spelled by whole lines and the file's end
+-- ---- what is written in the form is whole lines and the file's end
+
+-- the file's end, as the last letter
+abbrev pub the_end : MarkedLetters
+the_end = without_mark file_end ∷ []
+
+abbrev pub EndsFile : {A : Type 0} → Form A → Type 0
+EndsFile {A} f = (y : A) (m : MarkedLetters) → Spells f y m [] → (n : ℕ) × Puts (HasLines n) m the_end
 
 lines_then_end : (n : ℕ) (ls : List Letter) → HasLines n ls → EndsOnce (ls ++ file_end ∷ [])
 lines_then_end zero [] h = once_alone
@@ -37,87 +50,93 @@ no_letters : (m : MarkedLetters) → letters m ≡ [] → m ≡ []
 no_letters [] e = refl
 no_letters (x ∷ m) e = absurd cc
 
--- a language of whole files: its reader traces its trees and answers each of them, and a tree is spelled by whole lines and the file's end
-pub record Language {A X : Type 0} (read : List Letter → Reads A) (spell : X → MarkedLetters → MarkedLetters) (value : X → A) : Type 0 where
-  pub traces : Traces read spell value
-  pub answers : (x : X) → Answers (read (letters (spell x []))) (spell x []) (value x) []
-  pub count : X → ℕ
-  pub spell_lines : X → MarkedLetters → MarkedLetters
-  pub ends : (x : X) (k : MarkedLetters) → spell x k ≡ spell_lines x (without_mark file_end ∷ k)
-  pub lines : (x : X) → Puts (HasLines (count x)) (spell_lines x)
+-- ---- what a file says, by the letters of its lines
 
-module _ {A X : Type 0} {read : List Letter → Reads A} {spell : X → MarkedLetters → MarkedLetters} {value : X → A} (g : Language read spell value) where
+-- what the file says its letters say
+pub said : {A Y : Type 0} (f : Form A) (value : List LineView → A → Y) (bytes : List ℕ) (y : Y) (s : SaysInForm f value bytes y) → Says f (letters_of_lines s.lines) s.tree.0
+said f value bytes y s = subst (λ (m : MarkedLetters). Spells f s.tree.0 m []) s.spelled s.tree.2
+
+-- and the other way
+pub says_file : {A Y : Type 0} (f : Form A) (value : List LineView → A → Y) (bytes : List ℕ) (lines : List LineView) (a : A) → AreLinesOf bytes lines → Says f (letters_of_lines lines) a → SaysInForm f value bytes (value lines a)
+says_file f value bytes lines a cut s = record { lines = lines; cut = cut; tree = (a, without_marks (letters_of_lines lines), s); spelled = refl; says = refl }
+
+-- ---- the next letter tells what goes on
+
+module _ {A : Type 0} (f : Form A) (o : Outline) (h : Has f o) where
+  -- what the file says is read
+  pub asked_is_read : {Y : Type 0} (value : List LineView → A → Y) (bytes : List ℕ) (y : Y) (s : SaysInForm f value bytes y) → read f (letters_of_lines s.lines) ≡ Ok (s.tree.0, [])
+  asked_is_read value bytes y s = said_is_read f o h (letters_of_lines s.lines) s.tree.0 (said f value bytes y s)
+
+  -- a file says one thing
+  pub form_is_one : {Y : Type 0} (value : List LineView → A → Y) (bytes : List ℕ) (x y : Y) → SaysInForm f value bytes x → SaysInForm f value bytes y → x ≡ y
+  form_is_one value bytes x y s t =
+      let lines : s.lines ≡ t.lines = lines_are_one 1 (split_lines bytes) s.lines t.lines s.cut t.cut in
+      let first : Says f (letters_of_lines t.lines) s.tree.0 = subst (λ (ls : List LineView). Says f (letters_of_lines ls) s.tree.0) lines (said f value bytes x s) in
+      let same : s.tree.0 ≡ t.tree.0 = one_meaning f o h (letters_of_lines t.lines) s.tree.0 t.tree.0 first (said f value bytes y t) in
+      sym s.says ∙ ap (λ (ls : List LineView). value ls s.tree.0) lines ∙ ap (value t.lines) same ∙ t.says
+
+module _ {A : Type 0} (f : Form A) (o : Outline) (h : Has f o) (ends : EndsFile f) where
   -- nothing is left of the letters of a file that is read
-  nothing_left : (bytes : List ℕ) (lines : List LineView) (y : A) (r : List Letter) → AreLinesOf bytes lines → read (letters_of_lines lines) ≡ Ok (y, r) → r ≡ []
+  nothing_left : (bytes : List ℕ) (lines : List LineView) (y : A) (r : List Letter) → AreLinesOf bytes lines → read f (letters_of_lines lines) ≡ Ok (y, r) → r ≡ []
   nothing_left bytes lines y r cut e =
       let ls = letters_of_lines lines in
-      let w : Went read spell value ls y r = subst (λ (t : Reads A). By read spell value ls t) e (g.traces ls) in
-      let p = g.lines w.tree in
-      let front : w.front ≡ letters p.front ++ file_end ∷ [] =
-      sym (append-nil w.front) ∙ sym (letters_after w.front []) ∙ ap letters (sym (w.spells []) ∙ g.ends w.tree [] ∙ p.is (without_mark file_end ∷ [])) ∙ letters_append p.front (without_mark file_end ∷ []) in
+      let w : Went (read f) (Spells f) ls y r = subst (λ (t : Reads A). By (read f) (Spells f) ls t) e (reading_tells f o h ls) in
+      let p = (ends y (without_marks w.front ++ []) (w.spells [])).1 in
+      let front : w.front ≡ letters p.front ++ file_end ∷ [] = sym (append-nil w.front) ∙ sym (letters_after w.front []) ∙ ap letters p.is ∙ letters_append p.front the_end in
       lines_once 1 (split_lines bytes) lines cut (letters p.front) r (w.parts ∙ ap (λ (t : List Letter). t ++ r) front ∙ append_assoc (letters p.front) (file_end ∷ []) r)
 
-  -- what a tree says is read
-  pub says_read : (ls : List Letter) (x : X) → spell x [] ≡ without_marks ls → read ls ≡ Ok (value x, [])
-  says_read ls x h = reads_only read spell value g.answers x ls h
-
-  -- where reading stops is the first fault
-  read_stops : (ls : List Letter) (c : Code) (r : List Letter) → read ls ≡ Err (c, r) → FirstFault (λ x. spell x []) ls c r
-  read_stops ls c r e = first_fault read spell value g.traces g.answers ls c r e
-
   -- a fault leaves letters
-  letters_left : (bytes : List ℕ) (lines : List LineView) (c : Code) → AreLinesOf bytes lines → read (letters_of_lines lines) ≡ Err (c, []) → ⊥
+  letters_left : (bytes : List ℕ) (lines : List LineView) (c : Code) → AreLinesOf bytes lines → read f (letters_of_lines lines) ≡ Err (c, []) → ⊥
   letters_left bytes lines c cut e =
       let ls = letters_of_lines lines in
-      let f : FirstFault (λ (x : X). spell x []) ls c [] = read_stops ls c [] e in
+      let w : IsFirstFault f ls c [] = first_fault f o h ls c [] e in
       let end = lines_end 1 (split_lines bytes) lines cut in
-      let p = g.lines f.tree in
-      let front : f.front ≡ end.0 ++ file_end ∷ [] = sym (append-nil f.front) ∙ sym f.parts ∙ end.1 in
-      let spelled : letters p.front ++ file_end ∷ [] ≡ end.0 ++ file_end ∷ letters f.more =
-      sym (letters_append p.front (without_mark file_end ∷ [])) ∙ ap letters (sym (g.ends f.tree [] ∙ p.is (without_mark file_end ∷ [])) ∙ f.viable) ∙ letters_after f.front f.more ∙ ap (λ (t : List Letter). t ++ letters f.more) front ∙ append_assoc end.0 (file_end ∷ []) (letters f.more) in
-      let none : f.more ≡ [] = no_letters f.more (lines_then_end _ (letters p.front) p.kind end.0 (letters f.more) spelled) in
-      let whole : spell f.tree [] ≡ without_marks ls = f.viable ∙ ap (λ (m : MarkedLetters). without_marks f.front ++ m) none ∙ append-nil (without_marks f.front) ∙ ap without_marks (sym (append-nil f.front) ∙ sym f.parts) in
-      let read : read ls ≡ Ok (value f.tree, []) = says_read ls f.tree whole in
+      let q = ends w.tree.0 w.tree.1 w.tree.2 in
+      let front : w.front ≡ end.0 ++ file_end ∷ [] = sym (append-nil w.front) ∙ sym w.parts ∙ end.1 in
+      let spelled : letters q.1.front ++ file_end ∷ [] ≡ end.0 ++ file_end ∷ letters w.more =
+      sym (letters_append q.1.front the_end) ∙ ap letters (sym q.1.is ∙ w.viable) ∙ letters_after w.front w.more ∙ ap (λ (t : List Letter). t ++ letters w.more) front ∙ append_assoc end.0 (file_end ∷ []) (letters w.more) in
+      let none : w.more ≡ [] = no_letters w.more (lines_then_end q.0 (letters q.1.front) q.1.kind end.0 (letters w.more) spelled) in
+      let whole : w.tree.1 ≡ without_marks ls = w.viable ∙ ap (λ (m : MarkedLetters). without_marks w.front ++ m) none ∙ append-nil (without_marks w.front) ∙ ap without_marks (sym (append-nil w.front) ∙ sym w.parts) in
+      let read : read f ls ≡ Ok (w.tree.0, []) = said_is_read f o h ls w.tree.0 (subst (λ (m : MarkedLetters). Spells f w.tree.0 m []) whole w.tree.2) in
       absurd cc
 
   -- ---- what the code hands on at a fault
 
-  pub some_left : (bytes : List ℕ) (lines : List LineView) (stop : Stop) (r : List Letter) → AreLinesOf bytes lines → StopsAs stop r (read (letters_of_lines lines)) → IfFault stop (IsLeft lines r)
+  pub some_left : (bytes : List ℕ) (lines : List LineView) (stop : Stop) (r : List Letter) → AreLinesOf bytes lines → StopsAs stop r (read f (letters_of_lines lines)) → IfFault stop (IsLeft lines r)
   some_left bytes lines stops.Memory r cut e = tt
   some_left bytes lines (stops.Fault c) [] cut e = absurd (letters_left bytes lines c cut e)
   some_left bytes lines (stops.Fault c) (l ∷ r) cut e =
-      let f = read_stops (letters_of_lines lines) c (l ∷ r) e in
-      record { within = omega (arith, ap length f.parts, length-append f.front (l ∷ r)); some = omega (arith, places_length lines, ap length f.parts, length-append f.front (l ∷ r)) }
+      let w = first_fault f o h (letters_of_lines lines) c (l ∷ r) e in
+      record { within = omega (arith, ap length w.parts, length-append w.front (l ∷ r)); some = omega (arith, places_length lines, ap length w.parts, length-append w.front (l ∷ r)) }
 
-  pub first_whole_fault : (bytes : List ℕ) (lines : List LineView) (stop : Stop) (r : List Letter) (fault : FileFault) → AreLinesOf bytes lines → StopsAs stop r (read (letters_of_lines lines)) → IsStopAt (place_of lines r) stop fault → IsFirstWholeFault (λ x. spell x []) bytes fault
-  first_whole_fault bytes lines stops.Memory r fault cut e at = subst (IsFirstWholeFault (λ (x : X). spell x []) bytes) (sym at) tt
-  first_whole_fault bytes lines (stops.Fault c) r Memory cut e at = absurd at
-  first_whole_fault bytes lines (stops.Fault c) r (Fault line column code) cut e at =
-      record { lines = lines; cut = cut; left = r; first = subst (λ (d : Code). FirstFault (λ (x : X). spell x []) (letters_of_lines lines) d r) (sym at.0) (read_stops (letters_of_lines lines) c r e); place = at.1 }
+  pub first_form_fault : (bytes : List ℕ) (lines : List LineView) (stop : Stop) (r : List Letter) (fault : FileFault) → AreLinesOf bytes lines → StopsAs stop r (read f (letters_of_lines lines)) → IsStopAt (place_of lines r) stop fault → IsFirstFormFault f bytes fault
+  first_form_fault bytes lines stops.Memory r fault cut e at = subst (IsFirstFormFault f bytes) (sym at) tt
+  first_form_fault bytes lines (stops.Fault c) r Memory cut e at = absurd at
+  first_form_fault bytes lines (stops.Fault c) r (Fault line column code) cut e at =
+      record { lines = lines; cut = cut; left = r; first = subst (λ (d : Code). IsFirstFault f (letters_of_lines lines) d r) (sym at.0) (first_fault f o h (letters_of_lines lines) c r e); place = at.1 }
 
-  fault_there : (bytes : List ℕ) (lines : List LineView) (c : Code) (r : List Letter) → AreLinesOf bytes lines → read (letters_of_lines lines) ≡ Err (c, r) → (line : ℕ) × (column : ℕ) × (d : Code) × WholeFaultAt (λ x. spell x []) bytes line column d
+  fault_there : (bytes : List ℕ) (lines : List LineView) (c : Code) (r : List Letter) → AreLinesOf bytes lines → read f (letters_of_lines lines) ≡ Err (c, r) → (line : ℕ) × (column : ℕ) × (d : Code) × FormFaultAt f bytes line column d
   fault_there bytes lines c [] cut e = absurd (letters_left bytes lines c cut e)
   fault_there bytes lines c (l ∷ r) cut e =
-      let f = read_stops (letters_of_lines lines) c (l ∷ r) e in
+      let w = first_fault f o h (letters_of_lines lines) c (l ∷ r) e in
       let i = length (letters_of_lines lines) - length (l ∷ r) in
-      let within : i < length (places_of_lines lines) = omega (arith, places_length lines, ap length f.parts, length-append f.front (l ∷ r)) in
+      let within : i < length (places_of_lines lines) = omega (arith, places_length lines, ap length w.parts, length-append w.front (l ∷ r)) in
       let place : ℕ × ℕ = get_or (places_of_lines lines) i (0, 0) in
-      (place.0, place.1, c, record { lines = lines; cut = cut; left = l ∷ r; first = f; place = slice_get-get_or (places_of_lines lines) i (0, 0) within })
+      (place.0, place.1, c, record { lines = lines; cut = cut; left = l ∷ r; first = w; place = slice_get-get_or (places_of_lines lines) i (0, 0) within })
 
-  -- ---- one reading, and one of the two; `after` tells what is made of the values of trees in these lines
+  -- ---- one reading, and one of the two; `value` tells what is made of what the form says in these lines
 
   -- what is read is what the file says
-  pub read_says : {Y : Type 0} (after : List LineView → A → Y) (bytes : List ℕ) (lines : List LineView) (y : A) (r : List Letter) → AreLinesOf bytes lines → read (letters_of_lines lines) ≡ Ok (y, r) → SaysWhole (λ x. spell x []) (λ ls x. after ls (value x)) bytes (after lines y)
-  read_says after bytes lines y r cut e =
-      let whole : read (letters_of_lines lines) ≡ Ok (y, []) = e ∙ ap (λ (s : List Letter). Ok (y, s)) (nothing_left bytes lines y r cut e) in
-      let k = reads_found read spell value g.traces (letters_of_lines lines) y whole in
-      record { lines = lines; cut = cut; tree = k.0; spelled = k.1.0; says = ap (after lines) k.1.1 }
+  pub read_says : {Y : Type 0} (value : List LineView → A → Y) (bytes : List ℕ) (lines : List LineView) (y : A) (r : List Letter) → AreLinesOf bytes lines → read f (letters_of_lines lines) ≡ Ok (y, r) → SaysInForm f value bytes (value lines y)
+  read_says value bytes lines y r cut e =
+      let whole : read f (letters_of_lines lines) ≡ Ok (y, []) = e ∙ ap (λ (s : List Letter). Ok (y, s)) (nothing_left bytes lines y r cut e) in
+      says_file f value bytes lines y cut (read_is_said f o h (letters_of_lines lines) y whole)
 
-  pub whole_has_one : {Y : Type 0} (after : List LineView → A → Y) (bytes : List ℕ) → ((y : Y) × SaysWhole (λ x. spell x []) (λ ls x. after ls (value x)) bytes y) ⊎ ((line : ℕ) × (column : ℕ) × (c : Code) × WholeFaultAt (λ x. spell x []) bytes line column c)
-  whole_has_one {Y} after bytes = by_result (lines_there 1 (split_lines bytes)) (read (letters_of_lines (lines_there 1 (split_lines bytes)).0)) refl
+  pub form_has_one : {Y : Type 0} (value : List LineView → A → Y) (bytes : List ℕ) → ((y : Y) × SaysInForm f value bytes y) ⊎ ((line : ℕ) × (column : ℕ) × (c : Code) × FormFaultAt f bytes line column c)
+  form_has_one {Y} value bytes = by_result (lines_there 1 (split_lines bytes)) (read f (letters_of_lines (lines_there 1 (split_lines bytes)).0)) refl
     where
-      by_result : (cut : (lines : List LineView) × AreLinesOf bytes lines) (r : Reads A) → read (letters_of_lines cut.0) ≡ r → ((y : Y) × SaysWhole (λ x. spell x []) (λ ls x. after ls (value x)) bytes y) ⊎ ((line : ℕ) × (column : ℕ) × (c : Code) × WholeFaultAt (λ x. spell x []) bytes line column c)
-      by_result cut (Ok x) e = inl (after cut.0 x.0, read_says after bytes cut.0 x.0 x.1 cut.1 e)
+      by_result : (cut : (lines : List LineView) × AreLinesOf bytes lines) (r : Reads A) → read f (letters_of_lines cut.0) ≡ r → ((y : Y) × SaysInForm f value bytes y) ⊎ ((line : ℕ) × (column : ℕ) × (c : Code) × FormFaultAt f bytes line column c)
+      by_result cut (Ok x) e = inl (value cut.0 x.0, read_says value bytes cut.0 x.0 x.1 cut.1 e)
       by_result cut (Err x) e = inr (fault_there bytes cut.0 x.0 x.1 cut.1 e)
 
 -- ---- one fault, and not both: how the trees are spelled is enough

@@ -4,14 +4,8 @@ pub mod Bodies
 pub mod Questions
 pub mod Keywords
 pub mod Tables
-pub mod WrittenQuestions
 pub mod NewNames
-pub mod WrittenLines
-pub mod WrittenTries
-pub mod WrittenRegions
-pub mod WrittenFiles
 pub mod Sorts
-pub mod Reading
 pub mod Texts
 pub mod WholeFiles
 pub mod Files
@@ -24,4 +18,3 @@ pub mod TrySets
 pub mod RateNames
 pub mod QuestionForms
 pub mod WholeForms
-pub mod WrittenNames

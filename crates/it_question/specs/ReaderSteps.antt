@@ -5,6 +5,9 @@ use Rattle.it_forms.specs.declared.types.Code.TheVariants as codes
 use Rattle.it_question.specs.Questions.{OwnLinesView, VerbView, Prove, Eliminate, Contain}
 use Rattle.it_syntax.specs.Misspellings.{SpellsUntil}
 use Rattle.it_question.specs.Lines.{plain_text, LineView, IsLine, HasTokens}
+use Rattle.it_question.specs.Keywords.{given_keyword}
+use Rattle.it_question.specs.QuestionForms.{own_words}
+use Rattle.it_forms.specs.Forms.{Keyword, is_of, Terminal}
 
 -- what the number of lines of a question takes
 abbrev pub FewLines : OwnLinesView → Type 0
@@ -29,3 +32,7 @@ IsLineAdded n bytes old new =
 -- against the word of a verb whose question's table is too large
 abbrev pub mark_if_large : Bool → Option Code
 mark_if_large large = if large then Some codes.Large else None
+
+-- the word of an own line, and whether it is `given`
+abbrev pub own_word : Terminal Bool
+own_word = record { kinds = own_words; says = λ l. (None, is_of (Keyword given_keyword) l) }

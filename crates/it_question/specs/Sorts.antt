@@ -1,5 +1,5 @@
 -- What the code calls the sorts of names, and the room for them. No public clause cites it.
-use Rattle.std.specs.Prelude.{◌≡◌, ℕ, ◌+◌, ◌≤◌, length}
+use Rattle.std.specs.Prelude.{ℕ, ◌<◌, ◌≤◌, length}
 use Rattle.it_syntax.specs.NamesViews.{NamesView}
 use Rattle.it_question.specs.declared.sorts.NameSort.{NameSort}
 use Rattle.it_question.specs.declared.sorts.NameSort.TheVariants as sorts
@@ -10,12 +10,12 @@ abbrev pub name_sort_view : NameSort → NameSortView
 name_sort_view sorts.Variable = Variable
 name_sort_view sorts.Rate = Rate
 
--- n more names of the sort can be declared
-abbrev pub HasRoom : NameSort → ℕ → NamesView → Type 0
-HasRoom sorts.Variable n v = length v.variables + n ≤ 10
-HasRoom sorts.Rate n v = length v.rates + n ≤ 16
+-- n names of the sort can be declared in all
+abbrev pub IsWithinLimit : NameSort → ℕ → Type 0
+IsWithinLimit sorts.Variable n = n ≤ 10
+IsWithinLimit sorts.Rate n = n ≤ 16
 
--- variables leave the rates as they were
-abbrev pub KeepsRates : NameSort → NamesView → NamesView → Type 0
-KeepsRates sorts.Variable old new = new.rates ≡ old.rates
-KeepsRates sorts.Rate old new = Unit {0}
+-- one more name of the sort can be declared
+abbrev pub HasRoom : NameSort → NamesView → Type 0
+HasRoom sorts.Variable v = length v.variables < 10
+HasRoom sorts.Rate v = length v.rates < 16

@@ -1,15 +1,20 @@
 //! Readers of what is asked, of a question, and of the questions of a file.
 //! A reader's result is matched where `?` would do: so each case is a goal of its own, with the reading's equation at hand.
-ghost use Rattle.std.specs.Prelude.{◌≡◌, ◌++◌, [], ◌∷◌, map, OnOk, IfErr};
+ghost use Rattle.std.specs.Prelude.{◌≡◌, ◌++◌, [], ◌∷◌, true, map, OnOk, IfErr};
+ghost use Rattle.it_forms.specs.Forms.{Give, Then};
+ghost use Rattle.it_forms.specs.FormReading.{read};
+ghost use Rattle.it_forms.specs.Words as words;
 ghost use Rattle.it_syntax.specs.declared.rest.Stop.TheVariants.{Memory};
-ghost use Rattle.it_syntax.specs.Gives.{GivesBy};
+ghost use Rattle.it_syntax.specs.Gives.{Gives, GivesBy};
+ghost use Rattle.it_syntax.specs.RelationLines.{relation_line};
 ghost use Rattle.it_space.specs.Spaces.{IsSpace};
 ghost use Rattle.it_demand.specs.LineDemands.{space_of};
 ghost use Rattle.it_question.specs.Limits.{AreLinesOver};
 ghost use Rattle.it_question.specs.Bodies.{body_view};
 ghost use Rattle.it_question.specs.Cursors.{letters_left};
-ghost use Rattle.it_question.specs.Questions.{own_lines_view, verb_view};
-ghost use Rattle.it_question.specs.Reading.{read_proof, read_elimination, read_verb, read_question, read_end, read_file};
+ghost use Rattle.it_question.specs.QuestionForms as forms;
+ghost use Rattle.it_question.specs.Questions.{own_lines_view, verb_view, Prove, Eliminate};
+ghost use Rattle.it_question.specs.RateNames.{rates_env};
 
 use crate::bodies::Body;
 use crate::cursor::Cursor;
@@ -34,25 +39,25 @@ const MOST_QUESTIONS: usize = 1000;
 const MOST_RATES: usize = 16;
 
 /// What is to be proved, after its `prove`.
-#[tactic(auto, unfolding(crate::specs::Reading::read_proof))]
+#[tactic(auto, unfolding(it_forms::specs::FormReading::read))]
 fn proof(alloc: Global, cursor: &mut Cursor<'_>, names: &Names) -> Result<Verb, Stop>
-    ensures { GivesBy verb_view result (letters_left cursor.new) (read_proof names.now (letters_left cursor.old)) }
+    ensures { GivesBy verb_view result (letters_left cursor.new) (read (Then (relation_line names.now true) (λ x. Give (Prove x))) (letters_left cursor.old)) }
 {
     let relation = relation(alloc, cursor, names)?;
     Ok(Verb::Prove(relation))
 }
 
 /// The rates to be eliminated, after `eliminate`.
-#[tactic(auto, unfolding(crate::specs::Reading::read_elimination))]
+#[tactic(auto, unfolding(it_forms::specs::FormReading::read))]
 fn elimination(alloc: Global, cursor: &mut Cursor<'_>, names: &Names) -> Result<Verb, Stop>
-    ensures { GivesBy verb_view result (letters_left cursor.new) (read_elimination names.now (letters_left cursor.old)) }
+    ensures { GivesBy verb_view result (letters_left cursor.new) (read (Then (words.to_end (forms.distinct (rates_env names.now))) (λ x. Give (Eliminate x))) (letters_left cursor.old)) }
 {
     let rates = rates(alloc, cursor, names)?;
     Ok(Verb::Eliminate(rates))
 }
 
 /// What is asked, in a question with these own lines.
-#[tactic(auto, unfolding(crate::specs::Reading::read_verb))]
+#[tactic(auto, unfolding(crate::specs::QuestionForms::verb, it_forms::specs::FormReading::read))]
 fn verb(
     alloc: Global,
     cursor: &mut Cursor<'_>,
@@ -61,7 +66,7 @@ fn verb(
 ) -> Result<Verb, Stop>
     requires space { IsSpace (space_of names.now) }
     requires lines { AreLinesOver names.now (own_lines_view lines.now) }
-    ensures { GivesBy verb_view result (letters_left cursor.new) (read_verb (own_lines_view lines.now) names.now (letters_left cursor.old)) }
+    ensures { GivesBy verb_view result (letters_left cursor.new) (read (forms.verb (own_lines_view lines.now) names.now) (letters_left cursor.old)) }
 {
     match cursor.front() {
         Some((Piece::Word(word), after)) => {
@@ -89,9 +94,9 @@ fn verb(
 }
 
 /// A question, after its `vars`.
-#[tactic(auto, unfolding(crate::specs::Reading::read_question))]
+#[tactic(auto, unfolding(crate::specs::QuestionForms::question, it_forms::specs::FormReading::read))]
 fn question(alloc: Global, cursor: &mut Cursor<'_>) -> Result<Body, Stop>
-    ensures { GivesBy body_view result (letters_left cursor.new) (read_question (letters_left cursor.old)) }
+    ensures { GivesBy body_view result (letters_left cursor.new) (read forms.question (letters_left cursor.old)) }
 {
     let mut names = Names::new(alloc);
     names_to_end(cursor, &mut names, NameSort::Variable, MOST_VARIABLES)?;
@@ -102,9 +107,9 @@ fn question(alloc: Global, cursor: &mut Cursor<'_>) -> Result<Body, Stop>
 }
 
 /// Reads the end of the file, which must stand there. The fault is `Word` at another piece, or that piece's own.
-#[tactic(auto, unfolding(crate::specs::Reading::read_end))]
+#[tactic(auto, unfolding(it_forms::specs::FormReading::read))]
 pub fn file_end(cursor: &mut Cursor<'_>) -> Result<(), Stop>
-    ensures { GivesBy (λ x. []) result (letters_left cursor.new) (read_end (letters_left cursor.old)) }
+    ensures { Gives result (letters_left cursor.new) (read words.file_end (letters_left cursor.old)) }
 {
     match cursor.front() {
         Some((Piece::Bad(Code::Unfinished), after)) => {
@@ -127,15 +132,13 @@ fn add(bodies: &mut Vec<Body>, next: Body) -> Result<(), Stop>
     }
 }
 
-/// The questions up to the end of the file.
-#[tactic(auto, unfolding(crate::specs::Reading::read_file))]
-pub fn bodies(alloc: Global, cursor: &mut Cursor<'_>) -> Result<Vec<Body>, Stop>
-    ensures { GivesBy (λ x. map body_view x.items) result (letters_left cursor.new) (read_file (letters_left cursor.old)) }
+/// The questions that stand there, at most `MOST_QUESTIONS`.
+fn questions(alloc: Global, cursor: &mut Cursor<'_>) -> Result<Vec<Body>, Stop>
+    ensures { GivesBy (λ x. map body_view x.items) result (letters_left cursor.new) (read (forms.more_questions []) (letters_left cursor.old)) }
 {
     let mut found = Vec::new(alloc);
-    let mut allowed = MOST_QUESTIONS;
     while let Some(after) = after_word(*cursor, VARS) {
-        if allowed == 0 {
+        if MOST_QUESTIONS <= found.len() {
             return Err(Stop::Fault(Code::Many));
         }
         *cursor = after;
@@ -143,10 +146,16 @@ pub fn bodies(alloc: Global, cursor: &mut Cursor<'_>) -> Result<Vec<Body>, Stop>
             Ok(next) => add(&mut found, next)?,
             Err(stop) => return Err(stop),
         }
-        allowed -= 1;
     }
-    match file_end(cursor) {
-        Ok(()) => Ok(found),
-        Err(stop) => Err(stop),
-    }
+    Ok(found)
+}
+
+/// The questions up to the end of the file.
+#[tactic(auto, unfolding(crate::specs::QuestionForms::file, it_forms::specs::FormReading::read))]
+pub fn bodies(alloc: Global, cursor: &mut Cursor<'_>) -> Result<Vec<Body>, Stop>
+    ensures { GivesBy (λ x. map body_view x.items) result (letters_left cursor.new) (read forms.file (letters_left cursor.old)) }
+{
+    let found = questions(alloc, cursor)?;
+    file_end(cursor)?;
+    Ok(found)
 }

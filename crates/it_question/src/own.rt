@@ -1,7 +1,8 @@
 //! The reader of `given` and `row` lines.
 //! A reader's result is matched where `?` would do: so each case is a goal of its own, with the reading's equation at hand.
 //! The result of `push` is matched, since `?` makes no `Stop` of its error.
-ghost use Rattle.std.specs.Prelude.{◌≡◌, OnOk, IfErr};
+ghost use Rattle.std.specs.Prelude.{◌≡◌, Some, None, IfSome, IfNone, OnOk, IfErr};
+ghost use Rattle.it_forms.specs.FormReading.{read, after};
 ghost use Rattle.it_syntax.specs.declared.rest.Stop.TheVariants.{Memory};
 ghost use Rattle.it_syntax.specs.Givens.{given_view};
 ghost use Rattle.it_syntax.specs.Gives.{GivesBy};
@@ -9,15 +10,16 @@ ghost use Rattle.it_syntax.specs.Meaning.{relation_view};
 ghost use Rattle.it_question.specs.Bodies.{with_given_line, with_row_line};
 ghost use Rattle.it_question.specs.Cursors.{letters_left};
 ghost use Rattle.it_question.specs.Questions.{own_lines_view};
-ghost use Rattle.it_question.specs.Reading.{read_lines};
+ghost use Rattle.it_question.specs.QuestionForms as forms;
+ghost use Rattle.it_question.specs.ReaderSteps.{own_word};
 ghost use Rattle.it_question.specs.QuestionLimits.{givens_left, rows_left};
 
 use crate::cursor::Cursor;
 use crate::parts::{given, relation};
 use crate::types::OwnLines;
-use crate::words::{GIVEN, ROW, after_word};
+use crate::words::{GIVEN, ROW};
 use it_syntax::Names;
-use it_syntax::rest::Stop;
+use it_syntax::rest::{Piece, Stop};
 use it_syntax::types::{Code, Given, Relation};
 use std::alloc::Global;
 
@@ -59,8 +61,61 @@ fn add_row(own: &mut OwnLines, row: Relation) -> Result<(), Stop>
     }
 }
 
+/// Whether a `given` line stands there, or a `row` line, and what is after its word.
+fn own_word(cursor: Cursor<'_>) -> Option<(bool, Cursor<'_>)>
+    ensures found { IfSome result (λ x. after own_word (letters_left cursor.entry) ≡ Some ((None, x.0), letters_left x.1)) }
+    ensures none { IfNone result (after own_word (letters_left cursor.entry) ≡ None) }
+{
+    match cursor.front() {
+        Some((Piece::Word(word), after)) => {
+            if word == GIVEN {
+                Some((true, after))
+            } else if word == ROW {
+                Some((false, after))
+            } else {
+                None
+            }
+        }
+        _ => None,
+    }
+}
+
+/// How many more lines of a kind may follow these.
+fn lines_left(own: &OwnLines, is_given: bool, most_givens: usize, most_rows: usize) -> usize
+    ensures { result ≡ forms.lines_left most_givens most_rows (own_lines_view own.now) is_given }
+{
+    if is_given {
+        own.givens_left(most_givens)
+    } else {
+        own.rows_left(most_rows)
+    }
+}
+
+/// A `given` line or a `row` line, after its word.
+#[tactic(auto, unfolding(crate::specs::QuestionForms::own_line, it_forms::specs::FormReading::read))]
+fn own_line(
+    alloc: Global,
+    is_given: bool,
+    own: &mut OwnLines,
+    cursor: &mut Cursor<'_>,
+    names: &Names,
+) -> Result<(), Stop>
+    ensures { GivesBy (λ x. own_lines_view own.new) result (letters_left cursor.new) (read (forms.own_line names.now (own_lines_view own.old) is_given) (letters_left cursor.old)) }
+{
+    if is_given {
+        match given(alloc, cursor, names) {
+            Ok(next) => add_given(own, next),
+            Err(stop) => Err(stop),
+        }
+    } else {
+        match relation(alloc, cursor, names) {
+            Ok(next) => add_row(own, next),
+            Err(stop) => Err(stop),
+        }
+    }
+}
+
 /// The lines that stand there, at most so many of each kind.
-#[tactic(auto, unfolding(crate::specs::Reading::read_lines))]
 pub fn own_lines(
     alloc: Global,
     cursor: &mut Cursor<'_>,
@@ -68,37 +123,21 @@ pub fn own_lines(
     most_givens: usize,
     most_rows: usize,
 ) -> Result<OwnLines, Stop>
-    ensures { GivesBy own_lines_view result (letters_left cursor.new) (read_lines most_givens most_rows names.now (letters_left cursor.old)) }
+    ensures { GivesBy own_lines_view result (letters_left cursor.new) (read (forms.own_lines most_givens most_rows names.now) (letters_left cursor.old)) }
 {
     let mut own = OwnLines {
         givens: Vec::new(alloc),
         rows: Vec::new(alloc),
     };
-    let mut givens = most_givens;
-    let mut rows = most_rows;
-    loop {
-        if let Some(after) = after_word(*cursor, GIVEN) {
-            if givens == 0 {
-                return Err(Stop::Fault(Code::Many));
-            }
-            *cursor = after;
-            match given(alloc, cursor, names) {
-                Ok(next) => add_given(&mut own, next)?,
-                Err(stop) => return Err(stop),
-            }
-            givens -= 1;
-        } else if let Some(after) = after_word(*cursor, ROW) {
-            if rows == 0 {
-                return Err(Stop::Fault(Code::Many));
-            }
-            *cursor = after;
-            match relation(alloc, cursor, names) {
-                Ok(next) => add_row(&mut own, next)?,
-                Err(stop) => return Err(stop),
-            }
-            rows -= 1;
-        } else {
-            return Ok(own);
+    while let Some((is_given, after)) = own_word(*cursor) {
+        if lines_left(&own, is_given, most_givens, most_rows) == 0 {
+            return Err(Stop::Fault(Code::Many));
+        }
+        *cursor = after;
+        match own_line(alloc, is_given, &mut own, cursor, names) {
+            Ok(()) => {}
+            Err(stop) => return Err(stop),
         }
     }
+    Ok(own)
 }

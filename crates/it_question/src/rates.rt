@@ -1,13 +1,13 @@
 //! Readers of the rates of an `eliminate` line.
 //! The results of `push` and `from_slice` are matched, since `?` makes no `Stop` of their errors.
-ghost use Rattle.std.specs.Prelude.{◌≡◌, ◌<◌, ◌++◌, [], ◌∷◌, length, OnOk, IfErr};
+ghost use Rattle.std.specs.Prelude.{◌≡◌, ◌++◌, [], ◌∷◌, OnOk, IfErr};
+ghost use Rattle.it_forms.specs.FormReading.{read};
+ghost use Rattle.it_forms.specs.Words.{to_end};
 ghost use Rattle.it_syntax.specs.declared.rest.Stop.TheVariants.{Memory};
-ghost use Rattle.it_syntax.specs.GivenReading.{with_sets};
 ghost use Rattle.it_syntax.specs.Gives.{Gives, GivesBy};
-ghost use Rattle.it_syntax.specs.MeasureReading.{to_end};
 ghost use Rattle.it_question.specs.RateNames.{rates_env};
 ghost use Rattle.it_question.specs.Cursors.{letters_left};
-ghost use Rattle.it_question.specs.Reading.{read_once, read_once_more, read_distinct};
+ghost use Rattle.it_question.specs.QuestionForms as forms;
 
 use crate::cursor::Cursor;
 use crate::words::{comma, line_end};
@@ -25,10 +25,9 @@ fn rate(names: &Names, name: &[u8]) -> Option<u8>
 }
 
 /// A rate that isn't among these.
-#[tactic(auto, unfolding(crate::specs::Reading::read_once))]
+#[tactic(auto, unfolding(crate::specs::QuestionForms::once, it_forms::specs::FormReading::read))]
 fn new_rate(cursor: &mut Cursor<'_>, names: &Names, seen: &[u8]) -> Result<u8, Stop>
-    ensures gives { Gives result (letters_left cursor.new) (read_once (rates_env names.now) seen.now (letters_left cursor.old)) }
-    ensures shorter { OnOk result (length (letters_left cursor.new) < length (letters_left cursor.old)) }
+    ensures { Gives result (letters_left cursor.new) (read (forms.once (rates_env names.now) seen.now) (letters_left cursor.old)) }
 {
     match cursor.front() {
         Some((Piece::Word(word), after)) => {
@@ -63,7 +62,7 @@ fn add(rates: &mut Vec<u8>, rate: u8) -> Result<(), Stop>
 
 /// The first rates and further ones, each after a comma.
 fn more_rates(first: Vec<u8>, cursor: &mut Cursor<'_>, names: &Names) -> Result<Vec<u8>, Stop>
-    ensures { GivesBy (λ x. x.items) result (letters_left cursor.new) (with_sets first.items (read_once_more (rates_env names.now) first.items (letters_left cursor.old))) }
+    ensures { GivesBy (λ x. x.items) result (letters_left cursor.new) (read (forms.more_once (rates_env names.now) first.items) (letters_left cursor.old)) }
 {
     let mut found = first;
     while comma(cursor) {
@@ -77,9 +76,9 @@ fn more_rates(first: Vec<u8>, cursor: &mut Cursor<'_>, names: &Names) -> Result<
 }
 
 /// One rate or more, none twice.
-#[tactic(auto, unfolding(crate::specs::Reading::read_distinct))]
+#[tactic(auto, unfolding(crate::specs::QuestionForms::distinct, it_forms::specs::FormReading::read))]
 fn distinct_rates(alloc: Global, cursor: &mut Cursor<'_>, names: &Names) -> Result<Vec<u8>, Stop>
-    ensures { GivesBy (λ x. x.items) result (letters_left cursor.new) (read_distinct (rates_env names.now) (letters_left cursor.old)) }
+    ensures { GivesBy (λ x. x.items) result (letters_left cursor.new) (read (forms.distinct (rates_env names.now)) (letters_left cursor.old)) }
 {
     let first = new_rate(cursor, names, &[])?;
     match Vec::from_slice(alloc, &[first]) {
@@ -89,8 +88,9 @@ fn distinct_rates(alloc: Global, cursor: &mut Cursor<'_>, names: &Names) -> Resu
 }
 
 /// The rates, each once, with the line's end.
+#[tactic(auto, unfolding(it_forms::specs::FormReading::read))]
 pub fn rates(alloc: Global, cursor: &mut Cursor<'_>, names: &Names) -> Result<Vec<u8>, Stop>
-    ensures { GivesBy (λ x. x.items) result (letters_left cursor.new) (to_end (read_distinct (rates_env names.now)) (letters_left cursor.old)) }
+    ensures { GivesBy (λ x. x.items) result (letters_left cursor.new) (read (to_end (forms.distinct (rates_env names.now))) (letters_left cursor.old)) }
 {
     let rates = distinct_rates(alloc, cursor, names)?;
     line_end(cursor)?;

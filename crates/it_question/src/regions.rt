@@ -1,17 +1,18 @@
 //! Readers of regions, and of the question whether one lies in the other.
 ghost use Rattle.std.specs.Prelude.{◌≡◌, ◌≤◌, ◌+◌, ◌-◌, length, IfOk, IfErr};
+ghost use Rattle.it_forms.specs.Forms.{Take, Then};
+ghost use Rattle.it_forms.specs.FormReading.{read};
+ghost use Rattle.it_forms.specs.Words.{marked_word, line_end};
 ghost use Rattle.it_syntax.specs.declared.rest.Stop.TheVariants.{Memory};
 ghost use Rattle.it_syntax.specs.Gives.{Gives, GivesBy};
-ghost use Rattle.it_question.specs.declared.sorts.NameSort.TheVariants as sorts;
-ghost use Rattle.it_question.specs.Keywords.{aux_keyword};
+ghost use Rattle.it_question.specs.Keywords.{aux_keyword, contain_keyword};
 ghost use Rattle.it_question.specs.Cursors.{letters_left};
 ghost use Rattle.it_question.specs.Questions.{own_lines_view, verb_view, region_view};
 ghost use Rattle.it_space.specs.Spaces.{IsSpace};
 ghost use Rattle.it_demand.specs.LineDemands.{space_of};
 ghost use Rattle.it_question.specs.Limits.{AreLinesOver, IsRegionOf};
 ghost use Rattle.it_question.specs.Tables.{contain_mark};
-ghost use Rattle.it_question.specs.Reading.{read_names_line, read_region, read_contain, read_containment};
-ghost use Rattle.it_question.specs.Sorts.{HasRoom};
+ghost use Rattle.it_question.specs.QuestionForms as forms;
 ghost use Rattle.it_question.specs.NewNames.{Variable};
 ghost use Rattle.it_question.specs.QuestionLimits.{auxiliaries_left};
 
@@ -37,16 +38,13 @@ const MOST_AUXILIARIES: usize = 4;
 /// The most `given` lines of a question, and the most `row` lines.
 pub const MOST_LINES: usize = 64;
 
-/// The most `try` lines of a question.
-const MOST_TRIES: usize = 64;
-
-/// How many variables a region may add to these.
-fn auxiliaries_left(names: &Names) -> usize
-    ensures left { result ≡ auxiliaries_left names.now }
-    ensures room { HasRoom sorts.Variable result names.now }
+/// How many variables a region of a question with these names may have.
+fn most_of_region(names: &Names) -> usize
+    ensures most { result ≡ length names.now.variables + auxiliaries_left names.now }
+    ensures few { result ≤ 10 }
 {
     let variables = names.space().variables as usize;
-    MOST_AUXILIARIES.min(MOST_VARIABLES.saturating_sub(variables))
+    variables + MOST_AUXILIARIES.min(MOST_VARIABLES.saturating_sub(variables))
 }
 
 /// How many variables a region has added to these.
@@ -73,21 +71,21 @@ fn copy_of(names: &Names) -> Result<Names, Stop>
 
 /// The variables of a region of a question with these names.
 fn region_names(cursor: &mut Cursor<'_>, names: &Names) -> Result<Names, Stop>
-    ensures { GivesBy (λ x. x) result (letters_left cursor.new) (read_names_line Variable (auxiliaries_left names.now) aux_keyword names.now (letters_left cursor.old)) }
+    ensures { GivesBy (λ x. x) result (letters_left cursor.new) (read (forms.names_line Variable (length names.now.variables + auxiliaries_left names.now) aux_keyword names.now) (letters_left cursor.old)) }
 {
     let mut inside = copy_of(names)?;
     names_line(
         cursor,
         &mut inside,
         NameSort::Variable,
-        auxiliaries_left(names),
+        most_of_region(names),
         AUXILIARIES,
     )?;
     Ok(inside)
 }
 
 /// A region of a question with these names, after its `region`; so many lines of each kind are allowed.
-#[tactic(auto, unfolding(crate::specs::Reading::read_region))]
+#[tactic(auto, unfolding(crate::specs::QuestionForms::region, it_forms::specs::FormReading::read))]
 fn region(
     alloc: Global,
     cursor: &mut Cursor<'_>,
@@ -95,7 +93,7 @@ fn region(
     givens: usize,
     rows: usize,
 ) -> Result<Region, Stop>
-    ensures { GivesBy region_view result (letters_left cursor.new) (read_region givens rows names.now (letters_left cursor.old)) }
+    ensures { GivesBy region_view result (letters_left cursor.new) (read (forms.region givens rows names.now) (letters_left cursor.old)) }
 {
     line_end(cursor)?;
     let inside = region_names(cursor, names)?;
@@ -109,7 +107,7 @@ fn region(
 }
 
 /// The line of `contain`, in a question with these own lines about this first region.
-#[tactic(auto, unfolding(crate::specs::Reading::read_contain))]
+#[tactic(auto, unfolding(it_forms::specs::FormReading::read))]
 fn contain(
     alloc: Global,
     cursor: &mut Cursor<'_>,
@@ -122,7 +120,7 @@ fn contain(
     requires region { IsRegionOf names.now (region_view first.now) }
     requires few_givens { length lines.now.givens.items + length first.now.lines.givens.items ≤ 64 }
     requires few_rows { length lines.now.rows.items + length first.now.lines.rows.items ≤ 64 }
-    ensures { Gives result (letters_left cursor.new) (read_contain (contain_mark (own_lines_view lines.now) (region_view first.now)) (letters_left cursor.old)) }
+    ensures { Gives result (letters_left cursor.new) (read (Then (Take (marked_word contain_keyword (contain_mark (own_lines_view lines.now) (region_view first.now)))) (λ u. line_end)) (letters_left cursor.old)) }
 {
     match after_word(*cursor, CONTAIN) {
         Some(after) => {
@@ -137,7 +135,7 @@ fn contain(
 }
 
 /// Two regions, sets to be tried and `contain`, after the first `region`, in a question with these own lines.
-#[tactic(auto, unfolding(crate::specs::Reading::read_containment))]
+#[tactic(auto, unfolding(crate::specs::QuestionForms::containment, it_forms::specs::FormReading::read))]
 pub fn containment(
     alloc: Global,
     cursor: &mut Cursor<'_>,
@@ -146,7 +144,7 @@ pub fn containment(
 ) -> Result<Verb, Stop>
     requires space { IsSpace (space_of names.now) }
     requires lines { AreLinesOver names.now (own_lines_view lines.now) }
-    ensures { GivesBy verb_view result (letters_left cursor.new) (read_containment (own_lines_view lines.now) names.now (letters_left cursor.old)) }
+    ensures { GivesBy verb_view result (letters_left cursor.new) (read (forms.containment (own_lines_view lines.now) names.now) (letters_left cursor.old)) }
 {
     let most_givens = lines.givens_left(MOST_LINES);
     let most_rows = lines.rows_left(MOST_LINES);
@@ -160,7 +158,7 @@ pub fn containment(
         first: &first.names,
         second: &second.names,
     };
-    let tries = tries(alloc, cursor, regions, second.auxiliaries, MOST_TRIES)?;
+    let tries = tries(alloc, cursor, regions, second.auxiliaries)?;
     contain(alloc, cursor, names, lines, &first)?;
     Ok(Verb::Contain {
         first,

@@ -1,13 +1,16 @@
 //! Readers of `try` lines.
 //! A reader's result is matched where `?` would do: so each case is a goal of its own, with the reading's equation at hand.
 ghost use Rattle.std.specs.Bool.{OnTrue, OnFalse};
-ghost use Rattle.std.specs.Prelude.{◌≡◌, ◌<◌, ◌++◌, [], ◌∷◌, Some, None, OnOk, IfErr};
+ghost use Rattle.std.specs.Prelude.{◌≡◌, ◌++◌, [], ◌∷◌, Some, None, OnOk, IfErr};
+ghost use Rattle.it_forms.specs.declared.types.Symbol.TheVariants as symbols;
+ghost use Rattle.it_forms.specs.Forms.{Take};
+ghost use Rattle.it_forms.specs.FormReading.{read, after};
+ghost use Rattle.it_forms.specs.Words.{symbol};
 ghost use Rattle.it_syntax.specs.declared.rest.Stop.TheVariants.{Memory};
 ghost use Rattle.it_syntax.specs.Gives.{Gives, GivesBy};
-ghost use Rattle.it_syntax.specs.ReaderSteps.{Passes};
 ghost use Rattle.it_syntax.specs.Scopes.{env_of};
 ghost use Rattle.it_question.specs.Cursors.{letters_left};
-ghost use Rattle.it_question.specs.Reading.{after_semicolon, read_auxiliary, read_assign, read_set, read_part, read_parts, read_try_end, read_try, read_tries};
+ghost use Rattle.it_question.specs.QuestionForms as forms;
 ghost use Rattle.it_question.specs.TrySets.{auxiliary_env, is_named, with_set, is_whole, set_or, sets_view, unnamed_sets};
 
 use crate::cursor::Cursor;
@@ -18,6 +21,9 @@ use it_syntax::rest::{Piece, Stop};
 use it_syntax::types::{Code, Symbol};
 use it_syntax::{Names, is_measure};
 use std::alloc::Global;
+
+/// The most `try` lines of a question.
+const MOST_TRIES: usize = 64;
 
 /// A set for each auxiliary of the second region, by number, and none where it has none yet. The places after the
 /// auxiliaries have the empty set.
@@ -79,9 +85,9 @@ fn put(sets: &mut Sets, i: u8, set: VarSet)
 }
 
 /// The auxiliary that is named, if it has no set yet.
-#[tactic(auto, unfolding(crate::specs::Reading::read_auxiliary))]
+#[tactic(auto, unfolding(crate::specs::QuestionForms::auxiliary, it_forms::specs::FormReading::read))]
 fn auxiliary(cursor: &mut Cursor<'_>, regions: Regions<'_>, sets: &Sets) -> Result<u8, Stop>
-    ensures { Gives result (letters_left cursor.new) (read_auxiliary (auxiliary_env regions.entry.question.now regions.entry.second.now) sets.now (letters_left cursor.old)) }
+    ensures { Gives result (letters_left cursor.new) (read (forms.auxiliary (auxiliary_env regions.entry.question.now regions.entry.second.now) sets.now) (letters_left cursor.old)) }
 {
     match cursor.front() {
         Some((Piece::Word(word), after)) => {
@@ -104,9 +110,9 @@ fn auxiliary(cursor: &mut Cursor<'_>, regions: Regions<'_>, sets: &Sets) -> Resu
 }
 
 /// A `:=` that must stand there.
-#[tactic(auto, unfolding(crate::specs::Reading::read_assign))]
+#[tactic(auto, unfolding(it_forms::specs::FormReading::read))]
 fn assign(cursor: &mut Cursor<'_>) -> Result<(), Stop>
-    ensures { Passes result (letters_left cursor.new) (read_assign (letters_left cursor.old)) }
+    ensures { Gives result (letters_left cursor.new) (read (Take (symbol symbols.Assign)) (letters_left cursor.old)) }
 {
     match cursor.front() {
         Some((Piece::Symbol(Symbol::Assign), after)) => {
@@ -118,9 +124,9 @@ fn assign(cursor: &mut Cursor<'_>) -> Result<(), Stop>
 }
 
 /// `0`, or a list of names.
-#[tactic(auto, unfolding(crate::specs::Reading::read_set))]
+#[tactic(auto, unfolding(crate::specs::QuestionForms::set, it_syntax::specs::LineForms::names, it_syntax::specs::LineForms::variable, it_forms::specs::FormReading::read), using(it_forms::proofs::SymbolLemmas::not_zero))]
 fn set(cursor: &mut Cursor<'_>, names: &Names) -> Result<VarSet, Stop>
-    ensures { Gives result (letters_left cursor.new) (read_set (env_of names.now) (letters_left cursor.old)) }
+    ensures { Gives result (letters_left cursor.new) (read (forms.set (env_of names.now)) (letters_left cursor.old)) }
 {
     match cursor.front() {
         Some((Piece::Number(number), after)) => {
@@ -136,9 +142,9 @@ fn set(cursor: &mut Cursor<'_>, names: &Names) -> Result<VarSet, Stop>
 }
 
 /// `name := set`.
-#[tactic(auto, unfolding(crate::specs::Reading::read_part))]
+#[tactic(auto, unfolding(crate::specs::QuestionForms::part, it_forms::specs::FormReading::read))]
 fn part(cursor: &mut Cursor<'_>, regions: Regions<'_>, sets: &mut Sets) -> Result<(), Stop>
-    ensures { GivesBy (λ x. sets.new) result (letters_left cursor.new) (read_part (auxiliary_env regions.entry.question.now regions.entry.second.now) (env_of regions.entry.first.now) sets.old (letters_left cursor.old)) }
+    ensures { GivesBy (λ x. sets.new) result (letters_left cursor.new) (read (forms.part (auxiliary_env regions.entry.question.now regions.entry.second.now) (env_of regions.entry.first.now) sets.old) (letters_left cursor.old)) }
 {
     let i = auxiliary(cursor, regions, sets)?;
     assign(cursor)?;
@@ -149,8 +155,8 @@ fn part(cursor: &mut Cursor<'_>, regions: Regions<'_>, sets: &mut Sets) -> Resul
 
 /// Takes a `;`, if one stands there, and says whether.
 fn semicolon(cursor: &mut Cursor<'_>) -> bool
-    ensures taken { OnTrue result (after_semicolon (letters_left cursor.old) ≡ Some (letters_left cursor.new)) }
-    ensures none { OnFalse result (after_semicolon (letters_left cursor.old) ≡ None) }
+    ensures taken { OnTrue result (after (symbol symbols.Semicolon) (letters_left cursor.old) ≡ Some ((None, tt), letters_left cursor.new)) }
+    ensures none { OnFalse result (after (symbol symbols.Semicolon) (letters_left cursor.old) ≡ None) }
     ensures same { OnFalse result (letters_left cursor.new ≡ letters_left cursor.old) }
 {
     match cursor.front() {
@@ -164,26 +170,21 @@ fn semicolon(cursor: &mut Cursor<'_>) -> bool
 
 /// Further parts, each after a `;`.
 fn parts(cursor: &mut Cursor<'_>, regions: Regions<'_>, sets: &mut Sets) -> Result<(), Stop>
-    ensures { GivesBy (λ x. sets.new) result (letters_left cursor.new) (read_parts 4 (auxiliary_env regions.entry.question.now regions.entry.second.now) (env_of regions.entry.first.now) sets.old (letters_left cursor.old)) }
+    ensures { GivesBy (λ x. sets.new) result (letters_left cursor.new) (read (forms.more_parts (auxiliary_env regions.entry.question.now regions.entry.second.now) (env_of regions.entry.first.now) sets.old) (letters_left cursor.old)) }
 {
-    let mut allowed: u8 = 4;
     while semicolon(cursor) {
         match part(cursor, regions, sets) {
             Ok(()) => {}
             Err(stop) => return Err(stop),
         }
-        if allowed == 0 {
-            return Ok(());
-        }
-        allowed -= 1;
     }
     Ok(())
 }
 
 /// The line's end, if each auxiliary has its set.
-#[tactic(auto, unfolding(crate::specs::Reading::read_try_end))]
+#[tactic(auto, unfolding(it_forms::specs::FormReading::read))]
 fn try_end(cursor: &mut Cursor<'_>, sets: &Sets) -> Result<(), Stop>
-    ensures { Gives result (letters_left cursor.new) (read_try_end (is_whole sets.now) (letters_left cursor.old)) }
+    ensures { Gives result (letters_left cursor.new) (read (Take (forms.try_end sets.now)) (letters_left cursor.old)) }
 {
     if is_whole(sets) {
         return line_end(cursor);
@@ -239,13 +240,13 @@ fn unnamed_sets(auxiliaries: u8) -> Sets
 }
 
 /// A substitution, up to the line's end.
-#[tactic(auto, unfolding(crate::specs::Reading::read_try))]
+#[tactic(auto, unfolding(crate::specs::QuestionForms::try_line, it_forms::specs::FormReading::read))]
 fn substitution(
     cursor: &mut Cursor<'_>,
     regions: Regions<'_>,
     auxiliaries: u8,
 ) -> Result<[VarSet; 4], Stop>
-    ensures { Gives result (letters_left cursor.new) (read_try (auxiliary_env regions.entry.question.now regions.entry.second.now) (env_of regions.entry.first.now) (unnamed_sets auxiliaries) (letters_left cursor.old)) }
+    ensures { Gives result (letters_left cursor.new) (read (forms.try_line (auxiliary_env regions.entry.question.now regions.entry.second.now) (env_of regions.entry.first.now) (unnamed_sets auxiliaries)) (letters_left cursor.old)) }
 {
     let mut sets = unnamed_sets(auxiliaries);
     part(cursor, regions, &mut sets)?;
@@ -266,23 +267,21 @@ fn add(tries: &mut Vec<[VarSet; 4]>, sets: [VarSet; 4]) -> Result<(), Stop>
     }
 }
 
-/// The `try` lines that stand there, at most so many. The second region has so many auxiliaries.
+/// The `try` lines that stand there, at most `MOST_TRIES`. The second region has so many auxiliaries.
 pub fn tries(
     alloc: Global,
     cursor: &mut Cursor<'_>,
     regions: Regions<'_>,
     auxiliaries: u8,
-    most: usize,
 ) -> Result<Vec<[VarSet; 4]>, Stop>
-    ensures { GivesBy (λ x. x.items) result (letters_left cursor.new) (read_tries most (auxiliary_env regions.entry.question.now regions.entry.second.now) (env_of regions.entry.first.now) (unnamed_sets auxiliaries) (letters_left cursor.old)) }
+    ensures { GivesBy (λ x. x.items) result (letters_left cursor.new) (read (forms.more_tries (auxiliary_env regions.entry.question.now regions.entry.second.now) (env_of regions.entry.first.now) (unnamed_sets auxiliaries) []) (letters_left cursor.old)) }
 {
     let mut found = Vec::new(alloc);
-    let mut allowed = most;
     while let Some(after) = after_word(*cursor, TRY) {
         if auxiliaries == 0 {
             return Err(Stop::Fault(Code::Word));
         }
-        if allowed == 0 {
+        if MOST_TRIES <= found.len() {
             return Err(Stop::Fault(Code::Many));
         }
         *cursor = after;
@@ -290,7 +289,6 @@ pub fn tries(
             Ok(next) => add(&mut found, next)?,
             Err(stop) => return Err(stop),
         }
-        allowed -= 1;
     }
     Ok(found)
 }

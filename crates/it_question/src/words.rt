@@ -1,11 +1,12 @@
 //! Readers of single words, commas and line ends.
 ghost use Rattle.std.specs.Bool.{OnTrue, OnFalse};
 ghost use Rattle.std.specs.Prelude.{◌≡◌, Some, None, IfSome, IfNone};
+ghost use Rattle.it_forms.specs.declared.types.Symbol.TheVariants as symbols;
+ghost use Rattle.it_forms.specs.Forms.{Take};
+ghost use Rattle.it_forms.specs.FormReading.{read, after};
+ghost use Rattle.it_forms.specs.Words as words;
 ghost use Rattle.it_syntax.specs.Gives.{Gives};
-ghost use Rattle.it_syntax.specs.MeasureReading.{line_end};
-ghost use Rattle.it_syntax.specs.ReaderSteps.{after_comma};
 ghost use Rattle.it_question.specs.Cursors.{letters_left};
-ghost use Rattle.it_question.specs.Reading.{after_word, read_word};
 
 use crate::cursor::Cursor;
 use it_syntax::rest::{Piece, Stop};
@@ -42,10 +43,9 @@ pub const ELIMINATE: &[u8] = b"eliminate";
 pub const CONTAIN: &[u8] = b"contain";
 
 /// What is after this word, if it stands there.
-#[tactic(auto, unfolding(crate::specs::Reading::after_word))]
 pub fn after_word<'a>(cursor: Cursor<'a>, text: &[u8]) -> Option<Cursor<'a>>
-    ensures found { IfSome result (λ after. after_word text.now (letters_left cursor.entry) ≡ Some (letters_left after)) }
-    ensures none { IfNone result (after_word text.now (letters_left cursor.entry) ≡ None) }
+    ensures found { IfSome result (λ c. after (words.word text.now) (letters_left cursor.entry) ≡ Some ((None, tt), letters_left c)) }
+    ensures none { IfNone result (after (words.word text.now) (letters_left cursor.entry) ≡ None) }
 {
     match cursor.front() {
         Some((Piece::Word(word), after)) => { if word == text { Some(after) } else { None } }
@@ -54,9 +54,9 @@ pub fn after_word<'a>(cursor: Cursor<'a>, text: &[u8]) -> Option<Cursor<'a>>
 }
 
 /// Reads this word, which must stand there. The fault is `Word` at another piece, or that piece's own.
-#[tactic(auto, unfolding(crate::specs::Reading::read_word))]
+#[tactic(auto, unfolding(it_forms::specs::FormReading::read))]
 pub fn word(cursor: &mut Cursor<'_>, text: &[u8]) -> Result<(), Stop>
-    ensures { Gives result (letters_left cursor.new) (read_word text.now (letters_left cursor.old)) }
+    ensures { Gives result (letters_left cursor.new) (read (Take (words.word text.now)) (letters_left cursor.old)) }
 {
     match cursor.front() {
         Some((Piece::Word(word), after)) => {
@@ -72,9 +72,9 @@ pub fn word(cursor: &mut Cursor<'_>, text: &[u8]) -> Result<(), Stop>
 }
 
 /// Reads the end of a line, which must stand there. The fault is `Word` at another piece, or that piece's own.
-#[tactic(auto, unfolding(it_syntax::specs::MeasureReading::line_end))]
+#[tactic(auto, unfolding(it_forms::specs::FormReading::read))]
 pub fn line_end(cursor: &mut Cursor<'_>) -> Result<(), Stop>
-    ensures { Gives result (letters_left cursor.new) (line_end (letters_left cursor.old)) }
+    ensures { Gives result (letters_left cursor.new) (read words.line_end (letters_left cursor.old)) }
 {
     match cursor.front() {
         Some((Piece::End, after)) => {
@@ -87,8 +87,8 @@ pub fn line_end(cursor: &mut Cursor<'_>) -> Result<(), Stop>
 
 /// Takes a comma, if one stands there, and says whether.
 pub fn comma(cursor: &mut Cursor<'_>) -> bool
-    ensures taken { OnTrue result (after_comma (letters_left cursor.old) ≡ Some (letters_left cursor.new)) }
-    ensures none { OnFalse result (after_comma (letters_left cursor.old) ≡ None) }
+    ensures taken { OnTrue result (after (words.symbol symbols.Comma) (letters_left cursor.old) ≡ Some ((None, tt), letters_left cursor.new)) }
+    ensures none { OnFalse result (after (words.symbol symbols.Comma) (letters_left cursor.old) ≡ None) }
     ensures same { OnFalse result (letters_left cursor.new ≡ letters_left cursor.old) }
 {
     match cursor.front() {

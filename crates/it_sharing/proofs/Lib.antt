@@ -4,14 +4,8 @@ pub mod AccessLemmas
 pub mod VanishingLemmas
 pub mod PerfectLemmas
 pub mod Perfection
-pub mod QualifiedLemmas
-pub mod BoundTraces
-pub mod SecretNames
-pub mod SharingTraces
-pub mod SharingAnswers
-pub mod SharingPuts
+pub mod SharingLines
 pub mod SharingFileLemmas
 pub mod SharingLimits
 pub mod QuestionLimits
-pub mod SharingReadings
 pub mod SharingOutlines

@@ -1,75 +1,102 @@
 -- A sharing file that is read keeps the limits.
-use Rattle.std.proofs.Common.{◌≡◌, ℕ, zero, suc, ◌+◌, ◌-◌, ◌<◌, ◌≤◌, ◌^◌, Bool, true, false, cond, bit_or, List, [], ◌∷◌, length, Option, Some, None, Ok, Err, refl, ap, ◌∙◌, subst, arith, length-append, All}
+use Rattle.std.proofs.Common.{◌≡◌, ℕ, zero, suc, ◌+◌, ◌-◌, ◌<◌, ◌≤◌, ◌^◌, Bool, true, false, cond, bit_or, List, [], ◌∷◌, ◌++◌, length, Option, Some, None, Ok, refl, ap, ◌∙◌, subst, arith, length-append, All}
 use Rattle.std.specs.Prelude.{bytes_eq, nat_eq}
 use Rattle.std.specs.Int.{bit_at}
 use Rattle.std.proofs.Math.Pow.{pow-lt}
 use Rattle.std.proofs.lemmas.Nat.{or_lt, pow_pos, le_or_l}
-use Rattle.std.proofs.lemmas.Nat.Bits.{bit_at_or, bit_at-zero, bit_at_lowest}
-use Rattle.std.proofs.lemmas.List.Elements.{All-nil, All-cons, All-weaker}
+use Rattle.std.proofs.lemmas.Nat.Bits.{bit_at_or, bit_at_lowest}
+use Rattle.std.proofs.lemmas.List.Elements.{All-nil, All-cons, All-append, All-weaker}
 use Rattle.std.proofs.lemmas.List.Quantifiers.{position-Some}
 use Rattle.it_forms.specs.declared.types.Symbol.TheVariants.{Comma}
 use Rattle.it_forms.specs.declared.types.Code.TheVariants as codes
+use Rattle.it_forms.specs.Letters.{Letter}
+use Rattle.it_forms.specs.Forms.{Keyword, Punctuation, Form, Give, Take}
+use Rattle.it_forms.specs.FormReading.{read}
+use Rattle.it_forms.specs.Words.{◌>>=◌, ◌>>◌, word, text_of, limit_mark, to_end, file_end}
+use Rattle.it_forms.proofs.FormParts.{Always, always_weaker, each_keeps, line_keeps, value_read}
 use Rattle.it_syntax.specs.declared.types.Sign.TheVariants.{AtLeast}
-use Rattle.it_syntax.specs.NamesViews.{NamesView, index_of}
-use Rattle.it_forms.specs.Letters.{Letter, Word, Sym, Bad}
-use Rattle.it_forms.specs.Reads.{Reads, ◌>>=◌, no_rule}
-use Rattle.it_syntax.specs.NameMarks.{is_measure}
-use Rattle.it_syntax.specs.Multiples.{most_terms}
-use Rattle.it_sharing.specs.SharingWords.{secret_keyword, parties_keyword, qualified_keyword, best_keyword, most_parties, most_qualified, unless_secret, party_env}
 use Rattle.it_syntax.specs.Givens.{IsRelationOf}
+use Rattle.it_syntax.specs.LineForms.{variable, more_names, names, sum, relation}
 use Rattle.it_syntax.specs.Meaning.{RelationView, multiple_from}
-use Rattle.it_syntax.specs.MeasureReading.{variable_or_fault, read_name, read_more, read_list, to_end}
-use Rattle.it_syntax.specs.RelationReading.{read_sum, read_relation}
+use Rattle.it_syntax.specs.Multiples.{most_terms}
+use Rattle.it_syntax.specs.NameMarks.{is_measure, unknown_mark, index_or}
+use Rattle.it_syntax.specs.NamesViews.{NamesView, index_of}
 use Rattle.it_syntax.specs.Scopes.{scope_of}
-use Rattle.it_syntax.proofs.LimitLemmas.{Sure, sure_bind, Any, sure_any, stuck_sure, AreFew}
+use Rattle.it_question.specs.NewNames.{Variable, no_names, is_taken, new_mark}
+use Rattle.it_question.specs.QuestionForms.{new_name, more_new, new_names}
+use Rattle.it_syntax.proofs.FormLimits.{sum_keeps, relation_keeps, scope_covers}
 use Rattle.it_syntax.proofs.MultipleLemmas.{one_is_multiple}
-use Rattle.it_syntax.proofs.RelationLimits.{sum_sure, scope_covers, relation_limited}
-use Rattle.it_question.specs.Keywords.{prove_keyword}
-use Rattle.it_question.specs.NewNames.{Variable, no_names}
-use Rattle.it_question.specs.Reading.{after_word, read_word, read_new, read_new_names, read_end}
-use Rattle.it_question.proofs.NameLimits.{ended_sure, IsGrown, new_names_sure}
-use Rattle.it_question.proofs.LineLimits.{sure_if}
 use Rattle.it_sharing.specs.AccessStructures.{IsPartySet}
 use Rattle.it_sharing.specs.Sharings.{SharingView, IsSharing, IsBoundWhereBest}
-use Rattle.it_sharing.specs.SharingReading.{read_at_least, read_bound, qualified_then, if_qualified, read_qualified, read_aim, read_secret, read_parties, read_lists, read_sharing}
-use Rattle.it_sharing.specs.SharingForms.{Aim}
-use Rattle.it_sharing.proofs.SecretNames.{IsOne, secret_sure}
+use Rattle.it_sharing.specs.SharingForms.{Aim, more_lists, bound, aim, sharing}
+use Rattle.it_sharing.specs.SharingWords.{parties_keyword, qualified_keyword, most_parties, most_qualified, unless_secret, party_env}
 
 -- ---- names
 
-abbrev IsNames : NamesView → Type 0
-IsNames v = (2 ≤ length v.variables) × (length v.variables ≤ 9) × (v.rates ≡ [])
+-- one variable, and no rates
+abbrev IsOne : NamesView → Type 0
+IsOne v = (length v.variables ≡ 1) × (v.rates ≡ [])
 
-secret_line_sure : (ls : List Letter) → Sure IsOne (read_secret ls)
-unfolding read_secret
-secret_line_sure ls = sure_bind Any IsOne (read_word secret_keyword ls) (λ a. to_end (read_new Variable 1 no_names) a.1) (sure_any (read_word secret_keyword ls)) (λ a u. ended_sure (λ (v : NamesView). (length v.variables ≡ 1) × (v.rates ≡ [])) (read_new Variable 1 no_names) (secret_sure 1) a.1)
+secret_is_one : Always (new_name Variable 1 no_names) (λ p v. IsOne v)
+unfolding Always new_name
+secret_is_one l e m = (refl, refl)
 
-grown_names : (v w : NamesView) → length v.variables ≡ 1 → v.rates ≡ [] → IsGrown Variable 1 8 v w → IsNames w
-grown_names v w one none g =
-    let total : length w.variables ≡ length v.variables + length g.own = ap (λ (u : NamesView). length u.variables) g.is ∙ length-append v.variables g.own in
-    (omega (arith, one, total, g.some), omega (arith, one, total, g.few), ap (λ (u : NamesView). u.rates) g.is ∙ none)
+-- the line of the secret declares one variable
+pub one_secret : (ls r : List Letter) (v : NamesView) → read (new_name Variable 1 no_names) ls ≡ Ok (v, r) → length v.variables ≡ 1
+one_secret ls r v e = (value_read (new_name Variable 1 no_names) IsOne ls r v secret_is_one e).0
 
-parties_sure : (v : NamesView) → length v.variables ≡ 1 → v.rates ≡ [] → (ls : List Letter) → Sure (λ (x : NamesView × List Letter). IsNames x.0) (read_parties v ls)
-unfolding read_parties
-parties_sure v one none ls =
-    sure_bind Any (λ (x : NamesView × List Letter). IsNames x.0) (read_word parties_keyword ls) (λ a. to_end (read_new_names Variable most_parties v) a.1) (sure_any (read_word parties_keyword ls))
-    (λ a u. grows_to (to_end (read_new_names Variable most_parties v) a.1) (ended_sure (IsGrown Variable 1 most_parties v) (read_new_names Variable most_parties v) (new_names_sure Variable most_parties v) a.1))
-  where
-    grows_to : (r : Reads NamesView) → Sure (λ (x : NamesView × List Letter). IsGrown Variable 1 most_parties v x.0) r → Sure (λ (x : NamesView × List Letter). IsNames x.0) r
-    grows_to (Ok x) g = grown_names v x.0 one none g
-    grows_to (Err e) g = tt
+-- more variables than before, at most so many, and the same rates
+abbrev HasGrown : ℕ → NamesView → NamesView → Type 0
+HasGrown most v w = (length v.variables < length w.variables) × (length w.variables ≤ most) × (w.rates ≡ v.rates)
+
+one_allowed : (measure taken : Bool) (n : ℕ) → new_mark measure taken n ≡ None → 1 ≤ n
+one_allowed true taken n e = absurd cc
+one_allowed false true n e = absurd cc
+one_allowed false false zero e = absurd cc
+one_allowed false false (suc n) e = omega arith
+
+new_name_grows : (most : ℕ) (v : NamesView) → Always (new_name Variable most v) (λ p w. HasGrown most v w)
+unfolding Always new_name
+new_name_grows most v l e m =
+    let some = one_allowed (is_measure (text_of l)) (is_taken v (text_of l)) (most - length v.variables) m in
+    let long = length-append v.variables (text_of l ∷ []) in
+    (omega (arith, long), omega (arith, long, some), refl)
+
+grown_more : (most : ℕ) (u v w : NamesView) → HasGrown most u v → HasGrown most v w → HasGrown most u w
+grown_more most u v w g h = (omega (arith, g.0, h.0), h.1, h.2 ∙ g.2)
+
+more_new_grow : (most : ℕ) (u v : NamesView) → HasGrown most u v → Always (more_new Variable most v) (λ p w. HasGrown most u w)
+unfolding more_new
+more_new_grow most u =
+    each_keeps (Punctuation Comma ∷ []) (λ v l. (None, tt {0})) (λ v u. new_name Variable most v) (λ v more. more) (HasGrown most u) (λ v g l e m. always_weaker (new_name Variable most v) (λ q w. HasGrown most v w) _ (λ q w h. grown_more most u v w g h) (new_name_grows most v))
+
+new_names_grow : (most : ℕ) (v : NamesView) → Always (new_names Variable most v) (λ p w. HasGrown most v w)
+unfolding Always new_names
+new_names_grow most v = always_weaker (new_name Variable most v) (λ q w. HasGrown most v w) _ (λ q w g. always_weaker (more_new Variable most w) (λ r x. HasGrown most v x) _ (λ r x h l e m. h) (more_new_grow most v w g)) (new_name_grows most v)
 
 -- ---- lists of parties
 
 -- the parties are variables from 1 on
-knows_parties : (v : NamesView) (w : List ℕ) (i : ℕ) → party_env v w ≡ Some i → (1 ≤ i) × (i < length v.variables)
+abbrev IsParty : ℕ → ℕ → Type 0
+IsParty n i = (1 ≤ i) × (i < n)
+
+knows_parties : (v : NamesView) (w : List ℕ) (i : ℕ) → party_env v w ≡ Some i → IsParty (length v.variables) i
 unfolding party_env
 knows_parties v w i e = by_option (index_of v.variables w) refl e
   where
-    by_option : (o : Option ℕ) → index_of v.variables w ≡ o → unless_secret o ≡ Some i → (1 ≤ i) × (i < length v.variables)
+    by_option : (o : Option ℕ) → index_of v.variables w ≡ o → unless_secret o ≡ Some i → IsParty (length v.variables) i
     by_option None h e = absurd cc
     by_option (Some zero) h e = absurd cc
     by_option (Some (suc j)) h e = let same : suc j ≡ i = cc in (omega (arith, same), omega (arith, same, (position-Some (bytes_eq w) v.variables (suc j) [] h).0))
+
+named : (n : ℕ) (measure : Bool) (o : Option ℕ) → cond measure (Some codes.Word) (unknown_mark o) ≡ None → ((i : ℕ) → o ≡ Some i → IsParty n i) → IsParty n (index_or o)
+named n true o e k = absurd cc
+named n false None e k = absurd cc
+named n false (Some i) e k = k i refl
+
+party_keeps : (v : NamesView) → Always (variable (party_env v)) (λ p i. IsParty (length v.variables) i)
+unfolding Always variable
+party_keeps v l e m = named (length v.variables) (is_measure (text_of l)) (party_env v (text_of l)) m (knows_parties v (text_of l))
 
 -- a set of parties, and one that isn't empty
 abbrev Even : ℕ → ℕ → Type 0
@@ -78,160 +105,141 @@ Even n s = (s < 2 ^ n) × (bit_at s 0 ≡ 0)
 abbrev IsListed : ℕ → ℕ → Type 0
 IsListed n s = Even n s × (0 < s)
 
-single_even : (n i : ℕ) → 1 ≤ i → i < n → IsListed n (2 ^ i)
-single_even n zero a b = absurd (omega (arith, a))
-single_even n (suc i) a b = ((pow-lt b, bit_at_lowest (2 ^ suc i) ∙ omega arith), pow_pos (suc i))
+single_listed : (n i : ℕ) → IsParty n i → IsListed n (2 ^ i)
+single_listed n zero h = absurd (omega (arith, h.0))
+single_listed n (suc i) h = ((pow-lt h.1, bit_at_lowest (2 ^ suc i) ∙ omega arith), pow_pos (suc i))
 
-union_even : (n s t : ℕ) → Even n s → Even n t → Even n (bit_or s t)
-union_even n s t a b = (or_lt n s t a.0 b.0, bit_at_or s t 0 ∙ omega (arith, a.1, b.1))
+union_listed : (n s t : ℕ) → IsListed n s → IsListed n t → IsListed n (bit_or s t)
+union_listed n s t a b = ((or_lt n s t a.0.0 b.0.0, bit_at_or s t 0 ∙ omega (arith, a.0.1, b.0.1)), omega (arith, a.1, le_or_l s t))
 
-union_listed : (n s t : ℕ) → IsListed n s → Even n t → IsListed n (bit_or s t)
-union_listed n s t a b = (union_even n s t a.0 b, omega (arith, a.1, le_or_l s t))
-
-abbrev Evens : ℕ → ℕ × List Letter → Type 0
-Evens n x = Even n x.0
-
-abbrev Listeds : ℕ → ℕ × List Letter → Type 0
-Listeds n x = IsListed n x.0
-
-abbrev IsParty : ℕ → ℕ × List Letter → Type 0
-IsParty n x = (1 ≤ x.0) × (x.0 < n)
-
-named_sure : (n : ℕ) (w : List ℕ) (h : Bool) (o : Option ℕ) (ls : List Letter) → ((i : ℕ) → o ≡ Some i → (1 ≤ i) × (i < n)) → Sure (IsParty n) (variable_or_fault w h o ls)
-named_sure n w true o ls k = tt
-named_sure n w false (Some i) ls k = k i refl
-named_sure n w false None ls k = tt
-
-name_sure : (v : NamesView) (ls : List Letter) → Sure (IsParty (length v.variables)) (read_name (party_env v) ls)
-unfolding read_name
-name_sure v (Word w ∷ ls) = named_sure (length v.variables) w (is_measure w) (party_env v w) ls (knows_parties v w)
-name_sure v [] = tt
-name_sure v (Bad c ∷ ls) = tt
-name_sure v (l ∷ ls) = tt
-
-none_even : (n : ℕ) → Even n 0
-none_even n = (pow_pos n, bit_at-zero 0)
-
-more_sure : (v : NamesView) (ls : List Letter) → Sure (Evens (length v.variables)) (read_more (party_env v) ls)
-unfolding read_more
-more_sure v (Sym Comma ∷ Word w ∷ ls) =
+more_parties_keep : (v : NamesView) (set : ℕ) → IsListed (length v.variables) set → Always (more_names (party_env v) set) (λ p s. IsListed (length v.variables) s)
+unfolding more_names
+more_parties_keep v =
     let n = length v.variables in
-    sure_bind (IsParty n) (Evens n) (variable_or_fault w (is_measure w) (party_env v w) ls) (λ f. read_more (party_env v) ls >>= λ m. Ok (bit_or (2 ^ f.0) m.0, m.1)) (named_sure n w (is_measure w) (party_env v w) ls (knows_parties v w))
-    (λ f hf. sure_bind (Evens n) (Evens n) (read_more (party_env v) ls) (λ m. Ok (bit_or (2 ^ f.0) m.0, m.1)) (more_sure v ls) (λ m hm. union_even n (2 ^ f.0) m.0 (single_even n f.0 hf.0 hf.1).0 hm))
-more_sure v (Sym Comma ∷ ls) = stuck_sure (Evens (length v.variables)) ls
-more_sure v [] = none_even (length v.variables)
-more_sure v (l ∷ ls) = none_even (length v.variables)
+    each_keeps (Punctuation Comma ∷ []) (λ s l. (None, tt {0})) (λ s u. variable (party_env v)) (λ s i. bit_or s (2 ^ i)) (IsListed n)
+    (λ s h l e m. always_weaker (variable (party_env v)) (λ q i. IsParty n i) _ (λ q i k. union_listed n s (2 ^ i) h (single_listed n i k)) (party_keeps v))
 
-list_sure : (v : NamesView) (ls : List Letter) → Sure (Listeds (length v.variables)) (read_list (party_env v) ls)
-unfolding read_list
-list_sure v ls =
-    let n = length v.variables in
-    sure_bind (IsParty n) (Listeds n) (read_name (party_env v) ls) (λ f. read_more (party_env v) f.1 >>= λ m. Ok (bit_or (2 ^ f.0) m.0, m.1)) (name_sure v ls)
-    (λ f hf. sure_bind (Evens n) (Listeds n) (read_more (party_env v) f.1) (λ m. Ok (bit_or (2 ^ f.0) m.0, m.1)) (more_sure v f.1) (λ m hm. union_listed n (2 ^ f.0) m.0 (single_even n f.0 hf.0 hf.1) hm))
+parties_keep : (v : NamesView) → Always (names (party_env v)) (λ p s. IsListed (length v.variables) s)
+unfolding Always names
+parties_keep v = always_weaker (variable (party_env v)) (λ q i. IsParty (length v.variables) i) _ (λ q i k. more_parties_keep v (2 ^ i) (single_listed (length v.variables) i k)) (party_keeps v)
 
 -- ---- `qualified` lines
 
-abbrev AreListed : ℕ → ℕ → List ℕ → Type 0
-AreListed n most sets = (length sets ≤ most) × All (IsListed n) sets
+abbrev AreListed : ℕ → List ℕ → Type 0
+AreListed n sets = (1 ≤ length sets) × (length sets ≤ most_qualified) × All (IsListed n) sets
 
-abbrev Lists : ℕ → ℕ → List ℕ × List Letter → Type 0
-Lists n most x = AreListed n most x.0
-
-then_sure : (v : NamesView) (most : ℕ) (f : List Letter → Reads (List ℕ)) → ((ls : List Letter) → Sure (Lists (length v.variables) most) (f ls)) → (ls : List Letter) → Sure (Lists (length v.variables) (suc most)) (qualified_then f (party_env v) ls)
-then_sure v most f h ls =
-    let n = length v.variables in
-    sure_bind (Listeds n) (Lists n (suc most)) (to_end (read_list (party_env v)) ls) (λ x. f x.1 >>= λ more. Ok (x.0 ∷ more.0, more.1)) (ended_sure (IsListed n) (read_list (party_env v)) (list_sure v) ls)
-    (λ x hx. sure_bind (Lists n most) (Lists n (suc most)) (f x.1) (λ more. Ok (x.0 ∷ more.0, more.1)) (h x.1) (λ more hm. (omega (arith, hm.0), All-cons (IsListed n) x.0 more.0 hx hm.1)))
-
-qualified_sure : (v : NamesView) (most : ℕ) (ls : List Letter) → Sure (Lists (length v.variables) most) (read_qualified most (party_env v) ls)
-unfolding read_qualified
-qualified_sure v zero ls = by_option (after_word qualified_keyword ls)
+few_lists : (i : ℕ) → limit_mark (most_qualified - i) ≡ None → i < most_qualified
+few_lists i e = by_number (most_qualified - i) refl e
   where
-    by_option : (o : Option (List Letter)) → Sure (Lists (length v.variables) 0) (if_qualified (λ after. Err (codes.Many, ls)) o ls)
-    by_option (Some after) = tt
-    by_option None = (omega arith, All-nil (IsListed (length v.variables)))
-qualified_sure v (suc most) ls = by_option (then_sure v most (read_qualified most (party_env v)) (qualified_sure v most)) (after_word qualified_keyword ls)
-  where
-    by_option : ((ls : List Letter) → Sure (Lists (length v.variables) (suc most)) (qualified_then (read_qualified most (party_env v)) (party_env v) ls)) → (o : Option (List Letter)) → Sure (Lists (length v.variables) (suc most)) (if_qualified (qualified_then (read_qualified most (party_env v)) (party_env v)) o ls)
-    by_option h (Some after) = h after
-    by_option h None = (omega arith, All-nil (IsListed (length v.variables)))
+    by_number : (k : ℕ) → most_qualified - i ≡ k → limit_mark k ≡ None → i < most_qualified
+    by_number zero h e = absurd cc
+    by_number (suc k) h e = omega (arith, h)
 
-abbrev AreSome : ℕ → List ℕ × List Letter → Type 0
-AreSome n x = (1 ≤ length x.0) × AreListed n 64 x.0
-
-lists_sure : (v : NamesView) (ls : List Letter) → Sure (AreSome (length v.variables)) (read_lists (party_env v) ls)
-unfolding read_lists
-lists_sure v ls =
+more_lists_keep : (v : NamesView) (sets : List ℕ) → AreListed (length v.variables) sets → Always (more_lists (party_env v) sets) (λ p s. AreListed (length v.variables) s)
+unfolding more_lists
+more_lists_keep v =
     let n = length v.variables in
-    sure_bind Any (AreSome n) (read_word qualified_keyword ls) (λ a. to_end (read_list (party_env v)) a.1 >>= λ first. read_qualified (most_qualified - 1) (party_env v) first.1 >>= λ more. Ok (first.0 ∷ more.0, more.1)) (sure_any (read_word qualified_keyword ls))
-    (λ a u. sure_bind (Listeds n) (AreSome n) (to_end (read_list (party_env v)) a.1) (λ first. read_qualified (most_qualified - 1) (party_env v) first.1 >>= λ more. Ok (first.0 ∷ more.0, more.1)) (ended_sure (IsListed n) (read_list (party_env v)) (list_sure v) a.1)
-    (λ x hx. sure_bind (Lists n (most_qualified - 1)) (AreSome n) (read_qualified (most_qualified - 1) (party_env v) x.1) (λ more. Ok (x.0 ∷ more.0, more.1)) (qualified_sure v (most_qualified - 1) x.1) (λ more hm. (omega arith, (omega (arith, hm.0), All-cons (IsListed n) x.0 more.0 hx hm.1)))))
+    each_keeps (Keyword qualified_keyword ∷ []) (λ s l. (limit_mark (most_qualified - length s), tt {0})) (λ s u. to_end (names (party_env v))) (λ s set. s ++ set ∷ []) (AreListed n)
+    (λ s h l e m. always_weaker (to_end (names (party_env v))) (λ q set. IsListed n set) _
+    (λ q set k. let long = length-append s (set ∷ []) in (omega (arith, long), omega (arith, long, few_lists (length s) m), All-append (IsListed n) s (set ∷ []) h.2 (All-cons (IsListed n) set [] k (All-nil (IsListed n)))))
+    (line_keeps (names (party_env v)) (IsListed n) (parties_keep v)))
 
 -- ---- what is asked
 
-abbrev IsAim : NamesView → Aim → Type 0
-IsAim v aim = IsRelationOf (length v.variables) (length v.rates) aim.1 × (aim.0 ≡ true → aim.1.sign ≡ AtLeast)
-
-abbrev Aims : NamesView → Aim × List Letter → Type 0
-Aims v x = IsAim v x.0
+-- a relation of the variables and rates, with `>=` where the least factor is asked for
+abbrev IsAsked : NamesView → Aim → Type 0
+IsAsked v x = IsRelationOf (length v.variables) (length v.rates) x.1 × (x.0 ≡ true → x.1.sign ≡ AtLeast)
 
 abbrev IsBound : NamesView → RelationView → Type 0
-IsBound v y = IsRelationOf (length v.variables) (length v.rates) y × (y.sign ≡ AtLeast)
+IsBound v r = IsRelationOf (length v.variables) (length v.rates) r × (r.sign ≡ AtLeast)
 
-bound_sure : (v : NamesView) (ls : List Letter) → Sure (λ (x : RelationView × List Letter). IsBound v x.0) (read_bound (scope_of v true) ls)
-unfolding read_bound
-bound_sure v ls =
+bound_keeps : (v : NamesView) → Always (bound (scope_of v true)) (λ p r. IsBound v r)
+unfolding Always bound
+bound_keeps v =
     let s = scope_of v true in
     let n = length v.variables in
     let m = length v.rates in
-    let k = scope_covers v true in
-    sure_bind (AreFew n m 1 most_terms) (λ (x : RelationView × List Letter). IsBound v x.0) (read_sum most_terms 1 s ls) (λ left. read_at_least left.1 >>= λ after. read_sum (most_terms - length left.0) (multiple_from 1 left.0) s after >>= λ right. Ok (record { left = left.0; sign = AtLeast; right = right.0 }, right.1)) (sum_sure s n m most_terms 1 k one_is_multiple ls)
-    (λ left hl. sure_bind Any (λ (x : RelationView × List Letter). IsBound v x.0) (read_at_least left.1) (λ after. read_sum (most_terms - length left.0) (multiple_from 1 left.0) s after >>= λ right. Ok (record { left = left.0; sign = AtLeast; right = right.0 }, right.1)) (sure_any (read_at_least left.1))
-    (λ after u. sure_bind (AreFew n m (multiple_from 1 left.0) (most_terms - length left.0)) (λ (x : RelationView × List Letter). IsBound v x.0) (read_sum (most_terms - length left.0) (multiple_from 1 left.0) s after) (λ right. Ok (record { left = left.0; sign = AtLeast; right = right.0 }, right.1)) (sum_sure s n m (most_terms - length left.0) (multiple_from 1 left.0) k hl.2 after)
-    (λ right hr. (record { few = omega (arith, hl.0, hr.0); left = hl.1; right = hr.1; some_multiple = hr.2.0; small_multiple = hr.2.1 }, refl))))
+    always_weaker (sum most_terms 1 s) _ _ (λ p left hl l e u.
+    always_weaker (sum (most_terms - length left) (multiple_from 1 left) s) _ _ (λ q right hr. (record { few = omega (arith, hl.0, hr.0); left = hl.1; right = hr.1; some_multiple = hr.2.0; small_multiple = hr.2.1 }, refl))
+    (sum_keeps s n m (multiple_from 1 left) (most_terms - length left) (scope_covers v true) hl.2))
+    (sum_keeps s n m 1 most_terms (scope_covers v true) one_is_multiple)
 
-aim_sure : (v : NamesView) (ls : List Letter) → Sure (Aims v) (read_aim v ls)
-unfolding read_aim
-aim_sure v (Word w ∷ ls) = by_tests (bytes_eq w prove_keyword) (bytes_eq w best_keyword)
-  where
-    by_tests : (a b : Bool) → Sure (Aims v) (cond a (to_end (read_relation (scope_of v true)) ls >>= λ x. Ok ((false, x.0), x.1)) (cond b (to_end (read_bound (scope_of v true)) ls >>= λ x. Ok ((true, x.0), x.1)) (no_rule (Word w ∷ ls))))
-    by_tests true b = sure_bind (λ (x : RelationView × List Letter). IsRelationOf (length v.variables) (length v.rates) x.0) (Aims v) (to_end (read_relation (scope_of v true)) ls) (λ x. Ok ((false, x.0), x.1))
-        (sure_if (λ y. IsRelationOf (length v.variables) (length v.rates) y) (to_end (read_relation (scope_of v true)) ls) (λ y r e. relation_limited v true ls r y e)) (λ x hx. (hx, λ e. absurd cc))
-    by_tests false true = sure_bind (λ (x : RelationView × List Letter). IsBound v x.0) (Aims v) (to_end (read_bound (scope_of v true)) ls) (λ x. Ok ((true, x.0), x.1)) (ended_sure (IsBound v) (read_bound (scope_of v true)) (bound_sure v) ls) (λ x hx. (hx.0, λ e. hx.1))
-    by_tests false false = tt
-aim_sure v [] = tt
-aim_sure v (Bad c ∷ ls) = tt
-aim_sure v (l ∷ ls) = tt
+aim_keeps : (v : NamesView) → Always (aim v) (λ p x. IsAsked v x)
+unfolding Always aim
+aim_keeps v =
+    let s = scope_of v true in (
+      λ l e m. always_weaker (to_end (relation s)) (λ q r. IsRelationOf (length v.variables) (length v.rates) r) (λ q r. IsAsked v (false, r)) (λ q r h. (h, λ (e : false ≡ true). absurd cc)) (line_keeps (relation s) (IsRelationOf (length v.variables) (length v.rates)) (relation_keeps s _ _ (scope_covers v true))),
+      λ l e m. always_weaker (to_end (bound s)) (λ q r. IsBound v r) (λ q r. IsAsked v (true, r)) (λ q r h. (h.0, λ e. h.1)) (line_keeps (bound s) (IsBound v) (bound_keeps v)),
+    )
 
 -- ---- the whole file
 
 even_party : (n s : ℕ) → IsListed n s → IsPartySet n s
 even_party n s h = (h.0.0, ap (λ (b : ℕ). nat_eq b 1) h.0.1)
 
-abbrev Keeps : SharingView × List Letter → Type 0
-Keeps x = IsSharing x.0 × IsBoundWhereBest x.0
+abbrev Keeps : SharingView → Type 0
+Keeps y = IsSharing y × IsBoundWhereBest y
 
-sharing_sure : (ls : List Letter) → Sure Keeps (read_sharing ls)
-unfolding read_sharing
-sharing_sure ls =
-    sure_bind IsOne Keeps (read_secret ls) (λ secret. read_parties secret.0 secret.1 >>= λ names. read_lists (party_env names.0) names.1 >>= λ lists. read_aim names.0 lists.1 >>= λ aim. read_end aim.1 >>= λ e. Ok (record { names = names.0; qualified = lists.0; best = aim.0.0; relation = aim.0.1 }, e.1)) (secret_line_sure ls)
-    (λ secret hs. sure_bind (λ (x : NamesView × List Letter). IsNames x.0) Keeps (read_parties secret.0 secret.1) (λ names. read_lists (party_env names.0) names.1 >>= λ lists. read_aim names.0 lists.1 >>= λ aim. read_end aim.1 >>= λ e. Ok (record { names = names.0; qualified = lists.0; best = aim.0.0; relation = aim.0.1 }, e.1)) (parties_sure secret.0 hs.0 hs.1 secret.1)
-    (λ names hn. let n = length names.0.variables in sure_bind (AreSome n) Keeps (read_lists (party_env names.0) names.1) (λ lists. read_aim names.0 lists.1 >>= λ aim. read_end aim.1 >>= λ e. Ok (record { names = names.0; qualified = lists.0; best = aim.0.0; relation = aim.0.1 }, e.1)) (lists_sure names.0 names.1)
-    (λ lists hl. sure_bind (Aims names.0) Keeps (read_aim names.0 lists.1) (λ aim. read_end aim.1 >>= λ e. Ok (record { names = names.0; qualified = lists.0; best = aim.0.0; relation = aim.0.1 }, e.1)) (aim_sure names.0 lists.1)
-    (λ aim ha. sure_bind Any Keeps (read_end aim.1) (λ e. Ok (record { names = names.0; qualified = lists.0; best = aim.0.0; relation = aim.0.1 }, e.1)) (sure_any (read_end aim.1))
-    (λ e u. (
+keeps_all : (secret all : NamesView) (sets : List ℕ) (asked : Aim) → IsOne secret → HasGrown (length secret.variables + most_parties) secret all → AreListed (length all.variables) sets → IsAsked all asked → Keeps (record { names = all; qualified = sets; best = asked.0; relation = asked.1 })
+keeps_all secret all sets asked one grown listed asks =
+    let n = length all.variables in
+    let none : all.rates ≡ [] = grown.2 ∙ one.1 in (
       record {
-        some = hn.0;
-        few = hn.1;
-        no_rates = hn.2;
-        some_listed = hl.0;
-        few_listed = hl.1.0;
-        nonempty = All-weaker (IsListed n) (λ s. 0 < s) (λ s h. h.1) lists.0 hl.1.1;
-        parties = All-weaker (IsListed n) (IsPartySet n) (even_party n) lists.0 hl.1.1;
-        relation = subst (λ (names : List (List ℕ)). IsRelationOf n (length names) aim.0.1) hn.2 ha.0;
+        some = omega (arith, one.0, grown.0);
+        few = omega (arith, one.0, grown.1);
+        no_rates = none;
+        some_listed = listed.0;
+        few_listed = listed.1;
+        nonempty = All-weaker (IsListed n) (λ s. 0 < s) (λ s h. h.1) sets listed.2;
+        parties = All-weaker (IsListed n) (IsPartySet n) (even_party n) sets listed.2;
+        relation = subst (λ (names : List (List ℕ)). IsRelationOf n (length names) asked.1) none asks.0;
       },
-      ha.1,
-    ))))))
+      asks.1,
+    )
 
-pub sharing_limited : (ls r : List Letter) (y : SharingView) → read_sharing ls ≡ Ok (y, r) → IsSharing y × IsBoundWhereBest y
-sharing_limited ls r y e = subst (Sure Keeps) e (sharing_sure ls)
+-- what comes after the lists, after the first list and after the secret
+abbrev after_lists : NamesView → List ℕ → Form SharingView
+after_lists all sets = aim all >>= λ asked. file_end >> Give (record { names = all; qualified = sets; best = asked.0; relation = asked.1 })
+
+abbrev after_first : NamesView → ℕ → Form SharingView
+after_first all set = more_lists (party_env all) (set ∷ []) >>= after_lists all
+
+abbrev after_names : NamesView → Form SharingView
+after_names all = Take (word qualified_keyword) >> (to_end (names (party_env all)) >>= after_first all)
+
+abbrev after_secret : NamesView → Form SharingView
+after_secret secret = Take (word parties_keyword) >> (new_names Variable (length secret.variables + most_parties) secret >>= after_names)
+
+abbrev KeepsAlways : Form SharingView → Type 0
+KeepsAlways f = Always f (λ p y. Keeps y)
+
+module _ (secret all : NamesView) (one : IsOne secret) (grown : HasGrown (length secret.variables + most_parties) secret all) where
+  lists_keep : (sets : List ℕ) → AreListed (length all.variables) sets → KeepsAlways (after_lists all sets)
+  unfolding Always
+  lists_keep sets listed = always_weaker (aim all) (λ q x. IsAsked all x) _ (λ q asked asks l e m. keeps_all secret all sets asked one grown listed asks) (aim_keeps all)
+
+  first_keeps : (set : ℕ) → IsListed (length all.variables) set → KeepsAlways (after_first all set)
+  unfolding Always
+  first_keeps set h =
+      let n = length all.variables in
+      always_weaker (more_lists (party_env all) (set ∷ [])) (λ q sets. AreListed n sets) (λ q sets. KeepsAlways (after_lists all sets)) (λ q sets listed. lists_keep sets listed)
+      (more_lists_keep all (set ∷ []) (omega arith, omega arith, All-cons (IsListed n) set [] h (All-nil (IsListed n))))
+
+  names_keep : KeepsAlways (after_names all)
+  unfolding Always
+  names_keep l e m =
+      let n = length all.variables in
+      always_weaker (to_end (names (party_env all))) (λ q set. IsListed n set) (λ q set. KeepsAlways (after_first all set)) (λ q set h. first_keeps set h) (line_keeps (names (party_env all)) (IsListed n) (parties_keep all))
+
+secret_keeps : (secret : NamesView) → IsOne secret → KeepsAlways (after_secret secret)
+unfolding Always
+secret_keeps secret one l e m =
+    let most = length secret.variables + most_parties in
+    always_weaker (new_names Variable most secret) (λ q w. HasGrown most secret w) (λ q all. KeepsAlways (after_names all)) (λ q all grown. names_keep secret all one grown) (new_names_grow most secret)
+
+sharing_keeps : KeepsAlways sharing
+unfolding Always sharing
+sharing_keeps l e m = always_weaker (to_end (new_name Variable 1 no_names)) (λ q v. IsOne v) (λ q secret. KeepsAlways (after_secret secret)) (λ q secret one. secret_keeps secret one) (line_keeps (new_name Variable 1 no_names) IsOne secret_is_one)
+
+pub sharing_limited : (ls r : List Letter) (y : SharingView) → read sharing ls ≡ Ok (y, r) → IsSharing y × IsBoundWhereBest y
+sharing_limited ls r y = value_read sharing Keeps ls r y sharing_keeps

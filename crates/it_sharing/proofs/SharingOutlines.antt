@@ -1,5 +1,8 @@
 -- The outlines of the forms of sharing files.
-use Rattle.std.proofs.Common.{ℕ, List, [], ◌∷◌, refl}
+use Rattle.std.proofs.Common.{◌≡◌, ℕ, List, [], ◌∷◌, Err, refl}
+use Rattle.it_forms.specs.FormReading.{read}
+use Rattle.it_forms.specs.Words.{to_end, marked}
+use Rattle.it_syntax.specs.LineForms.{sum, terms, term, atom, measure_or}
 use Rattle.it_forms.specs.declared.types.Symbol.TheVariants.{AtLeast}
 use Rattle.it_forms.specs.declared.types.Code.TheVariants as codes
 use Rattle.it_forms.specs.Letters.{Bad}
@@ -17,12 +20,17 @@ lists_has : (env : Environment) (sets : List ℕ) → Has (more_lists env sets) 
 unfolding more_lists
 lists_has env sets = has_while _ _ _ _ _ (λ sets u. has_then _ _ _ _ (has_then _ _ _ _ (names_has env) (λ set. has_then _ _ _ _ end_has (λ u. has_give _) refl) refl) (λ set. has_give _) refl) refl
 
-abbrev a_bound : Outline
+abbrev pub a_bound : Outline
 a_bound = one_then (a_sum []) (one_then (one_of (Punctuation AtLeast ∷ [])) (one_then (a_sum []) nothing))
 
-bound_has : (s : Scope) → Has (bound s) a_bound
+pub bound_has : (s : Scope) → Has (bound s) a_bound
 unfolding bound
 bound_has s = has_then _ _ _ _ (sum_has _ _ s) (λ left. has_then _ _ _ _ (has_symbol AtLeast) (λ u. has_then _ _ _ _ (sum_has _ _ s) (λ right. has_give _) refl) refl) refl
+
+-- no bound stands where nothing is left
+pub no_bound : (s : Scope) → read (to_end (bound s)) [] ≡ Err (codes.Word, [])
+unfolding read bound sum terms marked term atom measure_or
+no_bound s = refl
 
 aim_has : (v : NamesView) → Has (aim v) (one_of (Keyword prove_keyword ∷ Keyword best_keyword ∷ []))
 unfolding aim

@@ -1,19 +1,19 @@
 //! Readers of what is asked.
 ghost use Rattle.std.specs.Prelude.{true, false};
+ghost use Rattle.it_forms.specs.FormReading.{read};
+ghost use Rattle.it_forms.specs.Words.{to_end};
 ghost use Rattle.it_syntax.specs.Gives.{GivesBy, GivesAll};
 ghost use Rattle.it_syntax.specs.Gives as line;
-ghost use Rattle.it_syntax.specs.MeasureReading.{to_end};
 ghost use Rattle.it_syntax.specs.Meaning.{relation_view};
-ghost use Rattle.it_syntax.specs.ReaderSteps.{Passes};
 ghost use Rattle.it_syntax.specs.Scopes.{scope_of};
 ghost use Rattle.it_question.specs.Cursors.{letters_left};
-ghost use Rattle.it_sharing.specs.SharingReading.{read_at_least, read_bound, read_aim};
+ghost use Rattle.it_sharing.specs.SharingForms as forms;
 
 use it_question::readers::{Cursor, relation};
-use it_syntax::parts::{MOST_TERMS, sum};
+use it_syntax::Names;
+use it_syntax::parts::{MOST_TERMS, line_end, sum, symbol};
 use it_syntax::rest::{Piece, Rest, Stop};
 use it_syntax::types::{Code, Expr, Relation, Sign, Symbol};
-use it_syntax::{Names, parts};
 use std::alloc::Global;
 
 /// Before the relation to prove.
@@ -22,28 +22,15 @@ const PROVE: &[u8] = b"prove";
 /// Before the two sides of which the least factor is asked for.
 const BEST: &[u8] = b"best";
 
-/// A `>=`, which must stand there.
-#[tactic(auto, unfolding(crate::specs::SharingReading::read_at_least))]
-fn at_least(rest: &mut Rest<'_>) -> Result<(), Stop>
-    ensures { Passes result (line.letters_left rest.new) (read_at_least (line.letters_left rest.old)) }
-{
-    match rest.front() {
-        (Piece::Symbol(Symbol::AtLeast), after) => {
-            *rest = after;
-            Ok(())
-        }
-        _ => Err(rest.fault()),
-    }
-}
-
 /// Two sums with `>=` between them.
-#[tactic(auto, unfolding(crate::specs::SharingReading::read_bound))]
+#[tactic(auto, unfolding(crate::specs::SharingForms::bound, it_forms::specs::FormReading::read))]
 fn bound_part(alloc: Global, rest: &mut Rest<'_>, names: &Names) -> Result<Relation, Stop>
-    ensures { GivesBy relation_view result (line.letters_left rest.new) (read_bound (scope_of names.now true) (line.letters_left rest.old)) }
+    ensures { GivesBy relation_view result (line.letters_left rest.new) (read (forms.bound (scope_of names.now true)) (line.letters_left rest.old)) }
 {
     let (left, multiple) = sum(alloc, MOST_TERMS, 1, rest, names, true)?;
-    at_least(rest)?;
-    let (right, _) = sum(alloc, MOST_TERMS - left.len(), multiple, rest, names, true)?;
+    symbol(rest, Symbol::AtLeast)?;
+    let more = MOST_TERMS.saturating_sub(left.len());
+    let (right, _) = sum(alloc, more, multiple, rest, names, true)?;
     Ok(Relation {
         left: Expr { terms: left },
         sign: Sign::AtLeast,
@@ -52,18 +39,18 @@ fn bound_part(alloc: Global, rest: &mut Rest<'_>, names: &Names) -> Result<Relat
 }
 
 /// Two sums with `>=` between them, up to the line's end.
-#[tactic(auto, unfolding(it_syntax::specs::MeasureReading::to_end))]
+#[tactic(auto, unfolding(it_forms::specs::FormReading::read))]
 fn bound_to_end(alloc: Global, rest: &mut Rest<'_>, names: &Names) -> Result<Relation, Stop>
-    ensures { GivesAll relation_view result (line.letters_left rest.new) (to_end (read_bound (scope_of names.now true)) (line.letters_left rest.old)) }
+    ensures { GivesAll relation_view result (line.letters_left rest.new) (read (to_end (forms.bound (scope_of names.now true))) (line.letters_left rest.old)) }
 {
     let bound = bound_part(alloc, rest, names)?;
-    parts::line_end(rest)?;
+    line_end(rest)?;
     Ok(bound)
 }
 
 /// Two sums with `>=` between them, with the line's end.
 fn bound(alloc: Global, cursor: &mut Cursor<'_>, names: &Names) -> Result<Relation, Stop>
-    ensures { GivesBy relation_view result (letters_left cursor.new) (to_end (read_bound (scope_of names.now true)) (letters_left cursor.old)) }
+    ensures { GivesBy relation_view result (letters_left cursor.new) (read (to_end (forms.bound (scope_of names.now true))) (letters_left cursor.old)) }
 {
     match cursor.rest {
         Some(mut rest) => match bound_to_end(alloc, &mut rest, names) {
@@ -81,9 +68,9 @@ fn bound(alloc: Global, cursor: &mut Cursor<'_>, names: &Names) -> Result<Relati
 }
 
 /// Whether the least factor is asked for, and of which relation.
-#[tactic(auto, unfolding(crate::specs::SharingReading::read_aim))]
+#[tactic(auto, unfolding(crate::specs::SharingForms::aim, it_forms::specs::FormReading::read))]
 pub fn aim(alloc: Global, cursor: &mut Cursor<'_>, names: &Names) -> Result<(bool, Relation), Stop>
-    ensures { GivesBy (λ x. (x.0, relation_view x.1)) result (letters_left cursor.new) (read_aim names.now (letters_left cursor.old)) }
+    ensures { GivesBy (λ x. (x.0, relation_view x.1)) result (letters_left cursor.new) (read (forms.aim names.now) (letters_left cursor.old)) }
 {
     match cursor.front() {
         Some((Piece::Word(word), after)) => {

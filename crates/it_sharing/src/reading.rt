@@ -1,14 +1,18 @@
 //! The reader of sharing files.
-ghost use Rattle.std.specs.Prelude.{◌≡◌, ◌≤◌, length, OnOk, IfOk, IfErr};
+ghost use Rattle.std.specs.Prelude.{◌≡◌, ◌≤◌, ◌+◌, length, OnOk, IfOk, IfErr};
 ghost use Rattle.it_syntax.specs.Gives.{GivesBy};
 ghost use Rattle.it_question.specs.Cursors.{letters_left};
-ghost use Rattle.it_question.specs.NewNames.{no_names};
+ghost use Rattle.it_question.specs.NewNames.{Variable, no_names};
+ghost use Rattle.it_question.specs.QuestionForms as question;
+ghost use Rattle.it_forms.specs.FormReading.{read};
+ghost use Rattle.it_forms.specs.Words.{to_end};
 ghost use Rattle.it_sharing.specs.Sharings.{sharing_view, IsSharing, IsBoundWhereBest};
 ghost use Rattle.it_sharing.specs.SharingFiles.{IsSharingFile, IsFirstSharingFault};
-ghost use Rattle.it_sharing.specs.SharingReading.{read_secret, read_parties, read_sharing};
+ghost use Rattle.it_sharing.specs.SharingForms as forms;
+ghost use Rattle.it_sharing.specs.SharingWords.{most_parties};
 
 use crate::aims::aim;
-use crate::lists::lists;
+use crate::lists::{QUALIFIED, list, more_lists};
 use crate::types::Sharing;
 use it_question::readers::{
     Cursor, NameSort, file_end, file_lines, line_end, names_to_end, new_name, stop_fault, word,
@@ -27,37 +31,38 @@ const PARTIES: &[u8] = b"parties";
 /// The most parties.
 const MOST_PARTIES: usize = 8;
 
-/// The line of the secret.
-#[tactic(auto, unfolding(crate::specs::SharingReading::read_secret, it_syntax::specs::MeasureReading::to_end))]
+/// The name of the secret, up to the line's end.
+#[tactic(auto, unfolding(it_forms::specs::FormReading::read))]
 fn secret(cursor: &mut Cursor<'_>, names: &mut Names) -> Result<(), Stop>
     requires { names.old ≡ no_names }
-    ensures gives { GivesBy (λ x. names.new) result (letters_left cursor.new) (read_secret (letters_left cursor.old)) }
-    ensures room { OnOk result (length names.new.variables ≤ 1) }
+    ensures gives { GivesBy (λ x. names.new) result (letters_left cursor.new) (read (to_end (question.new_name Variable 1 no_names)) (letters_left cursor.old)) }
+    ensures one { OnOk result (length names.new.variables ≡ 1) }
 {
-    word(cursor, SECRET)?;
     new_name(cursor, names, NameSort::Variable, 1)?;
     line_end(cursor)
 }
 
-/// The line of the parties.
-#[tactic(auto, unfolding(crate::specs::SharingReading::read_parties))]
+/// The names of the parties, up to the line's end.
 fn parties(cursor: &mut Cursor<'_>, names: &mut Names) -> Result<(), Stop>
-    requires { length names.old.variables ≤ 1 }
-    ensures { GivesBy (λ x. names.new) result (letters_left cursor.new) (read_parties names.old (letters_left cursor.old)) }
+    requires { length names.old.variables ≡ 1 }
+    ensures { GivesBy (λ x. names.new) result (letters_left cursor.new) (read (question.new_names Variable (length names.old.variables + most_parties) names.old) (letters_left cursor.old)) }
 {
-    word(cursor, PARTIES)?;
-    names_to_end(cursor, names, NameSort::Variable, MOST_PARTIES)
+    names_to_end(cursor, names, NameSort::Variable, 1 + MOST_PARTIES)
 }
 
 /// What a file says, up to its end.
-#[tactic(auto, unfolding(crate::specs::SharingReading::read_sharing))]
+#[tactic(auto, unfolding(crate::specs::SharingForms::sharing, it_forms::specs::FormReading::read))]
 fn whole(alloc: Global, cursor: &mut Cursor<'_>) -> Result<Sharing, Stop>
-    ensures { GivesBy sharing_view result (letters_left cursor.new) (read_sharing (letters_left cursor.old)) }
+    ensures { GivesBy sharing_view result (letters_left cursor.new) (read forms.sharing (letters_left cursor.old)) }
 {
     let mut names = Names::new(alloc);
+    word(cursor, SECRET)?;
     secret(cursor, &mut names)?;
+    word(cursor, PARTIES)?;
     parties(cursor, &mut names)?;
-    let qualified = lists(alloc, cursor, &names)?;
+    word(cursor, QUALIFIED)?;
+    let first = list(cursor, &names)?;
+    let qualified = more_lists(alloc, first, cursor, &names)?;
     let (best, relation) = aim(alloc, cursor, &names)?;
     file_end(cursor)?;
     Ok(Sharing {

@@ -1,26 +1,16 @@
--- The lines that are constraints, by their form: how they are read, and that each has one reading or one first fault.
-use Rattle.std.proofs.Common.{◌≡◌, false, List, refl}
-use Rattle.it_forms.specs.Letters.{Letter}
-use Rattle.it_forms.specs.FormReading.{read}
+-- The lines that are constraints, by their form: each has one reading or one first fault.
+use Rattle.std.proofs.Common.{false, refl}
 use Rattle.it_forms.proofs.FormLanguage.{one_meaning, says_or_fault}
 use Rattle.it_forms.proofs.Outlines.{Has, a_line, has_to_end}
-use Rattle.it_syntax.specs.LineForms.{given}
 use Rattle.it_syntax.specs.Lines.{letters_from}
-use Rattle.it_syntax.specs.MeasureReading.{to_end}
 use Rattle.it_syntax.specs.NamesViews.{NamesView}
 use Rattle.it_syntax.specs.GivenLines.{given_line, GivenIsOne, GivenFaultIsOne, GivenOrFault}
-use Rattle.it_syntax.specs.GivenReading.{read_given}
 use Rattle.it_syntax.specs.Scopes.{scope_of}
 use Rattle.it_syntax.proofs.LineLemmas.{fault_at_one}
 use Rattle.it_syntax.proofs.LineOutlines.{a_given, given_has}
-use Rattle.it_syntax.proofs.MeasureReadings.{same_to_end}
-use Rattle.it_syntax.proofs.GivenReadings.{same_given}
 
 pub given_line_has : (v : NamesView) → Has (given_line v) (a_line a_given)
 given_line_has v = has_to_end _ _ (given_has (scope_of v false)) refl
-
-pub same_given_line : (v : NamesView) (ls : List Letter) → read (given_line v) ls ≡ to_end (read_given (scope_of v false)) ls
-same_given_line v ls = same_to_end (given (scope_of v false)) (read_given (scope_of v false)) ls (same_given (scope_of v false) ls)
 
 pub given_is_one : GivenIsOne
 given_is_one v line ts from = one_meaning (given_line v) _ (given_line_has v) (letters_from line ts from)

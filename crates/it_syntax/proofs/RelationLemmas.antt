@@ -1,26 +1,16 @@
--- The lines that are relations, by their form: how they are read, and that each has one reading or one first fault.
-use Rattle.std.proofs.Common.{◌≡◌, Bool, List, [], refl}
-use Rattle.it_forms.specs.Letters.{Letter}
-use Rattle.it_forms.specs.FormReading.{read}
+-- The lines that are relations, by their form: each has one reading or one first fault.
+use Rattle.std.proofs.Common.{Bool, [], refl}
 use Rattle.it_forms.proofs.FormLanguage.{one_meaning, says_or_fault}
 use Rattle.it_forms.proofs.Outlines.{Has, a_line, has_to_end}
-use Rattle.it_syntax.specs.LineForms.{relation}
 use Rattle.it_syntax.specs.Lines.{letters_from}
-use Rattle.it_syntax.specs.MeasureReading.{to_end}
 use Rattle.it_syntax.specs.NamesViews.{NamesView}
 use Rattle.it_syntax.specs.RelationLines.{relation_line, RelationIsOne, RelationFaultIsOne, RelationOrFault}
-use Rattle.it_syntax.specs.RelationReading.{read_relation}
 use Rattle.it_syntax.specs.Scopes.{scope_of}
 use Rattle.it_syntax.proofs.LineLemmas.{fault_at_one}
 use Rattle.it_syntax.proofs.LineOutlines.{a_relation, relation_has}
-use Rattle.it_syntax.proofs.MeasureReadings.{same_to_end}
-use Rattle.it_syntax.proofs.RelationReadings.{same_relation}
 
 pub relation_line_has : (v : NamesView) (rates : Bool) → Has (relation_line v rates) (a_line (a_relation []))
 relation_line_has v rates = has_to_end _ _ (relation_has (scope_of v rates)) refl
-
-pub same_relation_line : (v : NamesView) (rates : Bool) (ls : List Letter) → read (relation_line v rates) ls ≡ to_end (read_relation (scope_of v rates)) ls
-same_relation_line v rates ls = same_to_end (relation (scope_of v rates)) (read_relation (scope_of v rates)) ls (same_relation (scope_of v rates) ls)
 
 pub relation_line_is_one : RelationIsOne
 relation_line_is_one v rates line ts from = one_meaning (relation_line v rates) _ (relation_line_has v rates) (letters_from line ts from)

@@ -1,46 +1,41 @@
 //! Readers of entropies, mutual informations and rates, and of terms that count them.
-ghost use Rattle.std.specs.Prelude.{◌≡◌, ◌≤◌, IfOk};
+ghost use Rattle.std.specs.Prelude.{◌≡◌, ◌≤◌, ℕ, Bool, IfOk};
+ghost use Rattle.it_forms.specs.Forms.{Take};
+ghost use Rattle.it_forms.specs.FormReading.{read};
+ghost use Rattle.it_forms.specs.Words.{allowed};
 ghost use Rattle.it_number.specs.Gcd.{lcm};
-ghost use Rattle.it_syntax.specs.MeasureReading.{read_measure};
-ghost use Rattle.it_syntax.specs.Scopes.{scope_of};
-ghost use Rattle.it_syntax.specs.RelationReading.{read_atom, read_over, after_number, read_term, read_surplus_term};
 ghost use Rattle.it_syntax.specs.Gives.{Gives, GivesBy, StopsAs, letters_left};
+ghost use Rattle.it_syntax.specs.LineForms as forms;
+ghost use Rattle.it_syntax.specs.ReaderSteps.{over, counted_by};
+ghost use Rattle.it_syntax.specs.Scopes.{scope_of};
 
 use crate::denominators::denominator;
-use crate::lists::is_measure;
-use crate::measures::measure;
+use crate::lists::{ENTROPY, MUTUAL, is_measure};
+use crate::measures::{entropy, mutual_information};
 use crate::names::Names;
 use crate::rest::{Piece, Rest, Stop};
+use crate::terminals::{takes, takes_word};
 use crate::types::{Atom, Code, Symbol, Term};
 
-/// The rate of this name, if rates may stand there.
+/// The number of a rate, if rates may stand there, and None for a name that isn't one.
 #[tactic(auto, unfolding(crate::specs::Scopes::scope_of))]
-fn rate(names: &Names, rates: bool, name: &[u8]) -> Option<u8>
+fn rate_number(names: &Names, rates: bool, name: &[u8]) -> Option<u8>
     ensures { result ≡ (scope_of names.now rates).rates name.now }
 {
     if rates { names.rate(name) } else { None }
 }
 
-/// An entropy or a mutual information.
-#[tactic(auto, unfolding(crate::specs::Scopes::scope_of))]
-fn measure_in_scope(rest: &mut Rest<'_>, names: &Names, rates: bool) -> Result<Atom, Stop>
-    ensures { Gives result (letters_left rest.new) (read_measure (scope_of names.now rates).variables (letters_left rest.old)) }
-{
-    let _ = rates;
-    measure(rest, names)
-}
-
-/// An entropy, a mutual information or a rate.
-#[tactic(auto, unfolding(crate::specs::RelationReading::read_atom))]
-fn atom(rest: &mut Rest<'_>, names: &Names, rates: bool) -> Result<Atom, Stop>
-    ensures { Gives result (letters_left rest.new) (read_atom (scope_of names.now rates) (letters_left rest.old)) }
+/// A rate.
+#[tactic(auto, unfolding(it_forms::specs::FormReading::read))]
+fn rate(rest: &mut Rest<'_>, names: &Names, rates: bool) -> Result<Atom, Stop>
+    ensures { Gives result (letters_left rest.new) (read (Take (forms.rate (scope_of names.now rates).rates)) (letters_left rest.old)) }
 {
     match rest.front() {
         (Piece::Word(word), after) => {
             if is_measure(word) {
-                return measure_in_scope(rest, names, rates);
+                return Err(Stop::Fault(Code::Word));
             }
-            match rate(names, rates, word) {
+            match rate_number(names, rates, word) {
                 Some(i) => {
                     *rest = after;
                     Ok(Atom::Rate(i))
@@ -52,8 +47,45 @@ fn atom(rest: &mut Rest<'_>, names: &Names, rates: bool) -> Result<Atom, Stop>
     }
 }
 
+/// An entropy, a mutual information or a rate.
+#[tactic(auto, unfolding(crate::specs::LineForms::atom, crate::specs::LineForms::measure_or, it_forms::specs::FormReading::read, crate::specs::Scopes::scope_of), using(crate::proofs::Loops::taken_after, crate::proofs::Loops::other_after))]
+fn atom(rest: &mut Rest<'_>, names: &Names, rates: bool) -> Result<Atom, Stop>
+    ensures { Gives result (letters_left rest.new) (read (forms.atom (scope_of names.now rates)) (letters_left rest.old)) }
+{
+    if takes_word(rest, ENTROPY) {
+        entropy(rest, names)
+    } else if takes_word(rest, MUTUAL) {
+        mutual_information(rest, names)
+    } else {
+        rate(rest, names, rates)
+    }
+}
+
+/// An entropy, a mutual information, a rate or, where no word stands, nothing.
+#[tactic(auto, unfolding(crate::specs::LineForms::atom_or_nothing, crate::specs::LineForms::atom, crate::specs::LineForms::measure_or, it_forms::specs::FormReading::read))]
+fn atom_or_nothing(rest: &mut Rest<'_>, names: &Names, rates: bool) -> Result<Atom, Stop>
+    ensures { Gives result (letters_left rest.new) (read (forms.atom_or_nothing (scope_of names.now rates)) (letters_left rest.old)) }
+{
+    match rest.front() {
+        (Piece::Word(_), _) => atom(rest, names, rates),
+        _ => Ok(Atom::Nothing),
+    }
+}
+
+/// What a number counts, which may be nothing after 0.
+#[tactic(auto, using(crate::proofs::TermLemmas::counted_some))]
+fn counted(number: u64, rest: &mut Rest<'_>, names: &Names, rates: bool) -> Result<Atom, Stop>
+    ensures { Gives result (letters_left rest.new) (read (counted_by number (scope_of names.now rates)) (letters_left rest.old)) }
+{
+    if number == 0 {
+        atom_or_nothing(rest, names, rates)
+    } else {
+        atom(rest, names, rates)
+    }
+}
+
 /// A term over a denominator, from the denominator on, with the least common multiple of all denominators up to it.
-#[tactic(auto, unfolding(crate::specs::RelationReading::read_over))]
+#[tactic(auto, unfolding(it_forms::specs::FormReading::read))]
 fn term_over(
     negative: bool,
     number: u64,
@@ -63,7 +95,7 @@ fn term_over(
     rates: bool,
 ) -> Result<(Term, u64), Stop>
     requires some { 1 ≤ multiple }
-    ensures read { GivesBy (λ x. x.0) result (letters_left rest.new) (read_over multiple (scope_of names.now rates) negative number (letters_left rest.old)) }
+    ensures read { GivesBy (λ x. x.0) result (letters_left rest.new) (read (over multiple (scope_of names.now rates) negative number) (letters_left rest.old)) }
     ensures multiple { IfOk result (λ x. (1 ≤ x.1) × (x.1 ≡ lcm multiple x.0.denominator)) }
 {
     let (denominator, multiple) = denominator(multiple, rest)?;
@@ -79,8 +111,8 @@ fn term_over(
     ))
 }
 
-/// The term after its number, with the least common multiple of all denominators up to it; `0` may stand alone.
-#[tactic(auto, using(crate::proofs::MultipleLemmas::lcm_one), unfolding(crate::specs::RelationReading::after_number))]
+/// The term after its number, with the least common multiple of all denominators up to it.
+#[tactic(auto, unfolding(it_forms::specs::FormReading::read), using(crate::proofs::MultipleLemmas::lcm_one, crate::proofs::Loops::taken_after, crate::proofs::Loops::other_after))]
 fn after_number(
     negative: bool,
     number: u64,
@@ -90,25 +122,14 @@ fn after_number(
     rates: bool,
 ) -> Result<(Term, u64), Stop>
     requires some { 1 ≤ multiple }
-    ensures read { GivesBy (λ x. x.0) result (letters_left rest.new) (after_number multiple (scope_of names.now rates) negative number (letters_left rest.old)) }
+    ensures read { GivesBy (λ x. x.0) result (letters_left rest.new) (read (forms.over_or multiple (scope_of names.now rates) negative number (counted_by number (scope_of names.now rates))) (letters_left rest.old)) }
     ensures multiple { IfOk result (λ x. (1 ≤ x.1) × (x.1 ≡ lcm multiple x.0.denominator)) }
 {
-    match rest.front() {
-        (Piece::Word(_), _) => {
-            let atom = atom(rest, names, rates)?;
-            Ok((whole_term(negative, number, atom), multiple))
-        }
-        (Piece::Symbol(Symbol::Slash), after) => {
-            *rest = after;
-            term_over(negative, number, multiple, rest, names, rates)
-        }
-        _ => {
-            if number == 0 {
-                Ok((whole_term(negative, 0, Atom::Nothing), multiple))
-            } else {
-                Err(rest.fault())
-            }
-        }
+    if takes(rest, Symbol::Slash) {
+        term_over(negative, number, multiple, rest, names, rates)
+    } else {
+        let atom = counted(number, rest, names, rates)?;
+        Ok((whole_term(negative, number, atom), multiple))
     }
 }
 
@@ -125,8 +146,8 @@ fn whole_term(negative: bool, number: u64, atom: Atom) -> Term
 }
 
 /// A term, after its sign, with the least common multiple of all denominators up to it.
-#[tactic(auto, using(crate::proofs::MultipleLemmas::lcm_one), unfolding(crate::specs::RelationReading::read_term))]
-pub fn term(
+#[tactic(auto, unfolding(crate::specs::LineForms::term, it_forms::specs::FormReading::read), using(crate::proofs::MultipleLemmas::lcm_one))]
+fn term(
     negative: bool,
     multiple: u64,
     rest: &mut Rest<'_>,
@@ -134,7 +155,7 @@ pub fn term(
     rates: bool,
 ) -> Result<(Term, u64), Stop>
     requires some { 1 ≤ multiple }
-    ensures read { GivesBy (λ x. x.0) result (letters_left rest.new) (read_term multiple (scope_of names.now rates) negative (letters_left rest.old)) }
+    ensures read { GivesBy (λ x. x.0) result (letters_left rest.new) (read (forms.term multiple (scope_of names.now rates) negative) (letters_left rest.old)) }
     ensures multiple { IfOk result (λ x. (1 ≤ x.1) × (x.1 ≡ lcm multiple x.0.denominator)) }
 {
     match rest.front() {
@@ -150,9 +171,9 @@ pub fn term(
 }
 
 /// The fault of a term too many.
-#[tactic(auto, unfolding(crate::specs::RelationReading::read_surplus_term))]
-pub fn surplus_term_fault(rest: &Rest<'_>, names: &Names, rates: bool) -> Stop
-    ensures { StopsAs result (letters_left rest.now) (read_surplus_term (scope_of names.now rates) (letters_left rest.now)) }
+#[tactic(auto, unfolding(it_forms::specs::Words::marked, crate::specs::LineForms::term, crate::specs::LineForms::atom, crate::specs::LineForms::measure_or, it_forms::specs::FormReading::read))]
+fn surplus_term_fault(rest: &Rest<'_>, names: &Names, rates: bool) -> Stop
+    ensures { (m : ℕ) (minus : Bool) → StopsAs result (letters_left rest.now) (read (allowed 0 (forms.term m (scope_of names.now rates) minus)) (letters_left rest.now)) }
 {
     match rest.front() {
         (Piece::Number(_), _) => Stop::Fault(Code::Many),
@@ -160,11 +181,32 @@ pub fn surplus_term_fault(rest: &Rest<'_>, names: &Names, rates: bool) -> Stop
             if is_measure(word) {
                 return Stop::Fault(Code::Many);
             }
-            match rate(names, rates, word) {
+            match rate_number(names, rates, word) {
                 Some(_) => Stop::Fault(Code::Many),
                 None => Stop::Fault(Code::Name),
             }
         }
         _ => rest.fault(),
+    }
+}
+
+/// A term, where `left` more terms are allowed, with the least common multiple of all denominators up to it.
+#[tactic(auto, using(it_forms::proofs::MarkLemmas::read_allowed))]
+pub fn allowed_term(
+    left: usize,
+    negative: bool,
+    multiple: u64,
+    rest: &mut Rest<'_>,
+    names: &Names,
+    rates: bool,
+) -> Result<(Term, u64), Stop>
+    requires some { 1 ≤ multiple }
+    ensures read { GivesBy (λ x. x.0) result (letters_left rest.new) (read (allowed left (forms.term multiple (scope_of names.now rates) negative)) (letters_left rest.old)) }
+    ensures multiple { IfOk result (λ x. (1 ≤ x.1) × (x.1 ≡ lcm multiple x.0.denominator)) }
+{
+    if left == 0 {
+        Err(surplus_term_fault(rest, names, rates))
+    } else {
+        term(negative, multiple, rest, names, rates)
     }
 }

@@ -4,7 +4,9 @@ ghost use Rattle.it_number.specs.Limit.{IsWithin};
 ghost use Rattle.it_number.specs.Gcd.{lcm};
 ghost use Rattle.it_syntax.specs.Meaning.{relation_view, multiple_from, multiple_of};
 ghost use Rattle.it_syntax.specs.Multiples.{multiple_with};
-ghost use Rattle.it_syntax.specs.RelationReading.{read_denominator};
+ghost use Rattle.it_forms.specs.Forms.{Take};
+ghost use Rattle.it_forms.specs.FormReading.{read};
+ghost use Rattle.it_syntax.specs.LineForms as forms;
 ghost use Rattle.it_syntax.specs.Gives.{GivesBy, letters_left};
 
 use crate::rest::{Piece, Rest, Stop};
@@ -45,10 +47,10 @@ fn multiple_with(multiple: u64, denominator: u64) -> Option<u64>
 }
 
 /// A denominator, with the least common multiple of those before it and it.
-#[tactic(auto, using(crate::proofs::MultipleLemmas::multiple_found), unfolding(crate::specs::RelationReading::read_denominator))]
+#[tactic(auto, using(crate::proofs::MultipleLemmas::multiple_found), unfolding(it_forms::specs::FormReading::read))]
 pub fn denominator(multiple: u64, rest: &mut Rest<'_>) -> Result<(u64, u64), Stop>
     requires some { 1 ≤ multiple }
-    ensures read { GivesBy (λ x. x.0) result (letters_left rest.new) (read_denominator multiple (letters_left rest.old)) }
+    ensures read { GivesBy (λ x. x.0) result (letters_left rest.new) (read (Take (forms.denominator multiple)) (letters_left rest.old)) }
     ensures multiple { IfOk result (λ x. (1 ≤ x.1) × (x.1 ≡ lcm multiple x.0)) }
 {
     match rest.front() {

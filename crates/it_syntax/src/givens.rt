@@ -1,25 +1,23 @@
 //! The reader of the constraint of a `given` line.
 //! The lists of first sets are matched where `?` would do: so the proof has the only fault, `Memory`, by its name.
 ghost use Rattle.std.specs.Prelude.{◌≡◌, ◌≤◌, false, [], ◌∷◌, length, IfOk, IfErr};
+ghost use Rattle.it_forms.specs.FormReading.{read};
 ghost use Rattle.it_syntax.specs.declared.rest.Stop.TheVariants.{Memory};
-ghost use Rattle.it_syntax.specs.Scopes.{scope_of};
 ghost use Rattle.it_syntax.specs.GivenLines.{IsGiven, given_line};
-ghost use Rattle.it_syntax.specs.GivenReading.{arrow, read_of, read_bar, read_chain, read_independence, read_function, read_plain, read_given};
-ghost use Rattle.it_syntax.specs.Gives.{Gives, GivesBy, GivesAll, letters_left};
-ghost use Rattle.it_syntax.specs.ReaderSteps.{Passes};
 ghost use Rattle.it_syntax.specs.Givens.{given_view, IsGivenOf};
+ghost use Rattle.it_syntax.specs.Gives.{Gives, GivesBy, GivesAll, letters_left};
+ghost use Rattle.it_syntax.specs.LineForms as forms;
 ghost use Rattle.it_syntax.specs.Lines.{IsFirstFault};
-ghost use Rattle.it_syntax.specs.MeasureReading.{to_end};
-ghost use Rattle.it_syntax.specs.Scopes.{env_of};
+ghost use Rattle.it_syntax.specs.Scopes.{env_of, scope_of};
 ghost use Rattle.it_syntax.specs.Spans.{InLine};
 
 use crate::lists::list;
-use crate::measures::semicolon;
-use crate::members::{add, members};
+use crate::members::{add, more_members};
 use crate::names::Names;
-use crate::relations::{line_end, relation_part};
-use crate::rest::{Divider, Piece, Rest, Stop};
-use crate::types::{Code, Given, LineTokens, Symbol, SyntaxFault};
+use crate::relations::relation_part;
+use crate::rest::{Rest, Stop};
+use crate::terminals::{line_end, symbol, takes, takes_word, word};
+use crate::types::{Given, LineTokens, Symbol, SyntaxFault};
 use it_space::VarSet;
 use std::alloc::Global;
 
@@ -35,55 +33,15 @@ const FUNCTION: &[u8] = b"func";
 /// The word between the two sets of a function.
 const OF: &[u8] = b"of";
 
-/// The most members of a chain, after its first three: 16 in all.
-const FURTHER_LINKS: usize = 13;
-
-/// The most members of an independence, after its first two: 16 in all.
-const FURTHER_MEMBERS: usize = 14;
-
-/// A `->` that must stand there.
-#[tactic(auto, unfolding(crate::specs::GivenReading::arrow))]
-fn arrow(rest: &mut Rest<'_>) -> Result<(), Stop>
-    ensures { Passes result (letters_left rest.new) (arrow (letters_left rest.old)) }
-{
-    match rest.front() {
-        (Piece::Symbol(Symbol::Arrow), after) => {
-            *rest = after;
-            Ok(())
-        }
-        _ => Err(rest.fault()),
-    }
-}
-
-/// An `of` that must stand there.
-#[tactic(auto, unfolding(crate::specs::GivenReading::read_of))]
-fn word_of(rest: &mut Rest<'_>) -> Result<(), Stop>
-    ensures { Passes result (letters_left rest.new) (read_of (letters_left rest.old)) }
-{
-    match rest.front() {
-        (Piece::Word(word), after) => {
-            if word == OF {
-                *rest = after;
-                Ok(())
-            } else {
-                Err(Stop::Fault(Code::Word))
-            }
-        }
-        _ => Err(rest.fault()),
-    }
-}
-
 /// The set after `|`; the empty set where none stands there.
-#[tactic(auto, unfolding(crate::specs::GivenReading::read_bar))]
-fn bar(rest: &mut Rest<'_>, names: &Names) -> Result<VarSet, Stop>
-    ensures { Gives result (letters_left rest.new) (read_bar (env_of names.now) (letters_left rest.old)) }
+#[tactic(auto, unfolding(crate::specs::LineForms::after_bar, it_forms::specs::FormReading::read), using(crate::proofs::Loops::taken_after, crate::proofs::Loops::other_after))]
+fn after_bar(rest: &mut Rest<'_>, names: &Names) -> Result<VarSet, Stop>
+    ensures { Gives result (letters_left rest.new) (read (forms.after_bar (env_of names.now)) (letters_left rest.old)) }
 {
-    match rest.front() {
-        (Piece::Symbol(Symbol::Bar), after) => {
-            *rest = after;
-            list(rest, names)
-        }
-        _ => Ok(VarSet::empty()),
+    if takes(rest, Symbol::Bar) {
+        list(rest, names)
+    } else {
+        Ok(VarSet::empty())
     }
 }
 
@@ -116,18 +74,18 @@ fn two_sets(alloc: Global, first: VarSet, second: VarSet) -> Result<Vec<VarSet>,
 }
 
 /// A chain, after its `markov`.
-#[tactic(auto, unfolding(crate::specs::GivenReading::read_chain))]
+#[tactic(auto, unfolding(crate::specs::LineForms::chain, it_forms::specs::FormReading::read))]
 fn chain(alloc: Global, rest: &mut Rest<'_>, names: &Names) -> Result<Given, Stop>
-    ensures { GivesBy given_view result (letters_left rest.new) (read_chain (env_of names.now) (letters_left rest.old)) }
+    ensures { GivesBy given_view result (letters_left rest.new) (read (forms.chain (env_of names.now)) (letters_left rest.old)) }
 {
     let first = list(rest, names)?;
-    arrow(rest)?;
+    symbol(rest, Symbol::Arrow)?;
     let second = list(rest, names)?;
-    arrow(rest)?;
+    symbol(rest, Symbol::Arrow)?;
     let third = list(rest, names)?;
     match three_sets(alloc, first, second, third) {
         Ok(sets) => {
-            let sets = members(sets, FURTHER_LINKS, Divider::Arrows, rest, names)?;
+            let sets = more_members(sets, Symbol::Arrow, rest, names)?;
             Ok(Given::Markov(sets))
         }
         Err(_) => Err(Stop::Memory),
@@ -135,17 +93,17 @@ fn chain(alloc: Global, rest: &mut Rest<'_>, names: &Names) -> Result<Given, Sto
 }
 
 /// An independence, after its `indep`.
-#[tactic(auto, unfolding(crate::specs::GivenReading::read_independence))]
+#[tactic(auto, unfolding(crate::specs::LineForms::independence, it_forms::specs::FormReading::read))]
 fn independence(alloc: Global, rest: &mut Rest<'_>, names: &Names) -> Result<Given, Stop>
-    ensures { GivesBy given_view result (letters_left rest.new) (read_independence (env_of names.now) (letters_left rest.old)) }
+    ensures { GivesBy given_view result (letters_left rest.new) (read (forms.independence (env_of names.now)) (letters_left rest.old)) }
 {
     let first = list(rest, names)?;
-    semicolon(rest)?;
+    symbol(rest, Symbol::Semicolon)?;
     let second = list(rest, names)?;
     match two_sets(alloc, first, second) {
         Ok(sets) => {
-            let members = members(sets, FURTHER_MEMBERS, Divider::Semicolons, rest, names)?;
-            let given = bar(rest, names)?;
+            let members = more_members(sets, Symbol::Semicolon, rest, names)?;
+            let given = after_bar(rest, names)?;
             Ok(Given::Independent { members, given })
         }
         Err(_) => Err(Stop::Memory),
@@ -153,53 +111,37 @@ fn independence(alloc: Global, rest: &mut Rest<'_>, names: &Names) -> Result<Giv
 }
 
 /// A function, after its `func`.
-#[tactic(auto, unfolding(crate::specs::GivenReading::read_function))]
+#[tactic(auto, unfolding(crate::specs::LineForms::function, it_forms::specs::FormReading::read))]
 fn function(rest: &mut Rest<'_>, names: &Names) -> Result<Given, Stop>
-    ensures { GivesBy given_view result (letters_left rest.new) (read_function (env_of names.now) (letters_left rest.old)) }
+    ensures { GivesBy given_view result (letters_left rest.new) (read (forms.function (env_of names.now)) (letters_left rest.old)) }
 {
     let value = list(rest, names)?;
-    word_of(rest)?;
+    word(rest, OF)?;
     let argument = list(rest, names)?;
     Ok(Given::Function { value, argument })
 }
 
-/// A relation without rates.
-#[tactic(auto, unfolding(crate::specs::GivenReading::read_plain))]
-fn plain_relation(alloc: Global, rest: &mut Rest<'_>, names: &Names) -> Result<Given, Stop>
-    ensures { GivesBy given_view result (letters_left rest.new) (read_plain (scope_of names.now false) (letters_left rest.old)) }
-{
-    let relation = relation_part(alloc, rest, names, false)?;
-    Ok(Given::Relation(relation))
-}
-
 /// A constraint, without the line's end.
-#[tactic(auto, unfolding(crate::specs::GivenReading::read_given, crate::specs::Scopes::scope_of))]
+#[tactic(auto, unfolding(crate::specs::LineForms::given, it_forms::specs::FormReading::read, crate::specs::Scopes::scope_of), using(crate::proofs::Loops::taken_after, crate::proofs::Loops::other_after, it_forms::proofs::ButLemmas::none_stands, it_forms::proofs::ButLemmas::read_but))]
 pub fn given_part(alloc: Global, rest: &mut Rest<'_>, names: &Names) -> Result<Given, Stop>
-    ensures { GivesBy given_view result (letters_left rest.new) (read_given (scope_of names.now false) (letters_left rest.old)) }
+    ensures { GivesBy given_view result (letters_left rest.new) (read (forms.given (scope_of names.now false)) (letters_left rest.old)) }
 {
-    match rest.front() {
-        (Piece::Word(word), after) => {
-            if word == MARKOV {
-                *rest = after;
-                chain(alloc, rest, names)
-            } else if word == INDEPENDENT {
-                *rest = after;
-                independence(alloc, rest, names)
-            } else if word == FUNCTION {
-                *rest = after;
-                function(rest, names)
-            } else {
-                plain_relation(alloc, rest, names)
-            }
-        }
-        _ => plain_relation(alloc, rest, names),
+    if takes_word(rest, MARKOV) {
+        chain(alloc, rest, names)
+    } else if takes_word(rest, INDEPENDENT) {
+        independence(alloc, rest, names)
+    } else if takes_word(rest, FUNCTION) {
+        function(rest, names)
+    } else {
+        let relation = relation_part(alloc, rest, names, false)?;
+        Ok(Given::Relation(relation))
     }
 }
 
 /// A constraint, up to the line's end.
-#[tactic(auto, unfolding(crate::specs::MeasureReading::to_end))]
+#[tactic(auto, unfolding(it_forms::specs::FormReading::read))]
 pub fn given_to_end(alloc: Global, rest: &mut Rest<'_>, names: &Names) -> Result<Given, Stop>
-    ensures { GivesAll given_view result (letters_left rest.new) (to_end (read_given (scope_of names.now false)) (letters_left rest.old)) }
+    ensures { GivesAll given_view result (letters_left rest.new) (read (given_line names.now) (letters_left rest.old)) }
 {
     let given = given_part(alloc, rest, names)?;
     line_end(rest)?;

@@ -19,6 +19,7 @@ pub mod rest;
 mod runs;
 mod signs;
 mod sums;
+mod terminals;
 pub mod types;
 
 pub use cutting::{line_tokens, tokens};

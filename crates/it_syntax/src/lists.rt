@@ -1,14 +1,15 @@
 //! Readers of names and lists of names.
-ghost use Rattle.std.specs.Bool.{OnTrue, OnFalse};
-ghost use Rattle.std.specs.Prelude.{◌≡◌, ◌<◌, IfSome, OnOk, IfOk, Some, None, length};
-ghost use Rattle.it_syntax.specs.Gives.{Gives, letters_left};
-ghost use Rattle.it_syntax.specs.MeasureReading.{read_name, read_more, read_list};
-ghost use Rattle.it_syntax.specs.ReaderSteps.{after_comma};
+ghost use Rattle.std.specs.Prelude.{◌≡◌, ◌<◌, IfSome, OnOk, IfOk, length};
+ghost use Rattle.it_forms.specs.FormReading.{read};
+ghost use Rattle.it_forms.specs.Words.{allowed};
+ghost use Rattle.it_syntax.specs.Gives.{Gives, StopsAs, letters_left};
+ghost use Rattle.it_syntax.specs.LineForms as forms;
 ghost use Rattle.it_syntax.specs.NameMarks.{is_measure};
 ghost use Rattle.it_syntax.specs.Scopes.{env_of};
 
 use crate::names::Names;
 use crate::rest::{Piece, Rest, Stop};
+use crate::terminals::takes;
 use crate::types::{Code, Symbol};
 use it_space::VarSet;
 
@@ -27,7 +28,7 @@ pub fn is_measure(text: &[u8]) -> bool
 
 /// The number of a variable, None for a name that isn't one.
 #[tactic(auto, unfolding(crate::specs::Scopes::env_of))]
-pub fn variable(names: &Names, name: &[u8]) -> Option<u8>
+fn variable(names: &Names, name: &[u8]) -> Option<u8>
     ensures found { result ≡ env_of names.now name.now }
     ensures small { IfSome result (λ i. i < 16) }
 {
@@ -35,9 +36,9 @@ pub fn variable(names: &Names, name: &[u8]) -> Option<u8>
 }
 
 /// The name of a variable, which must stand there, by the variable's number.
-#[tactic(auto, unfolding(crate::specs::MeasureReading::read_name))]
+#[tactic(auto, unfolding(crate::specs::LineForms::variable, it_forms::specs::FormReading::read))]
 fn name(rest: &mut Rest<'_>, names: &Names) -> Result<u8, Stop>
-    ensures gives { Gives result (letters_left rest.new) (read_name (env_of names.now) (letters_left rest.old)) }
+    ensures gives { Gives result (letters_left rest.new) (read (forms.variable (env_of names.now)) (letters_left rest.old)) }
     ensures shorter { OnOk result (length (letters_left rest.new) < length (letters_left rest.old)) }
     ensures small { IfOk result (λ i. i < 16) }
 {
@@ -58,40 +59,57 @@ fn name(rest: &mut Rest<'_>, names: &Names) -> Result<u8, Stop>
     }
 }
 
-/// Takes a comma, if one stands there, and says whether.
-fn comma(rest: &mut Rest<'_>) -> bool
-    ensures taken { OnTrue result (after_comma (letters_left rest.old) ≡ Some (letters_left rest.new)) }
-    ensures none { OnFalse result (after_comma (letters_left rest.old) ≡ None) }
-    ensures same { OnFalse result (letters_left rest.new ≡ letters_left rest.old) }
+/// The set with further names, each after a comma.
+fn more(first: VarSet, rest: &mut Rest<'_>, names: &Names) -> Result<VarSet, Stop>
+    ensures { Gives result (letters_left rest.new) (read (forms.more_names (env_of names.now) first) (letters_left rest.old)) }
 {
-    match rest.front() {
-        (Piece::Symbol(Symbol::Comma), after) => {
-            *rest = after;
-            true
+    let mut set = first;
+    while takes(rest, Symbol::Comma) {
+        // a match, so that each case is a goal of its own, with the reading's equation at hand
+        match name(rest, names) {
+            Ok(i) => set = set.union(VarSet::single(i)),
+            Err(stop) => return Err(stop),
         }
-        _ => false,
-    }
-}
-
-/// The set of further names, each after a comma.
-#[tactic(auto, unfolding(crate::specs::MeasureReading::read_more))]
-fn more(rest: &mut Rest<'_>, names: &Names) -> Result<VarSet, Stop>
-    ensures { Gives result (letters_left rest.new) (read_more (env_of names.now) (letters_left rest.old)) }
-{
-    let mut set = VarSet::empty();
-    while comma(rest) {
-        let i = name(rest, names)?;
-        set = set.union(VarSet::single(i));
     }
     Ok(set)
 }
 
 /// The set of a list of names.
-#[tactic(auto, unfolding(crate::specs::MeasureReading::read_list))]
+#[tactic(auto, unfolding(crate::specs::LineForms::names, it_forms::specs::FormReading::read))]
 pub fn list(rest: &mut Rest<'_>, names: &Names) -> Result<VarSet, Stop>
-    ensures { Gives result (letters_left rest.new) (read_list (env_of names.now) (letters_left rest.old)) }
+    ensures { Gives result (letters_left rest.new) (read (forms.names (env_of names.now)) (letters_left rest.old)) }
 {
     let first = name(rest, names)?;
-    let others = more(rest, names)?;
-    Ok(VarSet::single(first).union(others))
+    more(VarSet::single(first), rest, names)
+}
+
+/// The fault of a list too many.
+#[tactic(auto, unfolding(it_forms::specs::Words::marked, crate::specs::LineForms::names, crate::specs::LineForms::variable, it_forms::specs::FormReading::read))]
+fn surplus_list_fault(rest: &Rest<'_>, names: &Names) -> Stop
+    ensures { StopsAs result (letters_left rest.now) (read (allowed 0 (forms.names (env_of names.now))) (letters_left rest.now)) }
+{
+    match rest.front() {
+        (Piece::Word(word), _) => {
+            if is_measure(word) {
+                return Stop::Fault(Code::Word);
+            }
+            match variable(names, word) {
+                Some(_) => Stop::Fault(Code::Many),
+                None => Stop::Fault(Code::Name),
+            }
+        }
+        _ => rest.fault(),
+    }
+}
+
+/// The set of a list of names, where `left` more lists are allowed.
+#[tactic(auto, using(it_forms::proofs::MarkLemmas::read_allowed))]
+pub fn allowed_list(left: usize, rest: &mut Rest<'_>, names: &Names) -> Result<VarSet, Stop>
+    ensures { Gives result (letters_left rest.new) (read (allowed left (forms.names (env_of names.now))) (letters_left rest.old)) }
+{
+    if left == 0 {
+        Err(surplus_list_fault(rest, names))
+    } else {
+        list(rest, names)
+    }
 }

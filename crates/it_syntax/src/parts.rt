@@ -3,5 +3,6 @@
 
 pub use crate::givens::given_to_end;
 pub use crate::lists::list;
-pub use crate::relations::{MOST_TERMS, line_end, relation_to_end};
+pub use crate::relations::{MOST_TERMS, relation_to_end};
 pub use crate::sums::sum;
+pub use crate::terminals::{line_end, symbol, takes, word};

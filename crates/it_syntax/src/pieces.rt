@@ -3,8 +3,7 @@ ghost use Rattle.std.specs.Prelude.{◌≡◌, ◌≤◌, length};
 ghost use Rattle.it_syntax.specs.declared.rest.Stop.TheVariants.{Fault};
 ghost use Rattle.it_forms.specs.FirstFault.{own_code};
 ghost use Rattle.it_syntax.specs.Gives.{letters_left};
-ghost use Rattle.it_syntax.specs.ReaderSteps.{HasLength, with_front};
-ghost use Rattle.it_syntax.specs.ReaderSteps.{token_text};
+ghost use Rattle.it_syntax.specs.ReaderSteps.{HasLength, with_front, token_text};
 
 use crate::rest::{Piece, Rest, Stop};
 use crate::types::{Code, Token, TokenKind};

@@ -1,59 +1,40 @@
 //! The reader of a relation between two sums.
 ghost use Rattle.std.specs.Prelude.{◌≤◌, length, IfOk, IfErr};
-ghost use Rattle.it_syntax.specs.RelationLines.{IsRelation, relation_line};
-ghost use Rattle.it_syntax.specs.Scopes.{scope_of};
-ghost use Rattle.it_syntax.specs.RelationReading.{read_compare, read_relation};
+ghost use Rattle.it_forms.specs.FormReading.{read};
 ghost use Rattle.it_syntax.specs.Givens.{IsRelationOf};
-ghost use Rattle.it_syntax.specs.Gives.{Gives, GivesBy, GivesAll, letters_left};
+ghost use Rattle.it_syntax.specs.Gives.{GivesBy, GivesAll, letters_left};
+ghost use Rattle.it_syntax.specs.LineForms as forms;
 ghost use Rattle.it_syntax.specs.Lines.{IsFirstFault};
 ghost use Rattle.it_syntax.specs.Meaning.{relation_view};
-ghost use Rattle.it_syntax.specs.MeasureReading.{line_end, to_end};
+ghost use Rattle.it_syntax.specs.RelationLines.{IsRelation, relation_line};
+ghost use Rattle.it_syntax.specs.Scopes.{scope_of};
 ghost use Rattle.it_syntax.specs.Spans.{InLine};
 
 use crate::names::Names;
-use crate::rest::{Piece, Rest, Stop};
+use crate::rest::{Rest, Stop};
+use crate::signs::compare;
 use crate::sums::sum;
-use crate::types::{Expr, LineTokens, Relation, Sign, Symbol, SyntaxFault};
+use crate::terminals::line_end;
+use crate::types::{Expr, LineTokens, Relation, SyntaxFault};
 use std::alloc::Global;
 
 /// The most terms of a relation, both sides together.
 pub const MOST_TERMS: usize = 256;
 
-/// A `>=`, `<=` or `=`, which must stand there.
-#[tactic(auto, unfolding(crate::specs::RelationReading::read_compare))]
-fn compare(rest: &mut Rest<'_>) -> Result<Sign, Stop>
-    ensures { Gives result (letters_left rest.new) (read_compare (letters_left rest.old)) }
-{
-    match rest.front() {
-        (Piece::Symbol(Symbol::AtLeast), after) => {
-            *rest = after;
-            Ok(Sign::AtLeast)
-        }
-        (Piece::Symbol(Symbol::AtMost), after) => {
-            *rest = after;
-            Ok(Sign::AtMost)
-        }
-        (Piece::Symbol(Symbol::Equal), after) => {
-            *rest = after;
-            Ok(Sign::Equal)
-        }
-        _ => Err(rest.fault()),
-    }
-}
-
 /// A relation.
-#[tactic(auto, unfolding(crate::specs::RelationReading::read_relation))]
+#[tactic(auto, unfolding(crate::specs::LineForms::relation, it_forms::specs::FormReading::read))]
 pub fn relation_part(
     alloc: Global,
     rest: &mut Rest<'_>,
     names: &Names,
     rates: bool,
 ) -> Result<Relation, Stop>
-    ensures { GivesBy relation_view result (letters_left rest.new) (read_relation (scope_of names.now rates) (letters_left rest.old)) }
+    ensures { GivesBy relation_view result (letters_left rest.new) (read (forms.relation (scope_of names.now rates)) (letters_left rest.old)) }
 {
     let (left, multiple) = sum(alloc, MOST_TERMS, 1, rest, names, rates)?;
     let sign = compare(rest)?;
-    let (right, _) = sum(alloc, MOST_TERMS - left.len(), multiple, rest, names, rates)?;
+    let more = MOST_TERMS.saturating_sub(left.len());
+    let (right, _) = sum(alloc, more, multiple, rest, names, rates)?;
     Ok(Relation {
         left: Expr { terms: left },
         sign,
@@ -61,26 +42,15 @@ pub fn relation_part(
     })
 }
 
-/// Whether the line ends there; nothing is taken. The fault is `Word` at another piece, or that piece's own.
-#[tactic(auto, unfolding(crate::specs::MeasureReading::line_end))]
-pub fn line_end(rest: &Rest<'_>) -> Result<(), Stop>
-    ensures { GivesAll (λ x. x) result (letters_left rest.now) (line_end (letters_left rest.now)) }
-{
-    match rest.front() {
-        (Piece::End, _) => Ok(()),
-        _ => Err(rest.fault()),
-    }
-}
-
 /// A relation, up to the line's end.
-#[tactic(auto, unfolding(crate::specs::MeasureReading::to_end))]
+#[tactic(auto, unfolding(it_forms::specs::FormReading::read))]
 pub fn relation_to_end(
     alloc: Global,
     rest: &mut Rest<'_>,
     names: &Names,
     rates: bool,
 ) -> Result<Relation, Stop>
-    ensures { GivesAll relation_view result (letters_left rest.new) (to_end (read_relation (scope_of names.now rates)) (letters_left rest.old)) }
+    ensures { GivesAll relation_view result (letters_left rest.new) (read (relation_line names.now rates) (letters_left rest.old)) }
 {
     let relation = relation_part(alloc, rest, names, rates)?;
     line_end(rest)?;

@@ -23,13 +23,6 @@ pub struct Rest<'a> {
     pub ghost inside: { InLine line.now tokens.now } by { InLine-prop line.now tokens.now },
 }
 
-/// What stands between the members of a chain, and between those of an independence: `->` and `;`.
-#[derive(Clone, Copy, Debug, PartialEq, Eq)]
-pub enum Divider {
-    Arrows,
-    Semicolons,
-}
-
 /// Why a reader stopped: memory, or a fault at the first of what is left.
 #[derive(Clone, Copy, Debug)]
 pub enum Stop {

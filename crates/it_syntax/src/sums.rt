@@ -1,23 +1,48 @@
 //! Readers of sums of terms.
 //! A reader's result is matched where `?` would do: so each case is a goal of its own, with the reading's equation at hand.
-ghost use Rattle.std.specs.Prelude.{◌≡◌, ◌≤◌, ℕ, [], ◌∷◌, IfOk};
+ghost use Rattle.std.specs.Prelude.{◌≡◌, ◌≤◌, ◌++◌, ℕ, [], ◌∷◌, OnOk, IfOk, IfErr};
+ghost use Rattle.it_forms.specs.FormReading.{read};
 ghost use Rattle.it_number.specs.Gcd.{lcm};
+ghost use Rattle.it_syntax.specs.declared.rest.Stop.TheVariants.{Memory};
+ghost use Rattle.it_syntax.specs.Gives.{GivesBy, letters_left};
+ghost use Rattle.it_syntax.specs.LineForms as forms;
 ghost use Rattle.it_syntax.specs.Meaning.{multiple_from};
 ghost use Rattle.it_syntax.specs.Scopes.{scope_of};
-ghost use Rattle.it_syntax.specs.RelationReading.{read_terms, read_counted, read_sum};
-ghost use Rattle.it_syntax.specs.Gives.{GivesBy, letters_left};
-ghost use Rattle.it_syntax.specs.ReaderSteps.{with_terms};
 
-use crate::atoms::{surplus_term_fault, term};
+use crate::atoms::allowed_term;
 use crate::names::Names;
 use crate::rest::{Rest, Stop};
-use crate::signs::{add, first_sign, sign};
-use crate::types::Term;
+use crate::signs::sign;
+use crate::terminals::takes;
+use crate::types::{Symbol, Term};
 use std::alloc::Global;
 
-/// The first term and further ones, at most `most` further ones. `multiple` is the least common multiple of all denominators up to
-/// the first term's, and what is given beside the terms is that up to the last one's.
-fn terms(
+/// Puts a term after the others.
+fn add(terms: &mut Vec<Term>, term: Term) -> Result<(), Stop>
+    ensures added { OnOk result (terms.new.items ≡ terms.old.items ++ term ∷ []) }
+    ensures memory { IfErr result (λ e. e ≡ Memory) }
+{
+    // Built anew from its parts, since the push of a `Term` as it came gets no generated proof.
+    let Term {
+        negative,
+        number,
+        denominator,
+        atom,
+    } = term;
+    match terms.push(Term {
+        negative,
+        number,
+        denominator,
+        atom,
+    }) {
+        Ok(()) => Ok(()),
+        Err(_) => Err(Stop::Memory),
+    }
+}
+
+/// The first term and further ones, `most` in all. `multiple` is the least common multiple of all denominators up to the first
+/// term's, and what is given beside the terms is that up to the last one's.
+fn more_terms(
     alloc: Global,
     first: Term,
     most: usize,
@@ -27,32 +52,28 @@ fn terms(
     rates: bool,
 ) -> Result<(Vec<Term>, u64), Stop>
     requires some { 1 ≤ multiple }
-    ensures read { GivesBy (λ x. x.0.items) result (letters_left rest.new) (with_terms (first ∷ []) (read_terms most multiple (scope_of names.now rates) (letters_left rest.old))) }
+    ensures read { (m : ℕ) → multiple ≡ lcm m first.denominator → GivesBy (λ x. x.0.items) result (letters_left rest.new) (read (forms.more_terms most m (scope_of names.now rates) (first ∷ [])) (letters_left rest.old)) }
     ensures multiple { IfOk result (λ x. (1 ≤ x.1) × ((m : ℕ) → multiple ≡ lcm m first.denominator → x.1 ≡ multiple_from m x.0.items)) }
 {
     let mut found = Vec::new(alloc);
     add(&mut found, first)?;
-    let mut allowed = most;
-    let mut multiple = multiple;
+    let mut so_far = multiple;
     while let Some(negative) = sign(rest) {
-        if allowed == 0 {
-            return Err(surplus_term_fault(rest, names, rates));
-        }
-        match term(negative, multiple, rest, names, rates) {
+        let left = most.saturating_sub(found.len());
+        match allowed_term(left, negative, so_far, rest, names, rates) {
             Ok((next, both)) => {
                 add(&mut found, next)?;
-                multiple = both;
+                so_far = both;
             }
             Err(stop) => return Err(stop),
         }
-        allowed -= 1;
     }
-    Ok((found, multiple))
+    Ok((found, so_far))
 }
 
 /// At least one term, at most `most`, with the least common multiple of all denominators up to the last one's.
-#[tactic(auto, unfolding(crate::specs::RelationReading::read_counted))]
-fn counted_terms(
+#[tactic(auto, unfolding(crate::specs::LineForms::terms, it_forms::specs::FormReading::read))]
+fn terms(
     alloc: Global,
     most: usize,
     multiple: u64,
@@ -62,21 +83,18 @@ fn counted_terms(
     rates: bool,
 ) -> Result<(Vec<Term>, u64), Stop>
     requires some { 1 ≤ multiple }
-    ensures read { GivesBy (λ x. x.0.items) result (letters_left rest.new) (read_counted most multiple (scope_of names.now rates) negative (letters_left rest.old)) }
+    ensures read { GivesBy (λ x. x.0.items) result (letters_left rest.new) (read (forms.terms most multiple (scope_of names.now rates) negative) (letters_left rest.old)) }
     ensures multiple { IfOk result (λ x. (1 ≤ x.1) × (x.1 ≡ multiple_from multiple x.0.items)) }
 {
-    if most == 0 {
-        return Err(surplus_term_fault(rest, names, rates));
-    }
-    match term(negative, multiple, rest, names, rates) {
-        Ok((first, both)) => terms(alloc, first, most - 1, both, rest, names, rates),
+    match allowed_term(most, negative, multiple, rest, names, rates) {
+        Ok((first, both)) => more_terms(alloc, first, most, both, rest, names, rates),
         Err(stop) => Err(stop),
     }
 }
 
 /// Reads a sum of one to `most` terms, after denominators whose least common multiple is `multiple`, and gives its terms with that of
 /// all denominators up to its end. `rates` says whether rates may stand there. The fault is the first, as `relation` tells it.
-#[tactic(auto, unfolding(crate::specs::RelationReading::read_sum))]
+#[tactic(auto, unfolding(crate::specs::LineForms::sum, it_forms::specs::FormReading::read), using(crate::proofs::Loops::taken_after, crate::proofs::Loops::other_after))]
 pub fn sum(
     alloc: Global,
     most: usize,
@@ -86,9 +104,13 @@ pub fn sum(
     rates: bool,
 ) -> Result<(Vec<Term>, u64), Stop>
     requires some { 1 ≤ multiple }
-    ensures read { GivesBy (λ x. x.0.items) result (letters_left rest.new) (read_sum most multiple (scope_of names.now rates) (letters_left rest.old)) }
+    ensures read { GivesBy (λ x. x.0.items) result (letters_left rest.new) (read (forms.sum most multiple (scope_of names.now rates)) (letters_left rest.old)) }
     ensures multiple { IfOk result (λ x. (1 ≤ x.1) × (x.1 ≡ multiple_from multiple x.0.items)) }
 {
-    let negative = first_sign(rest);
-    counted_terms(alloc, most, multiple, negative, rest, names, rates)
+    if takes(rest, Symbol::Plus) {
+        terms(alloc, most, multiple, false, rest, names, rates)
+    } else {
+        let negative = takes(rest, Symbol::Minus);
+        terms(alloc, most, multiple, negative, rest, names, rates)
+    }
 }

@@ -2,6 +2,7 @@ use Rattle.std.proofs.Common.{◌≡◌, refl, ◌≤◌, List, length, map, sym
 use Rattle.it_syntax.specs.declared.rest.Stop.{Stop}
 use Rattle.it_syntax.specs.Gives.{StopsAs}
 use Rattle.it_forms.specs.Letters.{Letter}
+use Rattle.it_forms.specs.FormReading as forms
 use Rattle.it_forms.specs.Reads.{Reads}
 use Rattle.it_question.specs.Bodies.{body_view}
 use Rattle.it_question.specs.Cursors.{line_view, letters_left}
@@ -10,20 +11,20 @@ use Rattle.it_question.specs.Stops.{IsLeft, IfFault, IsStopAt}
 use Rattle.it_question.specs.Lines.{LineView, letters_of_lines}
 use Rattle.it_question.specs.declared.cursor.Line.{Line}
 use Rattle.it_question.specs.Questions.{BodyView}
-use Rattle.it_question.specs.Reading.{read_file}
+use Rattle.it_question.specs.QuestionForms.{file}
 use Rattle.it_question.specs.Texts.{with_texts}
 use Rattle.it_question.proofs.FileReadings.{file_read, bodies_limited, questions_limited}
-use Rattle.it_question.proofs.FileLanguage.{file_language}
-use Rattle.it_question.proofs.FileLemmas.{written_fault_is_first}
-use Rattle.it_question.proofs.WholeFileLemmas.{few_letters, some_left, first_whole_fault}
+use Rattle.it_question.proofs.FileLemmas.{file_ends}
+use Rattle.it_question.proofs.QuestionOutlines.{file_has}
+use Rattle.it_question.proofs.WholeFileLemmas.{few_letters, some_left, first_form_fault}
 use Rattle.it_question.proofs.files.questions.Goals as goal
 
 -- reading began at the first of the lines
-items_are_read : (items lines : List Line) (start : List Letter) (read : Reads (List BodyView)) → start ≡ letters_of_lines (map line_view lines) → lines ≡ items → read_file start ≡ read → read_file (letters_of_lines (map line_view items)) ≡ read
-items_are_read items lines start read h e r = sym (ap read_file (h ∙ ap (λ (ls : List Line). letters_of_lines (map line_view ls)) e)) ∙ r
+items_are_read : (items lines : List Line) (start : List Letter) (read : Reads (List BodyView)) → start ≡ letters_of_lines (map line_view lines) → lines ≡ items → forms.read file start ≡ read → forms.read file (letters_of_lines (map line_view items)) ≡ read
+items_are_read items lines start read h e r = sym (ap (forms.read file) (h ∙ ap (λ (ls : List Line). letters_of_lines (map line_view ls)) e)) ∙ r
 
-begun_stop : (items lines : List Line) (start : List Letter) (stop : Stop) (rest : List Letter) → start ≡ letters_of_lines (map line_view lines) → lines ≡ items → StopsAs stop rest (read_file start) → StopsAs stop rest (read_file (letters_of_lines (map line_view items)))
-begun_stop items lines start stop rest h e s = subst (StopsAs stop rest) (sym (items_are_read items lines start (read_file start) h e refl)) s
+begun_stop : (items lines : List Line) (start : List Letter) (stop : Stop) (rest : List Letter) → start ≡ letters_of_lines (map line_view lines) → lines ≡ items → StopsAs stop rest (forms.read file start) → StopsAs stop rest (forms.read file (letters_of_lines (map line_view items)))
+begun_stop items lines start stop rest h e s = subst (StopsAs stop rest) (sym (items_are_read items lines start (forms.read file start) h e refl)) s
 
 same_lines : (P : List LineView → Type 0) (items lines : List Line) → lines ≡ items → P (map line_view items) → P (map line_view lines)
 same_lines P items lines e h = subst (λ (ls : List Line). P (map line_view ls)) (sym e) h
@@ -47,9 +48,9 @@ stop_fault-requires-clause-few c = same_lines (λ ls. length (letters_of_lines l
 
 pub stop_fault-requires-clause-there : goal.stop_fault-requires-clause-there
 stop_fault-requires-clause-there c = same_lines (λ ls. IfFault c.in-Err.stop (IsLeft ls (letters_left c.bodies.new.cursor))) c.in_ok-lines.lines.items c.as_slice-in-Err.result.now c.as_slice-in-Err.ensures.value
-    (some_left file_language c.args.bytes.now (map line_view c.in_ok-lines.lines.items) c.in-Err.stop (letters_left c.bodies.new.cursor) c.in_ok-lines.ensures (begun_stop c.in_ok-lines.lines.items _ _ c.in-Err.stop (letters_left c.bodies.new.cursor) c.at-cursor.ensures c.as_slice.ensures.value c.in-Err.ensures))
+    (some_left file _ file_has file_ends c.args.bytes.now (map line_view c.in_ok-lines.lines.items) c.in-Err.stop (letters_left c.bodies.new.cursor) c.in_ok-lines.ensures (begun_stop c.in_ok-lines.lines.items _ _ c.in-Err.stop (letters_left c.bodies.new.cursor) c.at-cursor.ensures c.as_slice.ensures.value c.in-Err.ensures))
 
 pub returns-clause-fault : goal.returns-clause-fault
 returns-clause-fault c =
-    written_fault_is_first c.args.bytes.now c.stop_fault.result (first_whole_fault file_language c.args.bytes.now (map line_view c.in_ok-lines.lines.items) c.in-Err.stop (letters_left c.bodies.new.cursor) c.stop_fault.result c.in_ok-lines.ensures (begun_stop c.in_ok-lines.lines.items _ _ c.in-Err.stop (letters_left c.bodies.new.cursor) c.at-cursor.ensures c.as_slice.ensures.value c.in-Err.ensures)
-    (subst (λ (ls : List Line). IsStopAt (place_of (map line_view ls) (letters_left c.bodies.new.cursor)) c.in-Err.stop c.stop_fault.result) c.as_slice-in-Err.ensures.value c.stop_fault.ensures))
+    first_form_fault file _ file_has file_ends c.args.bytes.now (map line_view c.in_ok-lines.lines.items) c.in-Err.stop (letters_left c.bodies.new.cursor) c.stop_fault.result c.in_ok-lines.ensures (begun_stop c.in_ok-lines.lines.items _ _ c.in-Err.stop (letters_left c.bodies.new.cursor) c.at-cursor.ensures c.as_slice.ensures.value c.in-Err.ensures)
+    (subst (λ (ls : List Line). IsStopAt (place_of (map line_view ls) (letters_left c.bodies.new.cursor)) c.in-Err.stop c.stop_fault.result) c.as_slice-in-Err.ensures.value c.stop_fault.ensures)

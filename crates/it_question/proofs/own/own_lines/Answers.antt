@@ -1,40 +1,61 @@
-use Rattle.std.proofs.Common.{◌≡◌, ◌+◌, ◌-◌, sym, subst, arith}
-use Rattle.it_syntax.specs.Givens.{given_view}
-use Rattle.it_syntax.specs.Meaning.{relation_view}
+use Rattle.std.proofs.Common.{◌≡◌, ℕ, Bool, true, false, cond, refl, List, [], ◌∷◌, Option, Some, None, sym, ap, ◌∙◌, subst}
+use Rattle.it_forms.specs.declared.types.Code.{Code}
+use Rattle.it_forms.specs.declared.types.Code.TheVariants.{Many}
+use Rattle.it_forms.specs.Letters.{Letter}
+use Rattle.it_forms.specs.Forms.{Keyword, is_of, is_among}
+use Rattle.it_forms.specs.FormReading.{after}
+use Rattle.it_forms.specs.Words.{limit_mark}
+use Rattle.it_syntax.specs.Gives.{StopsAs}
 use Rattle.it_question.specs.Cursors.{letters_left}
+use Rattle.it_question.specs.Keywords.{given_keyword}
+use Rattle.it_question.specs.QuestionForms.{own_words, own_keyword, own_line, lines_left, more_own_lines}
 use Rattle.it_question.specs.Questions.{OwnLinesView, own_lines_view}
-use Rattle.it_question.specs.Reading.{with_lines, read_own, read_lines}
-use Rattle.it_question.proofs.OwnLineLemmas.{given_goes_on, row_goes_on, given_ends, row_ends, given_too_many, row_too_many, is_done}
+use Rattle.it_question.specs.ReaderSteps.{own_word}
+use Rattle.it_syntax.proofs.Loops.{after_with_marks, no_limit, loop_goes, loop_stops, loop_marked, loop_ends, rest_is_shorter}
 use Rattle.it_question.proofs.own.own_lines.Goals as goal
 
-pub returns-then-givens-eq0 : goal.returns-then-givens-eq0
-returns-then-givens-eq0 c =
-    given_too_many (own_lines_view c.loop-after.own) c.loop-after.givens c.loop-after.rows c.args.names.now (letters_left c.loop-after.cursor) (letters_left c.in-Some.after) _ c.if-givens-eq0.true c.in-Some.ensures.found c.loop-after.invariant
+-- what stands there under the marks of the limits
+stands : (g r : ℕ) (own : OwnLinesView) (b : Bool) (m : Option Code) (ls tail : List Letter) → after own_word ls ≡ Some ((None, b), tail) → limit_mark (lines_left g r own b) ≡ m → after (record { kinds = own_words; says = own_keyword g r own }) ls ≡ Some ((m, b), tail)
+stands g r own b m ls tail e h = after_with_marks own_words (is_of (Keyword given_keyword)) (λ b. limit_mark (lines_left g r own b)) b ls tail e ∙ ap (λ (k : Option Code). Some ((k, b), tail)) h
+
+none_stands : (g r : ℕ) (own : OwnLinesView) (ls : List Letter) → after own_word ls ≡ None → after (record { kinds = own_words; says = own_keyword g r own }) ls ≡ None
+none_stands g r own [] e = refl
+none_stands g r own (l ∷ ls) e = by_test (is_among own_words l) e
+  where
+    by_test : (x : Bool) → cond {A = Option ((Option Code × Bool) × List Letter)} x (Some ((None, is_of (Keyword given_keyword) l), ls)) None ≡ None → cond {A = Option ((Option Code × Bool) × List Letter)} x (Some (own_keyword g r own l, ls)) None ≡ None
+    by_test true e = absurd cc
+    by_test false e = refl
+
+pub returns-then-lines_left-eq0 : goal.returns-then-lines_left-eq0
+unfolding more_own_lines
+returns-then-lines_left-eq0 c =
+    let g = c.args.most_givens in
+    let r = c.args.most_rows in
+    let own = own_lines_view c.loop-is_given.own in
+    let n = sym c.lines_left.ensures ∙ c.if-lines_left-eq0.true in
+    sym c.loop-is_given.invariant ∙ loop_marked own_words (own_keyword g r) (own_line c.args.names.now) own c.in-Some.is_given Many _ _ (stands g r own c.in-Some.is_given (Some Many) (letters_left c.loop-is_given.cursor) _ c.in-Some.ensures.found (ap limit_mark n))
+
+pub loop-is_given-smaller : goal.loop-is_given-smaller
+loop-is_given-smaller c = rest_is_shorter own_word (own_line c.args.names.now (own_lines_view c.loop-is_given.own) c.in-Some.is_given) _ _ _ _ _ c.in-Some.ensures.found c.in-Ok.ensures
+
+pub loop-is_given-preserved : goal.loop-is_given-preserved
+unfolding more_own_lines
+loop-is_given-preserved c =
+    let g = c.args.most_givens in
+    let r = c.args.most_rows in
+    let own = own_lines_view c.loop-is_given.own in
+    let free = no_limit (lines_left g r own c.in-Some.is_given) (λ e. c.if-lines_left-eq0.false (c.lines_left.ensures ∙ e)) in
+    loop_goes own_words (own_keyword g r) (own_line c.args.names.now) own (own_lines_view c.own_line.new.own) c.in-Some.is_given _ _ _ (stands g r own c.in-Some.is_given None (letters_left c.loop-is_given.cursor) _ c.in-Some.ensures.found free) c.in-Ok.ensures ∙ c.loop-is_given.invariant
 
 pub returns-in-Err : goal.returns-in-Err
+unfolding more_own_lines
 returns-in-Err c =
-    given_ends c.in-Err.stop (own_lines_view c.loop-after.own) c.loop-after.givens c.loop-after.rows c.args.names.now (letters_left c.loop-after.cursor) (letters_left c.in-Some.after) (letters_left c.given.new.cursor) _ (omega arith) c.in-Some.ensures.found c.in-Err.ensures c.loop-after.invariant
+    let g = c.args.most_givens in
+    let r = c.args.most_rows in
+    let own = own_lines_view c.loop-is_given.own in
+    let free = no_limit (lines_left g r own c.in-Some.is_given) (λ e. c.if-lines_left-eq0.false (c.lines_left.ensures ∙ e)) in
+    subst (StopsAs c.in-Err.stop (letters_left c.own_line.new.cursor)) c.loop-is_given.invariant (loop_stops own_words (own_keyword g r) (own_line c.args.names.now) own c.in-Some.is_given _ _ _ c.in-Err.stop (stands g r own c.in-Some.is_given None (letters_left c.loop-is_given.cursor) _ c.in-Some.ensures.found free) c.in-Err.ensures)
 
-pub loop-after-preserved-in-Some : goal.loop-after-preserved-in-Some
-loop-after-preserved-in-Some c =
-    let total = read_lines c.args.most_givens c.args.most_rows c.args.names.now (letters_left c.args.cursor.now) in
-    let w = given_goes_on (own_lines_view c.loop-after.own) c.loop-after.givens c.loop-after.rows c.args.names.now (letters_left c.loop-after.cursor) (letters_left c.in-Some.after) (letters_left c.given.new.cursor) (given_view c.in-Ok.next) total (omega arith) c.in-Some.ensures.found c.in-Ok.ensures c.loop-after.invariant in
-    subst (λ (own : OwnLinesView). with_lines own (read_own ((c.loop-after.givens - 1) + c.loop-after.rows) (c.loop-after.givens - 1) c.loop-after.rows c.args.names.now (letters_left c.given.new.cursor)) ≡ total) (sym c.in_ok-add_given-in-Ok.ensures.added) w
-
-pub returns-then-rows-eq0 : goal.returns-then-rows-eq0
-returns-then-rows-eq0 c =
-    row_too_many (own_lines_view c.loop-after.own) c.loop-after.givens c.loop-after.rows c.args.names.now (letters_left c.loop-after.cursor) (letters_left c.in-Some-after_word.after) _ c.if-rows-eq0.true c.in_default.ensures.none c.in-Some-after_word.ensures.found c.loop-after.invariant
-
-pub returns-in-Err-relation : goal.returns-in-Err-relation
-returns-in-Err-relation c =
-    row_ends c.in-Err-relation.stop (own_lines_view c.loop-after.own) c.loop-after.givens c.loop-after.rows c.args.names.now (letters_left c.loop-after.cursor) (letters_left c.in-Some-after_word.after) (letters_left c.relation.new.cursor) _ (omega arith) c.in_default.ensures.none c.in-Some-after_word.ensures.found c.in-Err-relation.ensures c.loop-after.invariant
-
-pub loop-after-preserved : goal.loop-after-preserved
-loop-after-preserved c =
-    let total = read_lines c.args.most_givens c.args.most_rows c.args.names.now (letters_left c.args.cursor.now) in
-    let w = row_goes_on (own_lines_view c.loop-after.own) c.loop-after.givens c.loop-after.rows c.args.names.now (letters_left c.loop-after.cursor) (letters_left c.in-Some-after_word.after) (letters_left c.relation.new.cursor) (relation_view c.in-Ok-relation.next) total (omega arith) c.in_default.ensures.none c.in-Some-after_word.ensures.found c.in-Ok-relation.ensures c.loop-after.invariant in
-    subst (λ (own : OwnLinesView). with_lines own (read_own (c.loop-after.givens + (c.loop-after.rows - 1)) c.loop-after.givens (c.loop-after.rows - 1) c.args.names.now (letters_left c.relation.new.cursor)) ≡ total) (sym c.in_ok-add_row-in-Ok-relation.ensures.added) w
-
-pub returns-in_default-after_word : goal.returns-in_default-after_word
-returns-in_default-after_word c =
-    is_done (own_lines_view c.loop-after.own) c.loop-after.givens c.loop-after.rows c.args.names.now (letters_left c.loop-after.cursor) _ c.in_default.ensures.none c.in_default-after_word.ensures.none c.loop-after.invariant
+pub returns : goal.returns
+unfolding more_own_lines
+returns c = sym c.loop-is_given.invariant ∙ loop_ends own_words (own_keyword c.args.most_givens c.args.most_rows) (own_line c.args.names.now) (own_lines_view c.loop-is_given.own) _ (none_stands c.args.most_givens c.args.most_rows (own_lines_view c.loop-is_given.own) (letters_left c.loop-is_given.cursor) c.in_default.ensures.none)

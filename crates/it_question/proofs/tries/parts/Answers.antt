@@ -1,22 +1,20 @@
-use Rattle.std.proofs.Common.{List, Ok, sym, ap, ◌∙◌}
-use Rattle.it_forms.specs.Letters.{Letter}
-use Rattle.it_forms.specs.Reads.{Reads}
-use Rattle.it_question.specs.TrySets.{Sets}
-use Rattle.it_question.specs.Cursors.{letters_left}
-use Rattle.it_question.proofs.TryLoopLemmas.{parts_stop, parts_last, parts_more, parts_end}
+use Rattle.it_forms.specs.declared.types.Symbol.TheVariants.{Semicolon}
+use Rattle.it_forms.specs.Words.{symbol}
+use Rattle.it_question.specs.QuestionForms.{part, more_parts}
+use Rattle.it_syntax.proofs.Loops.{symbol_goes, symbol_stops, symbol_ends, rest_is_shorter}
 use Rattle.it_question.proofs.tries.parts.Goals as goal
 
-abbrev sets_unchanged : Sets → List Letter → Reads Sets
-sets_unchanged sets ls = Ok (sets, ls)
-
-pub returns-in-Err : goal.returns-in-Err
-returns-in-Err c = parts_stop c.loop-cursor.allowed _ _ c.loop-cursor.sets (letters_left c.loop-cursor.cursor) (letters_left c.semicolon.new.cursor) _ c.in-Err.stop (letters_left c.part.new.cursor) c.loop-cursor.invariant c.loop-cursor-test.ensures.taken c.in-Err.ensures
-
-pub returns-then-allowed-eq0 : goal.returns-then-allowed-eq0
-returns-then-allowed-eq0 c = parts_last c.loop-cursor.allowed _ _ c.loop-cursor.sets (letters_left c.loop-cursor.cursor) (letters_left c.semicolon.new.cursor) _ (c.part.new.sets, letters_left c.part.new.cursor) c.loop-cursor.invariant c.loop-cursor-test.ensures.taken c.in-Ok.ensures c.if-allowed-eq0.true
+pub loop-cursor-smaller : goal.loop-cursor-smaller
+loop-cursor-smaller c = rest_is_shorter (symbol Semicolon) _ _ _ _ _ _ c.loop-cursor-test.ensures.taken c.in-Ok.ensures
 
 pub loop-cursor-preserved : goal.loop-cursor-preserved
-loop-cursor-preserved c = parts_more c.loop-cursor.allowed _ _ c.loop-cursor.sets (letters_left c.loop-cursor.cursor) (letters_left c.semicolon.new.cursor) _ (c.part.new.sets, letters_left c.part.new.cursor) c.loop-cursor.invariant c.loop-cursor-test.ensures.taken c.in-Ok.ensures c.if-allowed-eq0.false
+unfolding more_parts
+loop-cursor-preserved c = symbol_goes Semicolon (part _ _) (λ sets more. more) c.loop-cursor.sets c.part.new.sets _ _ _ _ c.loop-cursor-test.ensures.taken c.in-Ok.ensures c.loop-cursor.invariant
+
+pub returns-in-Err : goal.returns-in-Err
+unfolding more_parts
+returns-in-Err c = symbol_stops Semicolon (part _ _) (λ sets more. more) c.loop-cursor.sets _ _ _ c.in-Err.stop _ c.loop-cursor-test.ensures.taken c.in-Err.ensures c.loop-cursor.invariant
 
 pub returns : goal.returns
-returns c = parts_end c.loop-cursor.allowed _ _ c.loop-cursor.sets (letters_left c.loop-cursor.cursor) _ c.loop-cursor.invariant c.loop-cursor-test.ensures.none ∙ ap (sets_unchanged c.loop-cursor.sets) (sym c.loop-cursor-test.ensures.same)
+unfolding more_parts
+returns c = rw c.loop-cursor-test.ensures.same (symbol_ends Semicolon (part _ _) (λ sets more. more) c.loop-cursor.sets _ _ c.loop-cursor-test.ensures.none c.loop-cursor.invariant)

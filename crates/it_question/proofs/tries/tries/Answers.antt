@@ -1,21 +1,37 @@
+use Rattle.std.proofs.Common.{◌++◌, [], ◌∷◌, arith}
+use Rattle.it_forms.specs.declared.types.Code.TheVariants.{Word, Many}
+use Rattle.it_forms.specs.Words.{word}
 use Rattle.it_question.specs.Cursors.{letters_left}
-use Rattle.it_question.specs.TrySets.{unnamed_sets}
-use Rattle.it_question.proofs.TryLoopLemmas.{tries_unmeant, tries_many, tries_stop, tries_more, tries_end, whole_is_none, some_is_left}
+use Rattle.it_question.specs.Keywords.{try_keyword}
+use Rattle.it_question.specs.QuestionForms.{try_line, more_tries}
+use Rattle.it_syntax.proofs.Loops.{rest_is_shorter}
+use Rattle.it_question.proofs.TryMarks.{no_auxiliary, no_more_tries, try_allowed}
+use Rattle.it_question.proofs.WordLoops.{word_goes, word_stops, word_marked, word_ends}
 use Rattle.it_question.proofs.tries.tries.Goals as goal
 
 pub returns-then-auxiliaries-eq0 : goal.returns-then-auxiliaries-eq0
-returns-then-auxiliaries-eq0 c = tries_unmeant c.loop-after.allowed _ _ (unnamed_sets c.args.auxiliaries) c.loop-after.found.items (letters_left c.loop-after.cursor) (letters_left c.in-Some.after) _ c.loop-after.invariant c.in-Some.ensures.found (whole_is_none c.args.auxiliaries c.if-auxiliaries-eq0.true)
+unfolding more_tries
+returns-then-auxiliaries-eq0 c = word_marked try_keyword _ (λ ts. try_line _ _ _) (λ ts t. ts ++ t ∷ []) c.loop-after.found.items (letters_left c.loop-after.cursor) _ c.loop-after.invariant Word _ (no_auxiliary c.args.auxiliaries c.loop-after.found.items c.if-auxiliaries-eq0.true) c.in-Some.ensures.found
 
-pub returns-then-allowed-eq0 : goal.returns-then-allowed-eq0
-returns-then-allowed-eq0 c = tries_many c.loop-after.allowed _ _ (unnamed_sets c.args.auxiliaries) c.loop-after.found.items (letters_left c.loop-after.cursor) (letters_left c.in-Some.after) _ c.loop-after.invariant c.in-Some.ensures.found (some_is_left c.args.auxiliaries c.if-auxiliaries-eq0.false) c.if-allowed-eq0.true
+pub returns-then-len-ge-MOST_TRIES : goal.returns-then-len-ge-MOST_TRIES
+unfolding more_tries
+returns-then-len-ge-MOST_TRIES c = word_marked try_keyword _ (λ ts. try_line _ _ _) (λ ts t. ts ++ t ∷ []) c.loop-after.found.items (letters_left c.loop-after.cursor) _ c.loop-after.invariant Many _ (no_more_tries c.args.auxiliaries c.loop-after.found.items c.if-auxiliaries-eq0.false (omega (arith, c.len.ensures, c.if-len-ge-MOST_TRIES.true))) c.in-Some.ensures.found
 
-pub returns-in-Err : goal.returns-in-Err
-returns-in-Err c = tries_stop c.loop-after.allowed _ _ (unnamed_sets c.args.auxiliaries) c.loop-after.found.items (letters_left c.loop-after.cursor) (letters_left c.in-Some.after) _ c.in-Err.stop (letters_left c.substitution.new.cursor) c.loop-after.invariant c.in-Some.ensures.found (some_is_left c.args.auxiliaries c.if-auxiliaries-eq0.false) c.if-allowed-eq0.false c.in-Err.ensures
+pub loop-after-smaller : goal.loop-after-smaller
+loop-after-smaller c = rest_is_shorter (word try_keyword) _ _ _ _ _ _ c.in-Some.ensures.found c.in-Ok.ensures
 
 pub loop-after-preserved : goal.loop-after-preserved
+unfolding more_tries
 loop-after-preserved c =
-    rw (c.in_ok-add-in-Ok.ensures.added)
-    (tries_more c.loop-after.allowed _ _ (unnamed_sets c.args.auxiliaries) c.loop-after.found.items (letters_left c.loop-after.cursor) (letters_left c.in-Some.after) _ (c.in-Ok.next, letters_left c.substitution.new.cursor) c.loop-after.invariant c.in-Some.ensures.found (some_is_left c.args.auxiliaries c.if-auxiliaries-eq0.false) c.if-allowed-eq0.false c.in-Ok.ensures)
+    let free = try_allowed c.args.auxiliaries c.loop-after.found.items c.if-auxiliaries-eq0.false (λ e. omega (arith, c.len.ensures, c.if-len-ge-MOST_TRIES.false, e)) in
+    rw c.in_ok-add-in-Ok.ensures.added (word_goes try_keyword _ (λ ts. try_line _ _ _) (λ ts t. ts ++ t ∷ []) c.loop-after.found.items (letters_left c.loop-after.cursor) _ c.loop-after.invariant c.in-Ok.next _ _ free c.in-Some.ensures.found c.in-Ok.ensures)
+
+pub returns-in-Err : goal.returns-in-Err
+unfolding more_tries
+returns-in-Err c =
+    let free = try_allowed c.args.auxiliaries c.loop-after.found.items c.if-auxiliaries-eq0.false (λ e. omega (arith, c.len.ensures, c.if-len-ge-MOST_TRIES.false, e)) in
+    word_stops try_keyword _ (λ ts. try_line _ _ _) (λ ts t. ts ++ t ∷ []) c.loop-after.found.items (letters_left c.loop-after.cursor) _ c.loop-after.invariant c.in-Err.stop _ _ free c.in-Some.ensures.found c.in-Err.ensures
 
 pub returns : goal.returns
-returns c = tries_end c.loop-after.allowed _ _ (unnamed_sets c.args.auxiliaries) c.loop-after.found.items (letters_left c.loop-after.cursor) _ c.loop-after.invariant c.in_default.ensures.none
+unfolding more_tries
+returns c = word_ends try_keyword _ (λ ts. try_line _ _ _) (λ ts t. ts ++ t ∷ []) c.loop-after.found.items (letters_left c.loop-after.cursor) _ c.loop-after.invariant c.in_default.ensures.none

@@ -1,13 +1,13 @@
 use Rattle.std.proofs.Common.{◌≡◌, length}
+use Rattle.it_forms.specs.FormReading.{read}
 use Rattle.it_syntax.specs.Gives.{letters_left}
-use Rattle.it_syntax.specs.MeasureReading.{read_more}
+use Rattle.it_syntax.specs.LineForms as forms
 use Rattle.it_syntax.specs.Scopes.{env_of}
-use Rattle.it_syntax.proofs.ListLemmas.{with_set}
 use Rattle.it_syntax.proofs.lists.more.Given as goal
 
--- the set so far with what is still read is the whole
+-- from the set so far the same is read as from the first
 abbrev pub invariant-loop-rest : goal.invariant-loop-rest
-invariant-loop-rest l = with_set l.set (read_more (env_of l.names) (letters_left l.rest)) ≡ read_more (env_of l.names) (letters_left l.initial.rest)
+invariant-loop-rest l = read (forms.more_names (env_of l.names) l.set) (letters_left l.rest) ≡ read (forms.more_names (env_of l.names) l.fn.first) (letters_left l.initial.rest)
 
 abbrev pub decreases-loop-rest : goal.decreases-loop-rest
 decreases-loop-rest l = length (letters_left l.rest)

@@ -1,0 +1,99 @@
+-- The questions of a file, each in its lines.
+use Rattle.std.proofs.Common.{◌≡◌, ℕ, zero, suc, ◌-◌, ◌≤◌, Bool, true, false, List, [], ◌∷◌, ◌++◌, length, take, drop, Option, refl, sym, ap, ◌∙◌, subst, append_assoc, append-nil, length-append, arith}
+use Rattle.std.specs.Prelude.{bytes_eq, ◌||◌}
+use Rattle.std.proofs.lemmas.Slice.Eq.{bytes_eq-Decides}
+use Rattle.it_forms.specs.declared.types.Code.{Code}
+use Rattle.it_forms.specs.Letters.{Letter, Word, MarkedLetters, letters, without_marks}
+use Rattle.it_forms.specs.Forms.{Keyword, is_among, AreTurns, Then, Give, Spells}
+use Rattle.it_forms.specs.FormTexts.{Says}
+use Rattle.it_forms.specs.Words.{marked_word, limit_mark}
+use Rattle.it_forms.proofs.FormLanguage.{front_moves}
+use Rattle.it_question.specs.Keywords.{vars_keyword}
+use Rattle.it_question.specs.Lines.{LineView, letters_of_lines}
+use Rattle.it_question.specs.QuestionForms.{question, more_questions, file}
+use Rattle.it_question.specs.QuestionLimits.{most_questions}
+use Rattle.it_question.specs.Questions.{BodyView}
+use Rattle.it_question.specs.Texts.{question_line_count}
+use Rattle.it_question.proofs.CleanLetters.{clean_parts}
+use Rattle.it_question.proofs.LineParts.{AreWhole, AreSound, letters_of_first_lines}
+use Rattle.it_question.proofs.Puts.{HasLines}
+use Rattle.it_question.proofs.QuestionLines.{question_lines}
+use Rattle.it_question.proofs.WholeFileLemmas.{the_end}
+
+-- the first of these lines are those of a question: the letters after its word `vars` say it
+pub record QuestionAt (lines : List LineView) (q : BodyView) : Type 0 where
+  pub said : List Letter
+  pub first : letters_of_lines (take (question_line_count q) lines) ≡ Word vars_keyword ∷ said
+  pub says : Spells question q (without_marks said ++ the_end) the_end
+  pub long : length (take (question_line_count q) lines) ≡ question_line_count q
+  pub whole : AreWhole (take (question_line_count q) lines)
+
+-- the lines of these questions, one after the other
+abbrev pub AreAt : List LineView → List BodyView → Type 0
+AreAt lines [] = Unit {0}
+AreAt lines (q ∷ qs) = QuestionAt lines q × AreAt (drop (question_line_count q) lines) qs
+
+same_front : (a b k : MarkedLetters) → a ++ k ≡ b ++ k → a ≡ b
+same_front [] [] k e = refl
+same_front [] (x ∷ b) k e = let l = ap (λ (t : MarkedLetters). length t) e in absurd (omega (arith, l, length-append (x ∷ b) k))
+same_front (x ∷ a) [] k e = let l = ap (λ (t : MarkedLetters). length t) e in absurd (omega (arith, l, length-append (x ∷ a) k))
+same_front (x ∷ a) (y ∷ b) k e =
+    let first : x ≡ y = cc in
+    let tails : a ++ k ≡ b ++ k = cc in
+    ap (λ (z : Letter × Option Code). z ∷ a) first ∙ ap (λ (t : MarkedLetters). y ∷ t) (same_front a b k tails)
+
+the_word : (w : List ℕ) (l : Letter) → is_among (Keyword w ∷ []) l ≡ true → l ≡ Word w
+the_word w (Word v) e = by_test (bytes_eq v w) ((bytes_eq-Decides v w).0) e
+  where
+    by_test : (b : Bool) → (b ≡ true → v ≡ w) → (b || false) ≡ true → Word v ≡ Word w
+    by_test true h e = ap Word (h refl)
+    by_test false h e = absurd cc
+the_word w l e = absurd cc
+
+-- a word before lines belongs to the first of them
+word_before : (i : ℕ) (w : List ℕ) (ls : List Letter) → 1 ≤ i → HasLines i ls → HasLines i (Word w ∷ ls)
+word_before zero w ls le h = absurd (omega (arith, le))
+word_before (suc i) w ls le h = h
+
+-- one question, with its word, and the letters after it
+record FirstQuestion (lines : List LineView) (q : BodyView) (n : MarkedLetters) : Type 0 where
+  at : QuestionAt lines q
+  after : n ≡ without_marks (letters_of_lines (drop (question_line_count q) lines))
+  sound : AreSound (drop (question_line_count q) lines)
+
+first_question : (q : BodyView) (l : Letter) (mark : Option Code) (p n : MarkedLetters) (lines : List LineView) → l ≡ Word vars_keyword → Spells question q p n → (l, mark) ∷ p ≡ without_marks (letters_of_lines lines) → AreSound lines → FirstQuestion lines q n
+first_question q l mark p n lines word s e sound =
+    let i = question_line_count q in
+    let lines_of = question_lines q p n s in
+    let moves = front_moves question q p n s in
+    let front : moves.front ≡ lines_of.front = same_front moves.front lines_of.front n (sym moves.is ∙ lines_of.is) in
+    let c = clean_parts ((Word vars_keyword, mark) ∷ lines_of.front) n (letters_of_lines lines) (ap (λ (t : MarkedLetters). (Word vars_keyword, mark) ∷ t) (sym lines_of.is) ∙ ap (λ (x : Letter). (x, mark) ∷ p) (sym word) ∙ e) in
+    let d = letters_of_first_lines i lines (Word vars_keyword ∷ letters lines_of.front) (letters n) (word_before i vars_keyword (letters lines_of.front) (omega arith) lines_of.kind) c.all sound in
+    let clean : lines_of.front ≡ without_marks (letters lines_of.front) = cc in
+    record {
+      at = record {
+        said = letters lines_of.front;
+        first = d.front;
+        says = subst (λ (m : MarkedLetters). Spells question q (m ++ the_end) the_end) (front ∙ clean) (moves.moves the_end);
+        long = d.long;
+        whole = d.whole;
+      };
+      after = c.after ∙ ap without_marks (sym d.after);
+      sound = d.sound;
+    }
+
+-- the questions that turns add
+turns_at : (n : ℕ) (qs ys : List BodyView) (m k : MarkedLetters) (lines : List LineView) → AreTurns (λ (qs : List BodyView). marked_word vars_keyword (limit_mark (most_questions - length qs))) (λ qs u. Spells (Then question (λ q. Give (qs ++ q ∷ [])))) n qs ys m k → m ≡ without_marks (letters_of_lines lines) → AreSound lines
+    → (new : List BodyView) × (ys ≡ qs ++ new) × AreAt lines new
+unfolding Spells
+turns_at zero qs ys m k lines s e sound = ([], sym s.0 ∙ sym (append-nil qs), tt)
+turns_at (suc n) qs ys m k lines s e sound =
+    let one = first_question s.5.0 s.4.0 _ s.1 s.5.1 lines (the_word vars_keyword s.4.0 s.4.1) s.5.2 (sym s.4.3 ∙ e) sound in
+    let more = turns_at n s.2 ys s.3 k (drop (question_line_count s.5.0) lines) s.6 (sym s.5.3.1 ∙ one.after) one.sound in
+    (s.5.0 ∷ more.0, more.1 ∙ ap (λ (t : List BodyView). t ++ more.0) (sym s.5.3.0) ∙ append_assoc qs (s.5.0 ∷ []) more.0, (one.at, more.2))
+
+pub questions_at : (lines : List LineView) (qs : List BodyView) → AreSound lines → Says file (letters_of_lines lines) qs → AreAt lines qs
+unfolding file more_questions Spells
+questions_at lines qs sound s =
+    let t = turns_at s.2.0 [] s.0 (without_marks (letters_of_lines lines)) s.1 lines s.2.1 refl sound in
+    subst (AreAt lines) (sym t.1 ∙ s.3.3.0) t.2

@@ -1,0 +1,17 @@
+-- How a term is read: after a number what it counts.
+use Rattle.std.proofs.Common.{◌≡◌, ℕ, zero, suc, Bool, List, ◌∷◌, refl}
+use Rattle.it_forms.specs.Letters.{Letter, Number}
+use Rattle.it_forms.specs.FormReading.{read}
+use Rattle.it_syntax.specs.LineForms.{over_or, atom, term}
+use Rattle.it_syntax.specs.ReaderSteps.{counted_by}
+use Rattle.it_syntax.specs.Scopes.{Scope}
+
+pub read_at_number : (m : ℕ) (s : Scope) (minus : Bool) (n : ℕ) (ls : List Letter) → read (term m s minus) (Number n ∷ ls) ≡ read (over_or m s minus n (counted_by n s)) ls
+unfolding read term
+read_at_number m s minus zero ls = refl
+read_at_number m s minus (suc n) ls = refl
+
+-- a number other than 0 counts an atom
+pub counted_some : (n : ℕ) (s : Scope) → ¬ (n ≡ 0) → counted_by n s ≡ atom s
+counted_some zero s h = absurd (h refl)
+counted_some (suc n) s h = refl
