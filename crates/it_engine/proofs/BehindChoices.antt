@@ -1,5 +1,5 @@
 -- The row that leaves at a degenerate step, by the numbers of rows that stay behind at a combined column.
-use Rattle.std.proofs.Common.{◌≡◌, ◌⊎◌, inl, inr, ℕ, zero, suc, ◌+◌, ◌*◌, ◌-◌, ◌<◌, ◌≤◌, ◌^◌, ◌∷◌, Bool, true, false, cond, ℤ, pos, ◌+ℤ◌, ◌*ℤ◌, neg_ℤ, List, [], length, slice_index_or, Option, Some, None, IfSome, All, refl, sym, ap, ap₂, subst, ◌∙◌, arith}
+use Rattle.std.proofs.Common.{◌≡◌, ◌⊎◌, inl, inr, ℕ, zero, suc, ◌+◌, ◌*◌, ◌-◌, ◌<◌, ◌≤◌, ◌^◌, ◌∷◌, Bool, true, false, cond, ℤ, pos, negsuc, ◌+ℤ◌, ◌*ℤ◌, neg_ℤ, List, [], length, slice_index_or, Option, Some, None, IfSome, All, refl, sym, ap, ap₂, subst, ◌∙◌, arith}
 use Rattle.std.proofs.lemmas.Bool.{cases_lt, lt-ltb}
 use Rattle.std.proofs.lemmas.Nat.{mul-le}
 use Rattle.std.proofs.Math.Nat.{mul_comm}
@@ -15,7 +15,7 @@ use Rattle.it_space.specs.Sums.{number_at}
 use Rattle.it_space.proofs.TermLemmas.{value-append}
 use Rattle.it_tableau.specs.Sums.{sum_to}
 use Rattle.it_tableau.specs.SimplexTables.{SimplexTable, FeasibilityProblem}
-use Rattle.it_engine.specs.Behind.{AreBaseBounds, AreMovedEntries, BoundsShares, column_less_moved, has_moved, IsCommonMultiple, IsFirstToLeave, LeavesStill, multiple_of_terms, share_of, ShowsBehind}
+use Rattle.it_engine.specs.Behind.{AreBaseBounds, AreMovedEntries, BoundsShares, column_less_moved, has_moved, IsCommonMultiple, IsFirstToLeave, LeavesStill, multiple_of_terms, share_of, ShowsBehind, taken_terms}
 use Rattle.it_engine.specs.Choosing.{entry_of, is_above_zero}
 use Rattle.it_engine.specs.Loading.{IsNorm}
 use Rattle.it_engine.specs.Updates.{IsFitting}
@@ -33,6 +33,20 @@ within_multiple w factor [] a k d l = absurd (omega (arith, l))
 within_multiple w factor (t ∷ ts) a zero d l = a zero t (omega arith)
 within_multiple w factor (t ∷ ts) a (suc k) d l = within_multiple w factor ts (λ j s h. a (suc j) s (omega (arith, h))) k d (omega (arith, l))
 
+value_of_share : (entry : ℤ) (share : ℕ) (d : Terms) (f : ℕ → ℤ) → value (multiple_of_terms (neg_ℤ (entry *ℤ pos share)) d) f ≡ neg_ℤ ((value d f *ℤ entry) *ℤ pos share)
+value_of_share entry share d f = value_of_multiple (neg_ℤ (entry *ℤ pos share)) d f
+    ∙ ring ring_ℤ (value d f ∷ entry ∷ pos share ∷ []) (times (v 0) (minus (times (v 1) (v 2)))) (minus (times (times (v 0) (v 1)) (v 2))) refl
+
+value_of_taken : (entry : ℤ) (share : ℕ) (d : Terms) (f : ℕ → ℤ) → value (taken_terms entry share d) f ≡ neg_ℤ ((value d f *ℤ entry) *ℤ pos share)
+value_of_taken (pos zero) share d f = ring ring_ℤ (value d f ∷ pos share ∷ []) nil (minus (times (times (v 0) nil) (v 1))) refl
+value_of_taken (pos (suc n)) share d f = value_of_share (pos (suc n)) share d f
+value_of_taken (negsuc n) share d f = value_of_share (negsuc n) share d f
+
+within_taken : (w : ℕ) (entry : ℤ) (share : ℕ) (d : Terms) → All (λ t. t.0 < w) d → All (λ t. t.0 < w) (taken_terms entry share d)
+within_taken w (pos zero) share d a = λ k t g. absurd (omega (arith, g))
+within_taken w (pos (suc n)) share d a = within_multiple w (neg_ℤ (pos (suc n) *ℤ pos share)) d a
+within_taken w (negsuc n) share d a = within_multiple w (neg_ℤ (negsuc n *ℤ pos share)) d a
+
 module _ (columns : List Terms) (rows : List WholeRowView) (basis : List ℕ) (moved : List Bool) (entries : List ℤ) (multiple c : ℕ) where
   -- the value of the combined column
   abbrev less_sum : (ℕ → ℤ) → ℕ → ℤ
@@ -41,22 +55,18 @@ module _ (columns : List Terms) (rows : List WholeRowView) (basis : List ℕ) (m
   pub combined_value : (f : ℕ → ℤ) (k : ℕ) → value (column_less_moved columns rows basis moved entries multiple c k) f
       ≡ value (slice_index_or columns c []) f *ℤ pos multiple +ℤ neg_ℤ (sum_to ring_ℤ k (λ q. cond (has_moved moved q) ((value (slice_index_or columns (slice_index_or basis q 0) []) f *ℤ number_at entries q) *ℤ pos (share_of multiple rows q)) (pos 0)))
   combined_value f zero = value_of_multiple (pos multiple) (slice_index_or columns c []) f ∙ ring ring_ℤ (value (slice_index_or columns c []) f ∷ pos multiple ∷ []) (times (v 0) (v 1)) (plus (times (v 0) (v 1)) (minus nil)) refl
-  combined_value f (suc k) = value-append (column_less_moved columns rows basis moved entries multiple c k) (cond (has_moved moved k) (multiple_of_terms (neg_ℤ e) d) []) f
+  combined_value f (suc k) = value-append (column_less_moved columns rows basis moved entries multiple c k) (cond (has_moved moved k) (taken_terms (number_at entries k) (share_of multiple rows k) d) []) f
       ∙ ap₂ (λ x y. x +ℤ y) (combined_value f k) (by_move (has_moved moved k))
       ∙ ring ring_ℤ (x ∷ less_sum f k ∷ cond (has_moved moved k) ((value d f *ℤ number_at entries k) *ℤ pos (share_of multiple rows k)) (pos 0) ∷ []) (plus (plus (v 0) (minus (v 1))) (minus (v 2))) (plus (v 0) (minus (plus (v 2) (v 1)))) refl
     where
       d : Terms
       d = slice_index_or columns (slice_index_or basis k 0) []
 
-      e : ℤ
-      e = number_at entries k *ℤ pos (share_of multiple rows k)
-
       x : ℤ
       x = value (slice_index_or columns c []) f *ℤ pos multiple
 
-      by_move : (b : Bool) → value (cond b (multiple_of_terms (neg_ℤ e) d) []) f ≡ neg_ℤ (cond b ((value d f *ℤ number_at entries k) *ℤ pos (share_of multiple rows k)) (pos 0))
-      by_move true = value_of_multiple (neg_ℤ e) d f
-          ∙ ring ring_ℤ (value d f ∷ number_at entries k ∷ pos (share_of multiple rows k) ∷ []) (times (v 0) (minus (times (v 1) (v 2)))) (minus (times (times (v 0) (v 1)) (v 2))) refl
+      by_move : (b : Bool) → value (cond b (taken_terms (number_at entries k) (share_of multiple rows k) d) []) f ≡ neg_ℤ (cond b ((value d f *ℤ number_at entries k) *ℤ pos (share_of multiple rows k)) (pos 0))
+      by_move true = value_of_taken (number_at entries k) (share_of multiple rows k) d f
       by_move false = omega (arith, ints)
 
   pub combined_within : (w limit : ℕ) → ((j : ℕ) → j < length columns → IsFitting w limit (slice_index_or columns j [])) → (k : ℕ) → All (λ t. t.0 < w) (column_less_moved columns rows basis moved entries multiple c k)
@@ -68,7 +78,7 @@ module _ (columns : List Terms) (rows : List WholeRowView) (basis : List ℕ) (m
           by_cases : (j < length columns) ⊎ (length columns ≤ j) → All (λ t. t.0 < w) (slice_index_or columns j [])
           by_cases (inl l) = (h j l).within
           by_cases (inr l) = subst (All (λ t. t.0 < w)) (sym (get_or_past columns j [] l)) (λ k d g. absurd (omega (arith, g)))
-  combined_within w limit h (suc k) = All-append (λ (t : ℕ × ℤ). t.0 < w) (column_less_moved columns rows basis moved entries multiple c k) (cond (has_moved moved k) (multiple_of_terms (neg_ℤ (number_at entries k *ℤ pos (share_of multiple rows k))) (slice_index_or columns (slice_index_or basis k 0) [])) [])
+  combined_within w limit h (suc k) = All-append (λ (t : ℕ × ℤ). t.0 < w) (column_less_moved columns rows basis moved entries multiple c k) (cond (has_moved moved k) (taken_terms (number_at entries k) (share_of multiple rows k) (slice_index_or columns (slice_index_or basis k 0) [])) [])
       (combined_within w limit h k) (by_move (has_moved moved k))
     where
       column_within : (j : ℕ) → All (λ t. t.0 < w) (slice_index_or columns j [])
@@ -78,8 +88,8 @@ module _ (columns : List Terms) (rows : List WholeRowView) (basis : List ℕ) (m
           by_cases (inl l) = (h j l).within
           by_cases (inr l) = subst (All (λ t. t.0 < w)) (sym (get_or_past columns j [] l)) (λ k d g. absurd (omega (arith, g)))
 
-      by_move : (b : Bool) → All (λ t. t.0 < w) (cond b (multiple_of_terms (neg_ℤ (number_at entries k *ℤ pos (share_of multiple rows k))) (slice_index_or columns (slice_index_or basis k 0) [])) [])
-      by_move true = within_multiple w (neg_ℤ (number_at entries k *ℤ pos (share_of multiple rows k))) (slice_index_or columns (slice_index_or basis k 0) []) (column_within (slice_index_or basis k 0))
+      by_move : (b : Bool) → All (λ t. t.0 < w) (cond b (taken_terms (number_at entries k) (share_of multiple rows k) (slice_index_or columns (slice_index_or basis k 0) [])) [])
+      by_move true = within_taken w (number_at entries k) (share_of multiple rows k) (slice_index_or columns (slice_index_or basis k 0) []) (column_within (slice_index_or basis k 0))
       by_move false = λ k d g. absurd (omega (arith, g))
 
   module _ (limit most low norm shares : ℕ) (is_norm : IsNorm columns norm) (enters : c < length columns)

@@ -8,6 +8,7 @@ pub mod Choices
 pub mod Places
 pub mod RowSteps
 pub mod Pricing
+pub mod Quotients
 pub mod Divisions
 pub mod Usable
 pub mod NarrowSteps

@@ -1,5 +1,5 @@
 -- No public clause cites this module: rows that stay as they were in an earlier table of the run, the base, until they are brought up to date.
-use Rattle.std.specs.Prelude.{◌≡◌, ℕ, zero, suc, ◌+◌, ◌*◌, ◌/◌, ◌<◌, ◌≤◌, ◌^◌, ◌++◌, Bool, true, false, cond, ◌≢◌, ℤ, pos, ◌*ℤ◌, neg_ℤ, unsigned_abs, List, [], length, map, slice_index_or, slice_set, Option, Some, None}
+use Rattle.std.specs.Prelude.{◌≡◌, ℕ, zero, suc, ◌+◌, ◌*◌, ◌/◌, ◌<◌, ◌≤◌, ◌^◌, ◌++◌, Bool, true, false, cond, ◌≢◌, ℤ, pos, negsuc, ◌*ℤ◌, neg_ℤ, unsigned_abs, List, [], length, map, slice_index_or, slice_set, Option, Some, None}
 use Prim.Native.Nat.{◌∣◌}
 use Rattle.it_rational.specs.Rational.{Rational, integer}
 use Rattle.it_rational.proofs.Field.{field_ℚ}
@@ -45,12 +45,18 @@ share_of multiple rows q = multiple / (whole_row_at rows q).bottom
 abbrev pub has_moved : List Bool → ℕ → Bool
 has_moved moved i = slice_index_or moved i false
 
+-- so much of a column as an entry says, times a share; nothing where the entry is 0
+abbrev pub taken_terms : ℤ → ℕ → Terms → Terms
+taken_terms (pos zero) share terms = []
+taken_terms (pos (suc n)) share terms = multiple_of_terms (neg_ℤ (pos (suc n) *ℤ pos share)) terms
+taken_terms (negsuc n) share terms = multiple_of_terms (neg_ℤ (negsuc n *ℤ pos share)) terms
+
 -- the column at which a row that stays behind has the number that it would have up to date, times the common multiple: the
 -- multiple of the column itself, less for each of the first k rows, if it moved, so much of its basic column as its entry says
 abbrev pub column_less_moved : List Terms → List WholeRowView → List ℕ → List Bool → List ℤ → ℕ → ℕ → ℕ → Terms
 column_less_moved columns rows basis moved entries multiple c zero = multiple_of_terms (pos multiple) (slice_index_or columns c [])
 column_less_moved columns rows basis moved entries multiple c (suc k) = column_less_moved columns rows basis moved entries multiple c k
-    ++ cond (has_moved moved k) (multiple_of_terms (neg_ℤ (number_at entries k *ℤ pos (share_of multiple rows k))) (slice_index_or columns (slice_index_or basis k 0) [])) []
+    ++ cond (has_moved moved k) (taken_terms (number_at entries k) (share_of multiple rows k) (slice_index_or columns (slice_index_or basis k 0) [])) []
 
 -- the entries at a column of the rows that moved, 0 for all others
 pub record AreMovedEntries (terms : Terms) (rows : List WholeRowView) (moved : List Bool) (entries : List ℤ) : Type 0 where

@@ -8,7 +8,7 @@ ghost use Rattle.std.specs.Prelude.{◌≡◌, ◌≤ℤ◌, ◌+◌, ◌*◌, �
 ghost use Rattle.std.specs.Bool.{OnFalse, OnTrue};
 ghost use Rattle.std.specs.Option.{IfNone, IfSome};
 ghost use Prim.Native.Nat.{◌∣◌};
-ghost use Rattle.it_engine.specs.Behind.{AreBaseBounds, AreBrought, AreEngineSteps, AreMovedEntries, AreStillSteps, BoundsShares, column_less_moved, has_moved, IsBehindStep, IsCommonMultiple, IsBrought, IsFirstToLeave, IsLessMoved, IsRowBrought, IsStillChoice, LeavesStill, MayLeave, multiple_of_terms, share_of};
+ghost use Rattle.it_engine.specs.Behind.{AreBaseBounds, AreBrought, AreEngineSteps, AreMovedEntries, AreStillSteps, BoundsShares, column_less_moved, has_moved, IsBehindStep, IsCommonMultiple, IsBrought, IsFirstToLeave, IsLessMoved, IsRowBrought, IsStillChoice, LeavesStill, MayLeave, multiple_of_terms, share_of, taken_terms};
 ghost use Rattle.it_engine.specs.Choosing.{entry_of, right_side_of};
 ghost use Rattle.it_engine.specs.Updates.{AreUsable, IsFitting, IsUpdated, IsUsable, Suits, SuitsAll};
 ghost use Rattle.it_engine.specs.Engine.{IsSafe};
@@ -209,17 +209,21 @@ fn less_moved(
     requires entries { q < length entries.now }
     requires some { 0 < (whole_row_at rows.now q).bottom }
     requires low { multiple < 2 ^ 63 }
-    ensures { OnTrue result (combined.new ≡ combined.old ++ cond (has_moved moved.now q) (multiple_of_terms (neg_ℤ (number_at entries.now q *ℤ pos (share_of multiple rows.now q))) (slice_index_or columns.now (slice_index_or basis.now q 0) [])) []) }
+    ensures { OnTrue result (combined.new ≡ combined.old ++ cond (has_moved moved.now q) (taken_terms (number_at entries.now q) (share_of multiple rows.now q) (slice_index_or columns.now (slice_index_or basis.now q 0) [])) []) }
 {
     if !moved_at(moved, q) {
         return true;
     }
-    let Some(taken) = taken_times(read(entries, q), multiple / bottom_at(rows, q)) else {
-        return false;
-    };
+    let entry = read(entries, q);
+    if is_zero(entry) {
+        return true;
+    }
     if basis[q] >= columns.len() {
         return false;
     }
+    let Some(taken) = taken_times(entry, multiple / bottom_at(rows, q)) else {
+        return false;
+    };
     combined.add_multiple(&columns[basis[q]], taken)
 }
 

@@ -262,9 +262,6 @@ impl NarrowRow {
         ensures room { length room.new ≡ length room.old }
         ensures updated { OnTrue result (IsUpdated (length own.now.numbers) limit self.old own.now entry pivot self.new) }
     {
-        if entry == 0 {
-            return true;
-        }
         if !self.reduce(own, next, noted, room, entry, pivot, limit) {
             return false;
         }

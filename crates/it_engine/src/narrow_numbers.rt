@@ -1,10 +1,11 @@
 //! What a step makes of the numbers of a row in 32 bits.
 //! The loops go by index, since their invariants speak of the numbers at the first k places, and over slices, since only these
 //! are run several numbers at once.
-ghost use Rattle.std.specs.Prelude.{◌≡◌, ℕ, ◌+◌, ◌*◌, ◌<◌, ◌^◌, ◌+ℤ◌, ◌*ℤ◌, neg_ℤ, pos, length, unsigned_abs, ◌≤◌, SomeIff};
+ghost use Rattle.std.specs.Prelude.{◌≡◌, ℕ, ◌+◌, ◌*◌, ◌<◌, ◌^◌, ◌+ℤ◌, ◌*ℤ◌, neg_ℤ, pos, length, unsigned_abs, ◌≤◌, ◌≤ℤ◌, SomeIff};
 ghost use Prim.Native.Nat.{◌∣◌};
-ghost use Rattle.std.specs.Bool.{OnTrue};
+ghost use Rattle.std.specs.Bool.{OnFalse, OnTrue};
 ghost use Rattle.std.specs.Option.{IfNone, IfSome};
+ghost use Rattle.it_engine.specs.Quotients.{IsSharedPart, likely_quotient_of};
 ghost use Rattle.it_engine.specs.Updates.{AreNextPlaces, DividesAll, IsBound, IsCombined, IsCombinedAndShortened, IsNextPlace};
 ghost use Rattle.it_space.specs.Sums.{number_at};
 ghost use Rattle.it_engine.specs.Whole.{AreAtMost};
@@ -15,6 +16,9 @@ use crate::numbers::{divide as wide_divide, divisor as wide_divisor, plain_diffe
 
 /// The largest number of 64 bits, 2^63 - 1.
 const LARGEST: u64 = i64::MAX as u64;
+
+/// The largest number of 32 bits, 2^31 - 1.
+const LARGEST_NARROW: u32 = i32::MAX as u32;
 
 /// The number at place k.
 #[inline]
@@ -336,14 +340,97 @@ pub fn combine_in_room(
     }
 }
 
-/// The greatest common divisor of the numbers and the denominator.
-pub fn divisor(row: &[i32], bottom: u64) -> Divisor
-    requires { 0 < bottom }
-    ensures numbers { DividesAll result.value row.now }
-    ensures bottom { result.value ∣ bottom }
+/// A step from an approximate inverse of an odd number modulo 2^32 to a closer one.
+fn closer_inverse(odd: i32, inverse: i32) -> i32 {
+    inverse.wrapping_mul(2i32.wrapping_sub(odd.wrapping_mul(inverse)))
+}
+
+/// The inverse of an odd number modulo 2^32, by Newton's iteration (Jebelean, "An Algorithm for Exact Division", 1993); nothing that is
+/// proved rests on it.
+fn inverse_of(odd: i32) -> i32 {
+    let first = closer_inverse(odd, odd);
+    let second = closer_inverse(odd, first);
+    let third = closer_inverse(odd, second);
+    closer_inverse(odd, third)
+}
+
+/// What is the quotient of z, where it is whole, by a divisor that is 2^shift times a number with this inverse.
+#[inline]
+fn likely_quotient(z: i32, shift: u32, inverse: i32) -> i32
+    requires { shift < 32 }
+    ensures { result ≡ likely_quotient_of shift inverse z }
 {
-    let mut shared = Divisor::new(bottom);
-    for k in 0..row.len() {
+    (z >> shift).wrapping_mul(inverse)
+}
+
+/// The product modulo 2^32.
+#[inline]
+fn wrapped_product(x: i32, a: i32) -> i32
+    ensures { unsigned_abs (x *ℤ a) < 2 ^ 31 → result ≡ x *ℤ a }
+{
+    x.wrapping_mul(a)
+}
+
+/// Whether the likely quotient of z is its quotient by k. Both tests are made of each number, so that several are tested at once.
+#[inline]
+fn is_told(z: i32, k: i32, shift: u32, inverse: i32, most: u32) -> bool
+    requires shift { shift < 32 }
+    requires most { most * unsigned_abs k < 2 ^ 31 }
+    ensures { OnTrue result (likely_quotient_of shift inverse z *ℤ k ≡ z) }
+{
+    let quotient = likely_quotient(z, shift, inverse);
+    let small = quotient.unsigned_abs() <= most;
+    let same = wrapped_product(quotient, k) == z;
+    small & same
+}
+
+/// Whether the likely quotients by k of the numbers from one place on up to another are their quotients.
+fn are_told(
+    row: &[i32],
+    from: usize,
+    to: usize,
+    k: i32,
+    shift: u32,
+    inverse: i32,
+    most: u32,
+) -> bool
+    requires from { from ≤ to }
+    requires to { to ≤ length row.now }
+    requires shift { shift < 32 }
+    requires most { most * unsigned_abs k < 2 ^ 31 }
+    ensures { OnTrue result ((j : ℕ) → from ≤ j → j < to → likely_quotient_of shift inverse (number_at row.now j) *ℤ k ≡ number_at row.now j) }
+{
+    let mut all = true;
+    for j in from..to {
+        all &= is_told(read(row, j), k, shift, inverse, most);
+    }
+    all
+}
+
+/// Whether k divides the numbers from one place on up to another, as far as that is told without a division.
+fn divides_at_once(row: &[i32], from: usize, to: usize, k: i32) -> bool
+    requires from { from ≤ to }
+    requires to { to ≤ length row.now }
+    requires some { pos 1 ≤ℤ k }
+    ensures { OnTrue result ((j : ℕ) → from ≤ j → j < to → unsigned_abs k ∣ unsigned_abs (number_at row.now j)) }
+{
+    let shift = k.trailing_zeros();
+    if shift >= 32 {
+        return false;
+    }
+    let most = LARGEST_NARROW / k.unsigned_abs();
+    are_told(row, from, to, k, shift, inverse_of(k >> shift), most)
+}
+
+/// The greatest common divisor of an earlier one and the numbers from one place on up to another.
+fn shared_one_by_one(row: &[i32], from: usize, to: usize, earlier: Divisor) -> Divisor
+    requires from { from ≤ to }
+    requires to { to ≤ length row.now }
+    requires some { 0 < earlier.value }
+    ensures { IsSharedPart row.now from to earlier.value result.value }
+{
+    let mut shared = earlier;
+    for k in from..to {
         if shared.is_one() {
             return shared;
         }
@@ -352,8 +439,89 @@ pub fn divisor(row: &[i32], bottom: u64) -> Divisor
     shared
 }
 
-/// Divides the numbers by a common divisor.
-pub fn divide(row: &mut [i32], shared: &Divisor)
+/// The same. Mostly it is the earlier one, and that is tested first, of several numbers at once.
+fn shared_part(row: &[i32], from: usize, to: usize, earlier: Divisor) -> Divisor
+    requires from { from ≤ to }
+    requires to { to ≤ length row.now }
+    requires some { 0 < earlier.value }
+    ensures { IsSharedPart row.now from to earlier.value result.value }
+{
+    if earlier.value < 1 << 31 && divides_at_once(row, from, to, earlier.value as i32) {
+        earlier
+    } else {
+        shared_one_by_one(row, from, to, earlier)
+    }
+}
+
+/// So many numbers are tested at once.
+const PART: usize = 64;
+
+/// The end of the part of a row that begins at a place.
+fn end_of_part(from: usize, length: usize) -> usize
+    requires { from < length }
+    ensures { (from < result) × (result ≤ length) }
+{
+    if length - from > PART {
+        from + PART
+    } else {
+        length
+    }
+}
+
+/// The greatest common divisor of the numbers and the denominator.
+pub fn divisor(row: &[i32], bottom: u64) -> Divisor
+    requires { 0 < bottom }
+    ensures numbers { DividesAll result.value row.now }
+    ensures bottom { result.value ∣ bottom }
+{
+    let mut shared = Divisor::new(bottom);
+    let mut from = 0;
+    while from < row.len() {
+        if shared.is_one() {
+            return shared;
+        }
+        let to = end_of_part(from, row.len());
+        shared = shared_part(row, from, to, shared);
+        from = to;
+    }
+    shared
+}
+
+/// Puts the likely quotients in the place of the numbers.
+fn divide_as_told(row: &mut [i32], k: i32, shift: u32, inverse: i32)
+    requires shift { shift < 32 }
+    requires told { (j : ℕ) → j < length row.old → likely_quotient_of shift inverse (number_at row.old j) *ℤ k ≡ number_at row.old j }
+    ensures length { length row.new ≡ length row.old }
+    ensures entries { (j : ℕ) → j < length row.old → number_at row.new j *ℤ k ≡ number_at row.old j }
+{
+    for j in 0..row.len() {
+        row[j] = likely_quotient(read(row, j), shift, inverse);
+    }
+}
+
+/// Divides the numbers by k without a division, several at once; false where that doesn't give all quotients, and then the row
+/// stays.
+fn divide_at_once(row: &mut [i32], k: i32) -> bool
+    requires { pos 1 ≤ℤ k }
+    ensures length { length row.new ≡ length row.old }
+    ensures entries { OnTrue result ((j : ℕ) → j < length row.old → number_at row.new j *ℤ k ≡ number_at row.old j) }
+    ensures kept { OnFalse result (row.new ≡ row.old) }
+{
+    let shift = k.trailing_zeros();
+    if shift >= 32 {
+        return false;
+    }
+    let inverse = inverse_of(k >> shift);
+    let most = LARGEST_NARROW / k.unsigned_abs();
+    if !are_told(row, 0, row.len(), k, shift, inverse, most) {
+        return false;
+    }
+    divide_as_told(row, k, shift, inverse);
+    true
+}
+
+/// Divides the numbers by a common divisor, one after the other.
+fn divide_each(row: &mut [i32], shared: &Divisor)
     requires divides { DividesAll shared.now.value row.old }
     ensures length { length row.new ≡ length row.old }
     ensures entries { (k : ℕ) → k < length row.old → number_at row.new k *ℤ pos shared.now.value ≡ number_at row.old k }
@@ -361,6 +529,18 @@ pub fn divide(row: &mut [i32], shared: &Divisor)
     for k in 0..row.len() {
         row[k] = narrow_quotient(read(row, k), shared);
     }
+}
+
+/// Divides the numbers by a common divisor.
+pub fn divide(row: &mut [i32], shared: &Divisor)
+    requires divides { DividesAll shared.now.value row.old }
+    ensures length { length row.new ≡ length row.old }
+    ensures entries { (k : ℕ) → k < length row.old → number_at row.new k *ℤ pos shared.now.value ≡ number_at row.old k }
+{
+    if shared.value < 1 << 31 && divide_at_once(row, shared.value as i32) {
+        return;
+    }
+    divide_each(row, shared);
 }
 
 /// The quotient z / divisor, where the divisor divides z.

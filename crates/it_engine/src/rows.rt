@@ -152,7 +152,35 @@ impl WholeRow {
     /// where a number would be larger than the limit, or the other row is of another width, or no places are noted of a row in 64
     /// bits, and then nothing is known of the row. Next has the next places where the leaving row isn't 0, if they are noted, and
     /// room is room for a row.
+    #[inline]
     pub fn update(
+        &mut self,
+        own: &WholeRow,
+        next: &[usize],
+        noted: bool,
+        room: &mut [i64],
+        entry: i64,
+        pivot: i64,
+        limit: u64,
+    ) -> bool
+        requires row { IsUsable (length own.now.numbers) limit self.old }
+        requires own { IsUsable (length own.now.numbers) limit own.now }
+        requires places { OnTrue noted (AreNextPlaces own.now.numbers next.now) }
+        requires room { length room.old ≡ length own.now.numbers }
+        requires entry { unsigned_abs entry < 2 ^ 63 }
+        requires pivot { pos 1 ≤ℤ pivot }
+        requires limit { limit < 2 ^ 63 }
+        ensures room { length room.new ≡ length room.old }
+        ensures updated { OnTrue result (IsUpdated (length own.now.numbers) limit self.old own.now entry pivot self.new) }
+    {
+        if entry == 0 {
+            return true;
+        }
+        self.update_other(own, next, noted, room, entry, pivot, limit)
+    }
+
+    /// The same, also where the entry isn't 0. Apart, so that the test of the entry is made where it is called.
+    fn update_other(
         &mut self,
         own: &WholeRow,
         next: &[usize],

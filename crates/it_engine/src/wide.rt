@@ -179,9 +179,6 @@ impl WideRow {
         requires limit { limit < 2 ^ 63 }
         ensures { OnTrue result (IsUpdated (length own.now.numbers) limit self.old own.now entry pivot self.new) }
     {
-        if entry == 0 {
-            return true;
-        }
         if !self.reduce(own, next, entry, pivot, limit) {
             return false;
         }

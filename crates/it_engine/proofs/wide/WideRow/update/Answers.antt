@@ -1,12 +1,6 @@
-use Rattle.std.proofs.Common.{rules, ◌≡◌, FitsSigned, to_z-of_z, w64, length, pos}
-use Rattle.it_engine.proofs.Usable.{kept_updated, shortened_less, shortened_usable}
+use Rattle.std.proofs.Common.{FitsSigned, to_z-of_z, w64, length}
+use Rattle.it_engine.proofs.Usable.{shortened_less, shortened_usable}
 use Rattle.it_engine.proofs.wide.WideRow.update.Goals as goal
-
-pub returns-then-entry-eq0 : goal.returns-then-entry-eq0
-returns-then-entry-eq0 c =
-    let f : FitsSigned w64 c.args.entry = c.ranges.entry in
-    let z : c.args.entry ≡ pos 0 = search rules in
-    kept_updated (length c.args.own.now.numbers) c.args.limit c.args.self.now c.args.own.now c.args.entry c.args.pivot c.requires.row z
 
 pub returns-then-is_large : goal.returns-then-is_large
 returns-then-is_large c =

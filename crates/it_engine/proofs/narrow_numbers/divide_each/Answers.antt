@@ -1,5 +1,5 @@
 use Rattle.std.proofs.Common.{rules, ◌<◌, FitsSigned, to_z-of_z, w32, length, arith}
-use Rattle.it_engine.proofs.narrow_numbers.divide.Goals as goal
+use Rattle.it_engine.proofs.narrow_numbers.divide_each.Goals as goal
 
 pub narrow_quotient-requires-clause-divides : goal.narrow_quotient-requires-clause-divides
 narrow_quotient-requires-clause-divides c =

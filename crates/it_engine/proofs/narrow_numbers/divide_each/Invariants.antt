@@ -1,6 +1,6 @@
 use Rattle.std.proofs.Common.{length, ◌≡◌, ℕ, ◌<◌, ◌≤◌, pos, ◌*ℤ◌}
 use Rattle.it_space.specs.Sums.{number_at}
-use Rattle.it_engine.proofs.narrow_numbers.divide.Given as goal
+use Rattle.it_engine.proofs.narrow_numbers.divide_each.Given as goal
 
 abbrev pub invariant-loop-k : goal.invariant-loop-k
 invariant-loop-k l = record {
