@@ -1,7 +1,9 @@
 #!/usr/bin/env python3
-"""Prints the table ROWS of crates/it_units_solver/src/fractions.rt: the results of Python's exact fractions, and None where
-a number that the operation names passes 2^127 - 1. For a sum these are Knuth's (The Art of Computer Programming
-vol. 2, 4.5.1), for a product and a quotient the two parts in lowest terms."""
+"""Pairs of fractions, and what the operations give for them by Python's exact fractions: `wide` where a number that the operation
+names passes 2^127 - 1. For a sum these are Knuth's (The Art of Computer Programming vol. 2, 4.5.1), for a product and a quotient
+the two parts in lowest terms. `python3 bench/fraction_vectors.py pairs` prints examples/vectors/fractions.txt, `results` prints
+fractions.out beside it."""
+import sys
 from fractions import Fraction
 from math import gcd
 
@@ -59,18 +61,14 @@ def narrow(x):
 
 
 def shown(x):
-    return "None" if x is None else f"Some(({x.numerator}, {x.denominator}))"
+    return "wide" if x is None else f"{x.numerator}/{x.denominator}"
 
 
 for left, right in PAIRS:
+    if sys.argv[1] == "pairs":
+        print(*left, *right)
+        continue
     x, y = Fraction(*left), Fraction(*right)
-    order = "Less" if x < y else "Greater" if x > y else "Equal"
-    print(f"""    Row {{
-        left: {left},
-        right: {right},
-        sum: {shown(total(x, y))},
-        difference: {shown(total(x, -y))},
-        product: {shown(narrow(x * y))},
-        quotient: {shown(narrow(x / y) if y else None)},
-        order: Ordering::{order},
-    }},""")
+    quotient = shown(narrow(x / y)) if y else "none"
+    order = "less" if x < y else "greater" if x > y else "equal"
+    print(shown(total(x, y)), shown(total(x, -y)), shown(narrow(x * y)), quotient, order)

@@ -1,14 +1,15 @@
 #!/usr/bin/env python3
-"""The systems of the tests of it_simplex, with their answers in exact fractions.
+"""Systems of the simplex method, with their answers in exact fractions.
 
 Each system is a list of columns and a target over the coordinates 1 to m, and a budget of steps. The run is made as a textbook
 has it (first phase of the simplex method, Bland's rule), over dense rows of `fractions.Fraction`, and stops before a step of which
 a number passes 2^127 - 1: the ratios of the entering column, then for each other row its quotient, its products and differences,
-and the quotients of the row that leaves. `python3 bench/simplex_systems.py` prints the tables as Rust, as they stand in
-crates/it_units_solver/src/runs.rt: the systems, how many of them are answered on whole numbers alone, and the systems in which that
-run stops half-way, with the steps that it makes.
+and the quotients of the row that leaves. `python3 bench/simplex_systems.py systems` prints a line for each system with its budget,
+with the steps that its run makes and one less, and without a budget, as they stand in examples/vectors/systems.txt (the form of a
+line: crates/bench/src/systems.rt); `ends` prints whether each run ends on whole numbers alone, and how it ends, as in systems.out.
 """
 import random
+import sys
 from fractions import Fraction
 from math import gcd
 
@@ -208,31 +209,50 @@ def takeovers():
             wanted.pop(0)
 
 
-def rust(outcome):
-    kind, value, _ = outcome
+def lines():
+    """The systems, each with the budgets that are tried: None is none."""
+    for columns, target, budget in systems():
+        steps = solve(columns, target, budget)[2]
+        yield columns, target, sorted({budget, max(steps - 1, 0), min(steps, budget)}) + [None]
+    for columns, target, budget, lost in takeovers():
+        yield columns, target, [lost, budget, None]
+
+
+# no run here makes more steps
+UNBOUNDED = 5000
+
+
+def row(numbers):
+    return ",".join(f"{k + 1}:{x}" for k, x in enumerate(numbers) if x != 0) or "-"
+
+
+def told(columns, target, budget):
+    steps = UNBOUNDED if budget is None else budget
+    kind, value, made = solve(columns, target, steps)
+    checked(columns, target, (kind, value, made))
+    assert budget is not None or kind != "Pivots"
+    is_whole = whole_steps(columns, target, steps) is None and (kind, value) != ("Width", 0)
+    engine = "whole" if is_whole else "exact"
     if kind == "Weights":
-        return "Weights(&[" + ", ".join(f"({j}, {w.numerator}, {w.denominator})" for j, w in value) + "])"
+        return " ".join([engine, "weights"] + [f"{j}:{w.numerator}/{w.denominator}" for j, w in value])
     if kind == "Point":
-        return "Point(&[" + ", ".join(f"({x.numerator}, {x.denominator})" for x in value) + "])"
-    return f"{kind}({value})"
+        return " ".join([engine, "point"] + [f"{x.numerator}/{x.denominator}" for x in value])
+    return f"{engine} {kind.lower()} {value}"
 
 
-def printed(columns, target, budget):
-    outcome = solve(columns, target, budget)
-    checked(columns, target, outcome)
-    body = ", ".join("&" + str(column) for column in columns)
-    return f"System {{ columns: &[{body}], target: &{target}, budget: {budget}, steps: {outcome[2]}, end: End::{rust(outcome)} }}"
+def units(count, budget):
+    """Each of so many columns has one coordinate, and the target has all: one step for each."""
+    if sys.argv[1] == "ends":
+        return f"whole pivots {budget}" if budget < count else " ".join(["whole weights"] + [f"{j}:1/1" for j in range(count)])
+    return " ".join([str(budget), str(count), row([1] * count)] + [f"{k}:1" for k in range(1, count + 1)])
 
 
 if __name__ == "__main__":
-    table = list(systems())
-    print(f"const SYSTEMS: [System; {len(table)}] = [")
-    for columns, target, budget in table:
-        print(f"    {printed(columns, target, budget)},")
-    print("];")
-    whole = [system for system in table if whole_steps(*system) is None and solve(*system)[:2] != ("Width", 0)]
-    print(f"const WHOLE: u32 = {len(whole)};")
-    print("const TAKEOVERS: [Takeover; 4] = [")
-    for columns, target, budget, lost in takeovers():
-        print(f"    Takeover {{ lost: {lost}, system: {printed(columns, target, budget)} }},")
-    print("];")
+    print(units(255, 254))
+    print(units(255, 255))
+    for columns, target, budgets in lines():
+        for budget in budgets:
+            if sys.argv[1] == "ends":
+                print(told(columns, target, budget))
+            else:
+                print("none" if budget is None else budget, len(target), row(target), *map(row, columns))

@@ -89,12 +89,44 @@ fn orders(pairs: &[Pair], turns: u32) -> i128 {
     i128::from(sum)
 }
 
-/// Does an operation on each pair, and prints a sum over the results.
+/// Writes what an operation gives: a fraction as its numerator, `/` and its denominator, or `wide`.
+fn write_outcome(rt: HostRuntime, outcome: Result<Fraction, Wide>) -> io::Result<()> {
+    match outcome {
+        Ok(fraction) => print!(rt; "{}/{} ", fraction.num(), fraction.den()),
+        Err(Wide) => print!(rt; "wide "),
+    }
+}
+
+/// Writes a pair's sum, difference, product and quotient, the last where the right one isn't 0, and then how the left one compares
+/// with the right one.
+fn write_results(rt: HostRuntime, pair: &Pair) -> io::Result<()> {
+    write_outcome(rt, pair.left.add(pair.right))?;
+    write_outcome(rt, pair.left.sub(pair.right))?;
+    write_outcome(rt, pair.left.mul(pair.right))?;
+    if pair.right.is_zero() {
+        print!(rt; "none ")?;
+    } else {
+        write_outcome(rt, pair.left.div(pair.right))?;
+    }
+    match pair.left.compare(pair.right) {
+        Ordering::Less => println!(rt; "less"),
+        Ordering::Equal => println!(rt; "equal"),
+        Ordering::Greater => println!(rt; "greater"),
+    }
+}
+
+/// Does an operation on each pair, and prints a sum over the results; or writes the results of all of them.
 pub fn time(rt: HostRuntime, input: &[u8], task: &Task<'_>) -> io::Result<()> {
     let Ok(text) = std::str::from_utf8(input) else {
         return println!(rt; "no text");
     };
     let pairs = pairs(rt.alloc(), text)?;
+    if task.way == "each" {
+        for pair in pairs.as_slice() {
+            write_results(rt, pair)?;
+        }
+        return Ok(());
+    }
     let sum = match task.way {
         "add" => sums(pairs.as_slice(), task.turns),
         "mul" => products(pairs.as_slice(), task.turns),

@@ -1,6 +1,9 @@
-//! Kernels of the product, for timing (bench/run). `bench KERNEL WAY LIMIT TURNS` reads its input from the standard input, does its
-//! work TURNS times, and prints what comes out. KERNEL and WAY are one of
+//! Kernels of the product, for timing (bench/run) and for vectors (examples/vectors). `bench KERNEL WAY LIMIT TURNS` reads its input
+//! from the standard input, does its work TURNS times, and prints what comes out. KERNEL and WAY are one of
 //! fractions add, mul or compare: the operation on each pair of fractions, a pair on a line as four numbers; a sum over the results.
+//! WAY each writes the results of all operations, a line for each pair.
+//! questions read, text or rows: each question as it is read, its text, or the rows of its constraints and targets.
+//! systems ends: systems of columns and a target, a line each; whether the run ends on whole numbers alone, and how it ends.
 //! simplex solve or exact: whether the target of the first question is a sum of the elemental inequalities, with a budget of LIMIT
 //! steps, as the product asks or by the table of fractions alone; how the run ends. WAY system writes the columns in place of it.
 //! reading file: the reading of the input as a question file; its bytes and its questions.
@@ -10,13 +13,16 @@
 //! each is; how it ends, and the calls.
 #![tactic(auto)]
 
+ghost use Rattle.std.specs.Prelude.{All};
 ghost use Rattle.it_question.specs.Limits.{IsQuestion};
 ghost use Rattle.it_question.specs.Questions.{question_body};
 
 mod fractions;
+mod readings;
 mod reductions;
 mod runs;
 mod searches;
+mod systems;
 
 use it_outside::{StdSource, read_all};
 use it_question::questions;
@@ -50,6 +56,16 @@ fn reading(rt: HostRuntime, file: &[u8], task: &Task<'_>) -> io::Result<()> {
     println!(rt; "{} {count}", file.len())
 }
 
+/// Writes each question.
+fn write_all(rt: HostRuntime, questions: &[Question], task: &Task<'_>) -> io::Result<()>
+    requires { All (λ q. IsQuestion (question_body q)) questions.now }
+{
+    for question in questions {
+        readings::write(rt, question, task)?;
+    }
+    Ok(())
+}
+
 /// The work of a kernel on a question.
 fn asking(rt: HostRuntime, kernel: &str, question: &Question, task: &Task<'_>) -> io::Result<()>
     requires { IsQuestion (question_body question.now) }
@@ -70,10 +86,14 @@ fn time(rt: HostRuntime, kernel: &str, input: &[u8], task: &Task<'_>) -> io::Res
     if kernel == "reading" {
         return reading(rt, input, task);
     }
+    if kernel == "systems" {
+        return systems::write_ends(rt, input);
+    }
     if input.len() > MOST {
         return Ok(());
     }
     match questions(rt.alloc(), input) {
+        Ok(questions) if kernel == "questions" => write_all(rt, questions.as_slice(), task),
         Ok(questions) if !questions.is_empty() => asking(
             rt,
             kernel,

@@ -10,10 +10,6 @@ mod lines;
 #[cfg(test)]
 mod outside;
 #[cfg(test)]
-mod readings;
-#[cfg(test)]
-mod rows;
-#[cfg(test)]
 mod searches;
 #[cfg(test)]
 mod texts;

@@ -1,15 +1,29 @@
-//! Tests: lines cut into tokens, and what their parts are read as.
+//! Tests: lines cut into tokens, and names.
 
-use crate::fixtures::{LONGEST_FILE, names_of, terms_text};
-use it_syntax::types::{Code, Relation, Sign, Symbol, SyntaxFault, Token, TokenKind};
-use it_syntax::{Names, is_measure, line_tokens, relation, tokens};
+use crate::fixtures::LONGEST_FILE;
+use it_syntax::types::{Code, Symbol, SyntaxFault, Token, TokenKind};
+use it_syntax::{Names, is_measure, tokens};
 use std::alloc::{AllocError, Global};
-use std::process::Abort;
 use std::test::Fail;
 
 /// The variables X, Y, Z and the rate R.
 fn some_names(alloc: Global) -> Result<Names, AllocError> {
-    names_of(alloc, &[b"X", b"Y", b"Z"], &[b"R"])
+    let variables: [&[u8]; 3] = [b"X", b"Y", b"Z"];
+    let rates: [&[u8]; 1] = [b"R"];
+    let mut names = Names::new(alloc);
+    for name in variables {
+        let is_new = names.variable(name).is_none() && names.rate(name).is_none();
+        if is_new && 1 <= name.len() && name.len() <= 16 && names.space().variables < 10 {
+            names.add_variable(name)?;
+        }
+    }
+    for name in rates {
+        let is_new = names.variable(name).is_none() && names.rate(name).is_none();
+        if is_new && 1 <= name.len() && name.len() <= 16 && names.space().rates < 16 {
+            names.add_rate(name)?;
+        }
+    }
+    Ok(names)
 }
 
 fn fault(column: u32, code: Code) -> SyntaxFault {
@@ -122,104 +136,5 @@ fn names_are_found_in_order(rt: HostRuntime) -> Result<(), Fail> {
         (is_measure(b"H"), is_measure(b"I"), is_measure(b"HI")),
         (true, true, false)
     );
-    Ok(())
-}
-
-/// The relation that the line is from its second token on.
-fn read(
-    rt: &impl Abort,
-    alloc: Global,
-    line: &[u8],
-    names: &Names,
-) -> Result<Relation, SyntaxFault> {
-    assert!(rt; line.len() <= LONGEST_FILE);
-    let tokens = line_tokens(alloc, line)?;
-    assert!(rt; 1 <= tokens.tokens.len());
-    relation(alloc, line, &tokens, 1, names, false)
-}
-
-#[test]
-fn a_relation_is_read_as_its_terms(rt: HostRuntime) -> Result<(), Fail> {
-    let alloc = rt.alloc();
-    let names = some_names(alloc)?;
-    let cases: [(&[u8], &str); 9] = [
-        (b"prove I(X;Y) >= 0", "+1I1;2|0"),
-        (b"prove H(X) >= 00", "+1H1|0"),
-        (
-            b"prove -2H(X,Y|Z) + 0 - I(X,Z ; Z,Y | X,X) >= 0",
-            "-2H3|4+0-1I5;6|1",
-        ),
-        (b"prove + H(Z,Z|Z) >= 0", "+1H4|4"),
-        (b"prove 00 >= 0", "+0"),
-        (b"prove -0 - 0H(Y) >= 0", "-0-0H2|0"),
-        (b"prove I(X,Y;Y,Z|Z) >= 0", "+1I3;6|4"),
-        (
-            b"prove 18446744073709551615 H ( X ) >= 0",
-            "+18446744073709551615H1|0",
-        ),
-        (b"prove H(X|Y)+H(Y|X)-H(X,Y)>=0", "+1H1|2+1H2|1-1H3|0"),
-    ];
-    for (line, want) in cases {
-        let read = read(&rt, alloc, line, &names)?;
-        assert_eq!(rt;
-            terms_text(alloc, read.left.terms.as_slice())?.as_str(),
-            want
-        );
-        assert_eq!(rt; read.sign, Sign::AtLeast);
-        assert_eq!(rt;
-            terms_text(alloc, read.right.terms.as_slice())?.as_str(),
-            "+0"
-        );
-    }
-    Ok(())
-}
-
-#[test]
-fn another_line_has_its_first_fault(rt: HostRuntime) -> Result<(), Fail> {
-    let alloc = rt.alloc();
-    let names = some_names(alloc)?;
-    let cases: [(&[u8], u32, Code); 13] = [
-        (b"prove", 6, Code::Word),
-        (b"prove >= 0", 7, Code::Word),
-        (b"prove 2 >= 0", 9, Code::Word),
-        (b"prove H(H) >= 0", 9, Code::Word),
-        (b"prove H(W) >= 0", 9, Code::Name),
-        (b"prove R >= 0", 7, Code::Name),
-        (b"prove foo $", 7, Code::Name),
-        (b"prove H(X >= 0", 11, Code::Word),
-        (b"prove H(X,) >= 0", 11, Code::Word),
-        (b"prove I(X,Y) >= 0", 12, Code::Word),
-        (b"prove H(X) > 0", 12, Code::Byte),
-        (b"prove H(X) >= 1", 16, Code::Word),
-        (b"prove H(X) >= 0 Y", 17, Code::Name),
-    ];
-    for (line, column, code) in cases {
-        match read(&rt, alloc, line, &names) {
-            Ok(_) => assert!(rt; false, "{column}"),
-            Err(found) => assert_eq!(rt; found, fault(column, code)),
-        }
-    }
-    Ok(())
-}
-
-#[test]
-fn both_sides_have_at_most_256_terms(rt: HostRuntime) -> Result<(), Fail> {
-    let alloc = rt.alloc();
-    let names = some_names(alloc)?;
-    let mut line = Vec::from_slice(alloc, b"prove ")?;
-    for _ in 0..254 {
-        line.extend_from_slice(b"H(X)+")?;
-    }
-    let mut longer = line.clone()?;
-    line.extend_from_slice(b"H(X)>=0")?;
-    assert_eq!(rt;
-        read(&rt, alloc, line.as_slice(), &names)?.left.terms.len(),
-        255
-    );
-    longer.extend_from_slice(b"H(X)+0>=0")?;
-    match read(&rt, alloc, longer.as_slice(), &names) {
-        Ok(_) => assert!(rt; false),
-        Err(found) => assert_eq!(rt; found, fault(1285, Code::Many)),
-    }
     Ok(())
 }

@@ -6,19 +6,17 @@ mod checks;
 #[cfg(test)]
 mod closures;
 #[cfg(test)]
+mod divisors;
+#[cfg(test)]
 mod elementals;
 #[cfg(test)]
 mod eliminations;
 #[cfg(test)]
 mod fixtures;
 #[cfg(test)]
-mod fractions;
-#[cfg(test)]
 mod outcomes;
 #[cfg(test)]
 mod reductions;
-#[cfg(test)]
-mod runs;
 #[cfg(test)]
 mod spaces;
 #[cfg(test)]

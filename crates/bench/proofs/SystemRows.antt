@@ -1,4 +1,4 @@
--- Rows that the tests fill, one term after another.
+-- Rows that are read term by term.
 use Rattle.std.proofs.Common.{◌≢◌, ℕ, ◌+◌, ◌≤◌, ℤ, pos, [], ◌∷◌, ◌++◌, arith}
 use Rattle.it_number.specs.Limit.{IsWithin}
 use Rattle.it_space.specs.Rows.{Terms, Ascends, IsCanonical}
