@@ -24,4 +24,4 @@ always_any (While ks says step a) P h = λ n. turns_any (λ c. record { kinds = 
 pub always_said : {A : Type 0} (f : Form A) (o : Outline) → Has f o → (P : Fact A) → Always f P → (ls : List Letter) (y : A) → Says f ls y → P ls y
 always_said {A} f o h P a ls y s =
     let t : Tells P ls y [] = subst (IfRead P ls) (said_is_read f o h ls y s) (always_read f P ls a) in
-    subst (λ (p : List Letter). P p y) (sym (t.parts ∙ append-nil t.front)) t.holds
+    subst (λ (p : List Letter). P p y) (sym (t.parts ∙ append-nil t.prefix)) t.holds

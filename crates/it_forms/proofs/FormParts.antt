@@ -14,9 +14,9 @@ Fact A = List Letter → A → Type 0
 
 -- the letters before r say y, and the fact holds of them
 pub record Tells {A : Type 0} (P : Fact A) (ls : List Letter) (y : A) (r : List Letter) : Type 0 where
-  pub front : List Letter
-  pub parts : ls ≡ front ++ r
-  pub holds : P front y
+  pub prefix : List Letter
+  pub parts : ls ≡ prefix ++ r
+  pub holds : P prefix y
 
 abbrev pub IfRead : {A : Type 0} → Fact A → List Letter → Reads A → Type 0
 IfRead P ls (Ok x) = Tells P ls x.0 x.1
@@ -41,10 +41,10 @@ append_nil [] = refl
 append_nil (x ∷ xs) = ap (λ (t : List _). x ∷ t) (append_nil xs)
 
 read_then : {A B : Type 0} (P : Fact A) (Q : Fact B) (ls : List Letter) (r : Reads A) (g : A → Reader B) → IfRead P ls r → ((p : List Letter) (a : A) (s : List Letter) → P p a → IfRead (λ q y. Q (p ++ q) y) s (g a s)) → IfRead Q ls (r >>= λ x. g x.0 x.1)
-read_then {A} {B} P Q ls (Ok x) g h e = by_result (g x.0 x.1) (e h.front x.0 x.1 h.holds)
+read_then {A} {B} P Q ls (Ok x) g h e = by_result (g x.0 x.1) (e h.prefix x.0 x.1 h.holds)
   where
-    by_result : (r : Reads B) → IfRead (λ q y. Q (h.front ++ q) y) x.1 r → IfRead Q ls r
-    by_result (Ok y) k = record { front = h.front ++ k.front; parts = h.parts ∙ ap (λ (t : List Letter). h.front ++ t) k.parts ∙ sym (append_assoc h.front k.front y.1); holds = k.holds }
+    by_result : (r : Reads B) → IfRead (λ q y. Q (h.prefix ++ q) y) x.1 r → IfRead Q ls r
+    by_result (Ok y) k = record { prefix = h.prefix ++ k.prefix; parts = h.parts ∙ ap (λ (t : List Letter). h.prefix ++ t) k.parts ∙ sym (append_assoc h.prefix k.prefix y.1); holds = k.holds }
     by_result (Err f) k = tt
 read_then P Q ls (Err f) g h e = tt
 
@@ -53,7 +53,7 @@ read_taken t P Q [] g other h e o = o
 read_taken {A} {B} t P Q (l ∷ ls) g other h e o = by_test (is_among t.kinds l) (t.says l) (h l)
   where
     by_result : (r : Reads B) → IfRead (λ q y. Q (l ∷ q) y) ls r → IfRead Q (l ∷ ls) r
-    by_result (Ok y) k = record { front = l ∷ k.front; parts = ap (λ (t : List Letter). l ∷ t) k.parts; holds = k.holds }
+    by_result (Ok y) k = record { prefix = l ∷ k.prefix; parts = ap (λ (t : List Letter). l ∷ t) k.parts; holds = k.holds }
     by_result (Err f) k = tt
 
     by_test : (b : Bool) (p : Option Code × A) → (b ≡ true → p.0 ≡ None → P (l ∷ []) p.1) → IfRead Q (l ∷ ls) (cond b (if_unmarked p l ls (λ a. g a ls)) other)
@@ -62,17 +62,17 @@ read_taken {A} {B} t P Q (l ∷ ls) g other h e o = by_test (is_among t.kinds l)
     by_test false p h = o
 
 read_each : {A B : Type 0} (t : A → Terminal B) (step : A → B → Reader A) (Step : A → B → Fact A → Type 0) → ((a : A) (b : B) (Q : Fact A) (s : List Letter) → Step a b Q → IfRead Q s (step a b s)) → (n : ℕ) (a : A) (P : Fact A) (ls : List Letter) → Turns t Step n a P → IfRead P ls (read_turns t step n a ls)
-read_each t step Step h zero a P ls e = record { front = []; parts = refl; holds = e }
+read_each t step Step h zero a P ls e = record { prefix = []; parts = refl; holds = e }
 read_each t step Step h (suc n) a P ls e =
     read_taken (t a) (λ p b. Step a b (λ q c. Turns t Step n c (λ r y. P (p ++ (q ++ r)) y))) P ls (λ b rest. step a b rest >>= λ x. read_turns t step n x.0 x.1) (Ok (a, ls)) e.1
     (λ p b s k. read_then (λ q c. Turns t Step n c (λ r y. P (p ++ (q ++ r)) y)) (λ q y. P (p ++ q) y) s (step a b s) (read_turns t step n) (h a b (λ q c. Turns t Step n c (λ r y. P (p ++ (q ++ r)) y)) s k) (λ q c r w. read_each t step Step h n c (λ r y. P (p ++ (q ++ r)) y) r w))
-    (record { front = []; parts = refl; holds = e.0 })
+    (record { prefix = []; parts = refl; holds = e.0 })
 
 -- what always holds holds of what is read
 pub always_read : {A : Type 0} (f : Form A) (P : Fact A) (ls : List Letter) → Always f P → IfRead P ls (read f ls)
 unfolding Always read
-always_read (Give a) P ls h = record { front = []; parts = refl; holds = h }
-always_read (Take t) P ls h = read_taken t P P ls (λ a rest. Ok (a, rest)) (no_rule ls) h (λ p a s e. record { front = []; parts = refl; holds = subst (λ (q : List Letter). P q a) (sym (append_nil p)) e }) tt
+always_read (Give a) P ls h = record { prefix = []; parts = refl; holds = h }
+always_read (Take t) P ls h = read_taken t P P ls (λ a rest. Ok (a, rest)) (no_rule ls) h (λ p a s e. record { prefix = []; parts = refl; holds = subst (λ (q : List Letter). P q a) (sym (append_nil p)) e }) tt
 always_read (Then f g) P ls h = read_then (λ p a. Always (g a) (λ q y. P (p ++ q) y)) P ls (read f ls) (λ a. read (g a)) (always_read f (λ p a. Always (g a) (λ q y. P (p ++ q) y)) ls h) (λ p a s e. always_read (g a) (λ q y. P (p ++ q) y) s e)
 always_read (If t g other) P ls h = read_taken t (λ p a. Always (g a) (λ q y. P (p ++ q) y)) P ls (λ a. read (g a)) (read other ls) h.0 (λ p a s e. always_read (g a) (λ q y. P (p ++ q) y) s e) (always_read other P ls h.1)
 always_read (While ks says step a) P ls h = read_each (λ c. record { kinds = ks; says = says c }) (λ c b. read (step c b)) (λ c b Q. Always (step c b) Q) (λ c b Q s e. always_read (step c b) Q s e) (length ls) a P ls (h (length ls))

@@ -18,19 +18,19 @@ Reader A = List Letter → Reads A
 
 -- It read y up to r: the letters before r say y, and they are read so whatever follows r's first letter.
 pub record Went {A : Type 0} (f : Reader A) (says : Language A) (ls : List Letter) (y : A) (r : List Letter) : Type 0 where
-  pub front : List Letter
-  pub parts : ls ≡ front ++ r
-  pub spells : (k : MarkedLetters) → says y (without_marks front ++ k) k
-  pub stays : (s : List Letter) → head s ≡ head r → f (front ++ s) ≡ Ok (y, s)
+  pub prefix : List Letter
+  pub parts : ls ≡ prefix ++ r
+  pub spells : (k : MarkedLetters) → says y (without_marks prefix ++ k) k
+  pub stays : (s : List Letter) → head s ≡ head r → f (prefix ++ s) ≡ Ok (y, s)
 
 -- It stopped with code c at r: something is written so up to r, and the same letters stop it whatever follows r's first
 -- letter.
 pub record Stuck {A : Type 0} (f : Reader A) (says : Language A) (ls : List Letter) (c : Code) (r : List Letter) : Type 0 where
-  pub front : List Letter
-  pub parts : ls ≡ front ++ r
+  pub prefix : List Letter
+  pub parts : ls ≡ prefix ++ r
   pub value : A
-  pub spells : (k : MarkedLetters) → (q : MarkedLetters) × says value (without_marks front ++ q) k × Why q c r
-  pub stays : (s : List Letter) → head s ≡ head r → f (front ++ s) ≡ Err (c, s)
+  pub spells : (k : MarkedLetters) → (q : MarkedLetters) × says value (without_marks prefix ++ q) k × Why q c r
+  pub stays : (s : List Letter) → head s ≡ head r → f (prefix ++ s) ≡ Err (c, s)
 
 -- what a result tells
 abbrev pub By : {A : Type 0} → Reader A → Language A → List Letter → Reads A → Type 0
@@ -69,28 +69,28 @@ bind_ok f g p a s t e h = ap (λ (q : Reads _). q >>= λ x. g x.0 x.1) e ∙ h
 second_then : {A B : Type 0} (f : Reader A) (g : A → Reader B) (h : Reader B) (first : Language A) (second : A → Language B) (both : Language B) → Chain f g h first second both
     → (ls : List Letter) (a : A) (r : List Letter) → Went f first ls a r → (s : Reads B) → By (g a) (second a) r s → By h both ls s
 second_then f g h first second both c ls a r w (Ok x) v = record {
-  front = w.front ++ v.front;
-  parts = w.parts ∙ ap (λ (t : List Letter). w.front ++ t) v.parts ∙ sym (append_assoc w.front v.front x.1);
-  spells = λ k. subst (λ (m : MarkedLetters). both x.0 m k) (unmarked_all_append w.front v.front k) (c.says a x.0 (without_marks w.front ++ (without_marks v.front ++ k)) (without_marks v.front ++ k) k (w.spells (without_marks v.front ++ k)) (v.spells k));
-  stays = λ s e. ap h (append_assoc w.front v.front s) ∙ c.is (w.front ++ (v.front ++ s)) ∙ bind_ok f g w.front a (v.front ++ s) (Ok (x.0, s)) (w.stays (v.front ++ s) (head_same v.front s x.1 e ∙ ap head (sym v.parts))) (v.stays s e);
+  prefix = w.prefix ++ v.prefix;
+  parts = w.parts ∙ ap (λ (t : List Letter). w.prefix ++ t) v.parts ∙ sym (append_assoc w.prefix v.prefix x.1);
+  spells = λ k. subst (λ (m : MarkedLetters). both x.0 m k) (unmarked_all_append w.prefix v.prefix k) (c.says a x.0 (without_marks w.prefix ++ (without_marks v.prefix ++ k)) (without_marks v.prefix ++ k) k (w.spells (without_marks v.prefix ++ k)) (v.spells k));
+  stays = λ s e. ap h (append_assoc w.prefix v.prefix s) ∙ c.is (w.prefix ++ (v.prefix ++ s)) ∙ bind_ok f g w.prefix a (v.prefix ++ s) (Ok (x.0, s)) (w.stays (v.prefix ++ s) (head_same v.prefix s x.1 e ∙ ap head (sym v.parts))) (v.stays s e);
 }
 second_then f g h first second both c ls a r w (Err x) v = record {
-  front = w.front ++ v.front;
-  parts = w.parts ∙ ap (λ (t : List Letter). w.front ++ t) v.parts ∙ sym (append_assoc w.front v.front x.1);
+  prefix = w.prefix ++ v.prefix;
+  parts = w.parts ∙ ap (λ (t : List Letter). w.prefix ++ t) v.parts ∙ sym (append_assoc w.prefix v.prefix x.1);
   value = v.value;
-  spells = λ k. let q = v.spells k in (q.0, subst (λ (m : MarkedLetters). both v.value m k) (unmarked_all_append w.front v.front q.0) (c.says a v.value (without_marks w.front ++ (without_marks v.front ++ q.0)) (without_marks v.front ++ q.0) k (w.spells (without_marks v.front ++ q.0)) q.1), q.2);
-  stays = λ s e. ap h (append_assoc w.front v.front s) ∙ c.is (w.front ++ (v.front ++ s)) ∙ bind_ok f g w.front a (v.front ++ s) (Err (x.0, s)) (w.stays (v.front ++ s) (head_same v.front s x.1 e ∙ ap head (sym v.parts))) (v.stays s e);
+  spells = λ k. let q = v.spells k in (q.0, subst (λ (m : MarkedLetters). both v.value m k) (unmarked_all_append w.prefix v.prefix q.0) (c.says a v.value (without_marks w.prefix ++ (without_marks v.prefix ++ q.0)) (without_marks v.prefix ++ q.0) k (w.spells (without_marks v.prefix ++ q.0)) q.1), q.2);
+  stays = λ s e. ap h (append_assoc w.prefix v.prefix s) ∙ c.is (w.prefix ++ (v.prefix ++ s)) ∙ bind_ok f g w.prefix a (v.prefix ++ s) (Err (x.0, s)) (w.stays (v.prefix ++ s) (head_same v.prefix s x.1 e ∙ ap head (sym v.parts))) (v.stays s e);
 }
 
 first_then : {A B : Type 0} (f : Reader A) (g : A → Reader B) (h : Reader B) (first : Language A) (second : A → Language B) (both : Language B) → Chain f g h first second both
     → (ls : List Letter) → ((a : A) (r : List Letter) → f ls ≡ Ok (a, r) → By (g a) (second a) r (g a r)) → (t : Reads A) → f ls ≡ t → By f first ls t → By h both ls (t >>= λ x. g x.0 x.1)
 first_then f g h first second both c ls next (Ok x) same w = second_then f g h first second both c ls x.0 x.1 w (g x.0 x.1) (next x.0 x.1 same)
 first_then {A} f g h first second both c ls next (Err x) same w = record {
-  front = w.front;
+  prefix = w.prefix;
   parts = w.parts;
   value = (c.completes w.value).0;
-  spells = λ k. let m = (c.completes w.value).1 k in let q = w.spells m.0 in (q.0, c.says w.value (c.completes w.value).0 (without_marks w.front ++ q.0) m.0 k q.1 m.1, q.2);
-  stays = λ s e. c.is (w.front ++ s) ∙ ap (λ (t : Reads A). t >>= λ x. g x.0 x.1) (w.stays s e);
+  spells = λ k. let m = (c.completes w.value).1 k in let q = w.spells m.0 in (q.0, c.says w.value (c.completes w.value).0 (without_marks w.prefix ++ q.0) m.0 k q.1 m.1, q.2);
+  stays = λ s e. c.is (w.prefix ++ s) ∙ ap (λ (t : Reads A). t >>= λ x. g x.0 x.1) (w.stays s e);
 }
 
 pub by_then : {A B : Type 0} (f : Reader A) (g : A → Reader B) (h : Reader B) (first : Language A) (second : A → Language B) (both : Language B) → Chain f g h first second both
@@ -124,20 +124,20 @@ by_terminal t g other h left right both c l rest e (None, a) same next = by_resu
 
     by_result : (r : Reads _) → By (g a) (left a) rest r → By h both (l ∷ rest) r
     by_result (Ok x) w = record {
-      front = l ∷ w.front;
+      prefix = l ∷ w.prefix;
       parts = ap (λ (s : List Letter). l ∷ s) w.parts;
-      spells = λ k. c.taken a x.0 (without_mark l ∷ (without_marks w.front ++ k)) (without_marks w.front ++ k) k (token (without_marks w.front ++ k)) (w.spells k);
-      stays = λ s h. reads (w.front ++ s) ∙ w.stays s h;
+      spells = λ k. c.taken a x.0 (without_mark l ∷ (without_marks w.prefix ++ k)) (without_marks w.prefix ++ k) k (token (without_marks w.prefix ++ k)) (w.spells k);
+      stays = λ s h. reads (w.prefix ++ s) ∙ w.stays s h;
     }
     by_result (Err x) w = record {
-      front = l ∷ w.front;
+      prefix = l ∷ w.prefix;
       parts = ap (λ (s : List Letter). l ∷ s) w.parts;
       value = w.value;
-      spells = λ k. let q = w.spells k in (q.0, c.taken a w.value (without_mark l ∷ (without_marks w.front ++ q.0)) (without_marks w.front ++ q.0) k (token (without_marks w.front ++ q.0)) q.1, q.2);
-      stays = λ s h. reads (w.front ++ s) ∙ w.stays s h;
+      spells = λ k. let q = w.spells k in (q.0, c.taken a w.value (without_mark l ∷ (without_marks w.prefix ++ q.0)) (without_marks w.prefix ++ q.0) k (token (without_marks w.prefix ++ q.0)) q.1, q.2);
+      stays = λ s h. reads (w.prefix ++ s) ∙ w.stays s h;
     }
 by_terminal t g other h left right both c l rest e (Some x, a) same next = record {
-  front = [];
+  prefix = [];
   parts = refl;
   value = (c.completes a).0;
   spells = λ k. let m = (c.completes a).1 k in ((l, Some x) ∷ m.0, c.taken a (c.completes a).0 ((l, Some x) ∷ m.0) m.0 k (l, e, ap (λ (q : Option Code × _). q.1) same, ap (λ (q : Option Code × _). (l, q.0) ∷ m.0) (sym same)) m.1, inr (l, m.0, (refl, refl)));
@@ -147,17 +147,17 @@ by_terminal t g other h left right both c l rest e (Some x, a) same next = recor
 else_then : {A B : Type 0} (t : Terminal A) (g : A → Reader B) (other : Reader B) (h : Reader B) (left : A → Language B) (right : Language B) (both : Language B) → Branch t g other h left right both
     → (ls : List Letter) → ((s : List Letter) → head s ≡ head ls → h s ≡ other s) → (r : Reads B) → By other right ls r → By h both ls r
 else_then t g other h left right both c ls same (Ok x) w = record {
-  front = w.front;
+  prefix = w.prefix;
   parts = w.parts;
-  spells = λ k. c.else x.0 (without_marks w.front ++ k) k (w.spells k);
-  stays = λ s e. same (w.front ++ s) (head_same w.front s x.1 e ∙ ap head (sym w.parts)) ∙ w.stays s e;
+  spells = λ k. c.else x.0 (without_marks w.prefix ++ k) k (w.spells k);
+  stays = λ s e. same (w.prefix ++ s) (head_same w.prefix s x.1 e ∙ ap head (sym w.parts)) ∙ w.stays s e;
 }
 else_then t g other h left right both c ls same (Err x) w = record {
-  front = w.front;
+  prefix = w.prefix;
   parts = w.parts;
   value = w.value;
-  spells = λ k. let q = w.spells k in (q.0, c.else w.value (without_marks w.front ++ q.0) k q.1, q.2);
-  stays = λ s e. same (w.front ++ s) (head_same w.front s x.1 e ∙ ap head (sym w.parts)) ∙ w.stays s e;
+  spells = λ k. let q = w.spells k in (q.0, c.else w.value (without_marks w.prefix ++ q.0) k q.1, q.2);
+  stays = λ s e. same (w.prefix ++ s) (head_same w.prefix s x.1 e ∙ ap head (sym w.parts)) ∙ w.stays s e;
 }
 
 branch_by : {A B : Type 0} (t : Terminal A) (g : A → Reader B) (other : Reader B) (h : Reader B) (left : A → Language B) (right : Language B) (both : Language B) → Branch t g other h left right both
@@ -176,7 +176,7 @@ by_branch t g other h left right both c (l ∷ rest) next w = branch_by t g othe
 
 -- nothing is read
 pub by_nothing : {A : Type 0} (f : Reader A) (says : Language A) (a : A) (ls : List Letter) → ((s : List Letter) → f s ≡ Ok (a, s)) → ((k : MarkedLetters) → says a k k) → By f says ls (f ls)
-by_nothing f says a ls e h = subst (λ (r : Reads _). By f says ls r) (sym (e ls)) (record { front = []; parts = refl; spells = h; stays = λ s h. e s })
+by_nothing f says a ls e h = subst (λ (r : Reads _). By f says ls r) (sym (e ls)) (record { prefix = []; parts = refl; spells = h; stays = λ s h. e s })
 
 no_rule_stays : {A : Type 0} (ls s : List Letter) → head s ≡ head ls → no_rule {A = A × List Letter} s ≡ Err (own_code ls, s)
 no_rule_stays {A} [] = for_no_head (λ s. no_rule {A = A × List Letter} s ≡ Err (own_code [], s)) refl
@@ -188,4 +188,4 @@ no_rule_stays {A} (l ∷ ls) = for_head (λ s. no_rule {A = A × List Letter} s 
 
 -- no rule goes on
 pub by_no_rule : {A : Type 0} (says : Language A) (ls : List Letter) → Completes says → By no_rule says ls (no_rule ls)
-by_no_rule says ls c = record { front = []; parts = refl; value = c.0; spells = λ k. let m = c.1 k in (m.0, m.1, inl refl); stays = no_rule_stays ls }
+by_no_rule says ls c = record { prefix = []; parts = refl; value = c.0; spells = λ k. let m = c.1 k in (m.0, m.1, inl refl); stays = no_rule_stays ls }

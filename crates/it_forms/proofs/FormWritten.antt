@@ -54,7 +54,7 @@ terminal_answers {A} {B} t l n k g other y e h =
   where
     by_mark : (p : Option Code × A) → Answers (g p.1 (letters n)) n y k → Answers (if_unmarked p l (letters n) (λ a. g a (letters n))) ((l, p.0) ∷ n) y k
     by_mark (None, a) h = answers_cons l (g a (letters n)) n y k h
-    by_mark (Some c, a) h = inr ((c, l ∷ letters n), (refl, record { front = []; letter = l; rest = n; is = refl; left = refl }))
+    by_mark (Some c, a) h = inr ((c, l ∷ letters n), (refl, record { prefix = []; letter = l; rest = n; is = refl; left = refl }))
 
 taken_answers : {A B : Type 0} (t : Terminal A) (a : A) (m n k : MarkedLetters) (g : A → Reader B) (other : Reads B) (y : B) → IsTaken t a m n → Answers (g a (letters n)) n y k → Answers (if_taken t (letters m) g other) m y k
 taken_answers {A} {B} t a m n k g other y s h =

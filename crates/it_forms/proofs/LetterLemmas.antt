@@ -27,8 +27,8 @@ pub same_tails : (x y : Letter × Option Code) (a b : MarkedLetters) → x ∷ a
 same_tails x y a b e = cc
 
 -- in letters that nothing is said against is no mark
-pub clean_is_clean : (ls front : List Letter) (c : Code) → MarkedAt (without_marks ls) front c → ⊥
+pub clean_is_clean : (ls prefix : List Letter) (c : Code) → MarkedAt (without_marks ls) prefix c → ⊥
 clean_is_clean [] [] c k = let e = k.2 in absurd cc
 clean_is_clean (l ∷ ls) [] c k = let e : None ≡ Some c = second_is (l, None) (k.0, Some c) (without_marks ls) k.1 k.2 in absurd cc
-clean_is_clean [] (x ∷ front) c k = let e = k.2 in absurd cc
-clean_is_clean (l ∷ ls) (x ∷ front) c k = clean_is_clean ls front c (k.0, k.1, same_tails (without_mark l) (without_mark x) (without_marks ls) (without_marks front ++ ((k.0, Some c) ∷ k.1)) k.2)
+clean_is_clean [] (x ∷ prefix) c k = let e = k.2 in absurd cc
+clean_is_clean (l ∷ ls) (x ∷ prefix) c k = clean_is_clean ls prefix c (k.0, k.1, same_tails (without_mark l) (without_mark x) (without_marks ls) (without_marks prefix ++ ((k.0, Some c) ∷ k.1)) k.2)

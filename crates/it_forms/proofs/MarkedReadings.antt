@@ -6,15 +6,15 @@ use Rattle.it_forms.specs.Reads.{Fault, Reads, ◌>>=◌}
 
 -- m is k after letters that nothing is said against
 pub record Clears (m k : MarkedLetters) : Type 0 where
-  pub front : List Letter
-  pub is : m ≡ without_marks front ++ k
+  pub prefix : List Letter
+  pub is : m ≡ without_marks prefix ++ k
 
 -- m has its first mark at a place whose fault is f
 pub record Marks (m : MarkedLetters) (f : Fault) : Type 0 where
-  pub front : List Letter
+  pub prefix : List Letter
   pub letter : Letter
   pub rest : MarkedLetters
-  pub is : m ≡ without_marks front ++ ((letter, Some f.0) ∷ rest)
+  pub is : m ≡ without_marks prefix ++ ((letter, Some f.0) ∷ rest)
   pub left : f.1 ≡ letter ∷ letters rest
 
 -- a reading of m, which spells x and then k: x, or the fault at the first mark before k
@@ -22,22 +22,22 @@ abbrev pub Answers : {A : Type 0} → Reads A → MarkedLetters → A → Marked
 Answers r m x k = ((r ≡ Ok (x, letters k)) × Clears m k) ⊎ ((f : Fault) × ((r ≡ Err f) × Marks m f))
 
 passes_none : (k : MarkedLetters) → Clears k k
-passes_none k = record { front = []; is = refl }
+passes_none k = record { prefix = []; is = refl }
 
 passes_cons : (l : Letter) (m k : MarkedLetters) → Clears m k → Clears (without_mark l ∷ m) k
-passes_cons l m k p = record { front = l ∷ p.front; is = ap (λ (q : MarkedLetters). without_mark l ∷ q) p.is }
+passes_cons l m k p = record { prefix = l ∷ p.prefix; is = ap (λ (q : MarkedLetters). without_mark l ∷ q) p.is }
 
 marks_cons : (l : Letter) (m : MarkedLetters) (f : Fault) → Marks m f → Marks (without_mark l ∷ m) f
-marks_cons l m f p = record { front = l ∷ p.front; letter = p.letter; rest = p.rest; is = ap (λ (q : MarkedLetters). without_mark l ∷ q) p.is; left = p.left }
+marks_cons l m f p = record { prefix = l ∷ p.prefix; letter = p.letter; rest = p.rest; is = ap (λ (q : MarkedLetters). without_mark l ∷ q) p.is; left = p.left }
 
 append_cleaned : (p q : List Letter) (m n k : MarkedLetters) → m ≡ without_marks p ++ n → n ≡ without_marks q ++ k → m ≡ without_marks (p ++ q) ++ k
 append_cleaned p q m n k g h = g ∙ ap (λ (t : MarkedLetters). without_marks p ++ t) h ∙ rw (cleaned_append p q, append_assoc) refl
 
 passes_then : (m n k : MarkedLetters) → Clears m n → Clears n k → Clears m k
-passes_then m n k p q = record { front = p.front ++ q.front; is = append_cleaned p.front q.front m n k p.is q.is }
+passes_then m n k p q = record { prefix = p.prefix ++ q.prefix; is = append_cleaned p.prefix q.prefix m n k p.is q.is }
 
 marks_then : (m n : MarkedLetters) (f : Fault) → Clears m n → Marks n f → Marks m f
-marks_then m n f p q = record { front = p.front ++ q.front; letter = q.letter; rest = q.rest; is = append_cleaned p.front q.front m n ((q.letter, Some f.0) ∷ q.rest) p.is q.is; left = q.left }
+marks_then m n f p q = record { prefix = p.prefix ++ q.prefix; letter = q.letter; rest = q.rest; is = append_cleaned p.prefix q.prefix m n ((q.letter, Some f.0) ∷ q.rest) p.is q.is; left = q.left }
 
 -- nothing more to read
 pub answers_ok : {A : Type 0} (x : A) (k : MarkedLetters) → Answers (Ok (x, letters k)) k x k

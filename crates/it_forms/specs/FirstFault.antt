@@ -16,17 +16,17 @@ own_code ls = codes.Word
 
 -- what is spelled begins with these letters, nothing is said against them, and the next is marked by c
 abbrev pub MarkedAt : MarkedLetters → List Letter → Code → Type 0
-MarkedAt m front c = (l : Letter) × (more : MarkedLetters) × (m ≡ without_marks front ++ ((l, Some c) ∷ more))
+MarkedAt m prefix c = (l : Letter) × (more : MarkedLetters) × (m ≡ without_marks prefix ++ ((l, Some c) ∷ more))
 
 -- Fault c comes where r is left.
 pub record FirstFault {X : Type 0} (spell : X → MarkedLetters) (ls : List Letter) (c : Code) (r : List Letter) : Type 0 where
-  pub front : List Letter
-  pub parts : ls ≡ front ++ r
+  pub prefix : List Letter
+  pub parts : ls ≡ prefix ++ r
   -- what stands before can go on to a line
   pub tree : X
   pub more : MarkedLetters
-  pub viable : spell tree ≡ without_marks front ++ more
+  pub viable : spell tree ≡ without_marks prefix ++ more
   -- with the letter that stands there no line goes on that the rules don't mark there
-  pub each : (x : X) (q : List Letter) → head q ≡ head r → letters (spell x) ≡ front ++ q → MarkedAt (spell x) front c
+  pub each : (x : X) (q : List Letter) → head q ≡ head r → letters (spell x) ≡ prefix ++ q → MarkedAt (spell x) prefix c
   -- the code is that mark, or where no line goes on the letter's own
-  pub code : (own_code r ≡ c) ⊎ ((x : X) × (q : List Letter) × ((head q ≡ head r) × (letters (spell x) ≡ front ++ q)))
+  pub code : (own_code r ≡ c) ⊎ ((x : X) × (q : List Letter) × ((head q ≡ head r) × (letters (spell x) ≡ prefix ++ q)))

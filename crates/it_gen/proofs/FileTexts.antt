@@ -62,20 +62,20 @@ declared =
 vars_line : List ℕ
 vars_line = codes "vars A, B, C, D"
 
-vars_writes : Writes (Stops is_word_byte) vars_line (λ k. without_mark (Word vars_keyword) ∷ declared.front k)
+vars_writes : Writes (Stops is_word_byte) vars_line (λ k. without_mark (Word vars_keyword) ∷ declared.prefix k)
 unfolding vars_line is_word_byte
 vars_writes = let short : 4 ≤ 16 = omega arith in writes_then (keyword (codes "vars") (refl, (refl, (refl, (refl, (refl, tt)))), short)) declared.writes (λ rest d. tt)
 
 prove_line : ℕ → List ℕ
 prove_line x = codes "prove " ++ relation_text x
 
-prove_writes : (x : ℕ) → Writes Anything (prove_line x) (λ k. without_mark (Word prove_keyword) ∷ (relation_written x).front k)
+prove_writes : (x : ℕ) → Writes Anything (prove_line x) (λ k. without_mark (Word prove_keyword) ∷ (relation_written x).prefix k)
 unfolding prove_line is_word_byte
 prove_writes x = let short : 5 ≤ 16 = omega arith in writes_then (keyword (codes "prove") (refl, (refl, (refl, (refl, (refl, (refl, tt))))), short)) (relation_written x).writes (λ rest d. tt)
 
 -- the letters of a question after `vars`, before k
 question_letters : ℕ → MarkedLetters → MarkedLetters
-question_letters x k = declared.front (without_mark End ∷ (without_mark (Word prove_keyword) ∷ (relation_written x).front (without_mark End ∷ k)))
+question_letters x k = declared.prefix (without_mark End ∷ (without_mark (Word prove_keyword) ∷ (relation_written x).prefix (without_mark End ∷ k)))
 
 -- what they say
 body : ℕ → BodyView
@@ -120,14 +120,14 @@ end_says : (k : MarkedLetters) → Spells line_end tt (without_mark End ∷ k) k
 unfolding Spells
 end_says k = (End, refl, refl, refl)
 
-names_say : (k : MarkedLetters) → Spells (new_names Variable most_variables no_names) four_variables (declared.front (without_mark End ∷ k)) k
+names_say : (k : MarkedLetters) → Spells (new_names Variable most_variables no_names) four_variables (declared.prefix (without_mark End ∷ k)) k
 unfolding Spells new_names more_new declared new_written letter_written then_written one_written none_written
 names_say k = let d = declared.says (without_mark End ∷ k) in (d.0, d.1, d.2, (four_variables, without_mark End ∷ k, d.3, (tt, k, end_says k, (refl, refl))))
 
 question_says : (x : ℕ) (k : MarkedLetters) → Spells question (body x) (question_letters x k) k
 unfolding Spells question body question_letters names_line more_own_lines verb
 question_says x k =
-    let r = (relation_written x).front (without_mark End ∷ k) in
+    let r = (relation_written x).prefix (without_mark End ∷ k) in
     let p = without_mark (Word prove_keyword) ∷ r in
     let own : Spells (own_lines most_lines most_lines four_variables) no_lines p p = (zero, (refl, refl)) in
     let aim : Spells (verb no_lines four_variables) (Prove (relation_written x).value) p k =
@@ -142,7 +142,7 @@ question_says x k =
 question_read : (n : ℕ) (x : ℕ) (more : List ℕ) (k : MarkedLetters) → AreRead (n + 1 + 1) more k → AreRead n (question_text x ++ more) (without_mark (Word vars_keyword) ∷ question_letters x k)
 unfolding question_letters
 question_read n x more k h =
-    let r = (relation_written x).front (without_mark End ∷ k) in
+    let r = (relation_written x).prefix (without_mark End ∷ k) in
     subst (λ (bytes : List ℕ). AreRead n bytes (without_mark (Word vars_keyword) ∷ question_letters x k)) (sym (question_lines_are x more))
     (line_read n vars_line (prove_line x ++ 10 ∷ more) vars_keyword _ (without_mark (Word prove_keyword) ∷ r) (line_is_spelled vars_writes tt _)
     (line_read (n + 1) (prove_line x) more prove_keyword r k (line_is_spelled (prove_writes x) tt k) h))

@@ -3,7 +3,7 @@ use Rattle.std.proofs.Common.{ap, ◌≡◌, ℕ, ◌+◌, ◌-◌, ◌<◌, ◌
 use Rattle.std.specs.Io.KnownBytes.{Consumes}
 use Rattle.std.proofs.KnownBytes.{Consumes-trans}
 use Rattle.std.proofs.lemmas.List.{take_all, length-drop, length-take}
-use Rattle.it_outside.specs.Traffic.{Gains, GaveAtMost, GaveMore, TookFront}
+use Rattle.it_outside.specs.Traffic.{Gains, GaveAtMost, GaveMore, TookPrefix}
 
 -- the slice from i on, as code writes it, is all but the first i
 pub from_start : (xs : List ℕ) (i : ℕ) → take (length xs - i) (drop i xs) ≡ drop i xs
@@ -31,11 +31,11 @@ Gains-take a b c piece i n before now =
     rw (take-add i n piece) (Gains-trans a b c (take i piece) (take n (drop i piece)) before (rw (from_start piece i) at now))
 
 -- a write that fails leaves what was written before
-pub took_front : (a b c : Option (List ℕ)) (piece : List ℕ) (i : ℕ) → Gains a b (take i piece) → Gains b c [] → TookFront a c piece
-took_front a b c piece i before now = record {
+pub took_prefix : (a b c : Option (List ℕ)) (piece : List ℕ) (i : ℕ) → Gains a b (take i piece) → Gains b c [] → TookPrefix a c piece
+took_prefix a b c piece i before now = record {
   part = take i piece;
   taken = subst (Gains a c) (append-nil (take i piece)) (Gains-trans a b c (take i piece) [] before now);
-  front = (drop i piece, sym (take-append-drop i piece));
+  prefix = (drop i piece, sym (take-append-drop i piece));
 }
 
 -- one read more, which still fits the limit

@@ -8,7 +8,7 @@ pub record Adapter (T : Type 0) : Type 0 where
   pub inner : T
   pub faults : ℕ
 
--- a writer took the first n bytes of a piece at `Ok(n)`, and some front of it at `Err`
+-- a writer took the first n bytes of a piece at `Ok(n)`, and some prefix of it at `Err`
 abbrev pub PassesOn : {E : Type 0} → Option (List ℕ) → Option (List ℕ) → Result ℕ E → List ℕ → Type 0
 PassesOn old new (Ok n) piece = Appends old new (take n piece)
 PassesOn old new (Err e) piece = (count : ℕ) × Appends old new (take count piece)

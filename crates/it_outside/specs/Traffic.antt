@@ -15,8 +15,8 @@ WriteGains old new (Ok n) piece = Gains old new (take n piece)
 WriteGains old new (Err e) piece = Gains old new []
 
 -- a text begins with a part
-abbrev pub IsFront : List ℕ → List ℕ → Type 0
-IsFront part text = (rest : List ℕ) × (text ≡ part ++ rest)
+abbrev pub IsPrefix : List ℕ → List ℕ → Type 0
+IsPrefix part text = (rest : List ℕ) × (text ≡ part ++ rest)
 
 -- these are all the bytes that a source gave, up to its end
 pub record Gave (old new : Option (List ℕ)) (bytes : List ℕ) : Type 0 where
@@ -35,8 +35,8 @@ pub record GaveAtMost (old new : Option (List ℕ)) (limit : ℕ) : Type 0 where
   pub given : Consumes old new bytes
   pub few : length bytes ≤ limit
 
--- a sink took a front of this text and nothing else
-pub record TookFront (old new : Option (List ℕ)) (text : List ℕ) : Type 0 where
+-- a sink took a prefix of this text and nothing else
+pub record TookPrefix (old new : Option (List ℕ)) (text : List ℕ) : Type 0 where
   pub part : List ℕ
   pub taken : Gains old new part
-  pub front : IsFront part text
+  pub prefix : IsPrefix part text

@@ -123,7 +123,7 @@ impl<W: Writer + Drop> Sink for StdSink<W> {
         ensures bytes { WriteGains None None result piece.now }
 
         // The writer was called once and then flushed, and the write fails exactly where one of them failed or nothing was
-        // taken of a piece that has a byte. The writer may have taken a front of the piece in a write that fails.
+        // taken of a piece that has a byte. The writer may have taken a prefix of the piece in a write that fails.
         ensures once { WritesAndFlushes W.Writes W.Flushes (nat_eq (length piece.now) 0) self.old.inner piece.now
             result self.new.inner }
         ensures handed_on { PassesOn (W.contents self.old.inner) (W.contents self.new.inner) result piece.now }

@@ -1,7 +1,7 @@
 //! Reading a source to its end, and writing a piece whole.
 ghost use Rattle.std.specs.Prelude.{◌≡◌, ◌≢◌, ◌≤◌, length, IfOk, IfErr, OnOk, OnErr, IsErrOf};
 ghost use Rattle.it_outside.specs.Causes.{faults_after, next_count};
-ghost use Rattle.it_outside.specs.Traffic.{Gains, Gave, GaveAtMost, GaveMore, TookFront};
+ghost use Rattle.it_outside.specs.Traffic.{Gains, Gave, GaveAtMost, GaveMore, TookPrefix};
 
 use crate::ends::{Sink, Source};
 use std::alloc::Global;
@@ -60,10 +60,10 @@ pub fn read_all<S: Source>(alloc: Global, source: &mut S, limit: usize) -> Resul
 }
 
 /// Writes the whole piece, and takes no memory of its own.
-#[tactic(auto, using(crate::proofs::Moved::took_front))]
+#[tactic(auto, using(crate::proofs::Moved::took_prefix))]
 pub fn write_all<K: Sink>(sink: &mut K, piece: &[u8]) -> Result<(), OutFault>
     ensures whole { OnOk result (Gains (K.taken sink.old) (K.taken sink.new) piece.now) }
-    ensures part { OnErr result (TookFront (K.taken sink.old) (K.taken sink.new) piece.now) }
+    ensures part { OnErr result (TookPrefix (K.taken sink.old) (K.taken sink.new) piece.now) }
 
     // One write failed where this does, and else none did.
     ensures counted { K.faults sink.new ≡ faults_after (K.faults sink.old) result }

@@ -30,7 +30,7 @@ use Rattle.it_question.proofs.QuestionParts.{AreAt, questions_at}
 use Rattle.it_question.proofs.WholeFileLemmas.{the_end, said}
 use Rattle.it_forms.specs.Forms.{WordBut, is_among, AreTurns, Form, Take, Then, Give, Spells}
 use Rattle.it_forms.specs.Words.{text_of, symbol, word}
-use Rattle.it_forms.proofs.FormLanguage.{front_moves}
+use Rattle.it_forms.proofs.FormLanguage.{prefix_moves}
 use Rattle.it_forms.proofs.LetterLemmas.{letters_append, letters_cleaned}
 use Rattle.it_question.specs.Texts.{without_leading, unless_blank, without_trailing, trimmed_line, text_of_lines, question_line_count, with_texts}
 
@@ -163,7 +163,7 @@ name_ascii Rate v w a h = record { variables = a.variables; rates = All-append I
 
 -- the words of what follows a form are ASCII
 words_after : {A : Type 0} (f : Form A) (y : A) (m k : MarkedLetters) → Spells f y m k → AsciiWords (letters m) → AsciiWords (letters k)
-words_after f y m k s h = let w = front_moves f y m k s in words_behind (letters w.front) (letters k) (subst AsciiWords (ap letters w.is ∙ letters_append w.front k) h)
+words_after f y m k s h = let w = prefix_moves f y m k s in words_behind (letters w.prefix) (letters k) (subst AsciiWords (ap letters w.is ∙ letters_append w.prefix k) h)
   where
     words_behind : (a b : List Letter) → AsciiWords (a ++ b) → AsciiWords b
     words_behind [] b h = h

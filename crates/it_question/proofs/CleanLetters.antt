@@ -5,7 +5,7 @@ use Rattle.it_forms.specs.Letters.{Letter, MarkedLetters, without_mark, letters,
 
 -- both parts of such letters
 pub record CleanParts (p k : MarkedLetters) (ls : List Letter) : Type 0 where
-  pub front : p ≡ without_marks (letters p)
+  pub prefix : p ≡ without_marks (letters p)
   pub after : k ≡ without_marks (letters k)
   pub all : ls ≡ letters p ++ letters k
 
@@ -21,7 +21,7 @@ clean_itself (x ∷ m) (l ∷ ls) e =
     (ap (λ (y : Letter × Option Code). y ∷ m) (first ∙ ap without_mark (sym letter)) ∙ ap (λ (q : MarkedLetters). without_mark x.0 ∷ q) k.0, ap (λ (y : Letter). y ∷ ls) (sym letter) ∙ ap (λ (q : List Letter). x.0 ∷ q) k.1)
 
 pub clean_parts : (p k : MarkedLetters) (ls : List Letter) → p ++ k ≡ without_marks ls → CleanParts p k ls
-clean_parts [] k ls e = let c = clean_itself k ls e in record { front = refl; after = c.0; all = c.1 }
+clean_parts [] k ls e = let c = clean_itself k ls e in record { prefix = refl; after = c.0; all = c.1 }
 clean_parts (x ∷ p) k [] e = absurd cc
 clean_parts (x ∷ p) k (l ∷ ls) e =
     let first : x ≡ without_mark l = cc in
@@ -29,7 +29,7 @@ clean_parts (x ∷ p) k (l ∷ ls) e =
     let c = clean_parts p k ls tails in
     let letter : x.0 ≡ l = ap (λ (y : Letter × Option Code). y.0) first in
     record {
-      front = ap (λ (y : Letter × Option Code). y ∷ p) (first ∙ ap without_mark (sym letter)) ∙ ap (λ (q : MarkedLetters). without_mark x.0 ∷ q) c.front;
+      prefix = ap (λ (y : Letter × Option Code). y ∷ p) (first ∙ ap without_mark (sym letter)) ∙ ap (λ (q : MarkedLetters). without_mark x.0 ∷ q) c.prefix;
       after = c.after;
       all = ap (λ (y : Letter). y ∷ ls) (sym letter) ∙ ap (λ (q : List Letter). x.0 ∷ q) c.all;
     }

@@ -5,7 +5,7 @@ use Rattle.it_forms.specs.FormTexts.{spelling}
 use Rattle.it_forms.specs.Letters.{Letter, Word, Bad, MarkedLetters, without_mark}
 use Rattle.it_forms.specs.declared.types.Code.TheVariants.{Unfinished}
 use Rattle.it_forms.specs.Words.{just}
-use Rattle.it_forms.proofs.FormLanguage.{front_moves}
+use Rattle.it_forms.proofs.FormLanguage.{prefix_moves}
 use Rattle.it_question.specs.Files.{FileIsOne, FileFaultIsOne, FileOrFault, FileHasOne, QuestionStandsAlone}
 use Rattle.it_question.specs.Keywords.{vars_keyword}
 use Rattle.it_question.specs.QuestionForms.{question, more_questions, file}
@@ -48,4 +48,4 @@ alone q m s =
     (q ∷ [], the_end, turns, (tt, [], (Bad Unfinished, refl, refl, refl), (refl, refl)))
 
 pub question_stands_alone : QuestionStandsAlone
-question_stands_alone q m k s = let w = front_moves question q m k s in (w.front, (w.is, alone q w.front (w.moves the_end)))
+question_stands_alone q m k s = let w = prefix_moves question q m k s in (w.prefix, (w.is, alone q w.prefix (w.moves the_end)))

@@ -45,9 +45,9 @@ lines_bound n (bytes ∷ more) lines (inl h) = omega (arith, lines_bound (n + 1)
 lines_bound n (bytes ∷ more) lines (inr h) = subst (λ (ls : List LineView). length (letters_of_lines ls) ≤ length bytes + 1 + length_with_ends more + 1) (sym h.2)
     (omega (arith, length-append (line_letters h.0) (letters_of_lines h.1), line_bound n bytes h.0 h.3, lines_bound (n + 1) more h.1 h.5))
 
-front_length : (b : ℕ) (n : ℕ) (split : List (List ℕ)) → length_with_ends split ≤ n + 1 → length_with_ends (in_front b split) ≤ n + 2
-front_length b n [] h = omega arith
-front_length b n (line ∷ split) h = omega (arith, h)
+prefix_length : (b : ℕ) (n : ℕ) (split : List (List ℕ)) → length_with_ends split ≤ n + 1 → length_with_ends (in_front b split) ≤ n + 2
+prefix_length b n [] h = omega arith
+prefix_length b n (line ∷ split) h = omega (arith, h)
 
 pub split_length : (bytes : List ℕ) → length_with_ends (split_lines bytes) ≤ length bytes + 1
 split_length [] = omega arith
@@ -55,7 +55,7 @@ split_length (b ∷ bytes) = by_test (b == 10) (split_length bytes)
   where
     by_test : (t : Bool) → length_with_ends (split_lines bytes) ≤ length bytes + 1 → length_with_ends (cond t ([] ∷ split_lines bytes) (in_front b (split_lines bytes))) ≤ suc (length bytes) + 1
     by_test true h = omega (arith, h)
-    by_test false h = omega (arith, front_length b (length bytes) (split_lines bytes) h)
+    by_test false h = omega (arith, prefix_length b (length bytes) (split_lines bytes) h)
 
 -- A file has at most two letters more than bytes.
 pub letters_bound : (bytes : List ℕ) (lines : List LineView) → AreLinesOf bytes lines → length (letters_of_lines lines) ≤ length bytes + 2
@@ -65,16 +65,16 @@ letters_bound bytes lines h = omega (arith, lines_bound 1 (split_lines bytes) li
 
 -- nothing stands after the file's end
 abbrev pub EndsOnce : List Letter → Type 0
-EndsOnce ls = (front after : List Letter) → ls ≡ front ++ file_end ∷ after → after ≡ []
+EndsOnce ls = (prefix after : List Letter) → ls ≡ prefix ++ file_end ∷ after → after ≡ []
 
 pub once_more : (l : Letter) (ls : List Letter) → (l ≡ file_end → ⊥) → EndsOnce ls → EndsOnce (l ∷ ls)
 once_more l ls other h [] after e = absurd (other cc)
-once_more l ls other h (x ∷ front) after e = h front after cc
+once_more l ls other h (x ∷ prefix) after e = h prefix after cc
 
 pub once_alone : EndsOnce (file_end ∷ [])
 once_alone [] after e = cc
 once_alone (x ∷ []) after e = absurd cc
-once_alone (x ∷ y ∷ front) after e = absurd cc
+once_alone (x ∷ y ∷ prefix) after e = absurd cc
 
 letter_other : (line : List ℕ) (start end : ℕ) (k : TokenKind) → letter_of line start end k ≡ file_end → ⊥
 letter_other line start end kinds.Word e = absurd cc
@@ -90,7 +90,7 @@ until_once line at bytes [] (Some m) ls h o = once_more (Bad m.code) ls (wrong_o
 until_once line at bytes (t ∷ ts) m ls h o = once_more (letter_of line t.start t.end t.kind) (letters_until line ts (last_letter m) ++ ls) (letter_other line t.start t.end t.kind) (until_once line t.end h.0 ts m ls h.2 o)
 
 -- the letters of a file end with its end
-pub lines_end : (n : ℕ) (split : List (List ℕ)) (lines : List LineView) → AreLines n split lines → (front : List Letter) × (letters_of_lines lines ≡ front ++ file_end ∷ [])
+pub lines_end : (n : ℕ) (split : List (List ℕ)) (lines : List LineView) → AreLines n split lines → (prefix : List Letter) × (letters_of_lines lines ≡ prefix ++ file_end ∷ [])
 lines_end n [] lines h = ([], ap letters_of_lines h)
 lines_end n (bytes ∷ more) lines (inl h) = lines_end (n + 1) more lines h.1
 lines_end n (bytes ∷ more) lines (inr h) =

@@ -45,7 +45,7 @@ texts_step old new q rest own after xs ys x n whole h e pushed count first last 
     let after_lines : map line_view after ≡ drop m lines = ap (map line_view) (last ∙ ap (λ (k : ℕ). drop k rest) count) ∙ sym (drop-map line_view m rest) in
     let head : question_view q ≡ record { body = body_view x; text = text_of_lines (take m lines) } = is ∙ ap (λ (ls : List LineView). question_with (body_view x) (text_of_lines ls)) own_lines in
     ap (λ (qs : List Question). map question_view qs ++ with_texts (map line_view after) (map body_view ys)) pushed
-    ∙ ap (λ (front : List QuestionView). front ++ with_texts (map line_view after) (map body_view ys)) (map-append question_view old (q ∷ []))
+    ∙ ap (λ (prefix : List QuestionView). prefix ++ with_texts (map line_view after) (map body_view ys)) (map-append question_view old (q ∷ []))
     ∙ append_assoc (map question_view old) (question_view q ∷ []) (with_texts (map line_view after) (map body_view ys))
     ∙ ap (λ (a : QuestionView). map question_view old ++ a ∷ with_texts (map line_view after) (map body_view ys)) head
     ∙ ap (λ (ls : List LineView). map question_view old ++ question_with (body_view x) (text_of_lines (take m lines)) ∷ with_texts ls (map body_view ys)) after_lines

@@ -67,7 +67,7 @@ line_parted line (t ∷ ts) m more n (l ∷ p) r h e =
 
 -- n lines, and those after them
 pub record FirstLines (n : ℕ) (lines : List LineView) (p r : List Letter) : Type 0 where
-  pub front : letters_of_lines (take n lines) ≡ p
+  pub prefix : letters_of_lines (take n lines) ≡ p
   pub after : letters_of_lines (drop n lines) ≡ r
   pub long : length (take n lines) ≡ n
   pub whole : AreWhole (take n lines)
@@ -75,8 +75,8 @@ pub record FirstLines (n : ℕ) (lines : List LineView) (p r : List Letter) : Ty
 
 -- the letters of n lines are those of the first n, which have no misspelling
 pub letters_of_first_lines : (n : ℕ) (lines : List LineView) (p r : List Letter) → HasLines n p → letters_of_lines lines ≡ p ++ r → AreSound lines → FirstLines n lines p r
-letters_of_first_lines zero [] [] r h e s = record { front = refl; after = e; long = refl; whole = tt; sound = tt }
-letters_of_first_lines zero (l ∷ lines) [] r h e s = record { front = refl; after = e; long = refl; whole = tt; sound = s }
+letters_of_first_lines zero [] [] r h e s = record { prefix = refl; after = e; long = refl; whole = tt; sound = tt }
+letters_of_first_lines zero (l ∷ lines) [] r h e s = record { prefix = refl; after = e; long = refl; whole = tt; sound = s }
 letters_of_first_lines zero lines (x ∷ p) r h e s = absurd h
 letters_of_first_lines (suc n) [] [] r h e s = absurd h
 letters_of_first_lines (suc n) [] (x ∷ p) r h e s = absurd cc
@@ -84,7 +84,7 @@ letters_of_first_lines (suc n) (l ∷ lines) p r h e s =
     let k = line_parted l.text l.tokens l.misspelling (letters_of_lines lines) n p r h e in
     let more = letters_of_first_lines n lines k.after r k.lines k.more_is s.1 in
     record {
-      front = ap (λ (q : List Letter). line_letters l ++ q) more.front ∙ ap (λ (m : Option Misspelling). letters_until l.text l.tokens (last_letter m) ++ k.after) k.whole ∙ sym k.parts;
+      prefix = ap (λ (q : List Letter). line_letters l ++ q) more.prefix ∙ ap (λ (m : Option Misspelling). letters_until l.text l.tokens (last_letter m) ++ k.after) k.whole ∙ sym k.parts;
       after = more.after;
       long = ap suc more.long;
       whole = (s.0 k.whole, more.whole);

@@ -34,22 +34,22 @@ head_same : (r more : List Letter) → HasLetters r → head (r ++ more) ≡ hea
 head_same [] more h = absurd h
 head_same (l ∷ r) more h = refl
 
-append_to_rest : (front r more : List Letter) (ls : List Letter) → ls ≡ front ++ r → ls ++ more ≡ front ++ (r ++ more)
-append_to_rest front r more ls e = ap (λ (t : List Letter). t ++ more) e ∙ append_assoc front r more
+append_to_rest : (prefix r more : List Letter) (ls : List Letter) → ls ≡ prefix ++ r → ls ++ more ≡ prefix ++ (r ++ more)
+append_to_rest prefix r more ls e = ap (λ (t : List Letter). t ++ more) e ∙ append_assoc prefix r more
 
 module _ {A : Type 0} (f : Form A) (o : Outline) (h : Has f o) where
   -- a value
   pub part_ok : (ls r more : List Letter) (x : A) → read f ls ≡ Ok (x, r) → HasLetters r → read f (ls ++ more) ≡ Ok (x, r ++ more)
   part_ok ls r more x e some =
       let w : Went (read f) (Spells f) ls x r = subst (λ (t : Reads A). By (read f) (Spells f) ls t) e (reading_tells f o h ls) in
-      ap (read f) (append_to_rest w.front r more ls w.parts) ∙ w.stays (r ++ more) (head_same r more some)
+      ap (read f) (append_to_rest w.prefix r more ls w.parts) ∙ w.stays (r ++ more) (head_same r more some)
 
   -- a fault
   pub part_stops : (e : Stop) (ls r more : List Letter) → StopsAs e r (read f ls) → HasLetters r → StopsAs e (r ++ more) (read f (ls ++ more))
   part_stops stops.Memory ls r more e some = tt
   part_stops (stops.Fault c) ls r more e some =
       let w : Stuck (read f) (Spells f) ls c r = subst (λ (t : Reads A). By (read f) (Spells f) ls t) e (reading_tells f o h ls) in
-      ap (read f) (append_to_rest w.front r more ls w.parts) ∙ w.stays (r ++ more) (head_same r more some)
+      ap (read f) (append_to_rest w.prefix r more ls w.parts) ∙ w.stays (r ++ more) (head_same r more some)
 
 -- ---- up to the line's end
 

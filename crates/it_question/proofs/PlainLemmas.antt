@@ -1,7 +1,7 @@
 -- Where a line ends, and what is read of it.
 use Rattle.std.proofs.Common.{◌≡◌, ℕ, zero, suc, ◌-◌, ◌<◌, ◌≤◌, ◌==◌, Bool, true, false, not, cond, List, [], ◌∷◌, ◌++◌, length, take, drop, take_all, refl, sym, ap, ◌∙◌, arith}
 use Rattle.it_syntax.specs.Spelling.{AreAll, Stops}
-use Rattle.it_syntax.specs.Fronts.{IsLongestRun}
+use Rattle.it_syntax.specs.Prefixes.{IsLongestRun}
 use Rattle.it_syntax.proofs.RunLemmas.{all_more, stops_at, stops_end}
 use Rattle.it_question.specs.Lines.{in_front, split_lines, without_return, before_comment}
 use Rattle.it_question.specs.ReaderSteps.{is_other}
@@ -45,23 +45,23 @@ split_at_end (c ∷ []) (suc (suc n)) all e some = ap (λ (t : Bool). cond t ([]
 split_at_end (c ∷ d ∷ bytes) (suc n) all e some = ap (λ (t : Bool). cond t ([] ∷ split_lines (d ∷ bytes)) (in_front c (split_lines (d ∷ bytes)))) (is_same (c == 10) true all.0) ∙ ap (in_front c) (split_at_end (d ∷ bytes) n all.1 e (omega arith))
 
 -- a last carriage return, and a line without one
-pub return_dropped : (front : List ℕ) → without_return (front ++ 13 ∷ []) ≡ front
+pub return_dropped : (prefix : List ℕ) → without_return (prefix ++ 13 ∷ []) ≡ prefix
 return_dropped [] = refl
 return_dropped (b ∷ []) = refl
-return_dropped (b ∷ c ∷ front) = ap (λ (t : List ℕ). b ∷ t) (return_dropped (c ∷ front))
+return_dropped (b ∷ c ∷ prefix) = ap (λ (t : List ℕ). b ∷ t) (return_dropped (c ∷ prefix))
 
-pub no_return_kept : (front : List ℕ) (b : ℕ) → (b == 13) ≡ false → without_return (front ++ b ∷ []) ≡ front ++ b ∷ []
+pub no_return_kept : (prefix : List ℕ) (b : ℕ) → (b == 13) ≡ false → without_return (prefix ++ b ∷ []) ≡ prefix ++ b ∷ []
 no_return_kept [] b e = ap (λ (t : Bool). cond t [] (b ∷ [])) e
 no_return_kept (c ∷ []) b e = ap (λ (t : List ℕ). c ∷ t) (no_return_kept [] b e)
-no_return_kept (c ∷ d ∷ front) b e = ap (λ (t : List ℕ). c ∷ t) (no_return_kept (d ∷ front) b e)
+no_return_kept (c ∷ d ∷ prefix) b e = ap (λ (t : List ℕ). c ∷ t) (no_return_kept (d ∷ prefix) b e)
 
 -- the first of these lines, as a slice is cut
-pub cut_at_feed : (bytes front rest : List ℕ) (n : ℕ) → IsLongestRun (is_other 10) bytes n → front ≡ take n bytes → rest ≡ drop n bytes → 1 ≤ length rest → split_lines bytes ≡ front ∷ split_lines (take (length rest - 1) (drop 1 rest))
-cut_at_feed bytes front [] n r f e some = absurd (omega arith)
-cut_at_feed bytes front (b ∷ rest) n r f e some =
+pub cut_at_feed : (bytes prefix rest : List ℕ) (n : ℕ) → IsLongestRun (is_other 10) bytes n → prefix ≡ take n bytes → rest ≡ drop n bytes → 1 ≤ length rest → split_lines bytes ≡ prefix ∷ split_lines (take (length rest - 1) (drop 1 rest))
+cut_at_feed bytes prefix [] n r f e some = absurd (omega arith)
+cut_at_feed bytes prefix (b ∷ rest) n r f e some =
     let all : take (suc (length rest) - 1) rest ≡ rest = take_all (suc (length rest) - 1) rest (omega arith) in
-    split_at_feed bytes n b rest r.all r.stops (sym e) ∙ ap (λ (t : List ℕ). t ∷ split_lines rest) (sym f) ∙ ap (λ (t : List ℕ). front ∷ split_lines t) (sym all)
+    split_at_feed bytes n b rest r.all r.stops (sym e) ∙ ap (λ (t : List ℕ). t ∷ split_lines rest) (sym f) ∙ ap (λ (t : List ℕ). prefix ∷ split_lines t) (sym all)
 
-pub cut_at_end : (bytes front rest : List ℕ) (n : ℕ) → IsLongestRun (is_other 10) bytes n → front ≡ take n bytes → rest ≡ drop n bytes → length rest < 1 → 1 ≤ length bytes → split_lines bytes ≡ front ∷ split_lines rest
-cut_at_end bytes front [] n r f e none some = split_at_end bytes n r.all (sym e) some ∙ ap (λ (t : List ℕ). t ∷ []) (sym f)
-cut_at_end bytes front (b ∷ rest) n r f e none some = absurd (omega arith)
+pub cut_at_end : (bytes prefix rest : List ℕ) (n : ℕ) → IsLongestRun (is_other 10) bytes n → prefix ≡ take n bytes → rest ≡ drop n bytes → length rest < 1 → 1 ≤ length bytes → split_lines bytes ≡ prefix ∷ split_lines rest
+cut_at_end bytes prefix [] n r f e none some = split_at_end bytes n r.all (sym e) some ∙ ap (λ (t : List ℕ). t ∷ []) (sym f)
+cut_at_end bytes prefix (b ∷ rest) n r f e none some = absurd (omega arith)

@@ -26,15 +26,15 @@ HasLines (suc n) (l ∷ ls) = HasLines (suc n) ls
 
 -- m is letters of this kind, and then k
 pub record Puts (P : List Letter → Type 0) (m k : MarkedLetters) : Type 0 where
-  pub front : MarkedLetters
-  pub is : m ≡ front ++ k
-  pub kind : P (letters front)
+  pub prefix : MarkedLetters
+  pub is : m ≡ prefix ++ k
+  pub kind : P (letters prefix)
 
 pub puts_then : (P Q R : List Letter → Type 0) {m n k : MarkedLetters} → ((a b : List Letter) → P a → Q b → R (a ++ b)) → Puts P m n → Puts Q n k → Puts R m k
 puts_then P Q R {m} {n} {k} join p q = record {
-  front = p.front ++ q.front;
-  is = p.is ∙ ap (λ (t : MarkedLetters). p.front ++ t) q.is ∙ sym (append_assoc p.front q.front k);
-  kind = subst R (sym (letters_append p.front q.front)) (join (letters p.front) (letters q.front) p.kind q.kind);
+  prefix = p.prefix ++ q.prefix;
+  is = p.is ∙ ap (λ (t : MarkedLetters). p.prefix ++ t) q.is ∙ sym (append_assoc p.prefix q.prefix k);
+  kind = subst R (sym (letters_append p.prefix q.prefix)) (join (letters p.prefix) (letters q.prefix) p.kind q.kind);
 }
 
 pub puts_at : {P : List Letter → Type 0} {m n k : MarkedLetters} → Puts P m n → n ≡ k → Puts P m k
@@ -82,14 +82,14 @@ token_among ks End h e = let x = apart_among (LineEnd ∷ FileEnd ∷ []) ks End
 token_among ks (Bad c) h e = let x : is_among (LineEnd ∷ FileEnd ∷ []) (Bad Unfinished) ≡ false = subst (λ (d : Code). is_among (LineEnd ∷ FileEnd ∷ []) (Bad d) ≡ false) (bad_among ks c e) (apart_among (LineEnd ∷ FileEnd ∷ []) ks (Bad c) h e) in absurd cc
 
 pub no_tokens : {m k : MarkedLetters} → m ≡ k → Puts AreTokens m k
-no_tokens e = record { front = []; is = e; kind = tt }
+no_tokens e = record { prefix = []; is = e; kind = tt }
 
 pub tokens_then : {m n k : MarkedLetters} → Puts AreTokens m n → Puts AreTokens n k → Puts AreTokens m k
 tokens_then p q = puts_then AreTokens AreTokens AreTokens join_tokens p q
 
 -- a token that is taken
 pub taken_token : {A : Type 0} (t : Terminal A) (a : A) (m k : MarkedLetters) → NoEndAmong t.kinds → IsTaken t a m k → Puts AreTokens m k
-taken_token t a m k i s = record { front = (s.0, (t.says s.0).0) ∷ []; is = s.3; kind = token_among t.kinds s.0 i s.1 }
+taken_token t a m k i s = record { prefix = (s.0, (t.says s.0).0) ∷ []; is = s.3; kind = token_among t.kinds s.0 i s.1 }
 
 turns_in_line : {A B : Type 0} (t : A → Terminal B) (Step : A → B → A → MarkedLetters → MarkedLetters → Type 0) → ((a : A) → NoEndAmong (t a).kinds) → ((a : A) (b : B) (c : A) (m k : MarkedLetters) → Step a b c m k → Puts AreTokens m k)
     → (n : ℕ) (a y : A) (m k : MarkedLetters) → AreTurns t Step n a y m k → Puts AreTokens m k
@@ -108,11 +108,11 @@ in_line (While ks says step a) i y m k s = turns_in_line (λ a. record { kinds =
 -- ---- whole lines
 
 pub no_lines : {m k : MarkedLetters} → m ≡ k → Puts (HasLines 0) m k
-no_lines e = record { front = []; is = e; kind = tt }
+no_lines e = record { prefix = []; is = e; kind = tt }
 
 -- an end, whatever is said against it
 pub end_puts : {A : Type 0} (t : Terminal A) (a : A) (m k : MarkedLetters) → t.kinds ≡ LineEnd ∷ [] → IsTaken t a m k → Puts (HasLines 1) m k
-end_puts t a m k e s = record { front = (s.0, (t.says s.0).0) ∷ []; is = s.3; kind = by_letter s.0 (subst (λ (ks : List Kind). is_among ks s.0 ≡ true) e s.1) }
+end_puts t a m k e s = record { prefix = (s.0, (t.says s.0).0) ∷ []; is = s.3; kind = by_letter s.0 (subst (λ (ks : List Kind). is_among ks s.0 ≡ true) e s.1) }
   where
     by_letter : (l : Letter) → is_among (LineEnd ∷ []) l ≡ true → HasLines 1 (l ∷ [])
     by_letter End h = tt

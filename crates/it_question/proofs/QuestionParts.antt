@@ -7,7 +7,7 @@ use Rattle.it_forms.specs.Letters.{Letter, Word, MarkedLetters, letters, without
 use Rattle.it_forms.specs.Forms.{Keyword, is_among, AreTurns, Then, Give, Spells}
 use Rattle.it_forms.specs.FormTexts.{Says}
 use Rattle.it_forms.specs.Words.{marked_word, limit_mark}
-use Rattle.it_forms.proofs.FormLanguage.{front_moves}
+use Rattle.it_forms.proofs.FormLanguage.{prefix_moves}
 use Rattle.it_question.specs.Keywords.{vars_keyword}
 use Rattle.it_question.specs.Lines.{LineView, letters_of_lines}
 use Rattle.it_question.specs.QuestionForms.{question, more_questions, file}
@@ -33,14 +33,14 @@ abbrev pub AreAt : List LineView → List BodyView → Type 0
 AreAt lines [] = Unit {0}
 AreAt lines (q ∷ qs) = QuestionAt lines q × AreAt (drop (question_line_count q) lines) qs
 
-same_front : (a b k : MarkedLetters) → a ++ k ≡ b ++ k → a ≡ b
-same_front [] [] k e = refl
-same_front [] (x ∷ b) k e = let l = ap (λ (t : MarkedLetters). length t) e in absurd (omega (arith, l, length-append (x ∷ b) k))
-same_front (x ∷ a) [] k e = let l = ap (λ (t : MarkedLetters). length t) e in absurd (omega (arith, l, length-append (x ∷ a) k))
-same_front (x ∷ a) (y ∷ b) k e =
+same_prefix : (a b k : MarkedLetters) → a ++ k ≡ b ++ k → a ≡ b
+same_prefix [] [] k e = refl
+same_prefix [] (x ∷ b) k e = let l = ap (λ (t : MarkedLetters). length t) e in absurd (omega (arith, l, length-append (x ∷ b) k))
+same_prefix (x ∷ a) [] k e = let l = ap (λ (t : MarkedLetters). length t) e in absurd (omega (arith, l, length-append (x ∷ a) k))
+same_prefix (x ∷ a) (y ∷ b) k e =
     let first : x ≡ y = cc in
     let tails : a ++ k ≡ b ++ k = cc in
-    ap (λ (z : Letter × Option Code). z ∷ a) first ∙ ap (λ (t : MarkedLetters). y ∷ t) (same_front a b k tails)
+    ap (λ (z : Letter × Option Code). z ∷ a) first ∙ ap (λ (t : MarkedLetters). y ∷ t) (same_prefix a b k tails)
 
 the_word : (w : List ℕ) (l : Letter) → is_among (Keyword w ∷ []) l ≡ true → l ≡ Word w
 the_word w (Word v) e = by_test (bytes_eq v w) ((bytes_eq-Decides v w).0) e
@@ -65,16 +65,16 @@ first_question : (q : BodyView) (l : Letter) (mark : Option Code) (p n : MarkedL
 first_question q l mark p n lines word s e sound =
     let i = question_line_count q in
     let lines_of = question_lines q p n s in
-    let moves = front_moves question q p n s in
-    let front : moves.front ≡ lines_of.front = same_front moves.front lines_of.front n (sym moves.is ∙ lines_of.is) in
-    let c = clean_parts ((Word vars_keyword, mark) ∷ lines_of.front) n (letters_of_lines lines) (ap (λ (t : MarkedLetters). (Word vars_keyword, mark) ∷ t) (sym lines_of.is) ∙ ap (λ (x : Letter). (x, mark) ∷ p) (sym word) ∙ e) in
-    let d = letters_of_first_lines i lines (Word vars_keyword ∷ letters lines_of.front) (letters n) (word_before i vars_keyword (letters lines_of.front) (omega arith) lines_of.kind) c.all sound in
-    let clean : lines_of.front ≡ without_marks (letters lines_of.front) = cc in
+    let moves = prefix_moves question q p n s in
+    let prefix : moves.prefix ≡ lines_of.prefix = same_prefix moves.prefix lines_of.prefix n (sym moves.is ∙ lines_of.is) in
+    let c = clean_parts ((Word vars_keyword, mark) ∷ lines_of.prefix) n (letters_of_lines lines) (ap (λ (t : MarkedLetters). (Word vars_keyword, mark) ∷ t) (sym lines_of.is) ∙ ap (λ (x : Letter). (x, mark) ∷ p) (sym word) ∙ e) in
+    let d = letters_of_first_lines i lines (Word vars_keyword ∷ letters lines_of.prefix) (letters n) (word_before i vars_keyword (letters lines_of.prefix) (omega arith) lines_of.kind) c.all sound in
+    let clean : lines_of.prefix ≡ without_marks (letters lines_of.prefix) = cc in
     record {
       at = record {
-        said = letters lines_of.front;
-        first = d.front;
-        says = subst (λ (m : MarkedLetters). Spells question q (m ++ the_end) the_end) (front ∙ clean) (moves.moves the_end);
+        said = letters lines_of.prefix;
+        first = d.prefix;
+        says = subst (λ (m : MarkedLetters). Spells question q (m ++ the_end) the_end) (prefix ∙ clean) (moves.moves the_end);
         long = d.long;
         whole = d.whole;
       };

@@ -28,13 +28,13 @@ first_alone q lines h =
     let says = subst (λ (m : MarkedLetters). Spells file (q ∷ []) m []) spelled (alone q (without_marks h.said) h.says) in
     subst (λ (text : List ℕ). IsFile (first_of q lines).text (record { body = q; text = text } ∷ [])) (ap (λ (i : ℕ). text_of_lines (take i t.again)) (sym h.long) ∙ t.text) (says_file file with_texts (first_of q lines).text t.again (q ∷ []) t.cut says)
 
-one_question_file : (qs : List BodyView) (lines : List LineView) (front rs : List QuestionView) (q : QuestionView) → AreAt lines qs → with_texts lines qs ≡ front ++ q ∷ rs → IsFile q.text (q ∷ [])
+one_question_file : (qs : List BodyView) (lines : List LineView) (prefix rs : List QuestionView) (q : QuestionView) → AreAt lines qs → with_texts lines qs ≡ prefix ++ q ∷ rs → IsFile q.text (q ∷ [])
 unfolding first_of
 one_question_file [] lines [] rs q a h = absurd cc
-one_question_file [] lines (f ∷ front) rs q a h = absurd cc
+one_question_file [] lines (f ∷ prefix) rs q a h = absurd cc
 one_question_file (b ∷ qs) lines [] rs q a h = let first : first_of b lines ≡ q = cc in subst (λ (y : QuestionView). IsFile y.text (y ∷ [])) first (first_alone b lines a.0)
-one_question_file (b ∷ qs) lines (f ∷ front) rs q a h = let tails : with_texts (drop (question_line_count b) lines) qs ≡ front ++ q ∷ rs = cc in one_question_file qs (drop (question_line_count b) lines) front rs q a.1 tails
+one_question_file (b ∷ qs) lines (f ∷ prefix) rs q a h = let tails : with_texts (drop (question_line_count b) lines) qs ≡ prefix ++ q ∷ rs = cc in one_question_file qs (drop (question_line_count b) lines) prefix rs q a.1 tails
 
 pub text_reads_back : TextReadsBack
-text_reads_back bytes qs rs q front asked e =
-    one_question_file asked.tree.0 asked.lines front rs q (questions_at asked.lines asked.tree.0 (lines_sound 1 (split_lines bytes) asked.lines asked.cut) (said file with_texts bytes qs asked)) (asked.says ∙ e)
+text_reads_back bytes qs rs q prefix asked e =
+    one_question_file asked.tree.0 asked.lines prefix rs q (questions_at asked.lines asked.tree.0 (lines_sound 1 (split_lines bytes) asked.lines asked.cut) (said file with_texts bytes qs asked)) (asked.says ∙ e)

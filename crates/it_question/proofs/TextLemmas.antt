@@ -19,8 +19,8 @@ no_blank : (b : ℕ) → (b ≡ 32 → ⊥) → (b == 32) ≡ false
 no_blank b h = grind (arith, nat_tests)
 
 -- a last byte that is a space, and one that is none
-pub last_blank : (line front : List ℕ) (b : ℕ) → line ≡ front ++ b ∷ [] → b ≡ 32 → without_trailing front ≡ without_trailing line
-last_blank line front b h e = sym (after_blank front b (is_blank b e)) ∙ ap without_trailing (sym h)
+pub last_blank : (line prefix : List ℕ) (b : ℕ) → line ≡ prefix ++ b ∷ [] → b ≡ 32 → without_trailing prefix ≡ without_trailing line
+last_blank line prefix b h e = sym (after_blank prefix b (is_blank b e)) ∙ ap without_trailing (sym h)
 
-pub last_kept : (line front : List ℕ) (b : ℕ) → line ≡ front ++ b ∷ [] → (b ≡ 32 → ⊥) → line ≡ without_trailing line
-last_kept line front b h e = h ∙ sym (ends_without_blank front b (no_blank b e)) ∙ ap without_trailing (sym h)
+pub last_kept : (line prefix : List ℕ) (b : ℕ) → line ≡ prefix ++ b ∷ [] → (b ≡ 32 → ⊥) → line ≡ without_trailing line
+last_kept line prefix b h e = h ∙ sym (ends_without_blank prefix b (no_blank b e)) ∙ ap without_trailing (sym h)

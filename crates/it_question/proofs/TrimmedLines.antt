@@ -100,14 +100,14 @@ letter_is kinds.Word line start end text e = ap Word e
 letter_is (kinds.Number n) line start end text e = refl
 letter_is (kinds.Symbol s) line start end text e = refl
 
--- the letter of a token that is cut off what stands after `front`
-cut_letter : (line front : List ℕ) (at : ℕ) (bytes : List ℕ) (t : Token) (rest : List ℕ) → line ≡ front ++ bytes → length front ≡ at → (c : Cut at bytes t rest) → letter_of line t.start t.end t.kind ≡ letter_by t.kind c.text
-cut_letter line front at bytes t rest e n c =
-    let whole : line ≡ (front ++ c.gap) ++ (c.text ++ rest) = e ∙ ap (λ (b : List ℕ). front ++ b) c.whole ∙ sym (append_assoc front c.gap (c.text ++ rest)) in
-    let start : length (front ++ c.gap) ≡ t.start = omega (arith, length-append front c.gap, n, c.start) in
+-- the letter of a token that is cut off what stands after `prefix`
+cut_letter : (line prefix : List ℕ) (at : ℕ) (bytes : List ℕ) (t : Token) (rest : List ℕ) → line ≡ prefix ++ bytes → length prefix ≡ at → (c : Cut at bytes t rest) → letter_of line t.start t.end t.kind ≡ letter_by t.kind c.text
+cut_letter line prefix at bytes t rest e n c =
+    let whole : line ≡ (prefix ++ c.gap) ++ (c.text ++ rest) = e ∙ ap (λ (b : List ℕ). prefix ++ b) c.whole ∙ sym (append_assoc prefix c.gap (c.text ++ rest)) in
+    let start : length (prefix ++ c.gap) ≡ t.start = omega (arith, length-append prefix c.gap, n, c.start) in
     let len : length c.text ≡ t.end - t.start = omega (arith, c.end) in
     letter_is t.kind line t.start t.end c.text
-    (ap (λ (b : List ℕ). take (t.end - t.start) (drop t.start b)) whole ∙ ap (take (t.end - t.start)) (drop_at (front ++ c.gap) (c.text ++ rest) t.start start) ∙ take_at c.text rest (t.end - t.start) len)
+    (ap (λ (b : List ℕ). take (t.end - t.start) (drop t.start b)) whole ∙ ap (take (t.end - t.start)) (drop_at (prefix ++ c.gap) (c.text ++ rest) t.start start) ∙ take_at c.text rest (t.end - t.start) len)
 
 -- ---- other places
 
@@ -115,7 +115,7 @@ cut_letter line front at bytes t rest e n c =
 record Moved (at : ℕ) (bytes : List ℕ) (line : List ℕ) (ts : List Token) : Type 0 where
   tokens : List Token
   spelled : SpellsUntil at bytes tokens None
-  same : (text front : List ℕ) → text ≡ front ++ bytes → length front ≡ at → letters_until text tokens End ≡ letters_until line ts End
+  same : (text prefix : List ℕ) → text ≡ prefix ++ bytes → length prefix ≡ at → letters_until text tokens End ≡ letters_until line ts End
   filled : IsFilled ts None → IsFilled tokens None
 
 cut_trimmed : (at to : ℕ) (bytes : List ℕ) (t : Token) (rest : List ℕ) (c : Cut at bytes t rest) → Cut to (without_trailing bytes) (record { kind = t.kind; start = to + length c.gap; end = to + length c.gap + length c.text }) (without_trailing rest)
@@ -134,25 +134,25 @@ cut_trimmed at to bytes t rest c =
       end = refl;
     }
 
-move_tokens : (line front bytes : List ℕ) (at to : ℕ) (ts : List Token) → line ≡ front ++ bytes → length front ≡ at → SpellsUntil at bytes ts None → Moved to (without_trailing bytes) line ts
+move_tokens : (line prefix bytes : List ℕ) (at to : ℕ) (ts : List Token) → line ≡ prefix ++ bytes → length prefix ≡ at → SpellsUntil at bytes ts None → Moved to (without_trailing bytes) line ts
 unfolding cut_trimmed
-move_tokens line front bytes at to [] e n h = record { tokens = []; spelled = subst (AreAll is_space) (sym (trailing_blank bytes h)) tt; same = λ text front whole len. refl; filled = λ f. f }
-move_tokens line front bytes at to (t ∷ ts) e n h =
+move_tokens line prefix bytes at to [] e n h = record { tokens = []; spelled = subst (AreAll is_space) (sym (trailing_blank bytes h)) tt; same = λ text prefix whole len. refl; filled = λ f. f }
+move_tokens line prefix bytes at to (t ∷ ts) e n h =
     let rest = h.0 in
     let c = h.1 in
     let start = to + length c.gap in
     let end = start + length c.text in
     let cut = cut_trimmed at to bytes t rest c in
-    let whole : (front bytes rest : List ℕ) → bytes ≡ c.gap ++ (c.text ++ rest) → front ++ bytes ≡ (front ++ (c.gap ++ c.text)) ++ rest =
-    λ front bytes rest e. ap (λ (b : List ℕ). front ++ b) (e ∙ sym (append_assoc c.gap c.text rest)) ∙ sym (append_assoc front (c.gap ++ c.text) rest) in
-    let len : (front : List ℕ) → length (front ++ (c.gap ++ c.text)) ≡ length front + (length c.gap + length c.text) =
-    λ front. length-append front (c.gap ++ c.text) ∙ ap (λ (i : ℕ). length front + i) (length-append c.gap c.text) in
-    let more : Moved end (without_trailing rest) line ts = move_tokens line (front ++ (c.gap ++ c.text)) rest t.end end ts (e ∙ whole front bytes rest c.whole) (omega (arith, len front, n, c.start, c.end)) h.2 in
+    let whole : (prefix bytes rest : List ℕ) → bytes ≡ c.gap ++ (c.text ++ rest) → prefix ++ bytes ≡ (prefix ++ (c.gap ++ c.text)) ++ rest =
+    λ prefix bytes rest e. ap (λ (b : List ℕ). prefix ++ b) (e ∙ sym (append_assoc c.gap c.text rest)) ∙ sym (append_assoc prefix (c.gap ++ c.text) rest) in
+    let len : (prefix : List ℕ) → length (prefix ++ (c.gap ++ c.text)) ≡ length prefix + (length c.gap + length c.text) =
+    λ prefix. length-append prefix (c.gap ++ c.text) ∙ ap (λ (i : ℕ). length prefix + i) (length-append c.gap c.text) in
+    let more : Moved end (without_trailing rest) line ts = move_tokens line (prefix ++ (c.gap ++ c.text)) rest t.end end ts (e ∙ whole prefix bytes rest c.whole) (omega (arith, len prefix, n, c.start, c.end)) h.2 in
     record {
       tokens = record { kind = t.kind; start = start; end = end } ∷ more.tokens;
       spelled = (without_trailing rest, cut, more.spelled);
       same = λ text before is long.
-          ap (λ (l : Letter). l ∷ letters_until text more.tokens End) (cut_letter text before to (without_trailing bytes) (record { kind = t.kind; start = start; end = end }) (without_trailing rest) is long cut ∙ sym (cut_letter line front at bytes t rest e n c))
+          ap (λ (l : Letter). l ∷ letters_until text more.tokens End) (cut_letter text before to (without_trailing bytes) (record { kind = t.kind; start = start; end = end }) (without_trailing rest) is long cut ∙ sym (cut_letter line prefix at bytes t rest e n c))
           ∙ ap (λ (ls : List Letter). letter_of line t.start t.end t.kind ∷ ls) (more.same text (before ++ (c.gap ++ c.text)) (is ∙ whole before (without_trailing bytes) (without_trailing rest) cut.whole) (omega (arith, len before, long)));
       filled = λ f. tt;
     }

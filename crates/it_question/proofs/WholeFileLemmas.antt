@@ -81,9 +81,9 @@ module _ {A : Type 0} (f : Form A) (o : Outline) (h : Has f o) (ends : EndsFile 
   nothing_left bytes lines y r cut e =
       let ls = letters_of_lines lines in
       let w : Went (read f) (Spells f) ls y r = subst (λ (t : Reads A). By (read f) (Spells f) ls t) e (reading_tells f o h ls) in
-      let p = (ends y (without_marks w.front ++ []) (w.spells [])).1 in
-      let front : w.front ≡ letters p.front ++ file_end ∷ [] = sym (append-nil w.front) ∙ sym (letters_after w.front []) ∙ ap letters p.is ∙ letters_append p.front the_end in
-      lines_once 1 (split_lines bytes) lines cut (letters p.front) r (w.parts ∙ ap (λ (t : List Letter). t ++ r) front ∙ append_assoc (letters p.front) (file_end ∷ []) r)
+      let p = (ends y (without_marks w.prefix ++ []) (w.spells [])).1 in
+      let prefix : w.prefix ≡ letters p.prefix ++ file_end ∷ [] = sym (append-nil w.prefix) ∙ sym (letters_after w.prefix []) ∙ ap letters p.is ∙ letters_append p.prefix the_end in
+      lines_once 1 (split_lines bytes) lines cut (letters p.prefix) r (w.parts ∙ ap (λ (t : List Letter). t ++ r) prefix ∙ append_assoc (letters p.prefix) (file_end ∷ []) r)
 
   -- a fault leaves letters
   letters_left : (bytes : List ℕ) (lines : List LineView) (c : Code) → AreLinesOf bytes lines → read f (letters_of_lines lines) ≡ Err (c, []) → ⊥
@@ -92,11 +92,11 @@ module _ {A : Type 0} (f : Form A) (o : Outline) (h : Has f o) (ends : EndsFile 
       let w : IsFirstFault f ls c [] = first_fault f o h ls c [] e in
       let end = lines_end 1 (split_lines bytes) lines cut in
       let q = ends w.tree.0 w.tree.1 w.tree.2 in
-      let front : w.front ≡ end.0 ++ file_end ∷ [] = sym (append-nil w.front) ∙ sym w.parts ∙ end.1 in
-      let spelled : letters q.1.front ++ file_end ∷ [] ≡ end.0 ++ file_end ∷ letters w.more =
-      sym (letters_append q.1.front the_end) ∙ ap letters (sym q.1.is ∙ w.viable) ∙ letters_after w.front w.more ∙ ap (λ (t : List Letter). t ++ letters w.more) front ∙ append_assoc end.0 (file_end ∷ []) (letters w.more) in
-      let none : w.more ≡ [] = no_letters w.more (lines_then_end q.0 (letters q.1.front) q.1.kind end.0 (letters w.more) spelled) in
-      let whole : w.tree.1 ≡ without_marks ls = w.viable ∙ ap (λ (m : MarkedLetters). without_marks w.front ++ m) none ∙ append-nil (without_marks w.front) ∙ ap without_marks (sym (append-nil w.front) ∙ sym w.parts) in
+      let prefix : w.prefix ≡ end.0 ++ file_end ∷ [] = sym (append-nil w.prefix) ∙ sym w.parts ∙ end.1 in
+      let spelled : letters q.1.prefix ++ file_end ∷ [] ≡ end.0 ++ file_end ∷ letters w.more =
+      sym (letters_append q.1.prefix the_end) ∙ ap letters (sym q.1.is ∙ w.viable) ∙ letters_after w.prefix w.more ∙ ap (λ (t : List Letter). t ++ letters w.more) prefix ∙ append_assoc end.0 (file_end ∷ []) (letters w.more) in
+      let none : w.more ≡ [] = no_letters w.more (lines_then_end q.0 (letters q.1.prefix) q.1.kind end.0 (letters w.more) spelled) in
+      let whole : w.tree.1 ≡ without_marks ls = w.viable ∙ ap (λ (m : MarkedLetters). without_marks w.prefix ++ m) none ∙ append-nil (without_marks w.prefix) ∙ ap without_marks (sym (append-nil w.prefix) ∙ sym w.parts) in
       let read : read f ls ≡ Ok (w.tree.0, []) = said_is_read f o h ls w.tree.0 (subst (λ (m : MarkedLetters). Spells f w.tree.0 m []) whole w.tree.2) in
       absurd cc
 
@@ -107,7 +107,7 @@ module _ {A : Type 0} (f : Form A) (o : Outline) (h : Has f o) (ends : EndsFile 
   some_left bytes lines (stops.Fault c) [] cut e = absurd (letters_left bytes lines c cut e)
   some_left bytes lines (stops.Fault c) (l ∷ r) cut e =
       let w = first_fault f o h (letters_of_lines lines) c (l ∷ r) e in
-      record { within = omega (arith, ap length w.parts, length-append w.front (l ∷ r)); some = omega (arith, places_length lines, ap length w.parts, length-append w.front (l ∷ r)) }
+      record { within = omega (arith, ap length w.parts, length-append w.prefix (l ∷ r)); some = omega (arith, places_length lines, ap length w.parts, length-append w.prefix (l ∷ r)) }
 
   pub first_form_fault : (bytes : List ℕ) (lines : List LineView) (stop : Stop) (r : List Letter) (fault : FileFault) → AreLinesOf bytes lines → StopsAs stop r (read f (letters_of_lines lines)) → IsStopAt (place_of lines r) stop fault → IsFirstFormFault f bytes fault
   first_form_fault bytes lines stops.Memory r fault cut e at = subst (IsFirstFormFault f bytes) (sym at) tt
@@ -120,7 +120,7 @@ module _ {A : Type 0} (f : Form A) (o : Outline) (h : Has f o) (ends : EndsFile 
   fault_there bytes lines c (l ∷ r) cut e =
       let w = first_fault f o h (letters_of_lines lines) c (l ∷ r) e in
       let i = length (letters_of_lines lines) - length (l ∷ r) in
-      let within : i < length (places_of_lines lines) = omega (arith, places_length lines, ap length w.parts, length-append w.front (l ∷ r)) in
+      let within : i < length (places_of_lines lines) = omega (arith, places_length lines, ap length w.parts, length-append w.prefix (l ∷ r)) in
       let place : ℕ × ℕ = get_or (places_of_lines lines) i (0, 0) in
       (place.0, place.1, c, record { lines = lines; cut = cut; left = l ∷ r; first = w; place = slice_get-get_or (places_of_lines lines) i (0, 0) within })
 
@@ -156,7 +156,7 @@ whole_or_fault spell value bytes y line column c f g =
     let ls = letters_of_lines g.lines in
     let spelled : spell f.tree ≡ without_marks ls = f.spelled ∙ ap (λ (ls : List LineView). without_marks (letters_of_lines ls)) lines in
     let k = g.first.each f.tree g.left refl (ap letters spelled ∙ letters_cleaned ls ∙ g.first.parts) in
-    clean_is_clean ls g.first.front c (k.0, k.1, sym spelled ∙ k.2)
+    clean_is_clean ls g.first.prefix c (k.0, k.1, sym spelled ∙ k.2)
 
 -- ---- a file of at most 1,048,577 bytes has few letters
 

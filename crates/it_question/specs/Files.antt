@@ -41,9 +41,9 @@ FileHasOne = (bytes : List ℕ) → ((qs : List QuestionView) × IsFile bytes qs
 
 -- The text of a question reads as that question alone.
 abbrev pub TextReadsBack : Type 0
-TextReadsBack = (bytes : List ℕ) (qs rs : List QuestionView) (q : QuestionView) (front : List QuestionView) → IsFile bytes qs → qs ≡ front ++ q ∷ rs → IsFile q.text (q ∷ [])
+TextReadsBack = (bytes : List ℕ) (qs rs : List QuestionView) (q : QuestionView) (prefix : List QuestionView) → IsFile bytes qs → qs ≡ prefix ++ q ∷ rs → IsFile q.text (q ∷ [])
 
 -- What says a question says that question alone, between `vars` and the file's end.
 abbrev pub QuestionStandsAlone : Type 0
 QuestionStandsAlone = (q : BodyView) (m k : MarkedLetters) → Spells question q m k
-    → (front : MarkedLetters) × ((m ≡ front ++ k) × Spells file (q ∷ []) (without_mark (Word vars_keyword) ∷ (front ++ without_mark file_end ∷ [])) [])
+    → (prefix : MarkedLetters) × ((m ≡ prefix ++ k) × Spells file (q ∷ []) (without_mark (Word vars_keyword) ∷ (prefix ++ without_mark file_end ∷ [])) [])

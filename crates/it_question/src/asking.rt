@@ -125,10 +125,13 @@ fn add(bodies: &mut Vec<Body>, next: Body) -> Result<(), Stop>
     ensures added { OnOk result (map body_view bodies.new.items ≡ map body_view bodies.old.items ++ body_view next ∷ []) }
     ensures memory { IfErr result (λ e. e ≡ Memory) }
 {
-    // a match, since `?` makes no `Stop` of the error of `push`
+    // a match, since `?` makes no `Stop` of the error of `push`; a call lets the question go, not a step for each of its fields
     match bodies.push(next) {
         Ok(()) => Ok(()),
-        Err(_) => Err(Stop::Memory),
+        Err(failed) => {
+            drop(failed);
+            Err(Stop::Memory)
+        }
     }
 }
 

@@ -4,7 +4,7 @@ use crate::types::{OwnLines, Verb};
 use it_syntax::Names;
 
 /// A question without its text.
-#[derive(Debug, Drop)]
+#[derive(Drop)]
 pub struct Body {
     pub names: Names,
     pub lines: OwnLines,

@@ -7,7 +7,7 @@ use it_syntax::types::LineTokens;
 
 /// A line that has tokens or a misspelling, by its number, counted from 1; its text has neither a comment nor tabs. The last
 /// line of a file is its end: no text and no tokens, with `Unfinished` in the place of a misspelling.
-#[derive(Debug, Drop)]
+#[derive(Drop)]
 pub struct Line {
     pub number: u32,
     pub text: Vec<u8>,

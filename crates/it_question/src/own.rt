@@ -46,7 +46,10 @@ fn add_given(own: &mut OwnLines, given: Given) -> Result<(), Stop>
 {
     match own.givens.push(given) {
         Ok(()) => Ok(()),
-        Err(_) => Err(Stop::Memory),
+        Err(failed) => {
+            drop(failed);
+            Err(Stop::Memory)
+        }
     }
 }
 

@@ -1,6 +1,6 @@
 //! The bytes of lines: where a line ends, and what is read of it.
 ghost use Rattle.std.specs.Prelude.{◌≡◌, ◌≤◌, ◌∷◌, ◌+◌, ◌-◌, ◌<◌, drop, length, IfOk};
-ghost use Rattle.it_syntax.specs.Fronts.{IsLongestRun};
+ghost use Rattle.it_syntax.specs.Prefixes.{IsLongestRun};
 ghost use Rattle.it_question.specs.Lines.{split_lines, without_return, before_comment, without_tab, plain_text};
 ghost use Rattle.it_question.specs.ReaderSteps.{is_other};
 

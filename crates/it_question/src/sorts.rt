@@ -1,7 +1,7 @@
 //! The sorts of names.
 
 /// What a new name is to be.
-#[derive(Clone, Copy, Debug, PartialEq, Eq)]
+#[derive(Clone, Copy)]
 pub enum NameSort {
     /// A random variable, of which there are at most 10.
     Variable,

@@ -118,13 +118,19 @@ fn cut(lines: &[Line], n: usize) -> (&[Line], &[Line])
 fn with_text(alloc: Global, lines: &[Line], body: Body) -> Result<Question, AllocError>
     ensures { IfOk result (λ q. question_view q ≡ record { body = body_view body; text = text_of_lines (map line_view lines.now) }) }
 {
-    let text = text_of(alloc, lines)?;
-    Ok(Question {
-        names: body.names,
-        text,
-        lines: body.lines,
-        verb: body.verb,
-    })
+    // `?` would do; with the match a call lets the body go, not a step for each of its fields
+    match text_of(alloc, lines) {
+        Ok(text) => Ok(Question {
+            names: body.names,
+            text,
+            lines: body.lines,
+            verb: body.verb,
+        }),
+        Err(fault) => {
+            drop(body);
+            Err(fault)
+        }
+    }
 }
 
 /// The questions of these lines, one after the other, with their texts.
@@ -144,7 +150,10 @@ pub fn with_texts(
         let question = with_text(alloc, own, body)?;
         match questions.push(question) {
             Ok(()) => {}
-            Err(_) => return Err(AllocError),
+            Err(failed) => {
+                drop(failed);
+                return Err(AllocError);
+            }
         }
         rest = after;
     }

@@ -7,7 +7,7 @@ use std::alloc::AllocError;
 use thiserror::Error;
 
 /// The constraints of `given` lines and of `row` lines, in order.
-#[derive(Debug, Drop)]
+#[derive(Drop)]
 pub struct OwnLines {
     pub givens: Vec<Given>,
     pub rows: Vec<Relation>,
@@ -15,7 +15,7 @@ pub struct OwnLines {
 
 /// A region of a containment question: the question's names followed by the region's auxiliary variables, how many these
 /// are, and the region's own lines.
-#[derive(Debug, Drop)]
+#[derive(Drop)]
 pub struct Region {
     pub names: Names,
     pub auxiliaries: u8,
@@ -26,7 +26,6 @@ pub struct Region {
 /// were listed; that the first region lies in the second. Each of `tries` is a substitution to be tried first: a set
 /// of the first region's variables for each auxiliary variable of the second region, in order, and the empty set in the
 /// places after those.
-#[derive(Debug, Drop)]
 pub enum Verb {
     Prove(Relation),
     Eliminate(Vec<u8>),
@@ -37,14 +36,40 @@ pub enum Verb {
     },
 }
 
+// written out, so that letting a verb go is one call, and not a step for each field of each variant
+impl Drop for Verb {
+    fn drop(self) {
+        match self {
+            Verb::Prove(_) => {}
+            Verb::Eliminate(_) => {}
+            Verb::Contain {
+                first: _,
+                second: _,
+                tries: _,
+            } => {}
+        }
+    }
+}
+
 /// A question. `text` holds its lines from `vars` to the verb, each from its first token to its last with tabs as spaces,
 /// and a line feed after it; lines without tokens are left out. `lines` are those before the verb or the first region.
-#[derive(Debug, Drop)]
 pub struct Question {
     pub names: Names,
     pub text: Vec<u8>,
     pub lines: OwnLines,
     pub verb: Verb,
+}
+
+// written out, as that of a verb
+impl Drop for Question {
+    fn drop(self) {
+        let Question {
+            names: _,
+            text: _,
+            lines: _,
+            verb: _,
+        } = self;
+    }
 }
 
 /// Why a file has no reading: memory ran out, or its first fault, at a line and a column that are counted from 1.

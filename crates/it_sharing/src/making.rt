@@ -75,10 +75,13 @@ fn knows_nothing(alloc: Global, set: VarSet) -> Result<Given, AllocError>
 fn add(givens: &mut Vec<Given>, given: Given) -> Result<(), AllocError>
     ensures { OnOk result (map given_view givens.new.items ≡ map given_view givens.old.items ++ given_view given ∷ []) }
 {
-    // a match, so that each case is a goal of its own
+    // a match, so that each case is a goal of its own; a call lets the given go, not a step for each of its fields
     match givens.push(given) {
         Ok(()) => Ok(()),
-        Err(_) => Err(AllocError),
+        Err(failed) => {
+            drop(failed);
+            Err(AllocError)
+        }
     }
 }
 

@@ -22,38 +22,38 @@ suc_minus : (a n : ℕ) → n ≤ a → suc a - n ≡ suc (a - n)
 suc_minus a n h = omega (arith, h)
 
 -- what is left of the letters is what is left of the tokens
-suffix_is_of_tokens : (line : List ℕ) (ts : List Token) (last : Letter) (front r : List Letter) (n : ℕ) → letters_until line ts last ≡ front ++ r → length r ≡ suc n → (n ≤ length ts) × (r ≡ letters_until line (drop (length ts - n) ts) last)
+suffix_is_of_tokens : (line : List ℕ) (ts : List Token) (last : Letter) (prefix r : List Letter) (n : ℕ) → letters_until line ts last ≡ prefix ++ r → length r ≡ suc n → (n ≤ length ts) × (r ≡ letters_until line (drop (length ts - n) ts) last)
 suffix_is_of_tokens line ts last [] r n e h =
     let same : suc n ≡ suc (length ts) = sym h ∙ ap length (sym e) ∙ until_length line ts last in
     let none : length ts - n ≡ 0 = omega (arith, same) in
     (omega (arith, same), sym e ∙ ap (λ (i : ℕ). letters_until line (drop i ts) last) (sym none))
-suffix_is_of_tokens line [] last (l ∷ front) r n e h =
-    let total : 1 ≡ suc (length (front ++ r)) = ap length e in
-    let parts = length-append front r in
+suffix_is_of_tokens line [] last (l ∷ prefix) r n e h =
+    let total : 1 ≡ suc (length (prefix ++ r)) = ap length e in
+    let parts = length-append prefix r in
     absurd (omega (arith, total, parts, h))
-suffix_is_of_tokens line (t ∷ ts) last (l ∷ front) r n e h =
-    let tails : letters_until line ts last ≡ front ++ r = cc in
-    let k = suffix_is_of_tokens line ts last front r n tails h in
+suffix_is_of_tokens line (t ∷ ts) last (l ∷ prefix) r n e h =
+    let tails : letters_until line ts last ≡ prefix ++ r = cc in
+    let k = suffix_is_of_tokens line ts last prefix r n tails h in
     (omega (arith, k.0), k.1 ∙ ap (λ (i : ℕ). letters_until line (drop i (t ∷ ts)) last) (sym (suc_minus (length ts) n k.0)))
 
 -- the letters of a line end with those of its last tokens
-split_letters : (line : List ℕ) (ts : List Token) (last : Letter) (n : ℕ) → (front : List Letter) × (letters_until line ts last ≡ front ++ letters_until line (drop n ts) last)
+split_letters : (line : List ℕ) (ts : List Token) (last : Letter) (n : ℕ) → (prefix : List Letter) × (letters_until line ts last ≡ prefix ++ letters_until line (drop n ts) last)
 split_letters line ts last zero = ([], refl)
 split_letters line [] last (suc n) = ([], refl)
 split_letters line (t ∷ ts) last (suc n) = let k = split_letters line ts last n in (letter_of line t.start t.end t.kind ∷ k.0, ap (λ (q : List Letter). letter_of line t.start t.end t.kind ∷ q) k.1)
 
 -- where n tokens are left
-left_is : (line : List ℕ) (ts : LineTokens) (from n : ℕ) (front r : List Letter) → letters_from line ts from ≡ front ++ r → length r ≡ suc n → (n ≤ length ts.tokens.items) × (r ≡ letters_from line ts (length ts.tokens.items - n))
-left_is line ts from n front r e h =
+left_is : (line : List ℕ) (ts : LineTokens) (from n : ℕ) (prefix r : List Letter) → letters_from line ts from ≡ prefix ++ r → length r ≡ suc n → (n ≤ length ts.tokens.items) × (r ≡ letters_from line ts (length ts.tokens.items - n))
+left_is line ts from n prefix r e h =
     let last = last_letter ts.misspelling in
     let k = split_letters line ts.tokens.items last from in
-    suffix_is_of_tokens line ts.tokens.items last (k.0 ++ front) r n (k.1 ∙ ap (λ (q : List Letter). k.0 ++ q) e ∙ sym (append_assoc k.0 front r)) h
+    suffix_is_of_tokens line ts.tokens.items last (k.0 ++ prefix) r n (k.1 ∙ ap (λ (q : List Letter). k.0 ++ q) e ∙ sym (append_assoc k.0 prefix r)) h
 
 -- the fault at the letters r has the place of the token from which they come
 fault_at : {A : Type 0} (f : Form A) (line : List ℕ) (ts : LineTokens) (from n : ℕ) (c : Code) (r : List Letter) → FirstFault (spelling f) (letters_from line ts from) c r → length r ≡ suc n
     → (n ≤ length ts.tokens.items) × FaultAt f line ts from (column_of (drop (length ts.tokens.items - n) ts.tokens.items) (column_after ts.tokens.items ts.misspelling)) c
 fault_at f line ts from n c r w h =
-    let k = left_is line ts from n w.front r w.parts h in (
+    let k = left_is line ts from n w.prefix r w.parts h in (
       k.0,
       record {
         at = length ts.tokens.items - n;

@@ -7,8 +7,8 @@ use Rattle.it_syntax.specs.declared.types.Misspelling.{Misspelling}
 use Rattle.it_syntax.specs.declared.types.Token.{Token}
 use Rattle.it_syntax.specs.declared.types.TokenKind.{TokenKind}
 use Rattle.it_syntax.specs.declared.types.TokenKind.TheVariants as kinds
-use Rattle.it_syntax.specs.Fronts.{IsLongestRun}
-use Rattle.it_syntax.specs.ReaderSteps.{IsTokenFront}
+use Rattle.it_syntax.specs.Prefixes.{IsLongestRun}
+use Rattle.it_syntax.specs.ReaderSteps.{IsTokenPrefix}
 use Rattle.it_syntax.specs.Misspellings.{BeginsNothing, IsWrong, IsMisspellingAt, SpellsUntil, LineTokensAreOne}
 use Rattle.it_syntax.specs.Spans.{InLine}
 use Rattle.std.specs.Char.{is_ascii_alphabetic, is_ascii_digit}
@@ -36,18 +36,18 @@ wrong_some codes.Many h = h.0
 wrong_some codes.Number h = h.0
 wrong_some c h = h
 
-nothing_front : (k : TokenKind) (n : ℕ) (body : List ℕ) → BeginsNothing body → IsTokenFront k n body → ⊥
+nothing_front : (k : TokenKind) (n : ℕ) (body : List ℕ) → BeginsNothing body → IsTokenPrefix k n body → ⊥
 nothing_front k n [] h s = elim h [ ]
 nothing_front kinds.Word n (b ∷ body) h s = let x = h.0 in let y = s.0 in absurd cc
 nothing_front (kinds.Number v) n (b ∷ body) h s = let x = h.1 in let y = s.0 in absurd cc
 nothing_front (kinds.Symbol r) n (b ∷ body) h s = let x = h.3 in let y = s.0 in absurd cc
 
 -- what is wrong is no token
-wrong_front : (c : Code) (k : TokenKind) (n : ℕ) (body : List ℕ) → IsWrong c body → IsTokenFront k n body → ⊥
-wrong_front codes.Byte k n body h s = nothing_front k n body h s
-wrong_front codes.Many k n body h s = word_long h.1.0 body h.0 h.1.1.0 h.1.1.1 k n s
-wrong_front codes.Number k n body h s = number_large h.1.0 body h.0 h.1.1.0 h.1.1.1 k n s
-wrong_front c k n body h s = absurd h
+wrong_prefix : (c : Code) (k : TokenKind) (n : ℕ) (body : List ℕ) → IsWrong c body → IsTokenPrefix k n body → ⊥
+wrong_prefix codes.Byte k n body h s = nothing_front k n body h s
+wrong_prefix codes.Many k n body h s = word_long h.1.0 body h.0 h.1.1.0 h.1.1.1 k n s
+wrong_prefix codes.Number k n body h s = number_large h.1.0 body h.0 h.1.1.0 h.1.1.1 k n s
+wrong_prefix c k n body h s = absurd h
 
 no_letter : (body : List ℕ) → BeginsNothing body → StartsWith is_ascii_alphabetic body → ⊥
 no_letter [] h s = elim h [ ]
@@ -89,7 +89,7 @@ blank_or_wrong at bytes m h k = not_wrong h.body (omega (arith, run_once is_spac
 token_or_wrong : (at : ℕ) (bytes : List ℕ) (m : Misspelling) (t : Token) (rest : List ℕ) → IsMisspellingAt at bytes m → Cut at bytes t rest → ⊥
 token_or_wrong at bytes m t rest h c =
     let f = found_of at (length h.gap) bytes t rest (wrong_run at bytes m h) c in
-    wrong_front m.code t.kind (t.end - t.start) h.body h.wrong (subst (λ (b : List ℕ). IsTokenFront t.kind (t.end - t.start) b) (wrong_body at bytes m h) f.shape)
+    wrong_prefix m.code t.kind (t.end - t.start) h.body h.wrong (subst (λ (b : List ℕ). IsTokenPrefix t.kind (t.end - t.start) b) (wrong_body at bytes m h) f.shape)
 
 misspelling_at : ℕ → Code → Misspelling
 misspelling_at column code = record { column = column; code = code }
@@ -129,7 +129,7 @@ abbrev pub GoesOn : List ℕ → List Token → ℕ → List ℕ → Type 0
 GoesOn line so_far at rest = (ts : List Token) (m : Option Misspelling) → SpellsUntil at rest ts m → SpellsUntil 0 line (so_far ++ ts) m
 
 -- one more token
-pub goes_on_more : (line : List ℕ) (so_far : List Token) (at g n : ℕ) (rest : List ℕ) (t : Token) → IsLongestRun is_space rest g → IsTokenFront t.kind n (drop g rest) → t.start ≡ at + g → t.end ≡ t.start + n
+pub goes_on_more : (line : List ℕ) (so_far : List Token) (at g n : ℕ) (rest : List ℕ) (t : Token) → IsLongestRun is_space rest g → IsTokenPrefix t.kind n (drop g rest) → t.start ≡ at + g → t.end ≡ t.start + n
     → GoesOn line so_far at rest → GoesOn line (so_far ++ t ∷ []) t.end (drop n (drop g rest))
 goes_on_more line so_far at g n rest t run shape start end w ts m h =
     subst (λ (us : List Token). SpellsUntil 0 line us m) (sym (append_assoc so_far (t ∷ []) ts)) (w (t ∷ ts) m (drop n (drop g rest), cut_made at g n rest t run shape start end, h))

@@ -13,8 +13,8 @@ use Rattle.std.specs.Char.{is_ascii_alphabetic, is_ascii_digit}
 use Rattle.it_space.proofs.BoolLemmas.{both_true}
 use Rattle.it_syntax.specs.Spelling.{is_word_byte, is_space, is_greater, AreAll, StartsWith, Stops, IsText, EndsToken, Cut}
 use Rattle.it_forms.specs.SymbolTexts.{symbol_text}
-use Rattle.it_syntax.specs.Fronts.{IsLongestRun, symbol_of, starts_with, find_symbol}
-use Rattle.it_syntax.specs.ReaderSteps.{IsTokenFront}
+use Rattle.it_syntax.specs.Prefixes.{IsLongestRun, symbol_of, starts_with, find_symbol}
+use Rattle.it_syntax.specs.ReaderSteps.{IsTokenPrefix}
 use Rattle.it_syntax.proofs.RunLemmas.{value_digits}
 
 -- ---- runs
@@ -152,14 +152,14 @@ symbol_ends Slash rest e = tt
 
 -- ---- a token in front
 
-starts_front : (f : ℕ → Bool) (text rest : List ℕ) → StartsWith f text → StartsWith f (text ++ rest)
-starts_front f [] rest h = elim h [ ]
-starts_front f (b ∷ text) rest h = h
+starts_prefix : (f : ℕ → Bool) (text rest : List ℕ) → StartsWith f text → StartsWith f (text ++ rest)
+starts_prefix f [] rest h = elim h [ ]
+starts_prefix f (b ∷ text) rest h = h
 
 -- a token and what ends it have a shape
-pub shape_of : (k : TokenKind) (text rest : List ℕ) → IsText k text → EndsToken k rest → IsTokenFront k (length text) (text ++ rest)
-shape_of kinds.Word text rest t e = (starts_front is_ascii_alphabetic text rest t.0, run_of_text is_word_byte text rest t.1 e, t.2)
-shape_of (kinds.Number v) text rest t e = (starts_front is_ascii_digit text rest t.0, run_of_text is_ascii_digit text rest (value_digits 0 text v t.1) e, rw (take_at text rest (length text) refl) t.1, t.2)
+pub shape_of : (k : TokenKind) (text rest : List ℕ) → IsText k text → EndsToken k rest → IsTokenPrefix k (length text) (text ++ rest)
+shape_of kinds.Word text rest t e = (starts_prefix is_ascii_alphabetic text rest t.0, run_of_text is_word_byte text rest t.1 e, t.2)
+shape_of (kinds.Number v) text rest t e = (starts_prefix is_ascii_digit text rest t.0, run_of_text is_ascii_digit text rest (value_digits 0 text v t.1) e, rw (take_at text rest (length text) refl) t.1, t.2)
 shape_of (kinds.Symbol s) text rest t e = (subst (λ (u : List ℕ). symbol_of (u ++ rest) ≡ Some s) (sym t) (symbol_spelled s rest e), ap length t)
 
 starts_take : (f g : ℕ → Bool) (body : List ℕ) (n : ℕ) → StartsWith f body → IsLongestRun g body n → ((b : ℕ) → f b ≡ true → g b ≡ true) → StartsWith f (take n body)
@@ -172,7 +172,7 @@ unfolding is_word_byte
 letter_wordly b h = rw h refl
 
 -- and back
-pub shape_text : (k : TokenKind) (n : ℕ) (body : List ℕ) → IsTokenFront k n body → IsText k (take n body) × (EndsToken k (drop n body) × (n ≤ length body))
+pub shape_text : (k : TokenKind) (n : ℕ) (body : List ℕ) → IsTokenPrefix k n body → IsText k (take n body) × (EndsToken k (drop n body) × (n ≤ length body))
 shape_text kinds.Word n body h = ((starts_take is_ascii_alphabetic is_word_byte body n h.0 h.1 letter_wordly, h.1.all, omega (arith, length-take n body, h.2)), (h.1.stops, h.1.within))
 shape_text (kinds.Number v) n body h = ((starts_take is_ascii_digit is_ascii_digit body n h.0 h.1 (λ b e. e), h.2, h.3), (h.1.stops, h.1.within))
 shape_text (kinds.Symbol s) n body h =
@@ -189,7 +189,7 @@ pub both_starts : (body : List ℕ) → StartsWith is_ascii_alphabetic body → 
 both_starts [] h k = elim h [ ]
 both_starts (b ∷ body) h k = no_both b h k
 
-pub one_shape : (k l : TokenKind) (n m : ℕ) (body : List ℕ) → IsTokenFront k n body → IsTokenFront l m body → (k ≡ l) × (n ≡ m)
+pub one_shape : (k l : TokenKind) (n m : ℕ) (body : List ℕ) → IsTokenPrefix k n body → IsTokenPrefix l m body → (k ≡ l) × (n ≡ m)
 one_shape kinds.Word kinds.Word n m body g h = (refl, run_once is_word_byte body n m g.1 h.1)
 one_shape kinds.Word (kinds.Number v) n m body g h = absurd (both_starts body g.0 h.0)
 one_shape kinds.Word (kinds.Symbol s) n m body g h = absurd (no_letter s _ (first_letter is_ascii_alphabetic s body h.0 g.0))
@@ -236,7 +236,7 @@ text_stops (kinds.Symbol s) text rest t = subst (λ (u : List ℕ). Stops is_spa
 
 -- what a cut tells of the bytes after the spaces
 pub record Found (at g : ℕ) (body : List ℕ) (t : Token) (rest : List ℕ) : Type 0 where
-  pub shape : IsTokenFront t.kind (t.end - t.start) body
+  pub shape : IsTokenPrefix t.kind (t.end - t.start) body
   pub start : t.start ≡ at + g
   pub end : t.end ≡ t.start + (t.end - t.start)
   pub rest_is : rest ≡ drop (t.end - t.start) body
@@ -248,16 +248,16 @@ found_of at g bytes t rest r c =
     let gap_is : length c.gap ≡ g = run_once is_space bytes (length c.gap) g gap_run r in
     let body_is : drop g bytes ≡ c.text ++ rest = ap (λ (b : List ℕ). drop g b) c.whole ∙ drop_at c.gap (c.text ++ rest) g gap_is in
     let n_is : t.end - t.start ≡ length c.text = omega (arith, c.end) in
-    let s : IsTokenFront t.kind (length c.text) (c.text ++ rest) = shape_of t.kind c.text rest c.spelled c.ends in
+    let s : IsTokenPrefix t.kind (length c.text) (c.text ++ rest) = shape_of t.kind c.text rest c.spelled c.ends in
     record {
-      shape = subst (λ (b : List ℕ). IsTokenFront t.kind (t.end - t.start) b) (sym body_is) (subst (λ (n : ℕ). IsTokenFront t.kind n (c.text ++ rest)) (sym n_is) s);
+      shape = subst (λ (b : List ℕ). IsTokenPrefix t.kind (t.end - t.start) b) (sym body_is) (subst (λ (n : ℕ). IsTokenPrefix t.kind n (c.text ++ rest)) (sym n_is) s);
       start = c.start ∙ ap (λ (n : ℕ). at + n) gap_is;
       end = omega (arith, c.end);
       rest_is = sym (ap (λ (b : List ℕ). drop (t.end - t.start) b) body_is ∙ drop_at c.text rest (t.end - t.start) (sym n_is));
     }
 
 -- a shape after the spaces is a cut
-pub cut_made : (at g n : ℕ) (bytes : List ℕ) (t : Token) → IsLongestRun is_space bytes g → IsTokenFront t.kind n (drop g bytes) → t.start ≡ at + g → t.end ≡ t.start + n → Cut at bytes t (drop n (drop g bytes))
+pub cut_made : (at g n : ℕ) (bytes : List ℕ) (t : Token) → IsLongestRun is_space bytes g → IsTokenPrefix t.kind n (drop g bytes) → t.start ≡ at + g → t.end ≡ t.start + n → Cut at bytes t (drop n (drop g bytes))
 cut_made at g n bytes t r s start end =
     let x = shape_text t.kind n (drop g bytes) s in
     record {
@@ -289,7 +289,7 @@ one_cut at bytes g t u r s run c d =
     (same_token t u one.0 start_is end_is, f.rest_is ∙ ap (λ (n : ℕ). drop n (drop g bytes)) one.1 ∙ sym h.rest_is)
 
 -- a token has bytes
-pub shape_some : (k : TokenKind) (n : ℕ) (body : List ℕ) → IsTokenFront k n body → 0 < n
+pub shape_some : (k : TokenKind) (n : ℕ) (body : List ℕ) → IsTokenPrefix k n body → 0 < n
 shape_some k n body h = text_some k n (take n body) (shape_text k n body h).0 (omega (arith, length-take n body, (shape_text k n body h).1.1))
   where
     text_some : (k : TokenKind) (n : ℕ) (text : List ℕ) → IsText k text → length text ≡ n → 0 < n
@@ -324,13 +324,13 @@ blank_none at g rest t r run c h =
     omega (arith, length-drop g rest, e, shape_some t.kind (t.end - t.start) (drop g rest) f.shape, (shape_text t.kind (t.end - t.start) (drop g rest) f.shape).1.1)
 
 -- a word past the limit in front, and yet no token
-pub word_long : (n : ℕ) (body : List ℕ) → StartsWith is_ascii_alphabetic body → IsLongestRun is_word_byte body n → 16 < n → (k : TokenKind) (m : ℕ) → IsTokenFront k m body → ⊥
+pub word_long : (n : ℕ) (body : List ℕ) → StartsWith is_ascii_alphabetic body → IsLongestRun is_word_byte body n → 16 < n → (k : TokenKind) (m : ℕ) → IsTokenPrefix k m body → ⊥
 word_long n body h r lt kinds.Word m s = omega (arith, run_once is_word_byte body n m r s.1, s.2)
 word_long n body h r lt (kinds.Number v) m s = both_starts body h s.0
 word_long n body h r lt (kinds.Symbol x) m s = no_letter x _ (first_letter is_ascii_alphabetic x body s.0 h)
 
 -- a number past the limit in front, and yet no token
-pub number_large : (n : ℕ) (body : List ℕ) → StartsWith is_ascii_digit body → IsLongestRun is_ascii_digit body n → IsSomeAnd (value_from 0 (take n body)) (λ v. 2 ^ 64 ≤ v) → (k : TokenKind) (m : ℕ) → IsTokenFront k m body → ⊥
+pub number_large : (n : ℕ) (body : List ℕ) → StartsWith is_ascii_digit body → IsLongestRun is_ascii_digit body n → IsSomeAnd (value_from 0 (take n body)) (λ v. 2 ^ 64 ≤ v) → (k : TokenKind) (m : ℕ) → IsTokenPrefix k m body → ⊥
 number_large n body h r le kinds.Word m s = both_starts body s.0 h
 number_large n body h r le (kinds.Number v) m s =
     let same : value_from 0 (take n body) ≡ Some v = ap (λ (i : ℕ). value_from 0 (take i body)) (run_once is_ascii_digit body n m r s.1) ∙ s.2 in

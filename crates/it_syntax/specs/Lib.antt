@@ -1,7 +1,7 @@
 pub mod NamesViews
 pub mod Meaning
 pub mod Spelling
-pub mod Fronts
+pub mod Prefixes
 pub mod Spans
 pub mod NameMarks
 pub mod Gives

@@ -8,7 +8,7 @@ use Rattle.it_syntax.specs.declared.types.Misspelling.{Misspelling}
 use Rattle.it_syntax.specs.declared.types.Token.{Token}
 use Rattle.it_syntax.specs.declared.types.SyntaxFault.{SyntaxFault}
 use Rattle.it_syntax.specs.declared.types.SyntaxFault.TheVariants.{Memory, Fault}
-use Rattle.it_syntax.specs.Fronts.{IsLongestRun, symbol_of}
+use Rattle.it_syntax.specs.Prefixes.{IsLongestRun, symbol_of}
 use Rattle.std.specs.Char.{is_ascii_alphabetic, is_ascii_digit}
 use Rattle.it_syntax.specs.Spelling.{is_word_byte, is_space, AreAll, StartsWith, Cut}
 

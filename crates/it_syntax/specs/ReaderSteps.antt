@@ -12,7 +12,7 @@ use Rattle.it_syntax.specs.declared.types.Term.{Term}
 use Rattle.it_syntax.specs.declared.types.Token.{Token}
 use Rattle.it_syntax.specs.declared.types.TokenKind.{TokenKind}
 use Rattle.it_syntax.specs.declared.types.TokenKind.TheVariants as kinds
-use Rattle.it_syntax.specs.Fronts.{IsLongestRun, symbol_of}
+use Rattle.it_syntax.specs.Prefixes.{IsLongestRun, symbol_of}
 use Rattle.it_syntax.specs.LineForms.{signs, is_minus, denominator, counted, atom, atom_or_nothing}
 use Rattle.it_syntax.specs.Scopes.{Scope}
 use Rattle.it_syntax.specs.Spelling.{is_word_byte, StartsWith}
@@ -31,10 +31,10 @@ HasLength (pieces.Word w) = (1 ≤ length w.now) × (length w.now ≤ 16)
 HasLength p = Unit {0}
 
 -- a token of this kind, of n bytes, stands in front, as long as it can be
-abbrev pub IsTokenFront : TokenKind → ℕ → List ℕ → Type 0
-IsTokenFront kinds.Word n body = StartsWith is_ascii_alphabetic body × IsLongestRun is_word_byte body n × (n ≤ 16)
-IsTokenFront (kinds.Number v) n body = StartsWith is_ascii_digit body × IsLongestRun is_ascii_digit body n × (value_from 0 (take n body) ≡ Some v) × (v < 2 ^ 64)
-IsTokenFront (kinds.Symbol s) n body = (symbol_of body ≡ Some s) × (n ≡ length (symbol_text s))
+abbrev pub IsTokenPrefix : TokenKind → ℕ → List ℕ → Type 0
+IsTokenPrefix kinds.Word n body = StartsWith is_ascii_alphabetic body × IsLongestRun is_word_byte body n × (n ≤ 16)
+IsTokenPrefix (kinds.Number v) n body = StartsWith is_ascii_digit body × IsLongestRun is_ascii_digit body n × (value_from 0 (take n body) ≡ Some v) × (v < 2 ^ 64)
+IsTokenPrefix (kinds.Symbol s) n body = (symbol_of body ≡ Some s) × (n ≡ length (symbol_text s))
 
 -- the bytes that a token takes
 abbrev pub token_text : List ℕ → Token → List ℕ

@@ -1,7 +1,7 @@
 //! The tokens of a line.
 ghost use Rattle.std.specs.Prelude.{◌≡◌, ◌≤◌, ◌<◌, ◌^◌, length, drop, Some, None, IfOk, IfErr, IfSome, IfNone, IsSomeAnd};
 ghost use Rattle.it_number.specs.Decimals.{value_from};
-ghost use Rattle.it_syntax.specs.ReaderSteps.{IsTokenFront};
+ghost use Rattle.it_syntax.specs.ReaderSteps.{IsTokenPrefix};
 ghost use Rattle.it_syntax.specs.Misspellings.{IsWrong, SpellsUntil, IsMisspelled};
 ghost use Rattle.it_syntax.specs.Spans.{InLine};
 ghost use Rattle.std.specs.Char.{is_ascii_alphabetic, is_ascii_digit};
@@ -50,7 +50,7 @@ fn value(text: &[u8]) -> Option<u64>
 /// The word in front and its length, or `Many` for more than 16 bytes.
 fn word(body: &[u8]) -> Result<(TokenKind, usize), Code>
     requires { StartsWith is_ascii_alphabetic body.now }
-    ensures shape { IfOk result (λ x. IsTokenFront x.0 x.1 body.now) }
+    ensures shape { IfOk result (λ x. IsTokenPrefix x.0 x.1 body.now) }
     ensures wrong { IfErr result (λ c. IsWrong c body.now) }
 {
     let n = word_bytes(body);
@@ -64,7 +64,7 @@ fn word(body: &[u8]) -> Result<(TokenKind, usize), Code>
 /// The number in front and its length, or `Number` for one above 2^64 - 1.
 fn number(body: &[u8]) -> Result<(TokenKind, usize), Code>
     requires { StartsWith is_ascii_digit body.now }
-    ensures shape { IfOk result (λ x. IsTokenFront x.0 x.1 body.now) }
+    ensures shape { IfOk result (λ x. IsTokenPrefix x.0 x.1 body.now) }
     ensures wrong { IfErr result (λ c. IsWrong c body.now) }
 {
     let n = digits(body);
@@ -78,7 +78,7 @@ fn number(body: &[u8]) -> Result<(TokenKind, usize), Code>
 fn front(body: &[u8]) -> Result<(TokenKind, usize), Code>
     requires some { 1 ≤ length body.now }
     requires stops { Stops is_space body.now }
-    ensures shape { IfOk result (λ x. IsTokenFront x.0 x.1 body.now) }
+    ensures shape { IfOk result (λ x. IsTokenPrefix x.0 x.1 body.now) }
     ensures wrong { IfErr result (λ c. IsWrong c body.now) }
 {
     match body {

@@ -8,11 +8,21 @@ use std::alloc::{AllocError, Global};
 use std::marker::Model;
 
 /// The variables and rates of a question by name, each kind counted from 0 in order of declaration.
-#[derive(Debug, Drop)]
 pub struct Names {
     alloc: Global,
     variables: IndexSet<Vec<u8>>,
     rates: IndexSet<Vec<u8>>,
+}
+
+// written out, so that letting names go is one call, and not a step for each field of the two sets
+impl Drop for Names {
+    fn drop(self) {
+        let Names {
+            alloc: _,
+            variables: _,
+            rates: _,
+        } = self;
+    }
 }
 
 impl Model for Names {

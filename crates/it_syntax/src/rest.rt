@@ -4,7 +4,7 @@ ghost use Rattle.it_syntax.specs.Spans.{InLine, InLine-prop};
 use crate::types::{Code, Misspelling, Symbol, Token};
 
 /// A piece of a line: a token, a misspelling, or the line's end.
-#[derive(Clone, Copy, Debug)]
+#[derive(Clone, Copy)]
 pub enum Piece<'a> {
     Word(&'a [u8]),
     Number(u64),
@@ -24,7 +24,7 @@ pub struct Rest<'a> {
 }
 
 /// Why a reader stopped: memory, or a fault at the first of what is left.
-#[derive(Clone, Copy, Debug)]
+#[derive(Clone, Copy)]
 pub enum Stop {
     Memory,
     Fault(Code),

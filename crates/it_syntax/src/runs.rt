@@ -2,7 +2,7 @@
 ghost use Rattle.std.specs.Prelude.{◌≡◌};
 ghost use Rattle.std.specs.Char.{is_ascii_alphabetic, is_ascii_digit};
 ghost use Rattle.it_syntax.specs.Spelling.{is_word_byte, is_space};
-ghost use Rattle.it_syntax.specs.Fronts.{IsLongestRun, symbol_of};
+ghost use Rattle.it_syntax.specs.Prefixes.{IsLongestRun, symbol_of};
 
 use crate::types::Symbol;
 
@@ -54,7 +54,7 @@ pub fn digits(bytes: &[u8]) -> usize
 }
 
 /// The longest symbol in front.
-#[tactic(auto, unfolding(crate::specs::Fronts::symbol_of))]
+#[tactic(auto, unfolding(crate::specs::Prefixes::symbol_of))]
 pub fn symbol(bytes: &[u8]) -> Option<Symbol>
     ensures { result ≡ symbol_of bytes.now }
 {

@@ -22,14 +22,14 @@ pub struct Token {
 
 /// Where a line has no token: a byte that begins none (`Byte`), a number that is too large (`Number`) or a word that is
 /// too long (`Many`), at a column counted from 1.
-#[derive(Clone, Copy, Debug, PartialEq, Eq)]
+#[derive(Clone, Copy)]
 pub struct Misspelling {
     pub column: u32,
     pub code: Code,
 }
 
 /// The tokens of a line up to its first misspelling, if it has one.
-#[derive(Debug, Drop)]
+#[derive(Drop)]
 pub struct LineTokens {
     pub tokens: Vec<Token>,
     pub misspelling: Option<Misspelling>,
@@ -65,7 +65,7 @@ impl<T: Drop> From<AllocFailed<T>> for SyntaxFault {
 }
 
 /// How the sides of a relation compare: `>=`, `<=` or `=`.
-#[derive(Clone, Copy, Debug, PartialEq, Eq)]
+#[derive(Clone, Copy, PartialEq, Eq)]
 pub enum Sign {
     AtLeast,
     AtMost,
@@ -99,13 +99,13 @@ pub struct Term {
 }
 
 /// One side of a relation: the sum of its terms, as they were written.
-#[derive(Debug, Drop)]
+#[derive(Drop)]
 pub struct Expr {
     pub terms: Vec<Term>,
 }
 
 /// Two sums and the sign between them.
-#[derive(Debug, Drop)]
+#[derive(Drop)]
 pub struct Relation {
     pub left: Expr,
     pub sign: Sign,
@@ -114,10 +114,27 @@ pub struct Relation {
 
 /// A constraint as it was written: a relation; a chain of sets, each of which is all that the next depends on; sets that
 /// are independent given another, which is empty where none is named; a set that is a function of another.
-#[derive(Debug, Drop)]
 pub enum Given {
     Relation(Relation),
     Markov(Vec<VarSet>),
     Independent { members: Vec<VarSet>, given: VarSet },
     Function { value: VarSet, argument: VarSet },
+}
+
+// written out, so that letting a constraint go is one call, and not a step for each field of each variant
+impl Drop for Given {
+    fn drop(self) {
+        match self {
+            Given::Relation(_) => {}
+            Given::Markov(_) => {}
+            Given::Independent {
+                members: _,
+                given: _,
+            } => {}
+            Given::Function {
+                value: _,
+                argument: _,
+            } => {}
+        }
+    }
 }

@@ -1,7 +1,7 @@
 use Rattle.std.proofs.Common.{◌≡◌, ◌+◌, ℕ, List, length, drop, length-drop, subst, sym, ap, refl, ◌∙◌, arith, None, Some}
 use Rattle.it_syntax.specs.declared.types.Misspelling.{Misspelling}
 use Rattle.it_syntax.specs.declared.types.Token.{Token}
-use Rattle.it_syntax.specs.ReaderSteps.{IsTokenFront}
+use Rattle.it_syntax.specs.ReaderSteps.{IsTokenPrefix}
 use Rattle.it_syntax.specs.Misspellings.{IsWrong}
 use Rattle.it_syntax.proofs.MisspellingLemmas.{GoesOn, goes_on_more, ends_blank, ends_wrong, until_in_line}
 use Rattle.it_syntax.proofs.TokenLemmas.{shape_some, shape_text, empty_len}
@@ -37,7 +37,7 @@ loop-body-preserved c =
     let n = c.in-Ok.shape.1 in
     let start = c.loop-body.at + c.spaces-gap.result in
     let t : Token = record { kind = c.in-Ok.shape.0; start = start; end = start + n } in
-    let shape : IsTokenFront c.in-Ok.shape.0 n (drop c.spaces-gap.result c.loop-body.rest.now) = subst (λ (b : List ℕ). IsTokenFront c.in-Ok.shape.0 n b) c.bytes_after-body.ensures c.in-Ok.ensures.shape in
+    let shape : IsTokenPrefix c.in-Ok.shape.0 n (drop c.spaces-gap.result c.loop-body.rest.now) = subst (λ (b : List ℕ). IsTokenPrefix c.in-Ok.shape.0 n b) c.bytes_after-body.ensures c.in-Ok.ensures.shape in
     let w = goes_on_more c.args.line.now c.loop-body.tokens.items c.loop-body.at c.spaces-gap.result n c.loop-body.rest.now t c.spaces-gap.ensures shape refl refl c.loop-body.invariant.0 in
     let rest_is : c.bytes_after-rest.result.now ≡ drop n (drop c.spaces-gap.result c.loop-body.rest.now) = c.bytes_after-rest.ensures ∙ ap (drop n) c.bytes_after-body.ensures in (
       subst (λ (r : List ℕ). GoesOn c.args.line.now c.push.new.self.items (start + n) r) (sym rest_is) (subst (λ (ts : List Token). GoesOn c.args.line.now ts (start + n) (drop n (drop c.spaces-gap.result c.loop-body.rest.now))) (sym c.in-Ok-push.ensures.items) w),
