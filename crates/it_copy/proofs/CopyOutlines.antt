@@ -1,14 +1,14 @@
--- The outlines of the forms of a line that asks for a copy.
+-- The outlines of the forms of files with a head.
 use Rattle.std.proofs.Common.{ℕ, false, List, [], ◌∷◌, refl}
 use Rattle.it_forms.specs.declared.types.Symbol.TheVariants.{Comma}
 use Rattle.it_forms.specs.Letters.{Word}
-use Rattle.it_copy.specs.CopyForms.{member, more_members, over, copy, copy_line, more_copies, copy_file}
+use Rattle.it_copy.specs.CopyForms.{member, more_members, over, copy, more_copies, copy_file}
 use Rattle.it_syntax.proofs.LineOutlines.{a_name}
-use Rattle.it_question.proofs.QuestionOutlines.{word_has, marked_word_has, file_has}
+use Rattle.it_question.proofs.QuestionOutlines.{word_has, file_has}
 use Rattle.it_question.specs.Keywords.{vars_keyword}
 use Rattle.it_copy.specs.CopyLines.{CopyView, copy_keyword, of_keyword, over_keyword}
 use Rattle.it_forms.specs.Forms.{Keyword, Punctuation, WordBut, Zero, FileEnd}
-use Rattle.it_forms.proofs.Outlines.{Outline, nothing, one_of, one_then, repeated, Has, has_give, has_take, has_then, has_if, has_while, end_has}
+use Rattle.it_forms.proofs.Outlines.{nothing, one_of, one_then, repeated, Has, has_give, has_take, has_then, has_if, has_while, end_has}
 
 member_has : (n : ℕ) → Has (member n) a_name
 unfolding member
@@ -24,14 +24,7 @@ copy_has =
     has_then _ _ _ _ (member_has _) (λ fresh. has_then _ _ _ _ (word_has of_keyword refl) (λ u. has_then _ _ _ _ (member_has _) (λ old.
     has_then _ _ _ _ (word_has over_keyword refl) (λ u. has_then _ _ _ _ over_has (λ set. has_give _) refl) refl) refl) refl) refl
 
-abbrev pub a_copy : Outline
-a_copy = record { begins = Keyword copy_keyword ∷ []; skips = false; goes = Punctuation Comma ∷ [] }
-
-pub copy_line_has : (n : ℕ) → Has (copy_line n) a_copy
-unfolding copy_line
-copy_line_has n = has_then _ _ _ _ (marked_word_has copy_keyword _ refl) (λ u. copy_has) refl
-
-copies_has : (cs : List CopyView) → Has (more_copies cs) (repeated (Keyword copy_keyword ∷ []) (one_then (one_of (WordBut [] ∷ [])) nothing))
+pub copies_has : (cs : List CopyView) → Has (more_copies cs) (repeated (Keyword copy_keyword ∷ []) (one_then (one_of (WordBut [] ∷ [])) nothing))
 unfolding more_copies
 copies_has cs = has_while _ _ _ _ _ (λ cs u. has_then _ _ _ _ (has_then _ _ _ _ copy_has (λ c. has_then _ _ _ _ end_has (λ u. has_give _) refl) refl) (λ c. has_give _) refl) refl
 

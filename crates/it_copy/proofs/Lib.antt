@@ -1,8 +1,4 @@
-pub mod CopyLineLemmas
 pub mod MemberLemmas
-pub mod HeadLemmas
-pub mod HeadLaws
-pub mod NumberLemmas
 pub mod EquationLemmas
 pub mod PlaceLemmas
 pub mod LimitLemmas
@@ -12,4 +8,6 @@ pub mod PointLemmas
 pub mod MisfitLemmas
 pub mod SizeLemmas
 pub mod CopyOutlines
+pub mod StartLemmas
 pub mod CopyFileLemmas
+pub mod HeadLemmas

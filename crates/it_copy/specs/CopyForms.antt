@@ -7,7 +7,7 @@ use Rattle.it_question.specs.QuestionForms.{file}
 use Rattle.it_question.specs.Questions.{BodyView}
 use Rattle.it_copy.specs.CopyLines.{CopyView, most_copies, copy_keyword, of_keyword, over_keyword, most_members, member_mark}
 use Rattle.it_forms.specs.Forms.{Form, Give, Take, If}
-use Rattle.it_forms.specs.Words.{◌>>=◌, ◌>>◌, word, marked_word, any_word, each_after, each_marked, to_end, zero_alone, limit_mark}
+use Rattle.it_forms.specs.Words.{◌>>=◌, ◌>>◌, word, any_word, each_after, each_marked, to_end, zero_alone, limit_mark}
 
 -- a name, of which n are allowed
 unfoldable pub member : ℕ → Form (List ℕ)
@@ -30,10 +30,6 @@ copy = do
   Take (word over_keyword)
   set ← over
   Give (record { fresh = fresh; old = old; over = set })
-
--- a line but for its end, of which n are allowed
-unfoldable pub copy_line : ℕ → Form CopyView
-copy_line n = Take (marked_word copy_keyword (limit_mark n)) >> copy
 
 -- lines that ask for copies, after others
 unfoldable pub more_copies : List CopyView → Form (List CopyView)

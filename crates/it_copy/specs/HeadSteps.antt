@@ -1,18 +1,19 @@
--- What the functions that read the head say of one line. No public clause cites it.
-use Rattle.std.specs.Prelude.{◌≡◌, ℕ, ◌-◌, List, [], ◌∷◌, ◌++◌, length, ◌⊎◌}
-use Rattle.it_syntax.specs.declared.types.LineTokens.{LineTokens}
-use Rattle.it_syntax.specs.Lines.{FaultAt}
-use Rattle.it_question.specs.declared.types.FileFault.{FileFault}
-use Rattle.it_question.specs.declared.types.FileFault.TheVariants.{Memory, Fault}
-use Rattle.it_copy.specs.CopyLines.{CopyView, most_copies}
-use Rattle.it_copy.specs.Heads.{HasNoTokens, IsCopyLine, head_line}
+-- What the reader of the head says where it stops. No public clause cites it.
+use Rattle.std.specs.Prelude.{◌≡◌, true, List, [], Ok}
+use Rattle.it_forms.specs.FormReading.{read}
+use Rattle.it_forms.specs.Letters.{Letter}
+use Rattle.it_syntax.specs.declared.rest.Stop.{Stop}
+use Rattle.it_syntax.specs.Gives.{StopsAs}
+use Rattle.it_question.specs.Stops.{IfFault}
+use Rattle.it_copy.specs.CopyForms.{more_copies, copy_file}
+use Rattle.it_copy.specs.CopyLines.{CopyView}
+use Rattle.it_copy.specs.Heads.{begins_questions}
 
--- what a line with tokens adds to the copies before it: nothing where it is empty, and else its copy
-abbrev pub AddsLine : List ℕ → LineTokens → List CopyView → List CopyView → Type 0
-AddsLine text ts before after = (HasNoTokens ts.tokens.items ts.misspelling × (after ≡ before))
-    ⊎ ((c : CopyView) × IsCopyLine (most_copies - length before) text ts c × (after ≡ before ++ c ∷ []))
+-- no head is read of these letters
+abbrev pub ReadsNoHead : List Letter → Type 0
+ReadsNoHead ls = (cs : List CopyView) (r : List Letter) → read (more_copies []) ls ≡ Ok (cs, r) → begins_questions r ≡ true → ⊥
 
--- of an error at a line of this number: memory ran out, or it is the line's first fault
-abbrev pub IsLineFault : ℕ → List ℕ → LineTokens → ℕ → FileFault → Type 0
-IsLineFault number text ts before Memory = Unit {0}
-IsLineFault number text ts before (Fault line column code) = (HasNoTokens ts.tokens.items ts.misspelling → ⊥) × (line ≡ number) × FaultAt (head_line (most_copies - before)) text ts 0 column code
+-- the file's reading stops so too, and no head is read
+pub record StopsInHead (stop : Stop) (rest ls : List Letter) : Type 0 where
+  pub stops : StopsAs stop rest (read copy_file ls)
+  pub none : IfFault stop (ReadsNoHead ls)

@@ -7,4 +7,3 @@ pub mod Extensions
 pub mod ExtensionSteps
 pub mod Points
 pub mod CopyForms
-pub mod CopyTables

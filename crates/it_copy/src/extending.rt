@@ -18,6 +18,7 @@ use crate::equations::add_equations;
 use crate::types::{CopyFault, CopyLine};
 use it_canon::problem;
 use it_closure::size;
+use it_question::readers::MOST_LINES;
 use it_question::types::{OwnLines, Question, Verb};
 use it_space::{Problem, VarSet};
 use it_syntax::types::{Given, Relation};
@@ -26,9 +27,6 @@ use std::alloc::{AllocError, Global};
 
 /// The most variables of a question.
 const MOST_VARIABLES: u8 = 10;
-
-/// The most constraints of a question.
-const MOST_GIVENS: usize = 64;
 
 /// The most entries of a question's first table.
 const MOST_ENTRIES: u64 = 4000000;
@@ -216,7 +214,7 @@ fn judge_limits(alloc: Global, question: &Question) -> Result<(), CopyFault>
     ensures small { OnOk result (IsLargeBy (question_body question.now) false) }
     ensures past { IfErr result (IsPastLimits (question_body question.now)) }
 {
-    if question.lines.givens.len() > MOST_GIVENS {
+    if question.lines.givens.len() > MOST_LINES {
         return Err(CopyFault::Many);
     }
     judge_size(alloc, question)

@@ -1,114 +1,80 @@
-//! The head of a file.
-ghost use Rattle.std.specs.Bool.{OnTrue, OnFalse};
-ghost use Rattle.std.specs.Prelude.{◌≡◌, ◌≤◌, ◌++◌, [], ◌∷◌, IfOk, IfErr, OnOk, length, map};
-ghost use Rattle.it_question.specs.declared.types.FileFault.TheVariants.{Memory};
-ghost use Rattle.it_question.specs.Lines.{plain_text};
-ghost use Rattle.it_syntax.specs.Spans.{InLine};
+//! The reader of the head of a file.
+ghost use Rattle.std.specs.Prelude.{◌≡◌, ◌≤◌, [], drop, true, IfOk, IfErr, OnOk, length, map, Ok};
+ghost use Rattle.it_forms.specs.FormReading.{read};
+ghost use Rattle.it_question.specs.Cursors.{letters_left, line_view};
+ghost use Rattle.it_question.specs.Lines.{split_lines};
+ghost use Rattle.it_copy.specs.CopyForms as forms;
 ghost use Rattle.it_copy.specs.CopyLines.{AreNamed, copy_view};
-ghost use Rattle.it_copy.specs.Heads.{AreTokensOf, BeginsQuestions, HasNoTokens, IsFirstHeadFault, IsHead};
-ghost use Rattle.it_copy.specs.HeadSteps.{AddsLine, IsLineFault};
+ghost use Rattle.it_copy.specs.Heads.{IsFirstHeadFault, IsHead, begins_questions, lines_before};
+ghost use Rattle.it_copy.specs.HeadSteps.{StopsInHead};
 
-use crate::copy_lines::copy_line;
+use crate::copy_lines::copies;
+use crate::files::lines_after;
 use crate::types::{CopyLine, Head};
 use crate::words::VARS;
+use it_question::first_line;
+use it_question::readers::{Cursor, Line, file_lines, stop_fault};
 use it_question::types::FileFault;
-use it_question::{first_line, plain_text};
-use it_syntax::line_tokens;
-use it_syntax::rest::{Piece, Rest};
-use it_syntax::types::{LineTokens, SyntaxFault};
-use std::alloc::{AllocError, Global};
+use it_syntax::rest::{Piece, Stop};
+use it_syntax::types::Code;
+use std::alloc::Global;
 
-/// The most copies of a head.
-const MOST_COPIES: usize = 4;
-
-/// Whether a line's first token is the word that begins a question.
-fn begins_questions(line: &[u8], tokens: &LineTokens) -> bool
-    requires { InLine line.now tokens.now.tokens.items }
-    ensures begins { OnTrue result (BeginsQuestions line.now tokens.now.tokens.items tokens.now.misspelling) }
-    ensures other { OnFalse result (BeginsQuestions line.now tokens.now.tokens.items tokens.now.misspelling → ⊥) }
+/// Whether the word `vars` or the end of the file stands there.
+fn begins_questions(cursor: Cursor<'_>) -> bool
+    ensures { result ≡ begins_questions (letters_left cursor.entry) }
 {
-    let rest = Rest {
-        line,
-        tokens: tokens.tokens.as_slice(),
-        misspelling: tokens.misspelling,
-    };
-    match rest.front() {
-        (Piece::Word(word), _) => word == VARS,
+    match cursor.front() {
+        Some((Piece::Word(word), _)) => word == VARS,
+        Some((Piece::Bad(Code::Unfinished), _)) => true,
         _ => false,
     }
 }
 
-/// Whether nothing stands in a line.
-fn has_no_tokens(tokens: &LineTokens) -> bool
-    ensures none { OnTrue result (HasNoTokens tokens.now.tokens.items tokens.now.misspelling) }
-    ensures some { OnFalse result (HasNoTokens tokens.now.tokens.items tokens.now.misspelling → ⊥) }
+/// The copies of the head, up to where the questions begin.
+fn copies_of_head(alloc: Global, cursor: &mut Cursor<'_>) -> Result<Vec<CopyLine>, Stop>
+    ensures read { IfOk result (λ x. read (forms.more_copies []) (letters_left cursor.old) ≡ Ok (map copy_view x.items, letters_left cursor.new)) }
+    ensures begins { OnOk result (begins_questions (letters_left cursor.new) ≡ true) }
+    ensures names { IfOk result (λ x. AreNamed x.items) }
+    ensures few { IfOk result (λ x. length x.items ≤ 4) }
+    ensures stops { IfErr result (λ e. StopsInHead e (letters_left cursor.new) (letters_left cursor.old)) }
 {
-    match tokens.misspelling {
-        Some(_) => false,
-        None => tokens.tokens.as_slice().is_empty(),
+    match copies(alloc, cursor) {
+        Ok(copies) => {
+            if begins_questions(*cursor) {
+                Ok(copies)
+            } else {
+                Err(cursor.fault())
+            }
+        }
+        Err(stop) => Err(stop),
     }
 }
 
-/// What is read of a line, and its tokens.
-#[derive(Drop)]
-struct TextLine {
-    text: Vec<u8>,
-    tokens: LineTokens,
-}
-
-/// What is read of a line of a file, with its tokens.
-fn text_line(alloc: Global, line: &[u8]) -> Result<TextLine, AllocError>
-    requires { length line.now ≤ 1048577 }
-    ensures text { IfOk result (λ l. l.text.items ≡ plain_text line.now) }
-    ensures tokens { IfOk result (λ l. AreTokensOf line.now l.tokens) }
-    ensures inside { IfOk result (λ l. InLine l.text.items l.tokens.tokens.items) }
-    ensures short { IfOk result (λ l. length l.text.items ≤ 1048577) }
+/// How many lines of the file stand before the first of these.
+fn lines_before(lines: &[Line]) -> u32
+    ensures { result ≡ lines_before (map line_view lines.now) }
 {
-    let text = plain_text(alloc, line)?;
-    let tokens = line_tokens(alloc, text.as_slice())?;
-    Ok(TextLine { text, tokens })
-}
-
-/// Puts a copy after the others.
-fn push_copy(lines: &mut Vec<CopyLine>, copy: CopyLine) -> Result<(), FileFault>
-    ensures added { OnOk result (lines.new.items ≡ lines.old.items ++ copy ∷ []) }
-    ensures memory { IfErr result (λ e. e ≡ Memory) }
-{
-    match lines.push(copy) {
-        Ok(()) => Ok(()),
-        Err(_) => Err(FileFault::Memory),
+    match lines {
+        [first, ..] => first.number.saturating_sub(1),
+        [] => 0,
     }
 }
 
-/// Adds what a line of the head asks for to the copies before it, or tells its first fault.
-fn add_line(
-    alloc: Global,
-    lines: &mut Vec<CopyLine>,
-    number: u32,
-    text: &[u8],
-    tokens: &LineTokens,
-) -> Result<(), FileFault>
-    requires short { length text.now ≤ 1048577 }
-    requires inside { InLine text.now tokens.now.tokens.items }
-    requires few { length lines.old.items ≤ 4 }
-    requires names { AreNamed lines.old.items }
-    ensures added { OnOk result (AddsLine text.now tokens.now (map copy_view lines.old.items) (map copy_view lines.new.items)) }
-    ensures names { OnOk result (AreNamed lines.new.items) }
-    ensures few { OnOk result (length lines.new.items ≤ 4) }
-    ensures fault { IfErr result (IsLineFault number text.now tokens.now (length lines.old.items)) }
+/// The byte at which the line after the first `skipped` ones begins.
+fn start_after(bytes: &[u8], skipped: u32) -> usize
+    ensures within { result ≤ length bytes.now }
+    ensures after { split_lines (drop result bytes.now) ≡ drop skipped (split_lines bytes.now) }
 {
-    if has_no_tokens(tokens) {
-        return Ok(());
+    let mut passed: u32 = 0;
+    let mut rest = bytes;
+    while passed < skipped {
+        if rest.is_empty() {
+            return bytes.len();
+        }
+        rest = first_line(rest).1;
+        passed += 1;
     }
-    match copy_line(alloc, text, tokens, MOST_COPIES - lines.len()) {
-        Ok(copy) => push_copy(lines, copy),
-        Err(SyntaxFault::Memory) => Err(FileFault::Memory),
-        Err(SyntaxFault::Fault { column, code }) => Err(FileFault::Fault {
-            line: number,
-            column,
-            code,
-        }),
-    }
+    bytes.len() - rest.len()
 }
 
 /// The head of a file: all lines before the first whose first token is the word `vars`, or all lines where there is none. Each
@@ -122,37 +88,17 @@ pub fn head(alloc: Global, bytes: &[u8]) -> Result<Head, FileFault>
     ensures within { IfOk result (λ h. h.skipped ≤ length bytes.now) }
     ensures fault { IfErr result (IsFirstHeadFault bytes.now) }
 {
-    let mut lines = Vec::new(alloc);
-    let mut skipped: u32 = 0;
-    let mut rest = bytes;
-    while !rest.is_empty() {
-        let (line, after) = first_line(rest);
-        let Ok(read) = text_line(alloc, line) else {
-            return Err(FileFault::Memory);
-        };
-        if begins_questions(read.text.as_slice(), &read.tokens) {
-            return Ok(Head {
-                lines,
-                from: bytes.len() - rest.len(),
+    let lines = file_lines(alloc, bytes)?;
+    let mut cursor = Cursor::at(lines.as_slice());
+    match copies_of_head(alloc, &mut cursor) {
+        Ok(copies) => {
+            let skipped = lines_before(lines_after(lines.as_slice(), copies.len()));
+            Ok(Head {
+                lines: copies,
+                from: start_after(bytes, skipped),
                 skipped,
-            });
+            })
         }
-        match add_line(
-            alloc,
-            &mut lines,
-            skipped + 1,
-            read.text.as_slice(),
-            &read.tokens,
-        ) {
-            Ok(()) => {}
-            Err(fault) => return Err(fault),
-        }
-        skipped += 1;
-        rest = after;
+        Err(stop) => Err(stop_fault(lines.as_slice(), cursor, stop)),
     }
-    Ok(Head {
-        lines,
-        from: bytes.len(),
-        skipped,
-    })
 }

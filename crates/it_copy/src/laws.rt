@@ -1,18 +1,10 @@
 //! Theorems on copies, each as the contract of a function.
-ghost use Rattle.it_copy.specs.CopyTables.{CopiesAreByTable};
-ghost use Rattle.it_copy.specs.Files.{CopyFaultIsOne, CopyFileIsOne, CopyFileOrFault};
+ghost use Rattle.it_copy.specs.Files.{CopyFaultIsOne, CopyFileHasOne, CopyFileIsOne, CopyFileOrFault};
 ghost use Rattle.it_copy.specs.Points.{ExtensionOrMisfit, OneExtension, OneMisfit, YesByCopies};
-
-use it_question::file_is_one;
 
 /// What holds at every polymatroid that meets a question with copies holds wherever the question's own entropies have such copies.
 pub fn yes_by_copies()
     ensures { YesByCopies }
-{}
-
-/// What a file with a head asks it asks by the table of such files.
-pub fn copies_are_by_table()
-    ensures { CopiesAreByTable }
 {}
 
 /// A question has one extension by some copies, or one reason against them, and not both.
@@ -27,6 +19,9 @@ pub fn heads_are_one()
     ensures one { CopyFileIsOne }
     ensures fault { CopyFaultIsOne }
     ensures either { CopyFileOrFault }
-{
-    file_is_one();
-}
+{}
+
+/// A file with a head has a reading or a first fault.
+pub fn heads_have_one()
+    ensures { CopyFileHasOne }
+{}

@@ -1,35 +1,55 @@
-use Rattle.std.proofs.Common.{List, ℕ, ◌+◌, length, map, sym, subst, ◌∙◌}
-use Rattle.std.proofs.lemmas.Bool.{eqb-true}
-use Rattle.std.proofs.lemmas.List.{nil_from_length}
+use Rattle.std.proofs.Common.{◌≡◌, ℕ, ◌≤◌, List, [], drop, length, map, sym, ap, ap₂, ◌∙◌, subst, arith}
 use Rattle.std.proofs.lemmas.List.{length-map}
-use Rattle.it_question.specs.Lines.{plain_text}
+use Rattle.it_forms.specs.Letters.{Letter}
+use Rattle.it_syntax.specs.declared.rest.Stop.{Stop}
+use Rattle.it_question.specs.declared.cursor.Line.{Line}
+use Rattle.it_question.specs.Cursors.{line_view, letters_left}
+use Rattle.it_question.specs.Lines.{letters_of_lines}
+use Rattle.it_question.specs.Stops.{IsLeft, IfFault, IsStopAt}
+use Rattle.it_question.specs.WholeFiles.{place_of}
+use Rattle.it_question.proofs.WholeFileLemmas.{few_letters, some_left}
+use Rattle.it_copy.specs.declared.types.CopyLine.{CopyLine}
 use Rattle.it_copy.specs.CopyLines.{copy_view}
-use Rattle.it_copy.specs.Heads.{BeginsQuestions}
-use Rattle.it_copy.specs.HeadSteps.{AddsLine, IsLineFault}
-use Rattle.it_copy.proofs.HeadLemmas.{head_at_end, head_at_fault, head_at_questions, head_more}
+use Rattle.it_copy.specs.CopyForms.{more_copies, copy_file}
+use Rattle.it_copy.specs.Heads.{lines_before}
+use Rattle.it_copy.specs.HeadSteps.{StopsInHead}
+use Rattle.it_copy.proofs.CopyOutlines.{copy_file_has}
+use Rattle.it_copy.proofs.CopyFileLemmas.{copy_file_ends}
+use Rattle.it_copy.proofs.HeadLemmas.{few_lines_before, head_read, head_fault}
+use Rattle.it_copy.proofs.StartLemmas.{items_are_read, same_lines}
 use Rattle.it_copy.proofs.heads.head.Goals as goal
 
-pub returns-then-begins_questions-clause-read : goal.returns-then-begins_questions-clause-read
-returns-then-begins_questions-clause-read c =
-    head_at_questions c.args.bytes.now c.loop-rest.rest.now c.first_line.result.0.now c.first_line.result.1.now (map copy_view c.loop-rest.lines.items) c.loop-rest.skipped c.in-Ok.read.tokens c.loop-rest.invariant.0 c.first_line.ensures.split c.in-Ok.ensures.tokens
-    (subst (λ (t : List ℕ). BeginsQuestions t c.in-Ok.read.tokens.tokens.items c.in-Ok.read.tokens.misspelling) (c.as_slice.ensures.value ∙ c.in-Ok.ensures.text) c.if-begins_questions.ensures.begins)
+-- the lines before those after the copies
+skipped_is : (items lines after : List Line) (copies : List CopyLine) (n skipped : ℕ) → lines ≡ items → n ≡ length copies → map line_view after ≡ drop n (map line_view lines) → skipped ≡ lines_before (map line_view after) → skipped ≡ lines_before (drop (length (map copy_view copies)) (map line_view items))
+skipped_is items lines after copies n skipped e count is counted =
+    counted ∙ ap lines_before (is ∙ ap₂ (λ (k : ℕ) (ls : List Line). drop k (map line_view ls)) (count ∙ sym (length-map copies copy_view)) e)
 
-pub returns-in-Err-clause-fault : goal.returns-in-Err-clause-fault
-returns-in-Err-clause-fault c =
-    head_at_fault c.args.bytes.now c.loop-rest.rest.now c.first_line.result.0.now c.first_line.result.1.now (map copy_view c.loop-rest.lines.items) c.loop-rest.skipped c.in-Ok.read.tokens c.in-Err.fault c.loop-rest.invariant.0 c.first_line.ensures.split c.in-Ok.ensures.tokens
-    (λ b. c.if-begins_questions.ensures.other (subst (λ (t : List ℕ). BeginsQuestions t c.in-Ok.read.tokens.tokens.items c.in-Ok.read.tokens.misspelling) (sym (c.as_slice.ensures.value ∙ c.in-Ok.ensures.text)) b))
-    (subst (λ (n : ℕ). IsLineFault (c.loop-rest.skipped + 1) (plain_text c.first_line.result.0.now) c.in-Ok.read.tokens n c.in-Err.fault) (sym (length-map c.loop-rest.lines.items copy_view))
-    (subst (λ (t : List ℕ). IsLineFault (c.loop-rest.skipped + 1) t c.in-Ok.read.tokens (length c.loop-rest.lines.items) c.in-Err.fault) (c.as_slice-in-loop-rest.ensures.value ∙ c.in-Ok.ensures.text) c.in-Err.ensures.fault))
+-- reading began at the first of the lines
+stops_begun : (items lines : List Line) (start : List Letter) (stop : Stop) (rest : List Letter) → start ≡ letters_of_lines (map line_view lines) → lines ≡ items → StopsInHead stop rest start → StopsInHead stop rest (letters_of_lines (map line_view items))
+stops_begun items lines start stop rest h e s = subst (StopsInHead stop rest) (h ∙ ap (λ (ls : List Line). letters_of_lines (map line_view ls)) e) s
 
-pub loop-rest-preserved : goal.loop-rest-preserved
-loop-rest-preserved c = (
-  head_more c.args.bytes.now c.loop-rest.rest.now c.first_line.result.0.now c.first_line.result.1.now (map copy_view c.loop-rest.lines.items) (map copy_view c.add_line.new.lines.items) c.loop-rest.skipped c.in-Ok.read.tokens c.loop-rest.invariant.0 c.first_line.ensures.split
-      c.first_line.ensures.progress c.first_line.ensures.back c.in-Ok.ensures.tokens
-      (subst (λ (t : List ℕ). AddsLine t c.in-Ok.read.tokens (map copy_view c.loop-rest.lines.items) (map copy_view c.add_line.new.lines.items)) (c.as_slice-in-loop-rest.ensures.value ∙ c.in-Ok.ensures.text) c.in-Ok-add_line.ensures.added),
-  c.in-Ok-add_line.ensures.names,
-  c.in-Ok-add_line.ensures.few,
-)
+pub returns-in-Ok-clause-read : goal.returns-in-Ok-clause-read
+returns-in-Ok-clause-read c =
+    head_read c.args.bytes.now (map line_view c.in_ok-lines.lines.items) (map copy_view c.in-Ok.copies.items) (letters_left c.copies_of_head.new.cursor) c.start_after.result c.lines_before-skipped.result c.in_ok-lines.ensures
+    (items_are_read (more_copies []) _ _ _ _ c.at-cursor.ensures c.as_slice.ensures.value c.in-Ok.ensures.read) c.in-Ok.ensures.begins
+    (skipped_is _ _ _ c.in-Ok.copies.items _ _ c.as_slice-in-Ok.ensures.value (omega (arith, c.len.ensures, c.in-Ok.copies.ok)) c.lines_after.ensures c.lines_before-skipped.ensures) c.start_after.ensures.within c.start_after.ensures.after
 
-pub returns-clause-read : goal.returns-clause-read
-returns-clause-read c =
-    head_at_end c.args.bytes.now c.loop-rest.rest.now (map copy_view c.loop-rest.lines.items) c.loop-rest.skipped c.loop-rest.invariant.0 (nil_from_length c.loop-rest.rest.now (eqb-true (length c.loop-rest.rest.now) 0 (sym c.loop-rest-test.ensures)))
+pub returns-in-Ok-clause-within : goal.returns-in-Ok-clause-within
+returns-in-Ok-clause-within c =
+    subst (λ (n : ℕ). n ≤ length c.args.bytes.now) (sym (skipped_is _ _ _ c.in-Ok.copies.items _ _ c.as_slice-in-Ok.ensures.value (omega (arith, c.len.ensures, c.in-Ok.copies.ok)) c.lines_after.ensures c.lines_before-skipped.ensures))
+    (few_lines_before c.args.bytes.now (map line_view c.in_ok-lines.lines.items) (length (map copy_view c.in-Ok.copies.items)) c.in_ok-lines.ensures)
+
+pub stop_fault-requires-clause-few : goal.stop_fault-requires-clause-few
+stop_fault-requires-clause-few c = same_lines (λ ls. length (letters_of_lines ls) ≤ 4294967296) c.in_ok-lines.lines.items c.as_slice-in-Err.result.now c.as_slice-in-Err.ensures.value
+    (few_letters c.args.bytes.now (map line_view c.in_ok-lines.lines.items) c.in_ok-lines.ensures c.requires)
+
+pub stop_fault-requires-clause-there : goal.stop_fault-requires-clause-there
+stop_fault-requires-clause-there c = same_lines (λ ls. IfFault c.in-Err.stop (IsLeft ls (letters_left c.copies_of_head.new.cursor))) c.in_ok-lines.lines.items c.as_slice-in-Err.result.now c.as_slice-in-Err.ensures.value
+    (some_left copy_file _ copy_file_has copy_file_ends c.args.bytes.now (map line_view c.in_ok-lines.lines.items) c.in-Err.stop (letters_left c.copies_of_head.new.cursor) c.in_ok-lines.ensures
+    (stops_begun c.in_ok-lines.lines.items _ _ c.in-Err.stop (letters_left c.copies_of_head.new.cursor) c.at-cursor.ensures c.as_slice.ensures.value c.in-Err.ensures.stops).stops)
+
+pub returns-clause-fault : goal.returns-clause-fault
+returns-clause-fault c =
+    head_fault c.args.bytes.now (map line_view c.in_ok-lines.lines.items) c.in-Err.stop (letters_left c.copies_of_head.new.cursor) c.stop_fault.result c.in_ok-lines.ensures
+    (stops_begun c.in_ok-lines.lines.items _ _ c.in-Err.stop (letters_left c.copies_of_head.new.cursor) c.at-cursor.ensures c.as_slice.ensures.value c.in-Err.ensures.stops)
+    (subst (λ (ls : List Line). IsStopAt (place_of (map line_view ls) (letters_left c.copies_of_head.new.cursor)) c.in-Err.stop c.stop_fault.result) c.as_slice-in-Err.ensures.value c.stop_fault.ensures)

@@ -1,0 +1,73 @@
+//! The reader of files with a head.
+ghost use Rattle.std.specs.Prelude.{◌≡◌, ◌≤◌, All, IfOk, IfErr, drop, length, map};
+ghost use Rattle.it_forms.specs.FormReading.{read};
+ghost use Rattle.it_syntax.specs.Gives.{GivesBy};
+ghost use Rattle.it_question.specs.Bodies.{body_view};
+ghost use Rattle.it_question.specs.Cursors.{letters_left, line_view};
+ghost use Rattle.it_question.specs.Limits.{IsQuestion};
+ghost use Rattle.it_question.specs.Questions.{question_body, question_view};
+ghost use Rattle.it_copy.specs.CopyForms as forms;
+ghost use Rattle.it_copy.specs.CopyLines.{AreNamed, copy_view};
+ghost use Rattle.it_copy.specs.Files.{IsCopyFile, IsFirstCopyFault};
+
+use crate::copy_lines::copies;
+use crate::types::{CopyFile, CopyLine};
+use it_question::readers::{Body, Cursor, Line, bodies, file_lines, stop_fault, with_texts};
+use it_question::types::FileFault;
+use it_syntax::rest::Stop;
+use std::alloc::Global;
+
+/// What is read of a file with a head: its copies, and its questions without their texts.
+#[derive(Drop)]
+struct Reading {
+    copies: Vec<CopyLine>,
+    bodies: Vec<Body>,
+}
+
+/// What a file with a head asks, up to its end.
+#[tactic(auto, unfolding(crate::specs::CopyForms::copy_file, it_forms::specs::FormReading::read))]
+fn whole(alloc: Global, cursor: &mut Cursor<'_>) -> Result<Reading, Stop>
+    ensures gives { GivesBy (λ x. (map copy_view x.copies.items, map body_view x.bodies.items)) result (letters_left cursor.new) (read forms.copy_file (letters_left cursor.old)) }
+    ensures names { IfOk result (λ x. AreNamed x.copies.items) }
+    ensures few { IfOk result (λ x. length x.copies.items ≤ 4) }
+    ensures limits { IfOk result (λ x. All (λ b. IsQuestion (body_view b)) x.bodies.items) }
+{
+    let copies = copies(alloc, cursor)?;
+    let bodies = bodies(alloc, cursor)?;
+    Ok(Reading { copies, bodies })
+}
+
+/// The lines after the first n.
+pub fn lines_after(lines: &[Line], n: usize) -> &[Line]
+    ensures { map line_view result.now ≡ drop n (map line_view lines.now) }
+{
+    lines.split_at(n.min(lines.len())).1
+}
+
+/// What a file with a head asks: up to four copies, each in a line `copy`, a name, `of`, a name, `over`, and one to four names
+/// with commas between them or 0; and the questions of the question file after these lines.
+///
+/// The fault is the first one at which no rule of the language goes on, with the codes and the places of question files: in the
+/// head `Word` also at `H` and `I` in the place of a name, `Many` at the word `copy` of a fifth copy and at a fifth name.
+pub fn copy_file(alloc: Global, bytes: &[u8]) -> Result<CopyFile, FileFault>
+    requires { length bytes.now ≤ 1048577 }
+    ensures read { IfOk result (λ f. IsCopyFile bytes.now (map copy_view f.copies.items) (map question_view f.questions.items)) }
+    ensures limits { IfOk result (λ f. All (λ q. IsQuestion (question_body q)) f.questions.items) }
+    ensures names { IfOk result (λ f. AreNamed f.copies.items) }
+    ensures few { IfOk result (λ f. length f.copies.items ≤ 4) }
+    ensures fault { IfErr result (IsFirstCopyFault bytes.now) }
+{
+    let lines = file_lines(alloc, bytes)?;
+    let mut cursor = Cursor::at(lines.as_slice());
+    match whole(alloc, &mut cursor) {
+        Ok(read) => {
+            let after = lines_after(lines.as_slice(), read.copies.len());
+            let questions = with_texts(alloc, after, read.bodies)?;
+            Ok(CopyFile {
+                copies: read.copies,
+                questions,
+            })
+        }
+        Err(stop) => Err(stop_fault(lines.as_slice(), cursor, stop)),
+    }
+}
