@@ -13,7 +13,7 @@ use Rattle.it_run.specs.Solving.{RunsTo}
 use Rattle.it_run.specs.declared.answering.Solved.{Solved}
 use Rattle.it_run.proofs.AnswerLemmas.{read_run}
 use Rattle.it_engine.specs.Ends.{AnswersQuestion, AreWeightsOf, IsPointOf}
-use Rattle.it_engine.specs.Engine.{StandsFor, IsFinished}
+use Rattle.it_engine.specs.Engine.{Represents, IsFinished}
 use Rattle.it_engine.specs.Whole.{WholeRowView}
 use Rattle.it_engine.specs.declared.engine.EngineEnd.TheVariants as engine_ends
 use Rattle.it_engine.proofs.Starts.{stands_start, IsLoaded}
@@ -27,21 +27,21 @@ of_some o x P e h = subst (λ (o : Option _). IfSome o P) e h
 
 module _ (coordinates : List ℕ) (target : Terms) (columns : List Terms) (limit : ℕ) (old : List WholeRowView) (basis : List ℕ) (budget : Option ℕ) (new : List WholeRowView) (new_basis : List ℕ) where
   pub by_weights : (ws : List (ℕ × Rational)) → IsFinished columns limit old basis budget new new_basis engine_ends.Weights → AreWeightsOf columns new new_basis ws
-      → (generators : List Terms) (t : SimplexTable Rational) → StandsFor (feasibility_problem coordinates generators target) t columns limit old basis
+      → (generators : List Terms) (t : SimplexTable Rational) → Represents (feasibility_problem coordinates generators target) t columns limit old basis
       → RunsTo (length basis) (length columns) (feasibility_problem coordinates generators target) budget t (Weights ws)
   by_weights ws f w generators t s = let p = feasibility_problem coordinates generators target in let r = f.runs p t s in
       subst (λ (ws : List (ℕ × Rational)). RunsTo (length basis) (length columns) p budget t (Weights ws))
       (sym (w p r.0 limit r.1 ∙ ap (λ m. weights field_ℚ m (length columns) r.0) f.height)) (read_run (length basis) (length columns) p budget t (Weights r.0) r.2)
 
   pub by_point : (q : List Rational) → IsFinished columns limit old basis budget new new_basis engine_ends.Point → IsPointOf coordinates target new new_basis q
-      → (generators : List Terms) (t : SimplexTable Rational) → StandsFor (feasibility_problem coordinates generators target) t columns limit old basis
+      → (generators : List Terms) (t : SimplexTable Rational) → Represents (feasibility_problem coordinates generators target) t columns limit old basis
       → RunsTo (length basis) (length columns) (feasibility_problem coordinates generators target) budget t (Point q)
   by_point q f w generators t s = let p = feasibility_problem coordinates generators target in let r = f.runs p t s in
       subst (λ (q : List Rational). RunsTo (length basis) (length columns) p budget t (Point q))
       (sym (w generators r.0 columns limit r.1 ∙ ap (λ m. point field_ℚ m (length columns) p r.0) f.height)) (read_run (length basis) (length columns) p budget t (Point r.0) r.2)
 
   pub by_budget : (k : ℕ) → IsFinished columns limit old basis budget new new_basis (engine_ends.Pivots k)
-      → (generators : List Terms) (t : SimplexTable Rational) → StandsFor (feasibility_problem coordinates generators target) t columns limit old basis
+      → (generators : List Terms) (t : SimplexTable Rational) → Represents (feasibility_problem coordinates generators target) t columns limit old basis
       → RunsTo (length basis) (length columns) (feasibility_problem coordinates generators target) budget t (Pivots k)
   by_budget k f generators t s = let p = feasibility_problem coordinates generators target in let r = f.runs p t s in read_run (length basis) (length columns) p budget t (Pivots k) r.2
 

@@ -1,5 +1,5 @@
 -- Rows that are brought up to date, and blocks of degenerate steps.
-use Rattle.std.proofs.Common.{◌≡◌, ◌⊎◌, inl, inr, ℕ, suc, ◌+◌, ◌<◌, Bool, true, false, ℤ, pos, List, [], length, slice_index_or, slice_set, refl, sym, ap, subst, ◌∙◌, arith}
+use Rattle.std.proofs.Common.{◌≡◌, ◌⊎◌, inl, inr, ℕ, zero, suc, ◌+◌, ◌-◌, ◌<◌, ◌≤◌, Bool, true, false, ℤ, pos, List, [], length, slice_index_or, slice_set, refl, sym, ap, subst, ◌∙◌, arith}
 use Rattle.std.specs.Bool.{OnTrue}
 use Rattle.std.proofs.lemmas.Bool.{true≢false, cases_eq}
 use Rattle.std.proofs.lemmas.List.{length-set, get_or-set_same, get_or-set_other}
@@ -7,7 +7,7 @@ use Rattle.it_rational.specs.Rational.{Rational}
 use Rattle.it_space.specs.Rows.{Terms, value}
 use Rattle.it_space.specs.Sums.{number_at}
 use Rattle.it_tableau.specs.SimplexTables.{SimplexTable, FeasibilityProblem}
-use Rattle.it_engine.specs.Behind.{AgreeOnMoved, AreBrought, has_moved, IsBrought, IsLessMoved, IsRowBrought, IsUpToDate, ShowsBehind}
+use Rattle.it_engine.specs.Behind.{AgreeOnMoved, AreBrought, has_moved, IsBrought, IsLessMoved, IsNextMoved, IsRowBrought, IsUpToDate, ShowsBehind}
 use Rattle.it_engine.specs.Updates.{AreUsable, IsUpdated, IsUsable, IsWholeRowReduced}
 use Rattle.it_engine.specs.Whole.{whole_row_at, WholeRowView}
 use Rattle.it_engine.proofs.BehindRows as R
@@ -30,6 +30,24 @@ module _ (columns : List Terms) (limit : ℕ) (rows : List WholeRowView) (basis 
       by_move true g = R.moved_taken p b t columns limit whole basis (has_moved moved) s r l e q now new k g (h whole r a l e f p b t s)
           (subst (λ (own : WholeRowView). IsWholeRowReduced (length basis + 1) limit now own (value (slice_index_or columns (slice_index_or basis q 0) []) (number_at now.numbers)) (pos own.bottom) new) (sym (a q g)) (m.taken g))
       by_move false g = subst (R.ShowsAfter p b t columns limit whole basis (has_moved moved) s r l e (suc q)) (sym (m.still g)) (R.still_taken p b t columns limit whole basis (has_moved moved) s r l e q now g (h whole r a l e f p b t s))
+
+  -- rows that didn't move take nothing off
+  pub none_moved_off : (old now : WholeRowView) (from to : ℕ) → IsNextMoved moved (length basis) from to → IsTakenOff columns limit rows basis moved old from now → IsTakenOff columns limit rows basis moved old to now
+  none_moved_off old now from to n h =
+      let d : from + (to - from) ≡ to = omega (arith, n.after) in
+      subst (λ (x : ℕ). IsTakenOff columns limit rows basis moved old x now) d (so_many (to - from) (λ q l g. n.still q l (omega (arith, g, d))))
+    where
+      so_many : (k : ℕ) → ((q : ℕ) → from ≤ q → q < from + k → has_moved moved q ≡ false) → IsTakenOff columns limit rows basis moved old (from + k) now
+      so_many zero f =
+          let e : from ≡ from + 0 = omega arith in
+          subst (λ (x : ℕ). IsTakenOff columns limit rows basis moved old x now) e h
+      so_many (suc k) f = more (so_many k (λ q l g. f q l (omega (arith, g))))
+        where
+          more : IsTakenOff columns limit rows basis moved old (from + k) now → IsTakenOff columns limit rows basis moved old (from + suc k) now
+          more u whole r a l e w p b t s =
+              let j : suc (from + k) ≡ from + suc k = omega arith in
+              subst (λ (x : ℕ). R.ShowsAfter p b t columns limit whole basis (has_moved moved) s r l e x now) j
+              (R.still_taken p b t columns limit whole basis (has_moved moved) s r l e (from + k) now (f (from + k) (omega arith) (omega arith)) (u whole r a l e w p b t s))
 
   pub all_off : (old now : WholeRowView) (q : ℕ) → q ≡ length basis → IsTakenOff columns limit rows basis moved old q now → IsBrought columns limit rows basis moved old now
   all_off old now q k h whole r a l e f p b t s = R.all_taken p b t columns limit whole basis (has_moved moved) s r l e now

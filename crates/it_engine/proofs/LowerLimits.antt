@@ -7,7 +7,7 @@ use Rattle.it_tableau.specs.Problems.{feasibility_problem}
 use Rattle.it_tableau.specs.SimplexTables.{SimplexTable, FeasibilityProblem}
 use Rattle.it_run.specs.declared.answering.Solved.{Solved}
 use Rattle.it_engine.specs.Ends.{AnswersQuestion}
-use Rattle.it_engine.specs.Engine.{IsSafe, StandsFor}
+use Rattle.it_engine.specs.Engine.{IsSafe, Represents}
 use Rattle.it_engine.specs.Whole.{AreAllAtMost, WholeRowView}
 
 module _ (columns : List Terms) (limit lower : ℕ) (rows : List WholeRowView) (basis : List ℕ) (less : lower ≤ limit) (most : AreAllAtMost lower rows) where
@@ -22,7 +22,7 @@ module _ (columns : List Terms) (limit lower : ℕ) (rows : List WholeRowView) (
     limit_is = omega (arith, less, s.limit_is);
   }
 
-  pub stands_below : (p : FeasibilityProblem Rational) (t : SimplexTable Rational) → StandsFor p t columns limit rows basis → StandsFor p t columns lower rows basis
+  pub stands_below : (p : FeasibilityProblem Rational) (t : SimplexTable Rational) → Represents p t columns limit rows basis → Represents p t columns lower rows basis
   stands_below p t s = record {
     norm = s.norm;
     some = s.some;

@@ -18,7 +18,7 @@ use Rattle.it_run.proofs.RunSteps.{run_more}
 use Rattle.it_run.proofs.StepsLeft.{steps_left, steps_fall}
 use Rattle.it_engine.specs.Behind.{AreBrought, AreEngineSteps, AreStillSteps, has_moved, IsBehindStep, IsStillChoice, ShowsBehind, StepsLead}
 use Rattle.it_engine.specs.Choosing.{right_side_of}
-use Rattle.it_engine.specs.Engine.{IsSafe, StandsFor}
+use Rattle.it_engine.specs.Engine.{IsSafe, Represents}
 use Rattle.it_engine.specs.Updates.{IsFitting, IsUsable}
 use Rattle.it_engine.specs.Whole.{IsRow, whole_row_at, WholeRowView}
 use Rattle.it_engine.proofs.BehindTables as T
@@ -84,7 +84,7 @@ module _ (columns : List Terms) (limit : ℕ) (old : List WholeRowView) (basis :
           (ap (λ (q : Rational). q.num) d ∙ zero_parts.0))
 
 -- the rows of a table, where none moved but the cost row
-pub shows_base : (p : FeasibilityProblem Rational) (t : SimplexTable Rational) (columns : List Terms) (limit : ℕ) (rows : List WholeRowView) (basis : List ℕ) (moved : List Bool) → StandsFor p t columns limit rows basis
+pub shows_base : (p : FeasibilityProblem Rational) (t : SimplexTable Rational) (columns : List Terms) (limit : ℕ) (rows : List WholeRowView) (basis : List ℕ) (moved : List Bool) → Represents p t columns limit rows basis
     → ((i : ℕ) → i < length basis → has_moved moved i ≡ false) → has_moved moved (length basis) ≡ true → ShowsBehind p t t columns limit rows basis (has_moved moved)
 shows_base p t columns limit rows basis moved s none cost = record {
   norm = s.norm;
@@ -103,7 +103,7 @@ shows_base p t columns limit rows basis moved s none cost = record {
 
 -- all rows are brought up to date
 pub shows_brought : (p : FeasibilityProblem Rational) (b t : SimplexTable Rational) (columns : List Terms) (limit : ℕ) (rows : List WholeRowView) (basis : List ℕ) (moved : List Bool) (new : List WholeRowView)
-    → ShowsBehind p b t columns limit rows basis (has_moved moved) → AreBrought columns limit rows basis moved (length basis) new → StandsFor p t columns limit new basis
+    → ShowsBehind p b t columns limit rows basis (has_moved moved) → AreBrought columns limit rows basis moved (length basis) new → Represents p t columns limit new basis
 shows_brought p b t columns limit rows basis moved new s a = record {
   norm = s.norm;
   some = s.some;

@@ -11,14 +11,14 @@ use Rattle.it_run.specs.Readings.{weight, weights, weights_from_column, point_va
 use Rattle.it_run.proofs.FillingLemmas.{AreWeightsSoFar, weights_skip_null, weights_with_next}
 use Rattle.it_run.proofs.Reading.{weight_found, weight_none}
 use Rattle.it_engine.specs.Choosing.{right_side_of}
-use Rattle.it_engine.specs.Engine.{StandsFor}
+use Rattle.it_engine.specs.Engine.{Represents}
 use Rattle.it_engine.specs.Ends.{IsWeightOf, IsPointOf}
 use Rattle.it_engine.specs.Whole.{whole_row_at, WholeRowView}
 
 pub quotient_named : (q : Rational) (n : ℤ) (d : ℕ) → 0 < d → IsRatio q n d → quotient n d ≡ q
 quotient_named q n d h e = same_value (quotient n d) q n n d d h h (quotient_names n d h) e refl
 
-module _ (p : FeasibilityProblem Rational) (t : SimplexTable Rational) (columns : List Terms) (limit : ℕ) (rows : List WholeRowView) (basis : List ℕ) (s : StandsFor p t columns limit rows basis) where
+module _ (p : FeasibilityProblem Rational) (t : SimplexTable Rational) (columns : List Terms) (limit : ℕ) (rows : List WholeRowView) (basis : List ℕ) (s : Represents p t columns limit rows basis) where
   weight_is : (j : ℕ) (w : Rational) → IsWeightOf rows basis j w → w ≡ weight field_ℚ (length basis) (length columns) t j
   weight_is j w i = i.value_is
       ∙ (let r = s.shows.row i.row (omega (arith, i.within)) in
@@ -27,7 +27,7 @@ module _ (p : FeasibilityProblem Rational) (t : SimplexTable Rational) (columns 
 
 -- the weights so far, for whichever table the engine shows
 abbrev pub WeightsSoFar : List Terms → List WholeRowView → List ℕ → List (ℕ × Rational) → ℕ → Type 0
-WeightsSoFar columns rows basis out j = (p : FeasibilityProblem Rational) (t : SimplexTable Rational) (limit : ℕ) → StandsFor p t columns limit rows basis → AreWeightsSoFar (length basis) (length columns) t out j
+WeightsSoFar columns rows basis out j = (p : FeasibilityProblem Rational) (t : SimplexTable Rational) (limit : ℕ) → Represents p t columns limit rows basis → AreWeightsSoFar (length basis) (length columns) t out j
 
 pub weights_more : (columns : List Terms) (rows : List WholeRowView) (basis : List ℕ) (out : List (ℕ × Rational)) (j : ℕ) (w : Rational) → j < length columns → IsWeightOf rows basis j w → ¬ (w ≡ integer (pos 0))
     → WeightsSoFar columns rows basis out j → WeightsSoFar columns rows basis (out ++ (j, w) ∷ []) (j + 1)
@@ -45,7 +45,7 @@ weights_none columns rows basis out j l n h = λ p t limit s. weights_skip_null 
 -- the point's values so far
 abbrev pub PointSoFar : List ℕ → Terms → List WholeRowView → List ℕ → List Rational → ℕ → Type 0
 PointSoFar coordinates target rows basis out k = (generators : List Terms) (t : SimplexTable Rational) (columns : List Terms) (limit : ℕ)
-    → StandsFor (feasibility_problem coordinates generators target) t columns limit rows basis
+    → Represents (feasibility_problem coordinates generators target) t columns limit rows basis
     → out ++ point_from_row field_ℚ (length basis) (length columns) (feasibility_problem coordinates generators target) t k (length basis - k) ≡ point field_ℚ (length basis) (length columns) (feasibility_problem coordinates generators target) t
 
 pub point_more : (coordinates : List ℕ) (target : Terms) (rows : List WholeRowView) (basis : List ℕ) (out : List Rational) (k : ℕ) (x : Rational) → k < length basis
@@ -65,7 +65,7 @@ point_more coordinates target rows basis out k x l e h = λ generators t columns
 
 -- all weights, all values
 pub weights_all : (columns : List Terms) (rows : List WholeRowView) (basis : List ℕ) (out : List (ℕ × Rational)) (j : ℕ) → length columns ≤ j → WeightsSoFar columns rows basis out j
-    → (p : FeasibilityProblem Rational) (t : SimplexTable Rational) (limit : ℕ) → StandsFor p t columns limit rows basis → out ≡ weights field_ℚ (length basis) (length columns) t
+    → (p : FeasibilityProblem Rational) (t : SimplexTable Rational) (limit : ℕ) → Represents p t columns limit rows basis → out ≡ weights field_ℚ (length basis) (length columns) t
 weights_all columns rows basis out j l h p t limit s = let none : length columns - j ≡ 0 = omega (arith, l) in
     sym (append-nil out) ∙ ap (λ k. out ++ weights_from_column field_ℚ (length basis) (length columns) t j k) (sym none) ∙ h p t limit s
 

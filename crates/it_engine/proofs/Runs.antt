@@ -11,7 +11,7 @@ use Rattle.it_run.specs.Steps.{Reaches}
 use Rattle.it_run.proofs.RunSteps.{run_done, run_stuck, run_more, run_budget}
 use Rattle.it_engine.specs.Behind.{AreEngineSteps, StepsLead}
 use Rattle.it_engine.specs.Choosing.{right_side_of, first_negative_cost}
-use Rattle.it_engine.specs.Engine.{IsSafe, StandsFor, IsEngineStep, IsFinished}
+use Rattle.it_engine.specs.Engine.{IsSafe, Represents, IsEngineStep, IsFinished}
 use Rattle.it_engine.specs.Whole.{whole_row_at, WholeRowView}
 use Rattle.it_engine.specs.declared.engine.EngineEnd.TheVariants.{Weights, Point, Pivots}
 use Rattle.it_engine.proofs.Names.{null_named, number_null}
@@ -22,8 +22,8 @@ use Rattle.it_engine.proofs.Steps.{entering_same}
 pub record IsRunUnderWay (columns : List Terms) (limit : ℕ) (old : List WholeRowView) (basis : List ℕ) (budget : ℕ) (now : List WholeRowView) (now_basis : List ℕ) (k : ℕ) : Type 0 where
   pub engine : IsSafe columns limit now now_basis
   pub height : length now_basis ≡ length basis
-  pub runs : (p : FeasibilityProblem Rational) (t : SimplexTable Rational) → StandsFor p t columns limit old basis
-      → (s : SimplexTable Rational) × StandsFor p s columns limit now now_basis
+  pub runs : (p : FeasibilityProblem Rational) (t : SimplexTable Rational) → Represents p t columns limit old basis
+      → (s : SimplexTable Rational) × Represents p s columns limit now now_basis
       × ((e : RunEndView (SimplexTable Rational) (SimplexTable Rational)) → Reaches (length basis) (length columns) (budget - k) k s e → Reaches (length basis) (length columns) budget 0 t e)
 
 pub run_begins : (columns : List Terms) (limit : ℕ) (old : List WholeRowView) (basis : List ℕ) (budget : ℕ) → IsSafe columns limit old basis → IsRunUnderWay columns limit old basis budget old basis 0
@@ -33,7 +33,7 @@ run_begins columns limit old basis budget h = record { engine = h; height = refl
     whole_budget_left b = omega arith
 
 -- the cost row's right side
-module _ (p : FeasibilityProblem Rational) (t : SimplexTable Rational) (columns : List Terms) (limit : ℕ) (rows : List WholeRowView) (basis : List ℕ) (s : StandsFor p t columns limit rows basis) where
+module _ (p : FeasibilityProblem Rational) (t : SimplexTable Rational) (columns : List Terms) (limit : ℕ) (rows : List WholeRowView) (basis : List ℕ) (s : Represents p t columns limit rows basis) where
   cost_named : IsRatio (t.entry (length basis) (length columns + length basis)) (right_side_of (length basis) rows (length basis)) (whole_row_at rows (length basis)).bottom
   cost_named = (s.shows.row (length basis) (omega arith)).named (length basis) (omega arith)
 
@@ -63,7 +63,7 @@ module _ (columns : List Terms) (limit : ℕ) (old : List WholeRowView) (basis :
   }
 
   pub run_ends_stuck : ¬ (right_side_of (length now_basis) now (length now_basis) ≡ pos 0)
-      → ((p : FeasibilityProblem Rational) (t : SimplexTable Rational) → StandsFor p t columns limit now now_basis → IsStuck field_ℚ (length now_basis) (length columns) t)
+      → ((p : FeasibilityProblem Rational) (t : SimplexTable Rational) → Represents p t columns limit now now_basis → IsStuck field_ℚ (length now_basis) (length columns) t)
       → IsFinished columns limit old basis (Some budget) now now_basis Point
   run_ends_stuck n u = record {
     engine = w.engine;
@@ -78,7 +78,7 @@ module _ (columns : List Terms) (limit : ℕ) (old : List WholeRowView) (basis :
   }
 
   pub run_ends_at_budget : ¬ (right_side_of (length now_basis) now (length now_basis) ≡ pos 0) → k ≡ budget
-      → ((p : FeasibilityProblem Rational) (t : SimplexTable Rational) → StandsFor p t columns limit now now_basis → ¬ (IsStuck field_ℚ (length now_basis) (length columns) t))
+      → ((p : FeasibilityProblem Rational) (t : SimplexTable Rational) → Represents p t columns limit now now_basis → ¬ (IsStuck field_ℚ (length now_basis) (length columns) t))
       → IsFinished columns limit old basis (Some budget) now now_basis (Pivots budget)
   run_ends_at_budget n e u = record {
     engine = w.engine;
@@ -136,7 +136,7 @@ module _ (columns : List Terms) (limit : ℕ) (old : List WholeRowView) (basis :
       steps_less b k i = omega arith
 
 -- where a column has a cost below 0 the run isn't stuck
-pub not_stuck_here : (p : FeasibilityProblem Rational) (t : SimplexTable Rational) (columns : List Terms) (limit : ℕ) (rows : List WholeRowView) (basis : List ℕ) (c : ℕ) → StandsFor p t columns limit rows basis
+pub not_stuck_here : (p : FeasibilityProblem Rational) (t : SimplexTable Rational) (columns : List Terms) (limit : ℕ) (rows : List WholeRowView) (basis : List ℕ) (c : ℕ) → Represents p t columns limit rows basis
     → c < length columns → first_negative_cost columns (whole_row_at rows (length basis)).numbers ≡ c → ¬ (IsStuck field_ℚ (length basis) (length columns) t)
 not_stuck_here p t columns limit rows basis c s h e = Rattle.it_run.proofs.RunSteps.not_stuck_with_entering (length basis) (length columns) t c
     record { within = h; is = entering_same p t columns limit rows basis s ∙ e }

@@ -12,7 +12,7 @@ use Rattle.it_tableau.specs.Problems.{feasibility_problem, start_of}
 use Rattle.it_tableau.specs.SimplexTables.{start_row}
 use Rattle.it_tableau.proofs.StartLemmas.{start_basis, start_has_invariants}
 use Rattle.it_tableau.proofs.Sums.{sum_same}
-use Rattle.it_engine.specs.Engine.{IsSafe, StandsFor}
+use Rattle.it_engine.specs.Engine.{IsSafe, Represents}
 use Rattle.it_engine.specs.Loading.{signed_coefficient, AreReadColumns, AreReadRows, IsNorm}
 use Rattle.it_space.specs.Sums.{number_at}
 use Rattle.it_engine.specs.Whole.{whole_row_at, WholeRowView, AreStartColumns, ShowsTable}
@@ -75,7 +75,7 @@ module _ (cs : List ℕ) (generators : List Terms) (target : Terms) (columns : L
     };
   }
 
-  pub stands_start : StandsFor (feasibility_problem cs generators target) (start_of cs generators target) columns limit rows basis
+  pub stands_start : Represents (feasibility_problem cs generators target) (start_of cs generators target) columns limit rows basis
   stands_start = record {
     norm = norm;
     some = s.norm_is.some;

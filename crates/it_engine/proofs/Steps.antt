@@ -15,7 +15,7 @@ use Rattle.it_run.specs.Solving.{StepFits}
 use Rattle.it_run.proofs.RunLemmas.{next_holds}
 use Rattle.it_run.proofs.RunSteps.{stuck_without_entering, not_stuck_with_entering}
 use Rattle.it_engine.specs.Choosing.{is_above_zero, first_negative_cost, best_row_below, best_row, comes_first, entry_of, right_side_of, basic_column_at, best_after_row}
-use Rattle.it_engine.specs.Engine.{IsSafe, StandsFor, IsStepMade}
+use Rattle.it_engine.specs.Engine.{IsSafe, Represents, IsStepMade}
 use Rattle.it_engine.specs.Updates.{AreWholeRowsPivoted, IsFitting, IsUsable}
 use Rattle.it_space.specs.Sums.{number_at}
 use Rattle.it_engine.specs.Whole.{whole_row_at, WholeRowView, IsRow, AreStartColumns, ShowsTable}
@@ -54,7 +54,7 @@ above_one (pos zero) e = absurd (true≢false (sym e))
 above_one (pos (suc n)) e = omega (arith, ints)
 above_one (negsuc n) e = absurd (true≢false (sym e))
 
-module _ (p : FeasibilityProblem Rational) (t : SimplexTable Rational) (columns : List Terms) (limit : ℕ) (rows : List WholeRowView) (basis : List ℕ) (s : StandsFor p t columns limit rows basis) where
+module _ (p : FeasibilityProblem Rational) (t : SimplexTable Rational) (columns : List Terms) (limit : ℕ) (rows : List WholeRowView) (basis : List ℕ) (s : Represents p t columns limit rows basis) where
   cost_sign : (j : ℕ) → j < length columns → is_at_least_zero (t.entry (length basis) j) ≡ sign_least (value (slice_index_or columns j []) (number_at (whole_row_at rows (length basis)).numbers))
   cost_sign j l = sign_named (t.entry (length basis) j) (value (slice_index_or columns j []) (number_at (whole_row_at rows (length basis)).numbers)) (whole_row_at rows (length basis)).bottom (s.shows.row (length basis) (omega arith)).some
       (price_named (length basis) (length columns) limit s.norm p t columns rows basis s.holds.combines s.shows s.columns_are s.fit s.some (length basis) j (omega arith) l)

@@ -8,7 +8,7 @@ use Rattle.it_run.specs.Choice.{next}
 use Rattle.it_run.proofs.Agreeing.{Agree, steps_left_agrees}
 use Rattle.it_run.proofs.StepsLeft.{steps_left, steps_fall}
 use Rattle.it_engine.specs.Behind.{AreEngineSteps}
-use Rattle.it_engine.specs.Engine.{StandsFor, IsEngineStep}
+use Rattle.it_engine.specs.Engine.{Represents, IsEngineStep}
 use Rattle.it_space.specs.Sums.{number_at}
 use Rattle.it_engine.specs.Whole.{whole_row_at, WholeRowView}
 use Rattle.it_engine.proofs.Generators.{table_is_over}
@@ -27,7 +27,7 @@ unfoldable pub steps_left_to : List Terms → List WholeRowView → List ℕ →
 steps_left_to columns rows basis = steps_left field_ℚ (length basis) (length columns) (shown_table columns rows basis)
 
 -- any table that it shows agrees with it
-shown_table_agrees : (p : FeasibilityProblem Rational) (t : SimplexTable Rational) (columns : List Terms) (limit : ℕ) (rows : List WholeRowView) (basis : List ℕ) → StandsFor p t columns limit rows basis
+shown_table_agrees : (p : FeasibilityProblem Rational) (t : SimplexTable Rational) (columns : List Terms) (limit : ℕ) (rows : List WholeRowView) (basis : List ℕ) → Represents p t columns limit rows basis
     → Agree field_ℚ (length basis) (length columns) t (shown_table columns rows basis)
 shown_table_agrees p t columns limit rows basis s = record {
   entries = λ i j hi hj.
@@ -37,14 +37,14 @@ shown_table_agrees p t columns limit rows basis s = record {
   basics = s.shows.basis_is;
 }
 
-steps_left_is : (p : FeasibilityProblem Rational) (t : SimplexTable Rational) (columns : List Terms) (limit : ℕ) (rows : List WholeRowView) (basis : List ℕ) → StandsFor p t columns limit rows basis
+steps_left_is : (p : FeasibilityProblem Rational) (t : SimplexTable Rational) (columns : List Terms) (limit : ℕ) (rows : List WholeRowView) (basis : List ℕ) → Represents p t columns limit rows basis
     → steps_left_to columns rows basis ≡ steps_left field_ℚ (length basis) (length columns) t
 unfolding steps_left_to
 steps_left_is p t columns limit rows basis s = sym (steps_left_agrees field_ℚ (length basis) (length columns) t (shown_table columns rows basis) (shown_table_agrees p t columns limit rows basis s))
 
 -- a step lowers it
 pub steps_left_falls : (p : FeasibilityProblem Rational) (t : SimplexTable Rational) (columns : List Terms) (limit : ℕ) (old : List WholeRowView) (basis : List ℕ) (new : List WholeRowView) (new_basis : List ℕ)
-    → StandsFor p t columns limit old basis → IsEngineStep columns limit old basis new new_basis → steps_left_to columns new new_basis < steps_left_to columns old basis
+    → Represents p t columns limit old basis → IsEngineStep columns limit old basis new new_basis → steps_left_to columns new new_basis < steps_left_to columns old basis
 steps_left_falls p t columns limit old basis new new_basis s g =
     let m = g.made p t s in
     let after = steps_left_is p (next field_ℚ (length basis) (length columns) t) columns limit new new_basis m.stands in
@@ -55,7 +55,7 @@ steps_left_falls p t columns limit old basis new new_basis s g =
 
 -- several steps don't raise it
 pub several_steps_left : (p : FeasibilityProblem Rational) (t : SimplexTable Rational) (columns : List Terms) (limit : ℕ) (old : List WholeRowView) (basis : List ℕ) (made : ℕ) (new : List WholeRowView) (new_basis : List ℕ)
-    → StandsFor p t columns limit old basis → AreEngineSteps columns limit old basis made new new_basis → steps_left_to columns new new_basis ≤ steps_left_to columns old basis
+    → Represents p t columns limit old basis → AreEngineSteps columns limit old basis made new new_basis → steps_left_to columns new new_basis ≤ steps_left_to columns old basis
 several_steps_left p t columns limit old basis made new new_basis s g =
     let x = g.made p t s in
     let after = steps_left_is p x.0 columns limit new new_basis x.1 in

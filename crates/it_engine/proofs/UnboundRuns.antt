@@ -12,7 +12,7 @@ use Rattle.it_run.specs.Steps.{Reaches, ReachesBy}
 use Rattle.it_run.proofs.RunSteps.{run_done, run_stuck, run_more}
 use Rattle.it_engine.specs.Behind.{AreEngineSteps, StepsLead}
 use Rattle.it_engine.specs.Choosing.{right_side_of}
-use Rattle.it_engine.specs.Engine.{IsSafe, StandsFor, StandsForSome, IsEngineStep, IsFinished}
+use Rattle.it_engine.specs.Engine.{IsSafe, Represents, RepresentsSome, IsEngineStep, IsFinished}
 use Rattle.it_engine.specs.Whole.{WholeRowView}
 use Rattle.it_engine.specs.declared.engine.EngineEnd.TheVariants as engine_ends
 use Rattle.it_engine.proofs.StepsLeft.{steps_left_to, steps_left_falls, several_steps_left}
@@ -26,7 +26,7 @@ RunsOnFrom m n t made s = (left : ℕ) (e : RunEndView (SimplexTable Rational) (
 -- the run from a table has come to one that the engine shows
 pub record ComesTo (p : FeasibilityProblem Rational) (columns : List Terms) (limit height : ℕ) (t : SimplexTable Rational) (now : List WholeRowView) (now_basis : List ℕ) : Type 0 where
   pub last : SimplexTable Rational
-  pub stands : StandsFor p last columns limit now now_basis
+  pub stands : Represents p last columns limit now now_basis
   pub made : ℕ
   pub serves : RunsOnFrom height (length columns) t made last
 
@@ -34,10 +34,10 @@ pub record ComesTo (p : FeasibilityProblem Rational) (columns : List Terms) (lim
 pub record IsRunUnderWay (columns : List Terms) (limit : ℕ) (old : List WholeRowView) (basis : List ℕ) (now : List WholeRowView) (now_basis : List ℕ) : Type 0 where
   pub engine : IsSafe columns limit now now_basis
   pub height : length now_basis ≡ length basis
-  pub some : StandsForSome columns limit now now_basis
-  pub runs : (p : FeasibilityProblem Rational) (t : SimplexTable Rational) → StandsFor p t columns limit old basis → ComesTo p columns limit (length basis) t now now_basis
+  pub some : RepresentsSome columns limit now now_basis
+  pub runs : (p : FeasibilityProblem Rational) (t : SimplexTable Rational) → Represents p t columns limit old basis → ComesTo p columns limit (length basis) t now now_basis
 
-pub run_begins : (columns : List Terms) (limit : ℕ) (old : List WholeRowView) (basis : List ℕ) → IsSafe columns limit old basis → StandsForSome columns limit old basis → IsRunUnderWay columns limit old basis old basis
+pub run_begins : (columns : List Terms) (limit : ℕ) (old : List WholeRowView) (basis : List ℕ) → IsSafe columns limit old basis → RepresentsSome columns limit old basis → IsRunUnderWay columns limit old basis old basis
 run_begins columns limit old basis h i = record { engine = h; height = refl; some = i; runs = λ p t s. record { last = t; stands = s; made = 0; serves = λ left e r. (left, r) } }
 
 module _ (columns : List Terms) (limit : ℕ) (old : List WholeRowView) (basis : List ℕ) (now : List WholeRowView) (now_basis : List ℕ) (w : IsRunUnderWay columns limit old basis now now_basis) where
@@ -62,7 +62,7 @@ module _ (columns : List Terms) (limit : ℕ) (old : List WholeRowView) (basis :
   }
 
   pub unbound_stuck : ¬ (right_side_of (length now_basis) now (length now_basis) ≡ pos 0)
-      → ((p : FeasibilityProblem Rational) (t : SimplexTable Rational) → StandsFor p t columns limit now now_basis → IsStuck field_ℚ (length now_basis) (length columns) t)
+      → ((p : FeasibilityProblem Rational) (t : SimplexTable Rational) → Represents p t columns limit now now_basis → IsStuck field_ℚ (length now_basis) (length columns) t)
       → IsFinished columns limit old basis None now now_basis engine_ends.Point
   unbound_stuck n u = record {
     engine = w.engine;

@@ -10,7 +10,7 @@ use Rattle.it_space.specs.Rows.{Terms, value}
 use Rattle.it_space.specs.Sums.{number_at}
 use Rattle.it_tableau.specs.SimplexTables.{SimplexTable, FeasibilityProblem}
 use Rattle.it_engine.specs.Choosing.{entry_of, first_negative_cost, is_above_zero, right_side_of}
-use Rattle.it_engine.specs.Engine.{IsSafe, StandsFor}
+use Rattle.it_engine.specs.Engine.{IsSafe, Represents}
 use Rattle.it_engine.specs.Updates.{AreUsable, IsUsable, IsWholeRowReduced}
 use Rattle.it_engine.specs.Whole.{AreAtMost, AreStartColumns, IsRow, ShowsTable, whole_row_at, WholeRowView}
 
@@ -74,15 +74,26 @@ pub record MayLeave (rows : List WholeRowView) (moved : List Bool) (entries : Li
   pub still : right_side_of place rows i ≡ pos 0
   pub above : is_above_zero (cond (has_moved moved i) (number_at entries i) (entry_of combined rows i)) ≡ true
 
--- of the rows below k that may leave it is the one with the least basic column
+-- it may leave, and none of the rows below k that may has a lower basic column
 abbrev pub IsFirstToLeave : List WholeRowView → List ℕ → List Bool → List ℤ → Terms → ℕ → Option ℕ → Type 0
 IsFirstToLeave rows basis moved entries combined k None = (i : ℕ) → i < k → ¬ (MayLeave rows moved entries combined (length basis) i)
-IsFirstToLeave rows basis moved entries combined k (Some r) = (r < k) × MayLeave rows moved entries combined (length basis) r
+IsFirstToLeave rows basis moved entries combined k (Some r) = (r < length basis) × MayLeave rows moved entries combined (length basis) r
     × ((i : ℕ) → i < k → MayLeave rows moved entries combined (length basis) i → slice_index_or basis r 0 ≤ slice_index_or basis i 0)
 
 -- bounds on the numbers and the denominators of the rows that stay behind
 abbrev pub AreBaseBounds : ℕ → ℕ → List WholeRowView → List Bool → ℕ → Type 0
 AreBaseBounds most low rows moved k = (i : ℕ) → i < k → has_moved moved i ≡ false → AreAtMost (whole_row_at rows i).numbers most × ((whole_row_at rows i).bottom ≤ low)
+
+-- no row from one on up to another moved
+pub record IsNextMoved (moved : List Bool) (height from to : ℕ) : Type 0 where
+  pub after : from ≤ to
+  pub within : to ≤ height
+  pub still : (q : ℕ) → from ≤ q → q < to → has_moved moved q ≡ false
+
+-- next has for each row such a next one, so that all rows that moved are met from each to the next
+pub record AreNextMoved (moved : List Bool) (height : ℕ) (next : List ℕ) : Type 0 where
+  pub room : height < length next
+  pub each : (q : ℕ) → q ≤ height → IsNextMoved moved height q (slice_index_or next q 0)
 
 -- what a row is after row q is taken off it, if that moved: as much as makes its entry at the basic column of row q 0
 pub record IsLessMoved (columns : List Terms) (limit : ℕ) (rows : List WholeRowView) (basis : List ℕ) (moved : List Bool) (q : ℕ) (old new : WholeRowView) : Type 0 where
@@ -162,8 +173,8 @@ pub record AreStillSteps (columns : List Terms) (limit : ℕ) (old : List WholeR
 pub record AreEngineSteps (columns : List Terms) (limit : ℕ) (old : List WholeRowView) (basis : List ℕ) (k : ℕ) (new : List WholeRowView) (new_basis : List ℕ) : Type 0 where
   pub engine : IsSafe columns limit new new_basis
   pub height : length new_basis ≡ length basis
-  pub made : (p : FeasibilityProblem Rational) (t : SimplexTable Rational) → StandsFor p t columns limit old basis
-      → (s : SimplexTable Rational) × StandsFor p s columns limit new new_basis × StepsLead (length basis) (length columns) k t s
+  pub made : (p : FeasibilityProblem Rational) (t : SimplexTable Rational) → Represents p t columns limit old basis
+      → (s : SimplexTable Rational) × Represents p s columns limit new new_basis × StepsLead (length basis) (length columns) k t s
 
 -- the absolute values at the rows that moved, each times its share, of the first k rows
 abbrev pub share_sum : (ℕ → Bool) → (ℕ → ℕ) → (ℕ → ℕ) → ℕ → ℕ

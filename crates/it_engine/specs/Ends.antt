@@ -10,7 +10,7 @@ use Rattle.it_run.specs.Answers.{end_of_answer}
 use Rattle.it_run.specs.Solving.{RunsTo}
 use Rattle.it_run.specs.declared.answering.Solved.{Solved}
 use Rattle.it_engine.specs.Choosing.{right_side_of}
-use Rattle.it_engine.specs.Engine.{StandsFor}
+use Rattle.it_engine.specs.Engine.{Represents}
 use Rattle.it_engine.specs.Whole.{whole_row_at, WholeRowView}
 
 -- the right side of a row whose basic column is j
@@ -22,15 +22,15 @@ pub record IsWeightOf (rows : List WholeRowView) (basis : List ℕ) (j : ℕ) (w
 
 -- the weights of whichever table the engine shows
 abbrev pub AreWeightsOf : List Terms → List WholeRowView → List ℕ → List (ℕ × Rational) → Type 0
-AreWeightsOf columns rows basis ws = (p : FeasibilityProblem Rational) (t : SimplexTable Rational) (limit : ℕ) → StandsFor p t columns limit rows basis → ws ≡ weights field_ℚ (length basis) (length columns) t
+AreWeightsOf columns rows basis ws = (p : FeasibilityProblem Rational) (t : SimplexTable Rational) (limit : ℕ) → Represents p t columns limit rows basis → ws ≡ weights field_ℚ (length basis) (length columns) t
 
 -- and its point, whichever columns the table has besides the artificial ones
 abbrev pub IsPointOf : List ℕ → Terms → List WholeRowView → List ℕ → List Rational → Type 0
 IsPointOf coordinates target rows basis q = (generators : List Terms) (t : SimplexTable Rational) (columns : List Terms) (limit : ℕ)
-    → StandsFor (feasibility_problem coordinates generators target) t columns limit rows basis → q ≡ point field_ℚ (length basis) (length columns) (feasibility_problem coordinates generators target) t
+    → Represents (feasibility_problem coordinates generators target) t columns limit rows basis → q ≡ point field_ℚ (length basis) (length columns) (feasibility_problem coordinates generators target) t
 
 -- the answer to the question whose start the engine shows
 abbrev pub AnswersQuestion : List ℕ → Terms → List Terms → ℕ → List WholeRowView → List ℕ → Option ℕ → Solved → Type 0
 AnswersQuestion coordinates target columns limit rows basis budget answer = (generators : List Terms) (t : SimplexTable Rational)
-    → StandsFor (feasibility_problem coordinates generators target) t columns limit rows basis
+    → Represents (feasibility_problem coordinates generators target) t columns limit rows basis
     → RunsTo (length basis) (length columns) (feasibility_problem coordinates generators target) budget t (end_of_answer answer)

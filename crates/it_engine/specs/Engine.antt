@@ -29,7 +29,7 @@ pub record IsSafe (columns : List Terms) (limit : ℕ) (rows : List WholeRowView
   pub limit_is : limit < 2 ^ 63
 
 -- the engine shows a table of the problem that has the invariants, and no column weighs more than a norm that keeps all prices short
-pub record StandsFor (p : FeasibilityProblem Rational) (t : SimplexTable Rational) (columns : List Terms) (limit : ℕ) (rows : List WholeRowView) (basis : List ℕ) : Type 0 where
+pub record Represents (p : FeasibilityProblem Rational) (t : SimplexTable Rational) (columns : List Terms) (limit : ℕ) (rows : List WholeRowView) (basis : List ℕ) : Type 0 where
   pub norm : ℕ
   pub some : 1 ≤ norm
   pub fit : norm * limit < 2 ^ 63
@@ -41,22 +41,22 @@ pub record StandsFor (p : FeasibilityProblem Rational) (t : SimplexTable Rationa
 pub record IsStepMade (p : FeasibilityProblem Rational) (t : SimplexTable Rational) (columns : List Terms) (limit : ℕ) (basis : List ℕ) (new : List WholeRowView) (new_basis : List ℕ) : Type 0 where
   pub moves : ¬ (IsStuck field_ℚ (length basis) (length columns) t)
   pub fits : StepFits (length basis) (length columns) t
-  pub stands : StandsFor p (next field_ℚ (length basis) (length columns) t) columns limit new new_basis
+  pub stands : Represents p (next field_ℚ (length basis) (length columns) t) columns limit new new_basis
 
 -- a step was made, whichever table the engine showed
 pub record IsEngineStep (columns : List Terms) (limit : ℕ) (old : List WholeRowView) (basis : List ℕ) (new : List WholeRowView) (new_basis : List ℕ) : Type 0 where
   pub engine : IsSafe columns limit new new_basis
   pub height : length new_basis ≡ length basis
-  pub made : (p : FeasibilityProblem Rational) (t : SimplexTable Rational) → StandsFor p t columns limit old basis → IsStepMade p t columns limit basis new new_basis
+  pub made : (p : FeasibilityProblem Rational) (t : SimplexTable Rational) → Represents p t columns limit old basis → IsStepMade p t columns limit basis new new_basis
 
 -- the engine shows some table of some problem
-abbrev pub StandsForSome : List Terms → ℕ → List WholeRowView → List ℕ → Type 0
-StandsForSome columns limit rows basis = (p : FeasibilityProblem Rational) × (t : SimplexTable Rational) × StandsFor p t columns limit rows basis
+abbrev pub RepresentsSome : List Terms → ℕ → List WholeRowView → List ℕ → Type 0
+RepresentsSome columns limit rows basis = (p : FeasibilityProblem Rational) × (t : SimplexTable Rational) × Represents p t columns limit rows basis
 
 -- no step is left to make, or one is made
 abbrev pub IsEngineStepOrStuck : List Terms → ℕ → List WholeRowView → List ℕ → List WholeRowView → List ℕ → Bool → Type 0
 IsEngineStepOrStuck columns limit old basis new new_basis false = (new ≡ old) × (new_basis ≡ basis)
-    × ((p : FeasibilityProblem Rational) (t : SimplexTable Rational) → StandsFor p t columns limit old basis → IsStuck field_ℚ (length basis) (length columns) t)
+    × ((p : FeasibilityProblem Rational) (t : SimplexTable Rational) → Represents p t columns limit old basis → IsStuck field_ℚ (length basis) (length columns) t)
 IsEngineStepOrStuck columns limit old basis new new_basis true = IsEngineStep columns limit old basis new new_basis
 
 -- the end of the run that it tells
@@ -69,5 +69,5 @@ engine_end_view (engine_ends.Pivots k) t = Pivots k
 pub record IsFinished (columns : List Terms) (limit : ℕ) (old : List WholeRowView) (basis : List ℕ) (budget : Option ℕ) (new : List WholeRowView) (new_basis : List ℕ) (finish : EngineEnd) : Type 0 where
   pub engine : IsSafe columns limit new new_basis
   pub height : length new_basis ≡ length basis
-  pub runs : (p : FeasibilityProblem Rational) (t : SimplexTable Rational) → StandsFor p t columns limit old basis
-      → (s : SimplexTable Rational) × StandsFor p s columns limit new new_basis × ReachesBy (length basis) (length columns) budget t (engine_end_view finish s)
+  pub runs : (p : FeasibilityProblem Rational) (t : SimplexTable Rational) → Represents p t columns limit old basis
+      → (s : SimplexTable Rational) × Represents p s columns limit new new_basis × ReachesBy (length basis) (length columns) budget t (engine_end_view finish s)

@@ -8,7 +8,7 @@ ghost use Rattle.std.specs.Prelude.{◌≡◌, ◌≤ℤ◌, ◌+◌, ◌*◌, �
 ghost use Rattle.std.specs.Bool.{OnFalse, OnTrue};
 ghost use Rattle.std.specs.Option.{IfNone, IfSome};
 ghost use Prim.Native.Nat.{◌∣◌};
-ghost use Rattle.it_engine.specs.Behind.{AreBaseBounds, AreBrought, AreEngineSteps, AreMovedEntries, AreStillSteps, BoundsShares, column_less_moved, has_moved, IsBehindStep, IsCommonMultiple, IsBrought, IsFirstToLeave, IsLessMoved, IsRowBrought, IsStillChoice, LeavesStill, MayLeave, multiple_of_terms, share_of, taken_terms};
+ghost use Rattle.it_engine.specs.Behind.{AreBaseBounds, AreBrought, AreEngineSteps, AreMovedEntries, AreNextMoved, AreStillSteps, BoundsShares, column_less_moved, has_moved, IsBehindStep, IsCommonMultiple, IsBrought, IsFirstToLeave, IsLessMoved, IsRowBrought, IsStillChoice, LeavesStill, MayLeave, multiple_of_terms, share_of, taken_terms};
 ghost use Rattle.it_engine.specs.Choosing.{entry_of, right_side_of};
 ghost use Rattle.it_engine.specs.Updates.{AreUsable, IsFitting, IsUpdated, IsUsable, Suits, SuitsAll};
 ghost use Rattle.it_engine.specs.Engine.{IsSafe};
@@ -338,6 +338,63 @@ fn earlier_row(
     }
 }
 
+/// The row with the least basic column of the best one so far and row i, if that moved and may leave.
+fn earlier_moved_row(
+    best: Option<usize>,
+    rows: &[WholeRow],
+    basis: &[usize],
+    moved: &[bool],
+    entries: &[i64],
+    combined: &Column,
+    i: usize,
+) -> Option<usize>
+    requires row { i < length basis.now }
+    requires rows { length basis.now < length rows.now }
+    requires moved { i < length moved.now }
+    requires entries { i < length entries.now }
+    requires suits { SuitsAll combined.now rows.now }
+    requires place { length basis.now < length (whole_row_at rows.now i).numbers }
+    requires best { IsFirstToLeave rows.now basis.now moved.now entries.now combined.now 0 best }
+    ensures { IsFirstToLeave rows.now basis.now moved.now entries.now combined.now 0 result }
+{
+    if !moved_at(moved, i) {
+        return best;
+    }
+    if let Some(k) = best {
+        if basis[k] <= basis[i] {
+            return Some(k);
+        }
+    }
+    if may_leave(rows, moved, entries, combined, basis.len(), i) {
+        Some(i)
+    } else {
+        best
+    }
+}
+
+/// Of the rows that moved and may leave with ratio 0 the one with the least basic column. It is looked for first, since then few
+/// of the other rows come before it.
+fn first_moved_to_leave(
+    rows: &[WholeRow],
+    basis: &[usize],
+    moved: &[bool],
+    entries: &[i64],
+    combined: &Column,
+) -> Option<usize>
+    requires rows { length basis.now < length rows.now }
+    requires moved { length basis.now ≤ length moved.now }
+    requires entries { length basis.now ≤ length entries.now }
+    requires suits { SuitsAll combined.now rows.now }
+    requires places { (i : ℕ) → i < length basis.now → length basis.now < length (whole_row_at rows.now i).numbers }
+    ensures { IsFirstToLeave rows.now basis.now moved.now entries.now combined.now 0 result }
+{
+    let mut best: Option<usize> = None;
+    for i in 0..basis.len() {
+        best = earlier_moved_row(best, rows, basis, moved, entries, combined, i);
+    }
+    best
+}
+
 /// Of the rows that may leave with ratio 0 the one with the least basic column.
 fn first_to_leave(
     rows: &[WholeRow],
@@ -353,7 +410,7 @@ fn first_to_leave(
     requires places { (i : ℕ) → i < length basis.now → length basis.now < length (whole_row_at rows.now i).numbers }
     ensures { IsFirstToLeave rows.now basis.now moved.now entries.now combined.now (length basis.now) result }
 {
-    let mut best: Option<usize> = None;
+    let mut best = first_moved_to_leave(rows, basis, moved, entries, combined);
     for i in 0..basis.len() {
         best = earlier_row(best, rows, basis, moved, entries, combined, i);
     }
@@ -463,6 +520,7 @@ fn bring_row(
 ) -> bool
     requires height { length rows.now ≡ length basis.now + 1 }
     requires moved { length moved.now ≡ length rows.now }
+    requires next { AreNextMoved moved.now (length basis.now) next.now }
     requires row { IsUsable (length rows.now) limit row.old }
     requires rows { (i : ℕ) → i < length rows.now → has_moved moved.now i ≡ true → IsUsable (length rows.now) limit (whole_row_at rows.now i) }
     requires columns { (j : ℕ) → j < length columns.now → IsFitting (length rows.now) limit (slice_index_or columns.now j []) }
@@ -472,10 +530,12 @@ fn bring_row(
     ensures brought { OnTrue result (IsBrought columns.now limit rows.now basis.now moved.now row.old row.new) }
     ensures usable { OnTrue result (IsUsable (length rows.now) limit row.new) }
 {
-    for q in 0..basis.len() {
+    let mut q = next[0];
+    while q < basis.len() {
         if !take_off_moved(row, columns, rows, basis, moved, next, room, q, limit) {
             return false;
         }
+        q = next[q + 1];
     }
     true
 }
@@ -496,6 +556,7 @@ fn bring(
     requires moved { length moved.now ≡ length rows.old }
     requires r { r < length basis.now }
     requires behind { has_moved moved.now r ≡ false }
+    requires next { AreNextMoved moved.now (length basis.now) next.now }
     requires rows { AreUsable (length rows.old) limit rows.old }
     requires columns { (j : ℕ) → j < length columns.now → IsFitting (length rows.old) limit (slice_index_or columns.now j []) }
     requires room { length room.old ≡ length rows.old }
@@ -509,8 +570,65 @@ fn bring(
     done
 }
 
+/// The row itself where it moved, else the one found after it.
+#[inline]
+fn next_moved(moved: &[bool], q: usize, after: usize) -> usize
+    requires { q < length moved.now }
+    ensures { result ≡ cond (has_moved moved.now q) q after }
+{
+    if moved_at(moved, q) { q } else { after }
+}
+
+/// Notes for each row, up to the cost row, the next one that moved.
+fn note_next_moved(moved: &[bool], next: &mut [usize], height: usize)
+    requires moved { height ≤ length moved.now }
+    requires next { height < length next.old }
+    ensures noted { AreNextMoved moved.now height next.new }
+    ensures length { length next.new ≡ length next.old }
+{
+    let mut k = height;
+    next[k] = k;
+    // a `while`, which counts down: the invariant speaks of the rows from k on
+    while k > 0 {
+        k -= 1;
+        next[k] = next_moved(moved, k, next[k + 1]);
+    }
+}
+
 /// Brings row r up to date, if it stayed behind; false where a number would be too large, and then nothing is known of the rows.
 fn bring_if_behind(
+    alloc: Global,
+    rows: &mut [WholeRow],
+    columns: &[Column],
+    basis: &[usize],
+    moved: &[bool],
+    next: &mut [usize],
+    room: &mut [i64],
+    r: usize,
+    limit: u64,
+) -> bool
+    requires height { length rows.old ≡ length basis.now + 1 }
+    requires moved { length moved.now ≡ length rows.old }
+    requires r { r < length basis.now }
+    requires rows { AreUsable (length rows.old) limit rows.old }
+    requires columns { (j : ℕ) → j < length columns.now → IsFitting (length rows.old) limit (slice_index_or columns.now j []) }
+    requires next { length next.old ≡ length rows.old + 1 }
+    requires room { length room.old ≡ length rows.old }
+    requires limit { limit < 2 ^ 63 }
+    ensures next { length next.new ≡ length next.old }
+    ensures room { length room.new ≡ length room.old }
+    ensures brought { OnTrue result (has_moved moved.now r ≡ false → IsRowBrought columns.now limit rows.old basis.now moved.now r rows.new) }
+    ensures kept { OnTrue result (has_moved moved.now r ≡ true → rows.new ≡ rows.old) }
+{
+    if moved_at(moved, r) {
+        return true;
+    }
+    note_next_moved(moved, next, basis.len());
+    bring(alloc, rows, columns, basis, moved, next, room, r, limit)
+}
+
+/// Brings row r up to date, if it stayed behind, where next has the next rows that moved; false where a number would be too large, and then nothing is known of the rows.
+fn bring_noted(
     alloc: Global,
     rows: &mut [WholeRow],
     columns: &[Column],
@@ -524,6 +642,7 @@ fn bring_if_behind(
     requires height { length rows.old ≡ length basis.now + 1 }
     requires moved { length moved.now ≡ length rows.old }
     requires r { r < length basis.now }
+    requires next { AreNextMoved moved.now (length basis.now) next.now }
     requires rows { AreUsable (length rows.old) limit rows.old }
     requires columns { (j : ℕ) → j < length columns.now → IsFitting (length rows.old) limit (slice_index_or columns.now j []) }
     requires room { length room.old ≡ length rows.old }
@@ -545,7 +664,7 @@ fn bring_all(
     columns: &[Column],
     basis: &[usize],
     moved: &[bool],
-    next: &[usize],
+    next: &mut [usize],
     room: &mut [i64],
     limit: u64,
 ) -> bool
@@ -553,13 +672,16 @@ fn bring_all(
     requires moved { length moved.now ≡ length rows.old }
     requires rows { AreUsable (length rows.old) limit rows.old }
     requires columns { (j : ℕ) → j < length columns.now → IsFitting (length rows.old) limit (slice_index_or columns.now j []) }
+    requires next { length next.old ≡ length rows.old + 1 }
     requires room { length room.old ≡ length rows.old }
     requires limit { limit < 2 ^ 63 }
+    ensures next { length next.new ≡ length next.old }
     ensures room { length room.new ≡ length room.old }
     ensures brought { OnTrue result (AreBrought columns.now limit rows.old basis.now moved.now (length basis.now) rows.new) }
 {
+    note_next_moved(moved, next, basis.len());
     for r in 0..basis.len() {
-        if !bring_if_behind(alloc, rows, columns, basis, moved, next, room, r, limit) {
+        if !bring_noted(alloc, rows, columns, basis, moved, next, room, r, limit) {
             return false;
         }
     }

@@ -50,6 +50,7 @@ pub fn note_entries(column: &Column, rows: &[WholeRow], entries: &mut [i64])
 }
 
 /// The right side of a row, which stands at this place.
+#[inline]
 pub fn right_side(rows: &[WholeRow], i: usize, place: usize) -> i64
     requires row { i < length rows.now }
     requires place { place < length (whole_row_at rows.now i).numbers }

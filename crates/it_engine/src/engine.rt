@@ -5,7 +5,7 @@ ghost use Rattle.std.specs.Option.{IfNone, IfSome};
 ghost use Rattle.it_engine.specs.Behind.{AreEngineSteps};
 ghost use Rattle.it_engine.specs.Loading.{IsNorm};
 ghost use Rattle.it_engine.specs.Choosing.{first_negative_cost, right_side_of};
-ghost use Rattle.it_engine.specs.Engine.{IsFinished, IsSafe, IsEngineStepOrStuck, StandsForSome};
+ghost use Rattle.it_engine.specs.Engine.{IsFinished, IsSafe, IsEngineStepOrStuck, RepresentsSome};
 ghost use Rattle.it_engine.specs.Whole.{AreAllAtMost, AreAtMost, whole_row_at};
 
 use crate::arithmetic::is_zero;
@@ -226,7 +226,7 @@ impl Engine {
     /// Makes the run without a budget. It ends since no set of basic columns comes back (Bland 1977).
     fn run_on(&mut self, columns: &[Column], limit: u64, norm: u64) -> Option<EngineEnd>
         requires engine { IsSafe columns.now limit self.old.rows self.old.basis }
-        requires stands { StandsForSome columns.now limit self.old.rows self.old.basis }
+        requires stands { RepresentsSome columns.now limit self.old.rows self.old.basis }
         requires norm { IsNorm columns.now norm }
         ensures { IfSome result (λ finish. IsFinished columns.now limit self.old.rows self.old.basis None self.new.rows self.new.basis finish) }
     {
@@ -248,7 +248,7 @@ impl Engine {
     /// numbers of rows. None where a number would be larger: then nothing is known of the engine.
     pub fn run(&mut self, columns: &[Column], limit: u64, budget: Option<u32>) -> Option<EngineEnd>
         requires engine { IsSafe columns.now limit self.old.rows self.old.basis }
-        requires stands { StandsForSome columns.now limit self.old.rows self.old.basis }
+        requires stands { RepresentsSome columns.now limit self.old.rows self.old.basis }
         ensures { IfSome result (λ finish. IsFinished columns.now limit self.old.rows self.old.basis budget self.new.rows self.new.basis finish) }
     {
         let norm = norm(columns)?;

@@ -2,7 +2,7 @@
 ghost use Rattle.std.specs.Prelude.{◌≡◌, ◌<◌, ◌≤◌, ◌^◌, length, IfOk};
 ghost use Rattle.std.specs.Option.{IfSome};
 ghost use Rattle.it_engine.specs.Answers.{RunsFromStart};
-ghost use Rattle.it_engine.specs.Engine.{IsSafe, StandsForSome};
+ghost use Rattle.it_engine.specs.Engine.{IsSafe, RepresentsSome};
 ghost use Rattle.it_engine.specs.Ends.{AnswersQuestion};
 
 use crate::columns::Column;
@@ -39,7 +39,7 @@ fn answer(
 ) -> Result<Option<Solved>, AllocError>
     requires height { length engine.basis ≡ length coordinates.now }
     requires engine { IsSafe columns.now limit engine.rows engine.basis }
-    requires stands { StandsForSome columns.now limit engine.rows engine.basis }
+    requires stands { RepresentsSome columns.now limit engine.rows engine.basis }
     ensures { IfOk result (λ o. IfSome o (λ solved. AnswersQuestion coordinates.now target.now columns.now limit engine.rows engine.basis budget solved)) }
 {
     let mut engine = engine;
@@ -87,7 +87,7 @@ fn narrow_answer(
 ) -> Result<Option<Solved>, AllocError>
     requires height { length engine.now.basis ≡ length coordinates.now }
     requires engine { IsSafe columns.now limit engine.now.rows engine.now.basis }
-    requires stands { StandsForSome columns.now limit engine.now.rows engine.now.basis }
+    requires stands { RepresentsSome columns.now limit engine.now.rows engine.now.basis }
     ensures { IfOk result (λ o. IfSome o (λ solved. AnswersQuestion coordinates.now target.now columns.now limit engine.now.rows engine.now.basis budget solved)) }
 {
     if engine.basis().len() < FEW_ROWS {
@@ -112,7 +112,7 @@ fn answer_by_width(
 ) -> Result<Option<Solved>, AllocError>
     requires height { length engine.basis ≡ length coordinates.now }
     requires engine { IsSafe columns.now limit engine.rows engine.basis }
-    requires stands { StandsForSome columns.now limit engine.rows engine.basis }
+    requires stands { RepresentsSome columns.now limit engine.rows engine.basis }
     ensures { IfOk result (λ o. IfSome o (λ solved. AnswersQuestion coordinates.now target.now columns.now limit engine.rows engine.basis budget solved)) }
 {
     match narrow_answer(alloc, coordinates, target, columns, limit, &engine, budget)? {

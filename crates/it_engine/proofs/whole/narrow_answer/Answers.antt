@@ -3,7 +3,7 @@ use Rattle.std.specs.Option.{IfSome}
 use Rattle.it_run.specs.declared.answering.Solved.{Solved}
 use Rattle.it_run.proofs.AnswerLemmas.{if_ok}
 use Rattle.it_engine.specs.Ends.{AnswersQuestion}
-use Rattle.it_engine.specs.Engine.{EngineView, IsSafe, StandsFor}
+use Rattle.it_engine.specs.Engine.{EngineView, IsSafe, Represents}
 use Rattle.it_engine.specs.Whole.{AreAllAtMost}
 use Rattle.it_engine.proofs.Answers.{if_some_more, of_some}
 use Rattle.it_engine.proofs.LowerLimits.{answers_below, safe_below, stands_below}
@@ -32,7 +32,7 @@ answer-requires-clause-stands c =
     let s = c.requires.stands in (
       s.0,
       s.1,
-      subst (λ (e : EngineView). StandsFor s.0 s.1 c.args.columns.now c.narrow_limit-lower.result e.rows e.basis) (sym (engine_is d))
+      subst (λ (e : EngineView). Represents s.0 s.1 c.args.columns.now c.narrow_limit-lower.result e.rows e.basis) (sym (engine_is d))
           (stands_below c.args.columns.now c.args.limit c.narrow_limit-lower.result c.args.engine.now.rows c.args.engine.now.basis c.narrow_limit-lower.ensures.below (numbers_are_small d) s.0 s.1 s.2),
     )
 
