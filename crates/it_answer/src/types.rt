@@ -25,8 +25,17 @@ pub(crate) fn budget_of(pivots: Option<u32>) -> Budget
 
 /// The answer to a question, and the question's problem. The generators that a certificate numbers are the elemental
 /// inequalities of the problem's space, then its constraints.
-#[derive(Debug, Drop)]
 pub struct AnsweredProblem {
     pub problem: Problem,
     pub answer: Answer,
+}
+
+// written out, so that letting it go is one call, and not a step for each field below
+impl Drop for AnsweredProblem {
+    fn drop(self) {
+        let AnsweredProblem {
+            problem: _,
+            answer: _,
+        } = self;
+    }
 }

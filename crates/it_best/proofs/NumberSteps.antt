@@ -19,11 +19,15 @@ use Rattle.it_run.specs.Readings.{AreWeights}
 use Rattle.it_elemental.specs.Generators.{Generator}
 use Rattle.it_columns.specs.Columns.{count_by}
 use Rattle.it_best.specs.declared.unknowns.Unknown.{Unknown}
-use Rattle.it_best.specs.Numbers.{DifferencesFit, MultiplesFit, NumberFits, column_weight, multiples, number_by, numbers, numbers_from}
+use Rattle.it_best.specs.Numbers.{DifferencesFit, NumberFits, column_weight, multiples, number_by, numbers, numbers_from}
 use Rattle.it_best.specs.Parts.{unknown_view, unknown_views}
 use Rattle.it_best.proofs.WalkLemmas.{part_more, part_end}
 
 -- ---- the numbers of unknowns
+
+-- each number k times is within the limit
+abbrev pub MultiplesFit : ℤ → List Rational → Type 0
+MultiplesFit k qs = Every IsNarrow (multiples k qs)
 
 pub record AreNumbersSoFar (us : List Generator) (ws : List (ℕ × Rational)) (i column : ℕ) (out : List Rational) : Type 0 where
   pub same : out ++ numbers_from column (drop i us) (column_weight ws) ≡ numbers us ws

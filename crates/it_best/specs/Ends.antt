@@ -1,6 +1,6 @@
 -- How the search for the best factor ends: by the ends of the three parts' runs, each made exactly where the parts before it leave it to
 -- be made, and by the numbers of the scaled answer.
-use Rattle.std.specs.Prelude.{◌≡◌, ◌⊎◌, ℕ, ◌+◌, ◌*◌, ◌<◌, ◌≤◌, ℤ, pos, ◌-ℤ◌, ◌*ℤ◌, List, length, map, All, Option}
+use Rattle.std.specs.Prelude.{◌≡◌, ◌⊎◌, ℕ, ◌+◌, ◌*◌, ◌<◌, ◌≤◌, ℤ, pos, neg_ℤ, ◌-ℤ◌, ◌*ℤ◌, List, length, map, All, Option}
 use Rattle.it_number.specs.Limit.{IsWithin}
 use Rattle.it_rational.specs.Rational.{Rational}
 use Rattle.it_space.specs.Problems.{ProblemView}
@@ -21,7 +21,7 @@ use Rattle.it_columns.specs.Scaling.{NumbersFit, scaled_point}
 use Rattle.it_best.specs.declared.types.BestCause.TheVariants as causes
 use Rattle.it_best.specs.declared.types.BestCause.TheVariants.{Scale, Size}
 use Rattle.it_best.specs.BestViews.{BestView, Least, Never, Unbounded, Undecided}
-use Rattle.it_best.specs.Numbers.{DifferencesFit, WeightsFit, column_weight, factor_of, numbers, turned_numbers, values_of, weights_certificate, weights_of}
+use Rattle.it_best.specs.Numbers.{DifferencesFit, WeightsFit, column_weight, factor_of, numbers, values_of, weights_certificate, weights_of}
 use Rattle.it_best.specs.Parts.{first_part, third_part, third_target, right_equation}
 
 -- ---- the size
@@ -107,13 +107,13 @@ module _ (q : ProblemView) (left right : Terms) where
   abbrev pub third : List Generator
   third = third_part q.space.variables size (generators q) left right
 
-  -- the factor, by the weights of the third part
-  abbrev pub third_factor : List (ℕ × Rational) → Rational
-  third_factor ws = factor_of (numbers third ws)
+  -- the factor, by the weights of the first part or of the third
+  abbrev pub factor_by : List Generator → List (ℕ × Rational) → Rational
+  factor_by unknowns ws = factor_of (numbers unknowns ws)
 
   -- the weights of its certificate
-  abbrev pub third_weights : List (ℕ × Rational) → List Rational
-  third_weights ws = weights_of (length (generators q)) (numbers third ws)
+  abbrev pub weights_by : List Generator → List (ℕ × Rational) → List Rational
+  weights_by unknowns ws = weights_of (length (generators q)) (numbers unknowns ws)
 
   -- the values of the point, made whole
   abbrev pub third_values : List (ℕ × Rational) → List ℤ
@@ -122,35 +122,27 @@ module _ (q : ProblemView) (left right : Terms) where
   -- the numbers of the least factor are within the limit
   pub record LeastFits (ws : List (ℕ × Rational)) : Type 0 where
     pub differences : DifferencesFit 0 third (column_weight ws)
-    pub factor : FactorFits q left right (third_factor ws) (third_weights ws)
-    pub point : LeastPointFits q left right (third_factor ws) (values_of (length (generators q)) size (numbers third ws))
+    pub factor : FactorFits q left right (factor_by third ws) (weights_by third ws)
+    pub point : LeastPointFits q left right (factor_by third ws) (values_of (length (generators q)) size (numbers third ws))
 
   -- the least factor, its certificate and its point
   abbrev pub least_view : List (ℕ × Rational) → BestView
-  least_view ws = Least (third_factor ws).num (pos (third_factor ws).den) (weights_certificate (pos (third_factor ws).den) (third_weights ws)) (third_values ws)
-
-  -- a factor, by the weights of the first part
-  abbrev pub first_factor : List (ℕ × Rational) → Rational
-  first_factor ws = factor_of (numbers first ws)
-
-  -- the weights of its certificate
-  abbrev pub first_weights : List (ℕ × Rational) → List Rational
-  first_weights ws = weights_of (length (generators q)) (numbers first ws)
+  least_view ws = Least (factor_by third ws).num (pos (factor_by third ws).den) (weights_certificate (pos (factor_by third ws).den) (weights_by third ws)) (third_values ws)
 
   -- the numbers of a factor and of both certificates are within the limit
   pub record UnboundedFits (ws below : List (ℕ × Rational)) : Type 0 where
     pub differences : DifferencesFit 0 first (column_weight ws)
-    pub factor : FactorFits q left right (first_factor ws) (first_weights ws)
+    pub factor : FactorFits q left right (factor_by first ws) (weights_by first ws)
     pub below_differences : DifferencesFit 0 (generators q) (column_weight below)
     pub below_proof : BelowFits q left (numbers (generators q) below)
 
   -- the factor and both certificates, by the weights of the first part and of the second
   abbrev pub unbounded_view : List (ℕ × Rational) → List (ℕ × Rational) → BestView
-  unbounded_view ws below = Unbounded (first_factor ws).num (pos (first_factor ws).den) (weights_certificate (pos (first_factor ws).den) (first_weights ws)) (weights_certificate (pos 1) (numbers (generators q) below))
+  unbounded_view ws below = Unbounded (factor_by first ws).num (pos (factor_by first ws).den) (weights_certificate (pos (factor_by first ws).den) (weights_by first ws)) (weights_certificate (pos 1) (numbers (generators q) below))
 
   -- the point at which no factor holds: the first part's, made whole and turned
   abbrev pub never_values : List Rational → List ℤ
-  never_values qs = turned_numbers (scaled_point qs)
+  never_values qs = map neg_ℤ (scaled_point qs)
 
   -- its numbers are within the limit
   pub record NeverFits (qs : List Rational) : Type 0 where

@@ -1,5 +1,6 @@
 -- The numbers that weights of columns give to unknowns, and what is made of them: each number so many times, and all of them whole.
-use Rattle.std.specs.Prelude.{ℕ, ◌+◌, ℤ, pos, neg_ℤ, List, [], ◌∷◌, map, cond, nat_eq, drop, take, slice_index_or}
+use Rattle.std.specs.Prelude.{ℕ, ◌+◌, ℤ, pos, List, [], ◌∷◌, map, cond, nat_eq, drop, take, slice_index_or}
+use Rattle.std.specs.List.{AllByRecursion as Every}
 use Rattle.it_rational.specs.Rational.{Rational, integer, plus, times, minus}
 use Rattle.it_fraction.specs.Fits.{IsNarrow, DifferenceFits}
 use Rattle.it_space.specs.declared.problems.Kind.{Kind}
@@ -43,11 +44,6 @@ DifferencesFit j (u ∷ us) f = NumberFits u.kind f j × DifferencesFit (j + cou
 abbrev pub multiples : ℤ → List Rational → List Rational
 multiples k qs = map (λ q. times q (integer k)) qs
 
--- they are within the limit
-abbrev pub MultiplesFit : ℤ → List Rational → Type 0
-MultiplesFit k [] = Unit {0}
-MultiplesFit k (q ∷ qs) = IsNarrow (times q (integer k)) × MultiplesFit k qs
-
 -- the certificate that has each weight k times, over the least common multiple of the denominators
 abbrev pub weights_certificate : ℤ → List Rational → CertificateView
 weights_certificate k qs = record {
@@ -57,12 +53,8 @@ weights_certificate k qs = record {
 
 -- its numbers are within the limit
 pub record WeightsFit (k : ℤ) (qs : List Rational) : Type 0 where
-  pub each : MultiplesFit k qs
+  pub each : Every IsNarrow (multiples k qs)
   pub scaled : NumbersFit (multiples k qs)
-
--- the numbers with their signs turned
-abbrev pub turned_numbers : List ℤ → List ℤ
-turned_numbers xs = map neg_ℤ xs
 
 -- the factor, which is the first number
 abbrev pub factor_of : List Rational → Rational

@@ -1,5 +1,5 @@
 //! What is found, scaled and checked.
-ghost use Rattle.std.specs.Prelude.{◌≡◌, ◌<◌, ◌≤◌, ◌^◌, ◌+◌, ◌++◌, ℕ, ◌-ℤ◌, ◌*ℤ◌, ◌≤ℤ◌, ℤ, pos, neg_ℤ, length, IfErr, IfOk, OkIff, OnOk};
+ghost use Rattle.std.specs.Prelude.{◌≡◌, ◌<◌, ◌≤◌, ◌^◌, ◌+◌, ◌++◌, ℕ, ◌-ℤ◌, ◌*ℤ◌, ◌≤ℤ◌, ℤ, pos, neg_ℤ, map, length, IfErr, IfOk, OkIff, OnOk};
 ghost use Rattle.it_number.specs.Limit.{IsWithin};
 ghost use Rattle.it_space.specs.Answers.{certificate_view};
 ghost use Rattle.it_space.specs.Problems.{IsProblem, problem_view};
@@ -11,7 +11,7 @@ ghost use Rattle.it_check.specs.Meaning.{CertificateFits, CertifiesRow, PointFit
 ghost use Rattle.it_columns.specs.Scaling.{scaled_point};
 ghost use Rattle.it_best.specs.Ends.{BelowFits, DifferenceOfProductsFits, FactorFits, LeastPointFits, NeverFits, factor_coefficient, factor_row};
 ghost use Rattle.it_best.specs.Factors.{HasNoFactor, IsFactor, IsPoint, ground_of};
-ghost use Rattle.it_best.specs.Numbers.{turned_numbers, weights_certificate};
+ghost use Rattle.it_best.specs.Numbers.{weights_certificate};
 
 use crate::numbers::{certificate, turned_point, whole_point};
 use it_check::{Verdict, check_no, check_yes};
@@ -183,8 +183,8 @@ pub fn never_point(
     requires left { IsUpTo (size_of problem.now.space) left.now }
     requires right { IsUpTo (size_of problem.now.space) right.now }
     requires complete { length values.now ≡ size_of problem.now.space }
-    requires never { HasNoFactor (ground_of (problem_view problem.now)) (value left.now) (value right.now) (turned_numbers (scaled_point values.now)) }
-    ensures value { IfOk result (λ p. p ≡ turned_numbers (scaled_point values.now)) }
+    requires never { HasNoFactor (ground_of (problem_view problem.now)) (value left.now) (value right.now) (map neg_ℤ (scaled_point values.now)) }
+    ensures value { IfOk result (λ p. p ≡ map neg_ℤ (scaled_point values.now)) }
     ensures fits { OnOk result (NeverFits (problem_view problem.now) left.now right.now values.now) }
     ensures wide { IfErr result (λ f. f ≡ RowFault.Wide → ¬ (NeverFits (problem_view problem.now) left.now right.now values.now)) }
 {

@@ -1,5 +1,6 @@
 //! The numbers that weights of columns give to the unknowns, and these made whole.
-ghost use Rattle.std.specs.Prelude.{◌≡◌, ◌<◌, ◌^◌, ◌++◌, ◌+◌, ◌∷◌, [], length, All, IfErr, IfOk, OkIff, OnOk};
+ghost use Rattle.std.specs.Prelude.{◌≡◌, ◌<◌, ◌^◌, ◌++◌, ◌+◌, ◌∷◌, [], map, neg_ℤ, length, All, IfErr, IfOk, OkIff, OnOk};
+ghost use Rattle.std.specs.List.{AllByRecursion as Every};
 ghost use Rattle.it_number.specs.Limit.{IsWithin};
 ghost use Rattle.it_rational.proofs.Field.{field_ℚ};
 ghost use Rattle.it_rational.specs.Rational.{integer, times};
@@ -9,7 +10,7 @@ ghost use Rattle.it_space.specs.Answers.{certificate_view};
 ghost use Rattle.it_space.specs.Spaces.{IsSpace, size_of};
 ghost use Rattle.it_space.specs.Sums.{terms_from};
 ghost use Rattle.it_columns.specs.Scaling.{NumbersFit, scaled_point};
-ghost use Rattle.it_best.specs.Numbers.{DifferencesFit, MultiplesFit, NumberFits, WeightsFit, column_weight, factor_of, values_of, weights_of, multiples, number_by, numbers, turned_numbers, weights_certificate};
+ghost use Rattle.it_best.specs.Numbers.{DifferencesFit, NumberFits, WeightsFit, column_weight, factor_of, values_of, weights_of, multiples, number_by, numbers, weights_certificate};
 ghost use Rattle.it_best.specs.Parts.{unknown_views};
 ghost use Rattle.it_columns.specs.Columns.{count_by};
 
@@ -120,8 +121,8 @@ fn push_multiple(
 fn multiples(alloc: Global, numbers: &[Fraction], factor: i128) -> Result<Vec<Fraction>, RowFault>
     requires { IsWithin factor }
     ensures value { IfOk result (λ v. v.items ≡ multiples factor numbers.now) }
-    ensures fits { OnOk result (MultiplesFit factor numbers.now) }
-    ensures wide { IfErr result (λ f. f ≡ RowFault.Wide → ¬ (MultiplesFit factor numbers.now)) }
+    ensures fits { OnOk result (Every IsNarrow (multiples factor numbers.now)) }
+    ensures wide { IfErr result (λ f. f ≡ RowFault.Wide → ¬ (Every IsNarrow (multiples factor numbers.now))) }
 {
     let mut multiples = Vec::new(alloc);
     for number in numbers {
@@ -191,7 +192,7 @@ pub fn whole_point(alloc: Global, space: Space, numbers: &[Fraction]) -> Result<
 /// The values with their signs turned.
 fn turned_values(alloc: Global, values: &[i128]) -> Result<Vec<i128>, AllocError>
     requires { All IsWithin values.now }
-    ensures { IfOk result (λ v. v.items ≡ turned_numbers values.now) }
+    ensures { IfOk result (λ v. v.items ≡ map neg_ℤ values.now) }
 {
     let mut turned = Vec::new(alloc);
     for value in values {
@@ -204,7 +205,7 @@ fn turned_values(alloc: Global, values: &[i128]) -> Result<Vec<i128>, AllocError
 pub fn turned_point(alloc: Global, space: Space, numbers: &[Fraction]) -> Result<Point, RowFault>
     requires space { IsSpace space }
     requires complete { length numbers.now ≡ size_of space }
-    ensures value { IfOk result (λ p. p ≡ turned_numbers (scaled_point numbers.now)) }
+    ensures value { IfOk result (λ p. p ≡ map neg_ℤ (scaled_point numbers.now)) }
     ensures fits { OnOk result (NumbersFit numbers.now) }
     ensures wide { IfErr result (λ f. f ≡ RowFault.Wide → ¬ (NumbersFit numbers.now)) }
 {

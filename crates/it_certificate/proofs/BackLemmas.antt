@@ -1,5 +1,5 @@
 -- What is written reads back.
-use Rattle.std.proofs.Common.{◌≡◌, ℕ, suc, ◌+◌, ◌*◌, ◌-◌, ◌<◌, ◌≤◌, ◌^◌, ◌==◌, ◌&&◌, ℤ, pos, negsuc, List, [], ◌∷◌, length, refl, ap, ◌∙◌, arith, Some, None, option_and_then, option_map, true, false, cond, nat_le, rules, lit<, lit≤}
+use Rattle.std.proofs.Common.{◌≡◌, ℕ, suc, ◌+◌, ◌*◌, ◌-◌, ◌<◌, ◌≤◌, ◌^◌, ◌==◌, ◌&&◌, ℤ, pos, neg_ℤ, negsuc, List, [], ◌∷◌, length, refl, ap, ◌∙◌, arith, Some, None, option_and_then, option_map, true, false, cond, nat_le, rules, lit<, lit≤}
 use Rattle.std.specs.Fmt.{decimal, signed_decimal}
 use Rattle.std.specs.Str.Parse.{IsNumeral, AllDigits, digits_value_after}
 use Rattle.std.specs.Char.{digit_value, is_ascii_digit}
@@ -8,7 +8,7 @@ use Rattle.std.proofs.lemmas.Str.{digit_value_digit}
 use Rattle.std.proofs.lemmas.Str.Parse.{digit_from_value}
 use Rattle.it_number.specs.Limit.{IsWithin}
 use Rattle.it_number.specs.Decimals.{value_from}
-use Rattle.it_certificate.specs.Numerals.{up_to_limit, magnitude_of, negative_of, integer_of, count_of, count_of_integer, step_of}
+use Rattle.it_certificate.specs.Numerals.{up_to_limit, magnitude_of, integer_of, count_of, count_of_integer, step_of}
 
 digits_read : (n : ℕ) (ds : List ℕ) → AllDigits 10 ds → value_from n ds ≡ Some (digits_value_after 10 n ds)
 digits_read n [] all = refl
@@ -43,14 +43,14 @@ no_minus n [] numeral = absurd (omega (arith, numeral.0))
 no_minus n (c ∷ cs) numeral =
     let range = digit_from_value c numeral.1.0 in
     let not : (c == 45) ≡ false = search (rules, range) in
-    ap (λ b. cond b (option_map negative_of (magnitude_of cs)) (option_map pos (magnitude_of (c ∷ cs)))) not
+    ap (λ b. cond b (option_map (λ n. neg_ℤ (pos n)) (magnitude_of cs)) (option_map pos (magnitude_of (c ∷ cs)))) not
 
 pub integer_back : (z : ℤ) → IsWithin z → integer_of (signed_decimal z) ≡ Some z
 unfolding integer_of
 integer_back (pos n) lt =
     let wide : n < 10 ^ 64 = omega (arith, below_wide n lt, (let e : 10 ^ 39 ≤ 10 ^ 64 = lit≤ tt in e)) in
     no_minus n (decimal n) (decimal_is_IsNumeral_wide n wide).0 ∙ ap (option_map pos) (magnitude_back n lt)
-integer_back (negsuc n) lt = ap (option_map negative_of) (magnitude_back (suc n) lt)
+integer_back (negsuc n) lt = ap (option_map (λ n. neg_ℤ (pos n))) (magnitude_back (suc n) lt)
 
 decimal_integer : (n : ℕ) → n < 2 ^ 127 → integer_of (decimal n) ≡ Some (pos n)
 decimal_integer n lt = integer_back (pos n) lt

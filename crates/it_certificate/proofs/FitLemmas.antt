@@ -1,5 +1,5 @@
 -- What is read of an answer fits its question.
-use Rattle.std.proofs.Common.{◌≡◌, ℕ, ◌+◌, ◌<◌, ◌≤◌, ◌^◌, ◌==◌, ◌&&◌, ℤ, pos, negsuc, not, unsigned_abs, List, [], ◌∷◌, length, refl, ap, sym, subst, ◌∙◌, Option, Some, None, Result, Ok, Err, option_and_then, option_map, Bool, true, false, cond, nat_le, nat_lt, rules, arith, codes}
+use Rattle.std.proofs.Common.{◌≡◌, ℕ, ◌+◌, ◌<◌, ◌≤◌, ◌^◌, ◌==◌, ◌&&◌, ℤ, pos, negsuc, not, unsigned_abs, List, [], ◌∷◌, length, refl, ap, sym, subst, ◌∙◌, Option, Some, None, Result, Ok, Err, option_and_then, option_map, Bool, true, false, cond, nat_le, nat_lt, rules, arith, codes, if◌then◌else◌}
 use Rattle.std.specs.Prelude.{All, ok_or, bytes_eq, get_or}
 use Rattle.std.specs.List.{position_or_len}
 use Rattle.std.proofs.lemmas.List.Sums.{passes_at_first}
@@ -29,8 +29,9 @@ use Rattle.it_certificate.specs.declared.kinds.CauseKind.TheVariants as causes
 use Rattle.it_certificate.specs.Numerals.{count_of, count_of_integer, step_of, integer_of}
 use Rattle.it_certificate.specs.Values.{rate_name}
 use Rattle.it_certificate.specs.Kinds.{back_of}
-use Rattle.it_certificate.specs.Parts.{text_of, items_of_array, integer_at, count_at, pair_of, two_of, pair_at, all_of, list_at, of_length, certificate_at, proofs_at, point_at, back_at, cause_kind_at, cause_of, cause_at, step_or_rate, is_row_between, is_term_between, row_of, mark_at, terms_at, marked_row_at, rows_at, set_of_number, set_at, parts_at, tried_at}
-use Rattle.it_certificate.specs.AnswerReading.{and_then, is_equality, yes_at, no_at, undecided_at, region_at, contained_at, open_at}
+use Rattle.std.specs.Option.{option_or, option_zip}
+use Rattle.it_certificate.specs.Parts.{text_of, integer_at, count_at, two_of, pair_at, all_of, list_at, of_length, certificate_at, proofs_at, point_at, back_at, cause_kind_at, cause_of, cause_at, is_row_between, row_of, mark_at, terms_at, marked_row_at, rows_at, set_at, parts_at, tried_at}
+use Rattle.it_certificate.specs.AnswerReading.{and_then, is_equality, no_at, undecided_at, contained_at}
 use Rattle.it_certificate.specs.Obligations.{obligation_count, target_count}
 use Rattle.it_certificate.specs.Reports.{verb_answer, question_answer}
 use Rattle.it_certificate.specs.AnswerShapes.{IsNumberedAmount, IsNumbered, IsRowIn, IsFoundIn, IsCauseFor, HasVerbShape, HasQuestionShape}
@@ -67,12 +68,12 @@ count_at_below d n is = let h = and_then_some (option_and_then as_u64 (as_number
 pair_numbers : (d : Data) (t : ℕ × ℤ) → pair_at d ≡ Some t → IsNumberedAmount t
 unfolding pair_at
 pair_numbers d t is =
-    let h = and_then_some (option_and_then two_of (as_array d)) (λ p. pair_of (count_at p.0) (integer_at p.1)) t is in
+    let h = and_then_some (option_and_then two_of (as_array d)) (λ p. option_zip (count_at p.0) (integer_at p.1)) t is in
     let k = pair_some (count_at h.0.0) (integer_at h.0.1) t h.1.1 in
     (count_at_below h.0.0 t.0 k.0, integer_at_within h.0.1 t.1 k.1)
 
 list_numbers : {A : Type 0} (P : A → Type 0) (f : Data → Option A) → ((d : Data) (a : A) → f d ≡ Some a → P a) → (o : Option Data) (xs : List A) → list_at f o ≡ Some xs → All P xs
-list_numbers P f each o xs is = let h = and_then_some (items_of_array o) (all_of f) xs is in all_of_holds P f each h.0 xs h.1.1
+list_numbers P f each o xs is = let h = and_then_some (option_and_then as_array o) (all_of f) xs is in all_of_holds P f each h.0 xs h.1.1
 
 counted_numbers : {A : Type 0} (P : A → Type 0) (f : Data → Option A) → ((d : Data) (a : A) → f d ≡ Some a → P a) → (n : ℕ) (o : Option Data) (xs : List A)
     → option_and_then (of_length n) (list_at f o) ≡ Some xs → (length xs ≡ n) × All P xs
@@ -97,11 +98,10 @@ proofs_fit n d ps is = counted_numbers IsNumbered certificate_at certificate_num
 
 -- ---- yes, no
 
-yes_fits : (v : NamesView) (r : RelationView) (d : Data) (a : AnswerView) → yes_at r.sign d ≡ Ok a → HasVerbShape v (Prove r) a
-unfolding yes_at
+yes_fits : (v : NamesView) (r : RelationView) (d : Data) (a : AnswerView) → ok_or (option_map Yes (proofs_at (target_count r.sign) d)) keys.Proofs ≡ Ok a → HasVerbShape v (Prove r) a
 yes_fits v r d a is =
-    let h = then_ok (ok_or (proofs_at (target_count r.sign) d) keys.Proofs) (λ ps. Ok (Yes ps)) a is in
-    subst (HasVerbShape v (Prove r)) (ok_same (Yes h.0) a h.1.1) (proofs_fit (target_count r.sign) d h.0 (key_ok keys.Proofs (proofs_at (target_count r.sign) d) h.0 h.1.0))
+    let h = map_some (proofs_at (target_count r.sign) d) Yes a (key_ok keys.Proofs (option_map Yes (proofs_at (target_count r.sign) d)) a is) in
+    subst (HasVerbShape v (Prove r)) h.1.1 (proofs_fit (target_count r.sign) d h.0 h.1.0)
 
 back_only : (equality back : Bool) (text : List ℕ) → back_of equality text ≡ Some back → back ≡ true → equality ≡ true
 back_only true back text is at = refl
@@ -147,7 +147,7 @@ found_in v text r is =
 found_rate : (v : NamesView) (text : List ℕ) (r : ℕ) → index_of v.rates text ≡ Some r → IsFoundIn v r
 found_rate v text r is = ap (index_of v.rates) (found_in v text r is) ∙ is
 
-width_fits : (v : NamesView) (text : List ℕ) (c : Cause) (o : Option ℕ) → step_of text ≡ o → step_or_rate o (index_of v.rates text) ≡ Some c → IsCauseFor v c
+width_fits : (v : NamesView) (text : List ℕ) (c : Cause) (o : Option ℕ) → step_of text ≡ o → option_or (option_map Width o) (option_map WideRate (index_of v.rates text)) ≡ Some c → IsCauseFor v c
 width_fits v text c (Some n) at is = subst (IsCauseFor v) (let e : Width n ≡ c = cc in e) (step_below text n at)
 width_fits v text c None at is =
     let h = map_some (index_of v.rates text) WideRate c is in
@@ -175,7 +175,7 @@ undecided_fits v d a is =
 up_to : (from size : ℕ) (ts : Terms) → 1 ≤ from → is_row_between from size ts ≡ true → IsUpTo size ts
 up_to from size [] low is = All-nil (λ t. (1 ≤ t.0) × (t.0 ≤ size))
 up_to from size (t ∷ ts) low is =
-    let h = both_true (is_term_between from size t) (is_row_between (t.0 + 1) size ts) is in
+    let h = both_true (nat_le from t.0 && (nat_le t.0 size && not (unsigned_abs t.1 == 0))) (is_row_between (t.0 + 1) size ts) is in
     let k = both_true (nat_le from t.0) (nat_le t.0 size && not (unsigned_abs t.1 == 0)) h.0 in
     let m = both_true (nat_le t.0 size) (not (unsigned_abs t.1 == 0)) k.1 in
     let there : from ≤ t.0 = let e = k.0 in search (rules, e) in
@@ -201,12 +201,13 @@ row_fits size d r is =
     let row : is_row_between 1 size r.1 ≡ true = subst (λ ts. is_row_between 1 size ts ≡ true) e m.0 in
     record { terms = terms; canonical = row_is_canonical size r.1 row (all_second r.1 terms); coordinates = up_to 1 size r.1 (omega arith) row }
 
-region_fits : (v : NamesView) (rates : List ℕ) (d : Data) (a : AnswerView) → region_at (size_of (space_of v)) d ≡ Ok a → HasVerbShape v (Eliminate rates) a
-unfolding region_at rows_at
+region_fits : (v : NamesView) (rates : List ℕ) (d : Data) (a : AnswerView) → ok_or (option_map Region (rows_at (size_of (space_of v)) d)) keys.Rows ≡ Ok a → HasVerbShape v (Eliminate rates) a
+unfolding rows_at
 region_fits v rates d a is =
-    let h = then_ok (ok_or (list_at (marked_row_at (size_of (space_of v))) (get (codes "rows") d)) keys.Rows) (λ rows. Ok (Region rows)) a is in
-    subst (HasVerbShape v (Eliminate rates)) (ok_same (Region h.0) a h.1.1)
-    (list_numbers (IsRowIn (size_of (space_of v))) (marked_row_at (size_of (space_of v))) (row_fits (size_of (space_of v))) (get (codes "rows") d) h.0 (key_ok keys.Rows (list_at (marked_row_at (size_of (space_of v))) (get (codes "rows") d)) h.0 h.1.0))
+    let rows = list_at (marked_row_at (size_of (space_of v))) (get (codes "rows") d) in
+    let h = map_some rows Region a (key_ok keys.Rows (option_map Region rows) a is) in
+    subst (HasVerbShape v (Eliminate rates)) h.1.1
+    (list_numbers (IsRowIn (size_of (space_of v))) (marked_row_at (size_of (space_of v))) (row_fits (size_of (space_of v))) (get (codes "rows") d) h.0 h.1.0)
 
 -- ---- containments
 
@@ -216,7 +217,7 @@ IsSetIn n s = (s < 2 ^ 32) × (s < 2 ^ n)
 set_fits : (n : ℕ) (d : Data) (s : ℕ) → set_at n d ≡ Some s → IsSetIn n s
 unfolding set_at
 set_fits n d s is =
-    let h = and_then_some (count_at d) (set_of_number n) s is in
+    let h = and_then_some (count_at d) (λ s. if nat_lt s (2 ^ n) then Some s else None) s is in
     let m = cond_some (nat_lt h.0 (2 ^ n)) (Some h.0) s h.1.1 in
     let e : h.0 ≡ s = let t = m.1 in cc in
     let lt : h.0 < 2 ^ n = let t = m.0 in search (rules, t) in
@@ -235,12 +236,13 @@ contained_fits v first second tries d a is =
     let w = proofs_fit (obligation_count second) d k.0 (key_ok keys.Proofs (proofs_at (obligation_count second) d) k.0 k.1.0) in
     subst (HasVerbShape v (Contain first second tries)) (ok_same (Contained h.0 k.0) a k.1.1) (record { each = p.0; sets = p.1; obligations = w.0; numbers = w.1 })
 
-open_fits : (v : NamesView) (first second : RegionView) (tries : List (List ℕ)) (d : Data) (a : AnswerView) → open_at d ≡ Ok a → HasVerbShape v (Contain first second tries) a
-unfolding open_at tried_at
+open_fits : (v : NamesView) (first second : RegionView) (tries : List (List ℕ)) (d : Data) (a : AnswerView) → ok_or (option_map Open (tried_at d)) keys.Tried ≡ Ok a → HasVerbShape v (Contain first second tries) a
+unfolding tried_at
 open_fits v first second tries d a is =
-    let h = then_ok (ok_or (option_and_then count_at (get (codes "tried") d)) keys.Tried) (λ tried. Ok (Open tried)) a is in
-    let k = and_then_some (get (codes "tried") d) count_at h.0 (key_ok keys.Tried (option_and_then count_at (get (codes "tried") d)) h.0 h.1.0) in
-    subst (HasVerbShape v (Contain first second tries)) (ok_same (Open h.0) a h.1.1) (count_at_below k.0 h.0 k.1.1)
+    let tried = option_and_then count_at (get (codes "tried") d) in
+    let h = map_some tried Open a (key_ok keys.Tried (option_map Open tried) a is) in
+    let k = and_then_some (get (codes "tried") d) count_at h.0 h.1.0 in
+    subst (HasVerbShape v (Contain first second tries)) h.1.1 (count_at_below k.0 h.0 k.1.1)
 
 -- ---- by the verb
 

@@ -1,5 +1,5 @@
 -- What is written of an answer reads back.
-use Rattle.std.proofs.Common.{◌≡◌, ℕ, ◌+◌, ◌<◌, ◌≤◌, ◌^◌, ◌==◌, ◌&&◌, ℤ, not, unsigned_abs, List, [], ◌∷◌, length, map, filter, refl, ap, ◌∙◌, Option, Some, None, Ok, option_and_then, option_map, Bool, true, false, cond, nat_le, nat_lt, rules, arith, codes, eq-eqb, decimal}
+use Rattle.std.proofs.Common.{◌≡◌, ℕ, ◌+◌, ◌<◌, ◌≤◌, ◌^◌, ◌==◌, ◌&&◌, ℤ, not, unsigned_abs, List, [], ◌∷◌, length, map, filter, refl, ap, ◌∙◌, Option, Some, None, Ok, option_and_then, option_map, Bool, true, false, cond, nat_le, nat_lt, rules, arith, codes, eq-eqb, decimal, if◌then◌else◌}
 use Rattle.std.specs.Prelude.{All, ok_or}
 use Rattle.std.proofs.lemmas.List.{length-map}
 use Rattle.std.proofs.lemmas.List.Elements.{All-head, All-tail, All-filter}
@@ -25,8 +25,9 @@ use Rattle.it_certificate.specs.declared.kinds.AnswerKind.TheVariants as kinds
 use Rattle.it_certificate.specs.declared.kinds.CauseKind.{CauseKind}
 use Rattle.it_certificate.specs.declared.kinds.CauseKind.TheVariants as causes
 use Rattle.it_certificate.specs.Values.{integer_value, count_value, pair_value, proof_value, row_value, rate_name, step_or_rate_word, answer_value}
-use Rattle.it_certificate.specs.Parts.{text_of, integer_at, count_at, pair_of, pair_at, all_of, of_length, certificate_by, certificate_at, answer_kind_at, proofs_at, point_at, back_at, cause_kind_at, cause_of, cause_at, step_or_rate, is_term_between, is_row_between, row_of, mark_at, terms_at, marked_row_at, rows_at, set_of_number, set_at, parts_at, tried_at}
-use Rattle.it_certificate.specs.AnswerReading.{and_then, is_equality, yes_at, no_at, undecided_at, region_at, contained_at, open_at}
+use Rattle.std.specs.Option.{option_or, option_zip}
+use Rattle.it_certificate.specs.Parts.{text_of, integer_at, count_at, pair_at, all_of, of_length, certificate_by, certificate_at, answer_kind_at, proofs_at, point_at, back_at, cause_kind_at, cause_of, cause_at, is_row_between, row_of, mark_at, terms_at, marked_row_at, rows_at, set_at, parts_at, tried_at}
+use Rattle.it_certificate.specs.AnswerReading.{and_then, is_equality, no_at, undecided_at, contained_at}
 use Rattle.it_certificate.specs.Obligations.{obligation_count, target_count}
 use Rattle.it_certificate.specs.Reports.{verb_answer, question_answer, report_of}
 use Rattle.it_certificate.specs.AnswerShapes.{IsNumberedAmount, IsNumbered, IsRowIn, IsCauseFor, HasContainmentShape, HasVerbShape, HasQuestionShape}
@@ -47,7 +48,7 @@ count_read n lt = count_back n lt
 
 pair_back : (t : ℕ × ℤ) → IsNumberedAmount t → pair_at (pair_value t) ≡ Some t
 unfolding pair_at pair_value
-pair_back t p = ap (λ c. pair_of c (integer_at (integer_value t.1))) (count_read t.0 p.0) ∙ ap (λ z. pair_of (Some t.0) z) (number_back t.1 p.1)
+pair_back t p = ap (λ c. option_zip c (integer_at (integer_value t.1))) (count_read t.0 p.0) ∙ ap (λ z. option_zip (Some t.0) z) (number_back t.1 p.1)
 
 all_back : {A B : Type 0} (P : A → Type 0) (f : Data → Option B) (v : A → Data) (g : A → B) → ((a : A) → P a → f (v a) ≡ Some (g a)) → (xs : List A) → All P xs
     → all_of f (items_of (map v xs)) ≡ Some (map g xs)
@@ -81,9 +82,9 @@ certificates_back n ws is all =
 
 -- ---- yes and no
 
-yes_back : (text : List ℕ) (v : NamesView) (r : RelationView) (ws : List CertificateView) → HasVerbShape v (Prove r) (Yes ws) → yes_at r.sign (answer_value text v (Yes ws)) ≡ Ok (Yes (map without_zeros ws))
-unfolding yes_at proofs_at answer_value
-yes_back text v r ws fits = ap (λ o. and_then (ok_or o keys.Proofs) (λ ps. Ok (Yes ps))) (certificates_back (target_count r.sign) ws fits.0 fits.1)
+yes_back : (text : List ℕ) (v : NamesView) (r : RelationView) (ws : List CertificateView) → HasVerbShape v (Prove r) (Yes ws) → ok_or (option_map Yes (proofs_at (target_count r.sign) (answer_value text v (Yes ws)))) keys.Proofs ≡ Ok (Yes (map without_zeros ws))
+unfolding proofs_at answer_value
+yes_back text v r ws fits = ap (λ o. ok_or (option_map Yes o) keys.Proofs) (certificates_back (target_count r.sign) ws fits.0 fits.1)
 
 point_back : (text : List ℕ) (v : NamesView) (n : ℕ) (back : Bool) (vs : List ℤ) → length vs ≡ n → All IsWithin vs → point_at n (answer_value text v (No back vs)) ≡ Some vs
 unfolding point_at answer_value
@@ -120,10 +121,10 @@ kind_back text v (WideRate r) = refl
 
 step_or_rate_back : (v : NamesView) (c : Cause) → IsCauseFor v c → cause_of v.rates (kind_of_cause c) (step_or_rate_word v c) ≡ Some c
 step_or_rate_back v (Pivots steps) fits = ap (option_map Pivots) (step_back steps fits)
-step_or_rate_back v (Width step) fits = ap (λ o. step_or_rate o (index_of v.rates (decimal step))) (step_back step fits)
+step_or_rate_back v (Width step) fits = ap (λ o. option_or (option_map Width o) (option_map WideRate (index_of v.rates (decimal step)))) (step_back step fits)
 step_or_rate_back v Scale fits = refl
 step_or_rate_back v (Rows r) fits = ap (option_map Rows) fits
-step_or_rate_back v (WideRate r) fits = ap (λ o. step_or_rate o (index_of v.rates (rate_name v r))) fits.1 ∙ ap (option_map WideRate) fits.0
+step_or_rate_back v (WideRate r) fits = ap (λ o. option_or (option_map Width o) (option_map WideRate (index_of v.rates (rate_name v r)))) fits.1 ∙ ap (option_map WideRate) fits.0
 
 cause_back : (text : List ℕ) (v : NamesView) (c : Cause) → IsCauseFor v c → cause_at v.rates (kind_of_cause c) (answer_value text v (Undecided c)) ≡ Some c
 unfolding cause_at answer_value
@@ -146,7 +147,7 @@ row_test from low size (t ∷ ts) le asc up =
     let h = All-head (λ t. (1 ≤ t.0) × (t.0 ≤ size)) t ts up in
     let there : nat_le from t.0 ≡ true = let e : from ≤ t.0 = omega (arith, le, asc.0) in search (rules, e) in
     let last : nat_le t.0 size ≡ true = let e = h.1 in search (rules, e) in
-    true_both (is_term_between from size t) (is_row_between (t.0 + 1) size ts)
+    true_both (nat_le from t.0 && (nat_le t.0 size && not (unsigned_abs t.1 == 0))) (is_row_between (t.0 + 1) size ts)
     (true_both (nat_le from t.0) (nat_le t.0 size && not (unsigned_abs t.1 == 0)) there (true_both (nat_le t.0 size) (not (unsigned_abs t.1 == 0)) last (nonzero_passes t.1 asc.1)))
     (row_test (t.0 + 1) (t.0 + 1) size ts (omega arith) asc.3 (All-tail (λ t. (1 ≤ t.0) × (t.0 ≤ size)) t ts up))
 
@@ -170,19 +171,19 @@ terms_back r all = same_back IsNumberedAmount pair_at pair_value pair_back r.1 a
 row_back : (size : ℕ) (r : Mark × Terms) → IsRowIn size r → marked_row_at size (row_value r) ≡ Some r
 unfolding marked_row_at
 row_back size r fits =
-    ap (λ o. pair_of o (option_and_then (row_of size) (terms_at (row_value r)))) (mark_back r.0 r.1)
-    ∙ ap (λ o. pair_of (Some r.0) (option_and_then (row_of size) o)) (terms_back r fits.terms)
-    ∙ ap (λ o. pair_of (Some r.0) o) (row_kept size r.1 fits.canonical fits.coordinates)
+    ap (λ o. option_zip o (option_and_then (row_of size) (terms_at (row_value r)))) (mark_back r.0 r.1)
+    ∙ ap (λ o. option_zip (Some r.0) (option_and_then (row_of size) o)) (terms_back r fits.terms)
+    ∙ ap (λ o. option_zip (Some r.0) o) (row_kept size r.1 fits.canonical fits.coordinates)
 
-region_back : (text : List ℕ) (v : NamesView) (rows : List (Mark × Terms)) (size : ℕ) → All (IsRowIn size) rows → region_at size (answer_value text v (Region rows)) ≡ Ok (Region rows)
-unfolding region_at rows_at answer_value
-region_back text v rows size all = ap (λ o. and_then (ok_or o keys.Rows) (λ rs. Ok (Region rs))) (same_back (IsRowIn size) (marked_row_at size) row_value (row_back size) rows all)
+region_back : (text : List ℕ) (v : NamesView) (rows : List (Mark × Terms)) (size : ℕ) → All (IsRowIn size) rows → ok_or (option_map Region (rows_at size (answer_value text v (Region rows)))) keys.Rows ≡ Ok (Region rows)
+unfolding rows_at answer_value
+region_back text v rows size all = ap (λ o. ok_or (option_map Region o) keys.Rows) (same_back (IsRowIn size) (marked_row_at size) row_value (row_back size) rows all)
 
 -- ---- containments
 
 set_back : (n s : ℕ) → (s < 2 ^ 32) × (s < 2 ^ n) → set_at n (count_value s) ≡ Some s
 unfolding set_at
-set_back n s h = ap (option_and_then (set_of_number n)) (count_read s h.0) ∙ (let lt = h.1 in let e : nat_lt s (2 ^ n) ≡ true = search (rules, lt) in ap (λ b. cond b (Some s) None) e)
+set_back n s h = ap (option_and_then (λ s. if nat_lt s (2 ^ n) then Some s else None)) (count_read s h.0) ∙ (let lt = h.1 in let e : nat_lt s (2 ^ n) ≡ true = search (rules, lt) in ap (λ b. cond b (Some s) None) e)
 
 contained_back : (text : List ℕ) (v : NamesView) (first second : RegionView) (parts : List ℕ) (ws : List CertificateView) → HasContainmentShape first second parts ws
     → contained_at second.auxiliaries (length first.names.variables) (obligation_count second) (answer_value text v (Contained parts ws)) ≡ Ok (Contained parts (map without_zeros ws))
@@ -194,9 +195,9 @@ contained_back text v first second parts ws fits =
     ∙ of_length_is second.auxiliaries parts fits.each)
     ∙ ap (λ o. and_then (ok_or o keys.Proofs) (λ ps. Ok (Contained parts ps))) (certificates_back (obligation_count second) ws fits.obligations fits.numbers)
 
-open_back : (text : List ℕ) (v : NamesView) (tried : ℕ) → tried < 2 ^ 32 → open_at (answer_value text v (Open tried)) ≡ Ok (Open tried)
-unfolding open_at tried_at answer_value
-open_back text v tried lt = ap (λ o. and_then (ok_or o keys.Tried) (λ t. Ok (Open t))) (count_read tried lt)
+open_back : (text : List ℕ) (v : NamesView) (tried : ℕ) → tried < 2 ^ 32 → ok_or (option_map Open (tried_at (answer_value text v (Open tried)))) keys.Tried ≡ Ok (Open tried)
+unfolding tried_at answer_value
+open_back text v tried lt = ap (λ o. ok_or (option_map Open o) keys.Tried) (count_read tried lt)
 
 -- ---- reports
 

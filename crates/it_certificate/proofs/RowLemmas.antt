@@ -5,7 +5,7 @@ use Rattle.std.proofs.lemmas.List.Elements.{All-head, All-tail}
 use Rattle.it_number.specs.Limit.{IsWithin}
 use Rattle.it_space.specs.Rows.{Ascends, IsCanonical, Terms}
 use Rattle.it_space.proofs.BoolLemmas.{both_true}
-use Rattle.it_certificate.specs.Parts.{is_term_between, is_row_between}
+use Rattle.it_certificate.specs.Parts.{is_row_between}
 
 -- a number other than 0 passes the test for it
 pub nonzero_passes : (z : ℤ) → (z ≡ pos 0 → ⊥) → not (unsigned_abs z == 0) ≡ true
@@ -20,7 +20,7 @@ not_zero z is e = let f : not (unsigned_abs z == 0) ≡ false = ap (λ x. not (u
 row_ascends : (from low size : ℕ) (ts : Terms) → low ≤ from → is_row_between from size ts ≡ true → All (λ t. IsWithin t.1) ts → Ascends low ts
 row_ascends from low size [] le is all = tt
 row_ascends from low size (t ∷ ts) le is all =
-    let h = both_true (is_term_between from size t) (is_row_between (t.0 + 1) size ts) is in
+    let h = both_true (nat_le from t.0 && (nat_le t.0 size && not (unsigned_abs t.1 == 0))) (is_row_between (t.0 + 1) size ts) is in
     let k = both_true (nat_le from t.0) (nat_le t.0 size && not (unsigned_abs t.1 == 0)) h.0 in
     let m = both_true (nat_le t.0 size) (not (unsigned_abs t.1 == 0)) k.1 in
     let there : from ≤ t.0 = let e = k.0 in search (rules, e) in

@@ -1,13 +1,14 @@
 -- The numbers that are read are within the limit, and lists have the length that is wanted.
-use Rattle.std.proofs.Common.{◌≡◌, ℕ, suc, zero, ◌<◌, ◌^◌, ◌==◌, ◌&&◌, ℤ, pos, List, [], ◌∷◌, length, refl, ap, sym, subst, ◌∙◌, Option, Some, None, option_and_then, option_map, Bool, true, false, cond, nat_lt, nat_le, rules, codes}
+use Rattle.std.proofs.Common.{◌≡◌, ℕ, suc, zero, ◌<◌, ◌^◌, ◌==◌, ◌&&◌, ℤ, pos, neg_ℤ, List, [], ◌∷◌, length, refl, ap, sym, subst, ◌∙◌, Option, Some, None, option_and_then, option_map, Bool, true, false, cond, nat_lt, nat_le, rules, codes}
 use Rattle.std.specs.Prelude.{All}
 use Rattle.std.proofs.lemmas.List.Elements.{All-nil, All-cons}
 use Rattle.serde_json.specs.Data.{Data, Items, no_items, item}
 use Rattle.serde_json.specs.Find.{get, as_str, as_array}
 use Rattle.it_number.specs.Limit.{IsWithin}
 use Rattle.it_number.specs.Decimals.{value_from}
-use Rattle.it_certificate.specs.Numerals.{up_to_limit, integer_of, magnitude_of, negative_of}
-use Rattle.it_certificate.specs.Parts.{integer_at, count_at, pair_of, two_of, all_of, point_at, list_at, of_length, items_of_array, pair_at, terms_at}
+use Rattle.it_certificate.specs.Numerals.{up_to_limit, integer_of, magnitude_of}
+use Rattle.std.specs.Option.{option_zip}
+use Rattle.it_certificate.specs.Parts.{integer_at, count_at, two_of, all_of, point_at, list_at, of_length, pair_at, terms_at}
 
 pub and_then_some : {A B : Type 0} (o : Option A) (f : A → Option B) (b : B) → option_and_then f o ≡ Some b → (a : A) × ((o ≡ Some a) × (f a ≡ Some b))
 and_then_some None f b is = absurd (cc)
@@ -42,7 +43,7 @@ magnitude_within ds m is =
     let k = and_then_some (value_from 0 ds) up_to_limit m h.1 in
     up_to_limit_within k.0 m k.1.1
 
-negative_within : (m : ℕ) → m < 2 ^ 127 → IsWithin (negative_of m)
+negative_within : (m : ℕ) → m < 2 ^ 127 → IsWithin (neg_ℤ (pos m))
 negative_within zero lt = lt
 negative_within (suc m) lt = lt
 
@@ -51,8 +52,8 @@ unfolding integer_of
 integer_within [] z is = absurd (cc)
 integer_within (c ∷ cs) z is = by_test (c == 45) is
   where
-    by_test : (t : Bool) → cond t (option_map negative_of (magnitude_of cs)) (option_map pos (magnitude_of (c ∷ cs))) ≡ Some z → IsWithin z
-    by_test true e = let h = map_some (magnitude_of cs) negative_of z e in subst IsWithin h.1.1 (negative_within h.0 (magnitude_within cs h.0 h.1.0))
+    by_test : (t : Bool) → cond t (option_map (λ n. neg_ℤ (pos n)) (magnitude_of cs)) (option_map pos (magnitude_of (c ∷ cs))) ≡ Some z → IsWithin z
+    by_test true e = let h = map_some (magnitude_of cs) (λ n. neg_ℤ (pos n)) z e in subst IsWithin h.1.1 (negative_within h.0 (magnitude_within cs h.0 h.1.0))
     by_test false e = let h = map_some (magnitude_of (c ∷ cs)) pos z e in subst IsWithin h.1.1 (magnitude_within (c ∷ cs) h.0 h.1.0)
 
 pub integer_at_within : (d : Data) (z : ℤ) → integer_at d ≡ Some z → IsWithin z
@@ -63,7 +64,7 @@ pub point_within : (n : ℕ) (d : Data) (vs : List ℤ) → point_at n d ≡ Som
 unfolding point_at
 point_within n d vs is =
     let h = and_then_some (list_at integer_at (get (codes "point") d)) (of_length n) vs is in
-    let k = and_then_some (items_of_array (get (codes "point") d)) (all_of integer_at) h.0 h.1.0 in
+    let k = and_then_some (option_and_then as_array (get (codes "point") d)) (all_of integer_at) h.0 h.1.0 in
     let m = cond_some (length h.0 == n) (Some h.0) vs h.1.1 in
     let e : h.0 ≡ vs = let s = m.1 in cc in
     subst (λ zs. All IsWithin zs) e (all_of_holds IsWithin integer_at integer_at_within k.0 h.0 k.1.1)
@@ -77,20 +78,19 @@ point_length n d vs is =
     let f : length h.0 ≡ n = let t = m.0 in search (rules, t) in
     sym (ap length e) ∙ f
 
-pub pair_some : {A B : Type 0} (o : Option A) (p : Option B) (c : A × B) → pair_of o p ≡ Some c → (o ≡ Some c.0) × (p ≡ Some c.1)
-pair_some o p c is =
-    let h = and_then_some o (λ x. option_map (λ y. (x, y)) p) c is in
-    let k = map_some p (λ y. (h.0, y)) c h.1.1 in
-    (h.1.0 ∙ ap (λ d. Some d.0) k.1.1, k.1.0 ∙ ap (λ d. Some d.1) k.1.1)
+pub pair_some : {A B : Type 0} (o : Option A) (p : Option B) (c : A × B) → option_zip o p ≡ Some c → (o ≡ Some c.0) × (p ≡ Some c.1)
+pair_some None p c is = absurd (cc)
+pair_some (Some a) None c is = absurd (cc)
+pair_some (Some a) (Some b) c is = let e : (a, b) ≡ c = cc in (ap (λ d. Some d.0) e, ap (λ d. Some d.1) e)
 
 pair_within : (d : Data) (t : ℕ × ℤ) → pair_at d ≡ Some t → IsWithin t.1
 unfolding pair_at
 pair_within d t is =
-    let h = and_then_some (option_and_then two_of (as_array d)) (λ p. pair_of (count_at p.0) (integer_at p.1)) t is in
+    let h = and_then_some (option_and_then two_of (as_array d)) (λ p. option_zip (count_at p.0) (integer_at p.1)) t is in
     integer_at_within h.0.1 t.1 (pair_some (count_at h.0.0) (integer_at h.0.1) t h.1.1).1
 
 pub terms_within : (d : Data) (ts : List (ℕ × ℤ)) → terms_at d ≡ Some ts → All (λ t. IsWithin t.1) ts
 unfolding terms_at
 terms_within d ts is =
-    let h = and_then_some (items_of_array (get (codes "row") d)) (all_of pair_at) ts is in
+    let h = and_then_some (option_and_then as_array (get (codes "row") d)) (all_of pair_at) ts is in
     all_of_holds (λ t. IsWithin t.1) pair_at pair_within h.0 ts h.1.1

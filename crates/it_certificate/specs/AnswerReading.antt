@@ -2,13 +2,12 @@
 use Rattle.std.specs.Prelude.{ℕ, List, Bool, true, false, Result, Ok, Err, ok_or}
 use Rattle.serde_json.specs.Data.{Data}
 use Rattle.it_space.specs.Answers.{AnswerView}
-use Rattle.it_space.specs.Answers.AnswerView.{Yes, No, Undecided, Region, Contained, Open}
+use Rattle.it_space.specs.Answers.AnswerView.{No, Undecided, Contained}
 use Rattle.it_syntax.specs.declared.types.Sign.{Sign}
-use Rattle.it_syntax.specs.declared.types.Sign.TheVariants.{AtLeast, AtMost, Equal}
+use Rattle.it_syntax.specs.declared.types.Sign.TheVariants.{Equal}
 use Rattle.it_certificate.specs.declared.keys.Key.{Key}
 use Rattle.it_certificate.specs.declared.keys.Key.TheVariants as keys
-use Rattle.it_certificate.specs.Obligations.{target_count}
-use Rattle.it_certificate.specs.Parts.{proofs_at, point_at, back_at, cause_kind_at, cause_at, rows_at, parts_at, tried_at}
+use Rattle.it_certificate.specs.Parts.{proofs_at, point_at, back_at, cause_kind_at, cause_at, parts_at}
 
 -- the reading of one key after another
 abbrev pub and_then : {A B : Type 0} → Result A Key → (A → Result B Key) → Result B Key
@@ -17,13 +16,8 @@ and_then (Err k) f = Err k
 
 -- whether a relation of this sign is an equality
 abbrev pub is_equality : Sign → Bool
-is_equality AtLeast = false
-is_equality AtMost = false
 is_equality Equal = true
-
--- a yes: a certificate for each target of a relation of this sign
-unfoldable pub yes_at : Sign → Data → Result AnswerView Key
-yes_at sign d = and_then (ok_or (proofs_at (target_count sign) d) keys.Proofs) (λ proofs. Ok (Yes proofs))
+is_equality sign = false
 
 -- a no: a value for each of so many coordinates, and a side
 unfoldable pub no_at : ℕ → Sign → Data → Result AnswerView Key
@@ -37,16 +31,8 @@ undecided_at rates d =
     and_then (ok_or (cause_kind_at d) keys.Cause) (λ kind.
     and_then (ok_or (cause_at rates kind d) keys.At) (λ cause. Ok (Undecided cause)))
 
--- a region over so many coordinates
-unfoldable pub region_at : ℕ → Data → Result AnswerView Key
-region_at size d = and_then (ok_or (rows_at size d) keys.Rows) (λ rows. Ok (Region rows))
-
 -- a containment: for so many auxiliaries, sets of so many variables, and so many obligations
 unfoldable pub contained_at : ℕ → ℕ → ℕ → Data → Result AnswerView Key
 contained_at auxiliaries variables obligations d =
     and_then (ok_or (parts_at auxiliaries variables d) keys.Parts) (λ parts.
     and_then (ok_or (proofs_at obligations d) keys.Proofs) (λ proofs. Ok (Contained parts proofs)))
-
--- a search without an end
-unfoldable pub open_at : Data → Result AnswerView Key
-open_at d = and_then (ok_or (tried_at d) keys.Tried) (λ tried. Ok (Open tried))

@@ -10,14 +10,10 @@ up_to_limit n = if nat_lt n (2 ^ 127) then Some n else None
 unfoldable pub magnitude_of : List ℕ → Option ℕ
 magnitude_of ds = if nat_le 1 (length ds) && nat_le (length ds) 39 then option_and_then up_to_limit (value_from 0 ds) else None
 
--- the negative of a number
-abbrev pub negative_of : ℕ → ℤ
-negative_of n = neg_ℤ (pos n)
-
 -- such digits, or `-` and such digits after it: the value of a decimal text
 unfoldable pub integer_of : List ℕ → Option ℤ
 integer_of [] = None
-integer_of (c ∷ cs) = if c == 45 then option_map negative_of (magnitude_of cs) else option_map pos (magnitude_of (c ∷ cs))
+integer_of (c ∷ cs) = if c == 45 then option_map (λ n. neg_ℤ (pos n)) (magnitude_of cs) else option_map pos (magnitude_of (c ∷ cs))
 
 -- a count: a number of at most 32 bits
 abbrev pub count_of : ℕ → Option ℕ

@@ -1,5 +1,6 @@
 -- The members of a report's object, each as far as its shape goes.
 use Rattle.std.specs.Prelude.{ℕ, ◌+◌, ◌^◌, ◌==◌, ◌&&◌, not, unsigned_abs, ℤ, List, [], ◌∷◌, length, Bool, true, if◌then◌else◌, codes, Option, Some, None, option_map, option_and_then, nat_le, nat_lt, bytes_eq}
+use Rattle.std.specs.Option.{option_or, option_zip}
 use Rattle.serde_json.specs.Data.{Data, Items, no_items, item}
 use Rattle.serde_json.specs.Find.{get, as_str, as_array, as_number, as_u64}
 use Rattle.it_space.specs.Rows.{Terms}
@@ -18,10 +19,6 @@ use Rattle.it_certificate.specs.Kinds.{answer_kind_of, cause_kind_of, mark_of, b
 abbrev pub text_of : Option Data → Option (List ℕ)
 text_of d = option_and_then as_str d
 
--- the items of a member that is an array
-abbrev pub items_of_array : Option Data → Option Items
-items_of_array d = option_and_then as_array d
-
 -- an integer as decimal text
 unfoldable pub integer_at : Data → Option ℤ
 integer_at d = option_and_then integer_of (as_str d)
@@ -30,20 +27,14 @@ integer_at d = option_and_then integer_of (as_str d)
 unfoldable pub count_at : Data → Option ℕ
 count_at d = option_and_then count_of (option_and_then as_u64 (as_number d))
 
--- two values, where both are there
-abbrev pub pair_of : {A B : Type 0} → Option A → Option B → Option (A × B)
-pair_of a b = option_and_then (λ x. option_map (λ y. (x, y)) b) a
-
 -- the items of a pair
 abbrev pub two_of : Items → Option (Data × Data)
-two_of no_items = None
-two_of (item a no_items) = None
 two_of (item a (item b no_items)) = Some (a, b)
-two_of (item a (item b (item c ds))) = None
+two_of ds = None
 
 -- a term or a weight: a pair of a number and a decimal text
 unfoldable pub pair_at : Data → Option (ℕ × ℤ)
-pair_at d = option_and_then (λ p. pair_of (count_at p.0) (integer_at p.1)) (option_and_then two_of (as_array d))
+pair_at d = option_and_then (λ p. option_zip (count_at p.0) (integer_at p.1)) (option_and_then two_of (as_array d))
 
 -- each item by f, where each has one
 abbrev pub all_of : {A : Type 0} → (Data → Option A) → Items → Option (List A)
@@ -52,7 +43,7 @@ all_of f (item d ds) = option_and_then (λ a. option_map (λ rest. a ∷ rest) (
 
 -- a member that is an array, each item by f
 abbrev pub list_at : {A : Type 0} → (Data → Option A) → Option Data → Option (List A)
-list_at f d = option_and_then (all_of f) (items_of_array d)
+list_at f d = option_and_then (all_of f) (option_and_then as_array d)
 
 -- a list of n items
 abbrev pub of_length : {A : Type 0} → ℕ → List A → Option (List A)
@@ -86,15 +77,10 @@ back_at equality d = option_and_then (back_of equality) (text_of (get (codes "si
 unfoldable pub cause_kind_at : Data → Option CauseKind
 cause_kind_at d = option_and_then cause_kind_of (text_of (get (codes "cause") d))
 
--- a step, or else a rate
-abbrev pub step_or_rate : Option ℕ → Option ℕ → Option Cause
-step_or_rate (Some step) rate = Some (Width step)
-step_or_rate None rate = option_map WideRate rate
-
--- a cause of this kind with its budget, its step or its rate, one of these names
+-- a cause of this kind with its budget, its step or its rate, one of these names; a number too wide came at a step or else at a rate
 abbrev pub cause_of : List (List ℕ) → CauseKind → List ℕ → Option Cause
 cause_of rates causes.Pivots place = option_map Pivots (step_of place)
-cause_of rates causes.Width place = step_or_rate (step_of place) (index_of rates place)
+cause_of rates causes.Width place = option_or (option_map Width (step_of place)) (option_map WideRate (index_of rates place))
 cause_of rates causes.Scale place = if bytes_eq place (codes "0") then Some Scale else None
 cause_of rates causes.Rows place = option_map Rows (index_of rates place)
 
@@ -102,14 +88,10 @@ cause_of rates causes.Rows place = option_map Rows (index_of rates place)
 unfoldable pub cause_at : List (List ℕ) → CauseKind → Data → Option Cause
 cause_at rates kind d = option_and_then (cause_of rates kind) (text_of (get (codes "at") d))
 
--- a coordinate from one number to another, and its coefficient isn't 0
-abbrev pub is_term_between : ℕ → ℕ → ℕ × ℤ → Bool
-is_term_between from size t = nat_le from t.0 && (nat_le t.0 size && not (unsigned_abs t.1 == 0))
-
--- such terms, whose coordinates ascend
+-- coordinates that ascend from one number up to another, and no coefficient is 0
 abbrev pub is_row_between : ℕ → ℕ → Terms → Bool
 is_row_between from size [] = true
-is_row_between from size (t ∷ ts) = is_term_between from size t && is_row_between (t.0 + 1) size ts
+is_row_between from size (t ∷ ts) = (nat_le from t.0 && (nat_le t.0 size && not (unsigned_abs t.1 == 0))) && is_row_between (t.0 + 1) size ts
 
 -- a row of a space with so many coordinates
 abbrev pub row_of : ℕ → Terms → Option Terms
@@ -125,19 +107,15 @@ terms_at d = list_at pair_at (get (codes "row") d)
 
 -- a row with its mark
 unfoldable pub marked_row_at : ℕ → Data → Option (Mark × Terms)
-marked_row_at size d = pair_of (mark_at d) (option_and_then (row_of size) (terms_at d))
+marked_row_at size d = option_zip (mark_at d) (option_and_then (row_of size) (terms_at d))
 
 -- the rows of a region
 unfoldable pub rows_at : ℕ → Data → Option (List (Mark × Terms))
 rows_at size d = list_at (marked_row_at size) (get (codes "rows") d)
 
--- a set of n variables by its number
-abbrev pub set_of_number : ℕ → ℕ → Option ℕ
-set_of_number n s = if nat_lt s (2 ^ n) then Some s else None
-
--- a set of n variables
+-- a set of n variables, by its number
 unfoldable pub set_at : ℕ → Data → Option ℕ
-set_at n d = option_and_then (set_of_number n) (count_at d)
+set_at n d = option_and_then (λ s. if nat_lt s (2 ^ n) then Some s else None) (count_at d)
 
 -- so many sets of n variables
 unfoldable pub parts_at : ℕ → ℕ → Data → Option (List ℕ)

@@ -1,9 +1,10 @@
 -- The reading of a report line: its question and its answer, or the first key that is missing or of another shape.
-use Rattle.std.specs.Prelude.{◌≡◌, ℕ, ◌≤◌, List, [], ◌∷◌, length, codes, Option, Some, None, Result, Ok, Err, ok_or, IsUtf8}
+use Rattle.std.specs.Prelude.{◌≡◌, ℕ, ◌≤◌, List, [], ◌∷◌, length, codes, Option, Some, None, option_map, Result, Ok, Err, ok_or, IsUtf8}
 use Rattle.serde_json.specs.Data.{Data}
 use Rattle.serde_json.specs.Find.{get}
 use Rattle.serde_json.specs.Read.{read}
 use Rattle.it_space.specs.Answers.{AnswerView, answer_view}
+use Rattle.it_space.specs.Answers.{AnswerView as answers}
 use Rattle.it_space.specs.Spaces.{size_of}
 use Rattle.it_syntax.specs.NamesViews.{NamesView}
 use Rattle.it_question.specs.Questions.{QuestionView, VerbView, Prove, Eliminate, Contain, question_view}
@@ -16,22 +17,22 @@ use Rattle.it_certificate.specs.declared.keys.ReportFault.TheVariants as faults
 use Rattle.it_certificate.specs.declared.kinds.AnswerKind.{AnswerKind}
 use Rattle.it_certificate.specs.declared.kinds.AnswerKind.TheVariants.{Yes, No, Undecided, Region, Contained, Open}
 use Rattle.it_certificate.specs.declared.types.Reported.{Reported}
-use Rattle.it_certificate.specs.Parts.{text_of, answer_kind_at}
-use Rattle.it_certificate.specs.AnswerReading.{and_then, yes_at, no_at, undecided_at, region_at, contained_at, open_at}
-use Rattle.it_certificate.specs.Obligations.{obligation_count}
+use Rattle.it_certificate.specs.Parts.{text_of, answer_kind_at, proofs_at, rows_at, tried_at}
+use Rattle.it_certificate.specs.AnswerReading.{and_then, no_at, undecided_at, contained_at}
+use Rattle.it_certificate.specs.Obligations.{obligation_count, target_count}
 
 -- ---- the answers that each verb gives
 
 -- The answer of this kind to a question of this verb, or the first key at fault. The sets of a containment are over the variables of
 -- the first region, one for each auxiliary of the second.
 abbrev pub verb_answer : NamesView → VerbView → AnswerKind → Data → Result AnswerView Key
-verb_answer v (Prove r) Yes d = yes_at r.sign d
+verb_answer v (Prove r) Yes d = ok_or (option_map answers.Yes (proofs_at (target_count r.sign) d)) keys.Proofs
 verb_answer v (Prove r) No d = no_at (size_of (space_of v)) r.sign d
 verb_answer v (Prove r) Undecided d = undecided_at v.rates d
 verb_answer v (Eliminate rates) Undecided d = undecided_at v.rates d
-verb_answer v (Eliminate rates) Region d = region_at (size_of (space_of v)) d
+verb_answer v (Eliminate rates) Region d = ok_or (option_map answers.Region (rows_at (size_of (space_of v)) d)) keys.Rows
 verb_answer v (Contain first second tries) Contained d = contained_at second.auxiliaries (length first.names.variables) (obligation_count second) d
-verb_answer v (Contain first second tries) Open d = open_at d
+verb_answer v (Contain first second tries) Open d = ok_or (option_map answers.Open (tried_at d)) keys.Tried
 verb_answer v verb kind d = Err keys.Answer
 
 -- the answer of this kind to the question, or the first key at fault

@@ -1,9 +1,13 @@
 //! The answer of a report, by its kind.
-ghost use Rattle.std.specs.Prelude.{◌≡◌, ◌≤◌};
+ghost use Rattle.std.specs.Prelude.{◌≡◌, ◌≤◌, ok_or, option_map};
 ghost use Rattle.serde_json.specs.View.{view};
 ghost use Rattle.it_space.specs.Answers.{answer_view};
+ghost use Rattle.it_space.specs.Answers.AnswerView.{Yes, Region, Open};
 ghost use Rattle.it_space.specs.Spaces.{IsSpace, size_of};
-ghost use Rattle.it_certificate.specs.AnswerReading.{contained_at, is_equality, no_at, open_at, region_at, undecided_at, yes_at};
+ghost use Rattle.it_certificate.specs.AnswerReading.{contained_at, is_equality, no_at, undecided_at};
+ghost use Rattle.it_certificate.specs.declared.keys.Key.TheVariants as keys;
+ghost use Rattle.it_certificate.specs.Obligations.{target_count};
+ghost use Rattle.it_certificate.specs.Parts.{proofs_at, rows_at, tried_at};
 ghost use Rattle.it_certificate.specs.Steps.{GivesKeyed, fault_by};
 
 use crate::keys::{Key, Refusal, ReportFault};
@@ -38,9 +42,8 @@ fn is_equality(sign: Sign) -> bool
 }
 
 /// A yes: as many certificates as a relation of this sign has targets.
-#[tactic(auto, unfolding(crate::specs::AnswerReading::yes_at))]
 pub fn yes_at(alloc: Global, value: &Value, sign: Sign) -> Result<Answer, ReportFault>
-    ensures { GivesKeyed answer_view result (yes_at sign (view value.now)) }
+    ensures { GivesKeyed answer_view result (ok_or (option_map Yes (proofs_at (target_count sign) (view value.now))) keys.Proofs) }
 {
     match proofs_at(alloc, value, target_count(sign)) {
         Ok(proofs) => Ok(Answer::Yes(proofs)),
@@ -82,9 +85,8 @@ pub fn undecided_at(value: &Value, names: &Names) -> Result<Answer, ReportFault>
 }
 
 /// A region over a space with so many coordinates.
-#[tactic(auto, unfolding(crate::specs::AnswerReading::region_at))]
 pub fn region_at(alloc: Global, value: &Value, size: u32) -> Result<Answer, ReportFault>
-    ensures { GivesKeyed answer_view result (region_at size (view value.now)) }
+    ensures { GivesKeyed answer_view result (ok_or (option_map Region (rows_at size (view value.now))) keys.Rows) }
 {
     match rows_at(alloc, value, size) {
         Ok(rows) => Ok(Answer::Region(rows)),
@@ -115,9 +117,8 @@ pub fn contained_at(
 }
 
 /// A search without an end.
-#[tactic(auto, unfolding(crate::specs::AnswerReading::open_at))]
 pub fn open_at(value: &Value) -> Result<Answer, ReportFault>
-    ensures { GivesKeyed answer_view result (open_at (view value.now)) }
+    ensures { GivesKeyed answer_view result (ok_or (option_map Open (tried_at (view value.now))) keys.Tried) }
 {
     match tried_at(value) {
         Some(tried) => Ok(Answer::Open { tried }),

@@ -1,9 +1,10 @@
 //! The lists of a report.
 //! The result of `push` is matched where `?` would do: so the proof has the case without memory by its name.
 ghost use Rattle.std.specs.Prelude.{◌≡◌, map, option_and_then, option_map};
+ghost use Rattle.serde_json.specs.Find.{as_array};
 ghost use Rattle.serde_json.specs.View.{view, items_view};
 ghost use Rattle.it_space.specs.Answers.{certificate_view};
-ghost use Rattle.it_certificate.specs.Parts.{all_of, certificate_at, items_of_array, list_at, pair_at, two_of, integer_at};
+ghost use Rattle.it_certificate.specs.Parts.{all_of, certificate_at, list_at, pair_at, two_of, integer_at};
 ghost use Rattle.it_certificate.specs.Steps.{Yields};
 
 use crate::keys::Refusal;
@@ -70,7 +71,7 @@ fn integers(alloc: Global, values: &[Value]) -> Result<Vec<i128>, Refusal>
 
 /// The items of a member that is an array.
 pub fn array_of(value: Option<&Value>) -> Option<&[Value]>
-    ensures { option_map (λ s. items_view s.now) result ≡ items_of_array (option_map (λ v. view v.now) value.entry) }
+    ensures { option_map (λ s. items_view s.now) result ≡ option_and_then as_array (option_map (λ v. view v.now) value.entry) }
 {
     Some(value?.as_array()?.as_slice())
 }

@@ -2,8 +2,10 @@
 ghost use Rattle.std.specs.Prelude.{◌≡◌, map, option_map};
 ghost use Rattle.serde_json.specs.View.{view};
 ghost use Rattle.serde_json.specs.Find.{get};
+ghost use Rattle.std.specs.Option.{option_or};
 ghost use Rattle.it_space.specs.Answers.{certificate_view};
-ghost use Rattle.it_certificate.specs.Parts.{answer_kind_at, back_at, cause_at, cause_kind_at, cause_of, point_at, proofs_at, step_or_rate, text_of, tried_at};
+ghost use Rattle.it_space.specs.declared.answers.Cause.TheVariants.{WideRate, Width};
+ghost use Rattle.it_certificate.specs.Parts.{answer_kind_at, back_at, cause_at, cause_kind_at, cause_of, point_at, proofs_at, text_of, tried_at};
 ghost use Rattle.it_certificate.specs.Steps.{Yields};
 
 use crate::keys::Refusal;
@@ -74,7 +76,7 @@ pub fn cause_kind_at(value: &Value) -> Option<CauseKind>
 
 /// A step, or else a rate.
 fn step_or_rate(step: Option<u32>, rate: Option<u8>) -> Option<Cause>
-    ensures { result ≡ step_or_rate step rate }
+    ensures { result ≡ option_or (option_map Width step) (option_map WideRate rate) }
 {
     match step {
         Some(step) => Some(Cause::Width(step)),

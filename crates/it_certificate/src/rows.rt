@@ -1,9 +1,9 @@
 //! The rows of a region in a report.
-ghost use Rattle.std.specs.Prelude.{◌≡◌, All, IfOk};
+ghost use Rattle.std.specs.Prelude.{◌≡◌, ◌==◌, ◌&&◌, nat_le, not, unsigned_abs, All, IfOk};
 ghost use Rattle.serde_json.specs.View.{view, items_view};
 ghost use Rattle.serde_json.specs.Find.{get};
 ghost use Rattle.it_number.specs.Limit.{IsWithin};
-ghost use Rattle.it_certificate.specs.Parts.{all_of, is_row_between, is_term_between, mark_at, marked_row_at, row_of, rows_at, terms_at};
+ghost use Rattle.it_certificate.specs.Parts.{all_of, is_row_between, mark_at, marked_row_at, row_of, rows_at, terms_at};
 ghost use Rattle.it_certificate.specs.Steps.{Yields};
 
 use crate::keys::Refusal;
@@ -16,7 +16,7 @@ use std::alloc::Global;
 
 /// Whether the coordinate is in a range and the coefficient isn't 0.
 fn is_term_between(from: u64, size: u32, term: &(u32, i128)) -> bool
-    ensures { result ≡ is_term_between from size term.now }
+    ensures { result ≡ (nat_le from term.now.0 && (nat_le term.now.0 size && not (unsigned_abs term.now.1 == 0))) }
 {
     from <= term.0 as u64 && (term.0 <= size && term.1 != 0)
 }

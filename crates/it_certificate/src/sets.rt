@@ -1,7 +1,7 @@
 //! The sets of a containment in a report.
-ghost use Rattle.std.specs.Prelude.{◌≡◌, ◌≤◌};
+ghost use Rattle.std.specs.Prelude.{◌≡◌, ◌≤◌, ◌^◌, nat_lt, if◌then◌else◌, Some, None};
 ghost use Rattle.serde_json.specs.View.{view, items_view};
-ghost use Rattle.it_certificate.specs.Parts.{all_of, parts_at, set_at, set_of_number};
+ghost use Rattle.it_certificate.specs.Parts.{all_of, parts_at, set_at};
 ghost use Rattle.it_certificate.specs.Steps.{Yields};
 
 use crate::keys::Refusal;
@@ -14,7 +14,7 @@ use std::alloc::Global;
 /// The set of this number, if it is one of so many variables.
 fn set_of_number(variables: u8, number: u32) -> Option<VarSet>
     requires { variables ≤ 10 }
-    ensures { result ≡ set_of_number variables number }
+    ensures { result ≡ (if nat_lt number (2 ^ variables) then Some number else None) }
 {
     if number < 1u32 << variables {
         Some(VarSet::from_number(number as u16))

@@ -1,5 +1,5 @@
 -- What was found of a question's factors can be printed: its generators are there, and its points are of the question's names.
-use Rattle.std.proofs.Common.{◌≡◌, ◌+◌, ◌^◌, ◌<◌, ◌≤◌, ℕ, ℤ, List, length, Option, Some, None, length-append, ap, subst, arith}
+use Rattle.std.proofs.Common.{◌≡◌, ◌+◌, ◌<◌, ◌≤◌, ℕ, ℤ, List, length, Option, length-append, ap, arith}
 use Rattle.std.proofs.lemmas.List.{length-map}
 use Rattle.std.proofs.lemmas.List.Elements.{All-weaker}
 use Rattle.std.proofs.lemmas.Nat.{pow_pos}
@@ -27,7 +27,7 @@ use Rattle.it_factor.specs.declared.types.Reply.{Reply}
 use Rattle.it_factor.specs.declared.types.Reply.TheVariants as replies
 use Rattle.it_factor.specs.Lines.{AreValuesOf, IsBestPrintable, IsPrintable, IsThere}
 use Rattle.it_factor.specs.Replies.{reply_view}
-use Rattle.it_factor.specs.RightReplies.{IsRightReply, IsRightReplyTo, ShowsFactor, asked_by, at_least, question_ground}
+use Rattle.it_factor.specs.RightReplies.{IsRightReply, ShowsFactor, question_ground}
 
 length-demands : (n : ℕ) (ds : List LineDemand) → length (all_demands n ds) ≡ length (elementals n) + length ds
 unfolding all_demands
@@ -68,9 +68,5 @@ module _ (q : BodyView) (m : ℕ) (count : m ≡ length (question_demands q)) wh
 
   -- what is printed of a reply is there
   pub reply_printable : (budget : Option ℕ) (r : RelationView) (reply : Reply) → IsQuestion q → q.verb ≡ Prove r → IsRightReply budget q (reply_view reply) → IsPrintable q m reply
-  reply_printable budget r reply k verb right = by_asked (at_least r.sign r) reply (subst (λ (asked : Option RelationView). IsRightReplyTo budget q asked (reply_view reply)) (ap asked_by verb) right)
-    where
-      by_asked : (asked : Option RelationView) (reply : Reply) → IsRightReplyTo budget q asked (reply_view reply) → IsPrintable q m reply
-      by_asked (Some s) (replies.Found best) h = best_printable s r best k verb h.shows
-      by_asked None (replies.Found best) h = absurd h
-      by_asked asked replies.Other h = tt
+  reply_printable budget r (replies.Found best) k verb right = best_printable right.0 r best k verb right.2.shows
+  reply_printable budget r replies.Other k verb right = tt

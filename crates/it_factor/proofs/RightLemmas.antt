@@ -27,7 +27,7 @@ use Rattle.it_best.specs.BestViews.{BestView, Least, Never, Unbounded, Undecided
 use Rattle.it_best.specs.Factors.{IsRightBest, IsFactor, IsPoint, factor_form, ground_of}
 use Rattle.it_best.proofs.CertificateLemmas.{linear-factor, linear-neg}
 use Rattle.it_factor.specs.Replies.{ReplyView, Found, Other}
-use Rattle.it_factor.specs.RightReplies.{IsRightFactor, IsRightReply, IsRightReplyTo, asked_by, at_least, question_ground}
+use Rattle.it_factor.specs.RightReplies.{IsRightFactor, IsRightReply, asked_by, at_least, question_ground}
 use Rattle.it_factor.specs.RowReplies.{IsFoundByRows, IsReplyByRows}
 
 module _ (q : BodyView) (p : ProblemView) (posed : IsProblemOf q p) where
@@ -93,16 +93,16 @@ module _ (q : BodyView) (p : ProblemView) (posed : IsProblemOf q p) where
         due = record { problem = p; is_problem = posed; left = f.left; left_is = left_is; right = f.right; right_is = right_is; ends = f.ends };
       }
 
-  right_by_asked : (budget : Option ℕ) (asked : Option RelationView) (reply : ReplyView) → IsReplyByRows p budget asked reply → IsRightReplyTo budget q asked reply
-  right_by_asked budget (Some r) (Found best) f = right_factor budget r best f
-  right_by_asked budget (Some r) Other f = absurd f
-  right_by_asked budget None (Found best) f = absurd f
-  right_by_asked budget None Other f = tt
+  right_by_asked : (budget : Option ℕ) (asked : Option RelationView) (reply : ReplyView) → asked_by q.verb ≡ asked → IsReplyByRows p budget asked reply → IsRightReply budget q reply
+  right_by_asked budget (Some r) (Found best) is f = (r, is, right_factor budget r best f)
+  right_by_asked budget (Some r) Other is f = absurd f
+  right_by_asked budget None (Found best) is f = absurd f
+  right_by_asked budget None Other is f = is
 
   -- the reply by rows is right
   pub right_reply : (budget : Option ℕ) (r : RelationView) (reply : ReplyView) → q.verb ≡ Prove r → IsReplyByRows p budget (at_least r.sign r) reply → IsRightReply budget q reply
-  right_reply budget r reply verb f = subst (λ (asked : Option RelationView). IsRightReplyTo budget q asked reply) (sym (ap asked_by verb)) (right_by_asked budget (at_least r.sign r) reply f)
+  right_reply budget r reply verb f = right_by_asked budget (at_least r.sign r) reply (ap asked_by verb) f
 
 -- a question that asks for no factor has the other reply
 pub other_is_right : (budget : Option ℕ) (q : BodyView) (verb : VerbView) → q.verb ≡ verb → asked_by verb ≡ None → IsRightReply budget q Other
-other_is_right budget q verb is none = subst (λ (asked : Option RelationView). IsRightReplyTo budget q asked Other) (sym (ap asked_by is ∙ none)) tt
+other_is_right budget q verb is none = ap asked_by is ∙ none

@@ -1,5 +1,5 @@
 -- A question has one right reply: its problem and the rows of its sides are determined, and the runs about these end in one way.
-use Rattle.std.proofs.Common.{◌≡◌, ℕ, Option, Some, None, refl, ap, subst}
+use Rattle.std.proofs.Common.{◌≡◌, ℕ, Option, Some, None, refl, ap, sym, subst, ◌∙◌}
 use Rattle.it_space.specs.Problems.{ProblemView}
 use Rattle.it_space.specs.Rows.{Terms}
 use Rattle.it_syntax.specs.Meaning.{RelationView}
@@ -9,12 +9,11 @@ use Rattle.it_demand.proofs.UniqueRows.{one_row}
 use Rattle.it_canon.specs.QuestionDemands.{variables_of}
 use Rattle.it_canon.specs.Sides.{left_form, right_form}
 use Rattle.it_canon.proofs.PosesLemmas.{one_problem}
-use Rattle.it_best.specs.declared.types.BestCause.TheVariants.{Pivots}
-use Rattle.it_best.specs.BestViews.{BestView, Undecided}
+use Rattle.it_best.specs.BestViews.{BestView}
 use Rattle.it_best.specs.Ends.{EndsWith}
 use Rattle.it_best.proofs.EndLemmas.{best_never_out_of_steps, one_best}
-use Rattle.it_factor.specs.Replies.{ReplyView, Found, Other}
-use Rattle.it_factor.specs.RightReplies.{IsDueFactor, IsRightReplyTo, NeverOutOfSteps, OneRightReply, asked_by}
+use Rattle.it_factor.specs.Replies.{Found, Other}
+use Rattle.it_factor.specs.RightReplies.{IsDueFactor, NeverOutOfSteps, OneRightReply}
 
 one_due : (budget : Option ℕ) (q : BodyView) (r : RelationView) (x y : BestView) → IsDueFactor budget q r x → IsDueFactor budget q r y → x ≡ y
 one_due budget q r x y a b =
@@ -26,20 +25,14 @@ one_due budget q r x y a b =
     (subst (λ (t : Terms). EndsWith b.problem t a.right budget x) left_same
     (subst (λ (p : ProblemView). EndsWith p a.left a.right budget x) same a.ends))) b.ends
 
-one_reply_to : (budget : Option ℕ) (q : BodyView) (asked : Option RelationView) (a b : ReplyView) → IsRightReplyTo budget q asked a → IsRightReplyTo budget q asked b → a ≡ b
-one_reply_to budget q (Some r) (Found x) (Found y) h k = ap Found (one_due budget q r x y h.due k.due)
-one_reply_to budget q (Some r) (Found x) Other h k = absurd k
-one_reply_to budget q (Some r) Other b h k = absurd h
-one_reply_to budget q None (Found x) b h k = absurd h
-one_reply_to budget q None Other (Found y) h k = absurd k
-one_reply_to budget q None Other Other h k = refl
-
 pub one_right_reply : OneRightReply
-one_right_reply budget q a b h k = one_reply_to budget q (asked_by q.verb) a b h k
-
-never_out_by : (q : BodyView) (asked : Option RelationView) (k part : ℕ) → IsRightReplyTo None q asked (Found (Undecided (Pivots k part))) → ⊥
-never_out_by q (Some r) k part h = best_never_out_of_steps h.due.problem h.due.left h.due.right k part h.due.ends
-never_out_by q None k part h = h
+one_right_reply budget q (Found x) (Found y) h k =
+    let e : Some h.0 ≡ Some k.0 = sym h.1 ∙ k.1 in
+    let same : h.0 ≡ k.0 = cc in
+    ap Found (one_due budget q k.0 x y (subst (λ r. IsDueFactor budget q r x) same h.2.due) k.2.due)
+one_right_reply budget q (Found x) Other h k = let e : Some h.0 ≡ None = sym h.1 ∙ k in absurd (cc)
+one_right_reply budget q Other (Found y) h k = let e : Some k.0 ≡ None = sym k.1 ∙ h in absurd (cc)
+one_right_reply budget q Other Other h k = refl
 
 pub never_out_of_steps : NeverOutOfSteps
-never_out_of_steps q k part h = never_out_by q (asked_by q.verb) k part h
+never_out_of_steps q k part h = let d = h.2.due in best_never_out_of_steps d.problem d.left d.right k part d.ends

@@ -18,25 +18,9 @@ use Rattle.it_factor.specs.declared.types.Reply.{Reply}
 use Rattle.it_factor.specs.declared.types.Reply.TheVariants as replies
 use Rattle.it_factor.specs.Replies.{ReplyView, Found, Other}
 
--- a factor as `P/Q`
-unfoldable pub ratio_text : ℤ → ℤ → List ℕ
-ratio_text num den = signed_decimal num ++ codes "/" ++ signed_decimal den
-
--- a factor, and the certificate that it holds
+-- a factor as `P/Q`, and the certificate that it holds
 unfoldable pub factor_text : List (List ℕ) → List Origin → ℤ → ℤ → CertificateView → List ℕ
-factor_text names origins num den w = ratio_text num den ++ codes " " ++ certificate_text names origins w
-
--- `best`, the least factor with its certificate, and the values of the point that attains it
-unfoldable pub least_line : ℕ → NamesView → List Origin → ℤ → ℤ → CertificateView → List ℤ → List ℕ
-least_line k v origins num den w values = decimal k ++ codes " best " ++ factor_text v.variables origins num den w ++ codes " at " ++ values_text v values ++ codes "\n"
-
--- `none`, and the values of the point at which no factor holds
-unfoldable pub never_line : ℕ → NamesView → List ℤ → List ℕ
-never_line k v values = decimal k ++ codes " none " ++ values_text v values ++ codes "\n"
-
--- `unbounded`, a factor with its certificate, and the certificate that the left side is at most 0
-unfoldable pub unbounded_line : ℕ → List (List ℕ) → List Origin → ℤ → ℤ → CertificateView → CertificateView → List ℕ
-unbounded_line k names origins num den w below = decimal k ++ codes " unbounded " ++ factor_text names origins num den w ++ codes " and " ++ certificate_text names origins below ++ codes "\n"
+factor_text names origins num den w = signed_decimal num ++ codes "/" ++ signed_decimal den ++ codes " " ++ certificate_text names origins w
 
 -- why the factors stay undecided, with the part
 unfoldable pub best_cause_text : BestCause → List ℕ
@@ -45,25 +29,20 @@ best_cause_text (causes.Width step part) = codes "width " ++ decimal step ++ cod
 best_cause_text causes.Scale = codes "scale"
 best_cause_text causes.Size = codes "size"
 
--- `undecided`, and the cause
-unfoldable pub undecided_line : ℕ → BestCause → List ℕ
-undecided_line k cause = decimal k ++ codes " undecided " ++ best_cause_text cause ++ codes "\n"
-
--- `other`
-unfoldable pub other_line : ℕ → List ℕ
-other_line k = decimal k ++ codes " other\n"
-
--- the line of what was found for question k
+-- the line of what was found for question k: the least factor with its certificate, and the values of the point that attains it; the
+-- values of the point at which no factor holds; a factor with its certificate, and the certificate that the left side is at most 0
 abbrev pub best_line : ℕ → NamesView → List Origin → BestView → List ℕ
-best_line k v origins (Least num den w values) = least_line k v origins num den w values
-best_line k v origins (Never values) = never_line k v values
-best_line k v origins (Unbounded num den w below) = unbounded_line k v.variables origins num den w below
-best_line k v origins (Undecided cause) = undecided_line k cause
+best_line k v origins (Least num den w values) =
+    decimal k ++ codes " best " ++ factor_text v.variables origins num den w ++ codes " at " ++ values_text v values ++ codes "\n"
+best_line k v origins (Never values) = decimal k ++ codes " none " ++ values_text v values ++ codes "\n"
+best_line k v origins (Unbounded num den w below) =
+    decimal k ++ codes " unbounded " ++ factor_text v.variables origins num den w ++ codes " and " ++ certificate_text v.variables origins below ++ codes "\n"
+best_line k v origins (Undecided cause) = decimal k ++ codes " undecided " ++ best_cause_text cause ++ codes "\n"
 
 -- the line of a reply to question k
 abbrev pub reply_line : ℕ → BodyView → List Origin → ReplyView → List ℕ
 reply_line k q origins (Found best) = best_line k (problem_names q) origins best
-reply_line k q origins Other = other_line k
+reply_line k q origins Other = decimal k ++ codes " other\n"
 
 -- ---- what can be printed
 

@@ -7,8 +7,8 @@ use Rattle.it_space.specs.Rows.{Terms}
 use Rattle.it_space.specs.Spaces.{size_of}
 use Rattle.it_syntax.specs.Meaning.{RelationView}
 use Rattle.it_syntax.specs.declared.types.Sign.{Sign}
-use Rattle.it_syntax.specs.declared.types.Sign.TheVariants.{AtLeast, AtMost, Equal}
-use Rattle.it_question.specs.Questions.{BodyView, VerbView, Prove, Eliminate, Contain}
+use Rattle.it_syntax.specs.declared.types.Sign.TheVariants.{AtLeast}
+use Rattle.it_question.specs.Questions.{BodyView, VerbView, Prove}
 use Rattle.it_question.specs.Tables.{problem_names}
 use Rattle.it_demand.specs.Canonical.{IsRowOf}
 use Rattle.it_demand.specs.LineDemands.{space_of}
@@ -26,14 +26,12 @@ use Rattle.it_factor.specs.Replies.{ReplyView, Found, Other}
 -- a relation with the sign `>=`
 abbrev pub at_least : Sign → RelationView → Option RelationView
 at_least AtLeast r = Some r
-at_least AtMost r = None
-at_least Equal r = None
+at_least sign r = None
 
 -- the relation whose factors a question asks for: that of `prove E >= F`
 abbrev pub asked_by : VerbView → Option RelationView
 asked_by (Prove r) = at_least r.sign r
-asked_by (Eliminate rates) = None
-asked_by (Contain a b tries) = None
+asked_by verb = None
 
 -- where the sides of a question's relation are compared: at the polymatroids and rates that make its lines true, by certificates over
 -- the elemental inequalities and what its lines demand
@@ -71,16 +69,11 @@ pub record IsRightFactor (budget : Option ℕ) (q : BodyView) (r : RelationView)
   pub shows : ShowsFactor q r best
   pub due : IsDueFactor budget q r best
 
--- the reply to a question that asks for the factors of this relation, or for none
-abbrev pub IsRightReplyTo : Option ℕ → BodyView → Option RelationView → ReplyView → Type 0
-IsRightReplyTo budget q (Some r) (Found best) = IsRightFactor budget q r best
-IsRightReplyTo budget q (Some r) Other = ⊥
-IsRightReplyTo budget q None (Found best) = ⊥
-IsRightReplyTo budget q None Other = Unit {0}
-
--- a right reply to a question, by runs with a budget of steps or without one
+-- a right reply to a question, by runs with a budget of steps or without one: what is found of the factors of the relation that it asks
+-- about, or that it asks about none
 abbrev pub IsRightReply : Option ℕ → BodyView → ReplyView → Type 0
-IsRightReply budget q reply = IsRightReplyTo budget q (asked_by q.verb) reply
+IsRightReply budget q (Found best) = (r : RelationView) × (asked_by q.verb ≡ Some r) × IsRightFactor budget q r best
+IsRightReply budget q Other = asked_by q.verb ≡ None
 
 -- ---- what follows
 

@@ -22,6 +22,5 @@ pub record IsFoundByRows (p : ProblemView) (budget : Option ℕ) (r : RelationVi
 -- the reply about this relation, or about none
 abbrev pub IsReplyByRows : ProblemView → Option ℕ → Option RelationView → ReplyView → Type 0
 IsReplyByRows p budget (Some r) (Found best) = IsFoundByRows p budget r best
-IsReplyByRows p budget (Some r) Other = ⊥
-IsReplyByRows p budget None (Found best) = ⊥
 IsReplyByRows p budget None Other = Unit {0}
+IsReplyByRows p budget asked reply = ⊥

@@ -1,12 +1,13 @@
 //! The lines of mode `best`.
 ghost use Rattle.std.specs.Prelude.{◌≡◌, ◌≤◌, ◌++◌, length, codes, decimal, IfOk, OnOk};
+ghost use Rattle.std.specs.Fmt.{signed_decimal};
 ghost use Rattle.it_space.specs.Answers.{certificate_view};
 ghost use Rattle.it_question.specs.Questions.{question_body};
 ghost use Rattle.it_question.specs.Tables.{problem_names};
 ghost use Rattle.it_canon.specs.QuestionDemands.{variables_of};
-ghost use Rattle.it_print.specs.Lines.{certificate_text, origins_of};
+ghost use Rattle.it_print.specs.Lines.{certificate_text, origins_of, values_text};
 ghost use Rattle.it_best.specs.BestViews.{best_view};
-ghost use Rattle.it_factor.specs.Lines.{AreValuesOf, IsBestPrintable, IsPrintable, IsThere, best_cause_text, best_line, factor_text, least_line, never_line, other_line, ratio_text, reply_line, unbounded_line, undecided_line};
+ghost use Rattle.it_factor.specs.Lines.{AreValuesOf, IsBestPrintable, IsPrintable, IsThere, best_cause_text, best_line, factor_text, reply_line};
 ghost use Rattle.it_factor.specs.Replies.{reply_view};
 
 use crate::types::Reply;
@@ -37,9 +38,8 @@ fn write_proof(
 }
 
 /// A factor.
-#[tactic(auto, unfolding(crate::specs::Lines::ratio_text))]
 fn write_ratio(out: &mut Vec<u8>, num: i128, den: i128) -> Result<(), AllocError>
-    ensures { OnOk result (out.new.items ≡ out.old.items ++ ratio_text num den) }
+    ensures { OnOk result (out.new.items ≡ out.old.items ++ signed_decimal num ++ codes "/" ++ signed_decimal den) }
 {
     write_signed(out, num)?;
     out.extend_from_slice(b"/")?;
@@ -67,7 +67,6 @@ fn write_factor(
 }
 
 /// The line of a least factor.
-#[tactic(auto, unfolding(crate::specs::Lines::least_line))]
 fn least_line(
     alloc: Global,
     k: usize,
@@ -81,7 +80,7 @@ fn least_line(
     requires some { 1 ≤ variables_of (question_body question.now) }
     requires there { IsThere (variables_of (question_body question.now)) (length constraints.now) proof.now }
     requires point { AreValuesOf (problem_names (question_body question.now)) point.now }
-    ensures { IfOk result (λ t. t.items ≡ least_line k (problem_names (question_body question.now)) (origins_of constraints.now) num den (certificate_view proof.now) point.now) }
+    ensures { IfOk result (λ t. t.items ≡ decimal k ++ codes " best " ++ factor_text (problem_names (question_body question.now)).variables (origins_of constraints.now) num den (certificate_view proof.now) ++ codes " at " ++ values_text (problem_names (question_body question.now)) point.now ++ codes "\n") }
 {
     let mut out = Vec::new(alloc);
     write_number(&mut out, k)?;
@@ -95,7 +94,6 @@ fn least_line(
 }
 
 /// The line where there is no factor.
-#[tactic(auto, unfolding(crate::specs::Lines::never_line))]
 fn never_line(
     alloc: Global,
     k: usize,
@@ -103,7 +101,7 @@ fn never_line(
     point: &Point,
 ) -> Result<Vec<u8>, AllocError>
     requires { AreValuesOf (problem_names (question_body question.now)) point.now }
-    ensures { IfOk result (λ t. t.items ≡ never_line k (problem_names (question_body question.now)) point.now) }
+    ensures { IfOk result (λ t. t.items ≡ decimal k ++ codes " none " ++ values_text (problem_names (question_body question.now)) point.now ++ codes "\n") }
 {
     let mut out = Vec::new(alloc);
     write_number(&mut out, k)?;
@@ -115,7 +113,6 @@ fn never_line(
 }
 
 /// The line where there is no least factor.
-#[tactic(auto, unfolding(crate::specs::Lines::unbounded_line))]
 fn unbounded_line(
     alloc: Global,
     k: usize,
@@ -129,7 +126,7 @@ fn unbounded_line(
     requires some { 1 ≤ variables_of (question_body question.now) }
     requires there { IsThere (variables_of (question_body question.now)) (length constraints.now) proof.now }
     requires below { IsThere (variables_of (question_body question.now)) (length constraints.now) below.now }
-    ensures { IfOk result (λ t. t.items ≡ unbounded_line k (problem_names (question_body question.now)).variables (origins_of constraints.now) num den (certificate_view proof.now) (certificate_view below.now)) }
+    ensures { IfOk result (λ t. t.items ≡ decimal k ++ codes " unbounded " ++ factor_text (problem_names (question_body question.now)).variables (origins_of constraints.now) num den (certificate_view proof.now) ++ codes " and " ++ certificate_text (problem_names (question_body question.now)).variables (origins_of constraints.now) (certificate_view below.now) ++ codes "\n") }
 {
     let mut out = Vec::new(alloc);
     write_number(&mut out, k)?;
@@ -170,9 +167,8 @@ fn write_cause(out: &mut Vec<u8>, cause: BestCause) -> Result<(), AllocError>
 }
 
 /// The line where the factors stay undecided.
-#[tactic(auto, unfolding(crate::specs::Lines::undecided_line))]
 fn undecided_line(alloc: Global, k: usize, cause: BestCause) -> Result<Vec<u8>, AllocError>
-    ensures { IfOk result (λ t. t.items ≡ undecided_line k cause) }
+    ensures { IfOk result (λ t. t.items ≡ decimal k ++ codes " undecided " ++ best_cause_text cause ++ codes "\n") }
 {
     let mut out = Vec::new(alloc);
     write_number(&mut out, k)?;
@@ -183,9 +179,8 @@ fn undecided_line(alloc: Global, k: usize, cause: BestCause) -> Result<Vec<u8>, 
 }
 
 /// The line of a question that isn't `prove E >= F`.
-#[tactic(auto, unfolding(crate::specs::Lines::other_line))]
 fn other_line(alloc: Global, k: usize) -> Result<Vec<u8>, AllocError>
-    ensures { IfOk result (λ t. t.items ≡ other_line k) }
+    ensures { IfOk result (λ t. t.items ≡ decimal k ++ codes " other\n") }
 {
     let mut out = Vec::new(alloc);
     write_number(&mut out, k)?;

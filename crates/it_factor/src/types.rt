@@ -13,8 +13,17 @@ pub enum Reply {
 
 /// The reply to a question, and the question's problem. The generators that a certificate numbers are the elemental inequalities
 /// of the problem's space, then its constraints.
-#[derive(Debug, Drop)]
 pub struct RepliedProblem {
     pub problem: Problem,
     pub reply: Reply,
+}
+
+// written out, so that letting it go is one call, and not a step for each field below
+impl Drop for RepliedProblem {
+    fn drop(self) {
+        let RepliedProblem {
+            problem: _,
+            reply: _,
+        } = self;
+    }
 }

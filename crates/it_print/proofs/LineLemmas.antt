@@ -1,12 +1,14 @@
 -- Steps of texts.
-use Rattle.std.proofs.Common.{◌≡◌, ℕ, ◌<◌, ◌≤◌, ◌*◌, ◌%◌, ◌^◌, ◌-◌, List, ◌∷◌, ◌++◌, ◌+◌, Some, Bool, true, false, sym, ap, ◌∙◌, arith, append_assoc, append-nil, codes, ◌||◌, drop}
+use Rattle.std.proofs.Common.{◌≡◌, ℕ, ◌<◌, ◌≤◌, ◌*◌, ◌%◌, ◌^◌, ◌-◌, List, ◌∷◌, ◌++◌, ◌+◌, Some, Bool, true, false, sym, ap, ◌∙◌, arith, append_assoc, append-nil, codes, ◌||◌, drop, [], ℤ, map, filter, cond, refl}
+use Rattle.it_space.specs.Answers.{is_nonzero_weight}
+use Rattle.it_space.specs.declared.problems.Origin.{Origin}
 use Rattle.std.specs.List.{slice_get}
 use Rattle.std.proofs.lemmas.List.{drop_more}
 use Rattle.std.proofs.lemmas.Option.{slice_get_within, get_or_from_slice_get}
 use Rattle.it_space.specs.Sets.{has_member}
 use Rattle.std.proofs.Math.Pow.{pow_mono}
 use Rattle.std.proofs.lemmas.Nat.{pow_below}
-use Rattle.it_print.specs.Lines.{joined_texts, one_if, members_from, or_zero}
+use Rattle.it_print.specs.Lines.{joined_texts, one_if, members_from, or_zero, sum_text, weight_text}
 
 -- a list's first element, and what is written after it
 pub joined_step : (separator : List ℕ) (some wanted : Bool) (text : List ℕ) (rest : List (List ℕ)) (out : List ℕ)
@@ -16,11 +18,38 @@ joined_step separator true false text rest out = ap (λ t. t ++ joined_texts sep
 joined_step separator false true text rest out = simp (append_assoc, append-nil)
 joined_step separator true true text rest out = simp (append_assoc, append-nil)
 
+-- `0` where there is none and nothing stands before
+abbrev pub or_zero_unless : Bool → List (List ℕ) → List (List ℕ)
+or_zero_unless true texts = texts
+or_zero_unless false texts = or_zero texts
+
+-- the weights other than 0, one after the other
+abbrev pub weight_texts : List (List ℕ) → List Origin → List (ℕ × ℤ) → List (List ℕ)
+weight_texts names origins [] = []
+weight_texts names origins (weight ∷ weights) = one_if (is_nonzero_weight weight) (weight_text names origins weight) ++ weight_texts names origins weights
+
+-- they are the texts of those that aren't 0
+weight_texts_by_filter : (names : List (List ℕ)) (origins : List Origin) (weights : List (ℕ × ℤ)) → weight_texts names origins weights ≡ map (weight_text names origins) (filter is_nonzero_weight weights)
+weight_texts_by_filter names origins [] = refl
+weight_texts_by_filter names origins (weight ∷ weights) = by_test (is_nonzero_weight weight) (weight_texts_by_filter names origins weights)
+  where
+    by_test : (b : Bool) → weight_texts names origins weights ≡ map (weight_text names origins) (filter is_nonzero_weight weights)
+        → one_if b (weight_text names origins weight) ++ weight_texts names origins weights
+        ≡ map (weight_text names origins) (cond b (weight ∷ filter is_nonzero_weight weights) (filter is_nonzero_weight weights))
+    by_test true same = ap (λ texts. weight_text names origins weight ∷ texts) same
+    by_test false same = same
+
+-- a sum before its first weight
+pub sum_begins : (names : List (List ℕ)) (origins : List Origin) (weights : List (ℕ × ℤ)) (out : List ℕ)
+    → out ++ joined_texts (codes " + ") false (or_zero (weight_texts names origins weights)) ≡ out ++ sum_text names origins weights
+unfolding sum_text
+sum_begins names origins weights out = ap (λ texts. out ++ joined_texts (codes " + ") false (or_zero texts)) (weight_texts_by_filter names origins weights)
+
 -- what a sum still has to write
 pub sum_step : (some wanted : Bool) (text : List ℕ) (rest : List (List ℕ)) (out : List ℕ)
-    → (out ++ joined_texts (codes " + ") some (one_if wanted text)) ++ joined_texts (codes " + ") (some || wanted) (or_zero (some || wanted) rest)
-    ≡ out ++ joined_texts (codes " + ") some (or_zero some (one_if wanted text ++ rest))
-sum_step false false text rest out = ap (λ t. t ++ joined_texts (codes " + ") false (or_zero false rest)) (append-nil out)
+    → (out ++ joined_texts (codes " + ") some (one_if wanted text)) ++ joined_texts (codes " + ") (some || wanted) (or_zero_unless (some || wanted) rest)
+    ≡ out ++ joined_texts (codes " + ") some (or_zero_unless some (one_if wanted text ++ rest))
+sum_step false false text rest out = ap (λ t. t ++ joined_texts (codes " + ") false (or_zero rest)) (append-nil out)
 sum_step true false text rest out = ap (λ t. t ++ joined_texts (codes " + ") true rest) (append-nil out)
 sum_step false true text rest out = simp (append_assoc, append-nil)
 sum_step true true text rest out = simp (append_assoc, append-nil)

@@ -1,5 +1,5 @@
 -- The lines of an answer, as bytes.
-use Rattle.std.specs.Prelude.{◌≡◌, ℕ, ◌+◌, ◌-◌, ◌^◌, ◌<◌, ℤ, pos, negsuc, unsigned_abs, map, All, List, [], ◌∷◌, ◌++◌, length, Bool, true, false, if◌then◌else◌, ◌==◌, codes, decimal, drop, nat_lt, slice_index_or}
+use Rattle.std.specs.Prelude.{◌≡◌, ℕ, ◌+◌, ◌-◌, ◌^◌, ◌<◌, ℤ, pos, unsigned_abs, int_lt, map, filter, flat_map, All, List, [], ◌∷◌, ◌++◌, length, Bool, true, false, if◌then◌else◌, ◌==◌, codes, decimal, drop, nat_lt, slice_index_or}
 use Rattle.std.specs.Fmt.{signed_decimal}
 use Rattle.it_space.specs.Sets.{has_member}
 use Rattle.it_space.specs.Answers.{AnswerView, CertificateView, IfRate, is_nonzero_weight, mark_word}
@@ -45,10 +45,6 @@ members_from i (name ∷ names) set = one_if (has_member set i) name ++ members_
 unfoldable pub set_text : List (List ℕ) → ℕ → List ℕ
 set_text names set = joined_texts (codes ",") false (members_from 0 names set)
 
--- or `0` where there are none
-unfoldable pub set_or_zero_text : List (List ℕ) → ℕ → List ℕ
-set_or_zero_text names set = if set == 0 then codes "0" else set_text names set
-
 -- what is given, after a bar, or nothing
 abbrev pub given_set_text : List (List ℕ) → ℕ → List ℕ
 given_set_text names set = if set == 0 then [] else codes "|" ++ set_text names set
@@ -87,20 +83,14 @@ generator_text names origins g =
 unfoldable pub weight_text : List (List ℕ) → List Origin → ℕ × ℤ → List ℕ
 weight_text names origins weight = signed_decimal weight.1 ++ codes " " ++ generator_text names origins weight.0
 
--- the weights other than 0
-abbrev pub weight_texts : List (List ℕ) → List Origin → List (ℕ × ℤ) → List (List ℕ)
-weight_texts names origins [] = []
-weight_texts names origins (weight ∷ weights) = one_if (is_nonzero_weight weight) (weight_text names origins weight) ++ weight_texts names origins weights
-
 -- `0` where there is none
-abbrev pub or_zero : Bool → List (List ℕ) → List (List ℕ)
-or_zero true texts = texts
-or_zero false [] = codes "0" ∷ []
-or_zero false (text ∷ texts) = text ∷ texts
+abbrev pub or_zero : List (List ℕ) → List (List ℕ)
+or_zero [] = codes "0" ∷ []
+or_zero texts = texts
 
--- the weights of a certificate with ` + ` between them, or `0`
+-- the weights other than 0 of a certificate with ` + ` between them, or `0`
 unfoldable pub sum_text : List (List ℕ) → List Origin → List (ℕ × ℤ) → List ℕ
-sum_text names origins weights = joined_texts (codes " + ") false (or_zero false (weight_texts names origins weights))
+sum_text names origins weights = joined_texts (codes " + ") false (or_zero (map (weight_text names origins) (filter is_nonzero_weight weights)))
 
 -- a certificate: the scale, and the sum
 unfoldable pub certificate_text : List (List ℕ) → List Origin → CertificateView → List ℕ
@@ -115,10 +105,6 @@ coordinate_text v c =
 abbrev pub pair_text : NamesView → ℕ → ℤ → List ℕ
 pair_text v c x = coordinate_text v c ++ codes "=" ++ signed_decimal x
 
--- the same after a blank
-abbrev pub value_text : NamesView → ℕ → ℤ → List ℕ
-value_text v c x = codes " " ++ pair_text v c x
-
 -- the coordinates from c on with their values
 abbrev pub pair_texts : NamesView → ℕ → List ℤ → List (List ℕ)
 pair_texts v c [] = []
@@ -128,11 +114,6 @@ pair_texts v c (x ∷ xs) = pair_text v c x ∷ pair_texts v (c + 1) xs
 unfoldable pub values_text : NamesView → List ℤ → List ℕ
 values_text v values = joined_texts (codes " ") false (pair_texts v 1 values)
 
--- the values of a point from coordinate c on
-unfoldable pub values_from : NamesView → ℕ → List ℤ → List ℕ
-values_from v c [] = []
-values_from v c (x ∷ xs) = value_text v c x ++ values_from v (c + 1) xs
-
 -- why a question stays undecided
 unfoldable pub cause_text : NamesView → Cause → List ℕ
 cause_text v (Pivots steps) = codes "pivots " ++ decimal steps
@@ -140,11 +121,6 @@ cause_text v (Width step) = codes "width " ++ decimal step
 cause_text v Scale = codes "scale"
 cause_text v (Rows r) = codes "rows " ++ slice_index_or v.rates r []
 cause_text v (WideRate r) = codes "width " ++ slice_index_or v.rates r []
-
--- whether a number is below 0
-abbrev pub is_below_zero : ℤ → Bool
-is_below_zero (pos n) = false
-is_below_zero (negsuc n) = true
 
 -- the sign of a term that is the first or not, and negative or not: with blanks round it after another term
 abbrev pub sign_text : Bool → Bool → List ℕ
@@ -159,7 +135,7 @@ factor_text n = if n == 1 then [] else decimal n ++ codes " "
 
 -- a term, the first or a later one
 unfoldable pub term_text : NamesView → Bool → ℕ × ℤ → List ℕ
-term_text v is_first t = sign_text is_first (is_below_zero t.1) ++ factor_text (unsigned_abs t.1) ++ coordinate_text v t.0
+term_text v is_first t = sign_text is_first (int_lt t.1 (pos 0)) ++ factor_text (unsigned_abs t.1) ++ coordinate_text v t.0
 
 -- terms in order, the first of them as such or not
 abbrev pub terms_text : NamesView → Bool → Terms → List ℕ
@@ -184,26 +160,9 @@ row_text v kind terms = form_text v terms ++ kind_text kind
 unfoldable pub row_line : ℕ → NamesView → Mark × Terms → List ℕ
 row_line k v row = decimal k ++ codes " row " ++ mark_word row.0 ++ codes " " ++ row_text v Inequality row.1 ++ codes "\n"
 
--- a line for each row
-abbrev pub row_lines : ℕ → NamesView → List (Mark × Terms) → List ℕ
-row_lines k v [] = []
-row_lines k v (row ∷ rows) = row_line k v row ++ row_lines k v rows
-
--- the lines after the question's number
-unfoldable pub yes_line : ℕ → List (List ℕ) → List Origin → List CertificateView → List ℕ
-yes_line k names origins ws = decimal k ++ codes " yes " ++ joined_texts (codes " and ") false (map (certificate_text names origins) ws) ++ codes "\n"
-
--- `no`, and the values of the point
-unfoldable pub no_line : ℕ → NamesView → List ℤ → List ℕ
-no_line k v values = decimal k ++ codes " no" ++ values_from v 1 values ++ codes "\n"
-
 -- `undecided`, and its cause
 unfoldable pub undecided_line : ℕ → NamesView → Cause → List ℕ
 undecided_line k v cause = decimal k ++ codes " undecided " ++ cause_text v cause ++ codes "\n"
-
--- the number of a region's rows, and a line for each
-unfoldable pub region_lines : ℕ → NamesView → List (Mark × Terms) → List ℕ
-region_lines k v rows = decimal k ++ codes " region " ++ decimal (length rows) ++ codes "\n" ++ row_lines k v rows
 
 -- the names of the auxiliary variables that a containment asks for
 abbrev pub auxiliary_names_by : NamesView → VerbView → List (List ℕ)
@@ -214,9 +173,9 @@ auxiliary_names_by v verb = []
 abbrev pub auxiliary_names : BodyView → List (List ℕ)
 auxiliary_names q = auxiliary_names_by q.names q.verb
 
--- the set that an auxiliary variable stands for
+-- the set that an auxiliary variable stands for, or `0` where it is empty
 unfoldable pub part_for : List (List ℕ) → List ℕ → ℕ → List ℕ
-part_for variables name set = codes " " ++ name ++ codes ":=" ++ set_or_zero_text variables set
+part_for variables name set = codes " " ++ name ++ codes ":=" ++ (if set == 0 then codes "0" else set_text variables set)
 
 -- the sets of the auxiliary variables, in order
 abbrev pub parts_for : List (List ℕ) → List (List ℕ) → List ℕ → List ℕ
@@ -239,12 +198,13 @@ IsCauseOf m cause = IfRate (λ r. r < m) cause
 abbrev pub IsRowOver : NamesView → Terms → Type 0
 IsRowOver v terms = All (λ t. t.0 < 2 ^ length v.variables + length v.rates) terms
 
--- the lines of an answer to question k, with the origins of its constraints
+-- the lines of an answer to question k, with the origins of its constraints; a region's rows have a line each
 abbrev pub answer_line : ℕ → BodyView → List Origin → AnswerView → List ℕ
-answer_line k q origins (Yes ws) = yes_line k (problem_names q).variables origins ws
-answer_line k q origins (No is_back values) = no_line k (problem_names q) values
+answer_line k q origins (Yes ws) =
+    decimal k ++ codes " yes " ++ joined_texts (codes " and ") false (map (certificate_text (problem_names q).variables origins) ws) ++ codes "\n"
+answer_line k q origins (No is_back values) = decimal k ++ codes " no " ++ values_text (problem_names q) values ++ codes "\n"
 answer_line k q origins (Undecided cause) = undecided_line k (problem_names q) cause
-answer_line k q origins (Region rows) = region_lines k (problem_names q) rows
+answer_line k q origins (Region rows) = decimal k ++ codes " region " ++ decimal (length rows) ++ codes "\n" ++ flat_map (row_line k (problem_names q)) rows
 answer_line k q origins (Contained parts proofs) = contained_line k (auxiliary_names q) (problem_names q).variables parts
 answer_line k q origins (Open tried) = open_line k tried
 

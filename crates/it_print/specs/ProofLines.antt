@@ -1,5 +1,5 @@
 -- The lines of an answer with the rows that its proofs use, as bytes.
-use Rattle.std.specs.Prelude.{ℕ, ℤ, List, [], ◌∷◌, ◌++◌, length, if◌then◌else◌, codes, decimal}
+use Rattle.std.specs.Prelude.{ℕ, ℤ, List, [], ◌∷◌, ◌++◌, length, filter, flat_map, codes, decimal}
 use Rattle.std.specs.Fmt.{signed_decimal}
 use Rattle.it_space.specs.Answers.{AnswerView, CertificateView, is_nonzero_weight}
 use Rattle.it_space.specs.Answers.AnswerView.{Yes, Contained}
@@ -17,26 +17,17 @@ use Rattle.it_print.specs.Lines.{answer_line, weight_text, row_text}
 abbrev pub generator_rows : NamesView → List Constraint → ℕ → Generator
 generator_rows v cs g = generator_at (generator_list (length v.variables) cs) g
 
--- the row of a generator
-unfoldable pub generator_row_text : NamesView → Generator → List ℕ
-generator_row_text v g = row_text v g.kind g.row
-
 -- a weight before its generator, and the generator's row
 unfoldable pub weight_line : ℕ → NamesView → List Origin → (ℕ → Generator) → ℕ × ℤ → List ℕ
-weight_line k v origins rows weight = decimal k ++ codes " proof " ++ weight_text v.variables origins weight ++ codes " : " ++ generator_row_text v (rows weight.0) ++ codes "\n"
-
--- a line for each weight other than 0
-abbrev pub weight_lines : ℕ → NamesView → List Origin → (ℕ → Generator) → List (ℕ × ℤ) → List ℕ
-weight_lines k v origins rows [] = []
-weight_lines k v origins rows (weight ∷ weights) = (if is_nonzero_weight weight then weight_line k v origins rows weight else []) ++ weight_lines k v origins rows weights
+weight_line k v origins rows weight = decimal k ++ codes " proof " ++ weight_text v.variables origins weight ++ codes " : " ++ row_text v (rows weight.0).kind (rows weight.0).row ++ codes "\n"
 
 -- the scale, and the target's row
 unfoldable pub sum_line : ℕ → NamesView → ℤ → Terms → List ℕ
 sum_line k v scale target = decimal k ++ codes " sum " ++ signed_decimal scale ++ codes " : " ++ row_text v Inequality target ++ codes "\n"
 
--- the weights of a certificate, and the multiple of its target that they add up to
+-- the weights other than 0 of a certificate, a line each, and the multiple of its target that they add up to
 unfoldable pub certificate_lines : ℕ → NamesView → List Origin → (ℕ → Generator) → CertificateView → Terms → List ℕ
-certificate_lines k v origins rows w target = weight_lines k v origins rows w.weights ++ sum_line k v w.scale target
+certificate_lines k v origins rows w target = flat_map (weight_line k v origins rows) (filter is_nonzero_weight w.weights) ++ sum_line k v w.scale target
 
 -- each certificate with its target
 abbrev pub proof_lines : ℕ → NamesView → List Origin → (ℕ → Generator) → List CertificateView → List Terms → List ℕ

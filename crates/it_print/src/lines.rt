@@ -1,16 +1,16 @@
 //! The lines of answers.
-ghost use Rattle.std.specs.Prelude.{◌≡◌, ◌≤◌, ◌<◌, ◌+◌, ◌^◌, ◌++◌, length, map, OnOk, IfOk, All};
+ghost use Rattle.std.specs.Prelude.{◌≡◌, ◌≤◌, ◌<◌, ◌+◌, ◌^◌, ◌++◌, length, map, flat_map, codes, decimal, false, OnOk, IfOk, All};
 ghost use Rattle.it_space.specs.Answers.{answer_view, certificate_view};
 ghost use Rattle.it_question.specs.Questions.{question_body};
 ghost use Rattle.it_question.specs.Tables.{problem_names};
 ghost use Rattle.it_canon.specs.QuestionDemands.{variables_of};
-ghost use Rattle.it_print.specs.Lines.{AreListed, IsCauseOf, IsPrintable, IsRowOver, answer_line, auxiliary_names, cause_text, contained_line, no_line, open_line, origins_of, region_lines, undecided_line, yes_line};
+ghost use Rattle.it_print.specs.Lines.{AreListed, IsCauseOf, IsPrintable, IsRowOver, answer_line, auxiliary_names, cause_text, certificate_text, contained_line, joined_texts, open_line, origins_of, row_line, undecided_line, values_text};
 
 use crate::pieces::write_number;
 use crate::rows::write_row_lines;
 use crate::substitutions::write_substitution;
 use crate::sums::write_proofs;
-use crate::values::{write_rate, write_values};
+use crate::values::{values_text, write_rate};
 use it_canon::problem_names;
 use it_question::types::Question;
 use it_space::{Answer, Cause, Certificate, Constraint, Mark, Point, Row, VarSet};
@@ -42,7 +42,6 @@ pub fn answer_line(
 }
 
 /// The line of a yes.
-#[tactic(auto, unfolding(crate::specs::Lines::yes_line))]
 fn yes_line(
     alloc: Global,
     k: usize,
@@ -52,7 +51,7 @@ fn yes_line(
 ) -> Result<Vec<u8>, AllocError>
     requires some { 1 ≤ length names.now.variables }
     requires there { AreListed (length names.now.variables) (length constraints.now) proofs.now }
-    ensures { IfOk result (λ t. t.items ≡ yes_line k names.now.variables (origins_of constraints.now) (map certificate_view proofs.now)) }
+    ensures { IfOk result (λ t. t.items ≡ decimal k ++ codes " yes " ++ joined_texts (codes " and ") false (map (certificate_text names.now.variables (origins_of constraints.now)) (map certificate_view proofs.now)) ++ codes "\n") }
 {
     let mut out = Vec::new(alloc);
     write_number(&mut out, k)?;
@@ -63,16 +62,16 @@ fn yes_line(
 }
 
 /// The line of a no.
-#[tactic(auto, unfolding(crate::specs::Lines::no_line))]
 fn no_line(alloc: Global, k: usize, names: &Names, point: &Point) -> Result<Vec<u8>, AllocError>
     requires there { length point.now < 2 ^ length names.now.variables + length names.now.rates }
     requires few { length point.now < 2 ^ 16 }
-    ensures { IfOk result (λ t. t.items ≡ no_line k names.now point.now) }
+    ensures { IfOk result (λ t. t.items ≡ decimal k ++ codes " no " ++ values_text names.now point.now ++ codes "\n") }
 {
     let mut out = Vec::new(alloc);
     write_number(&mut out, k)?;
-    out.extend_from_slice(b" no")?;
-    write_values(&mut out, names, point.values())?;
+    out.extend_from_slice(b" no ")?;
+    let values = values_text(alloc, names, point)?;
+    out.extend_from_slice(values.as_slice())?;
     out.extend_from_slice(b"\n")?;
     Ok(out)
 }
@@ -97,7 +96,6 @@ fn undecided_line(
 }
 
 /// The line with the number of a region's rows, and the line of each.
-#[tactic(auto, unfolding(crate::specs::Lines::region_lines))]
 fn region_lines(
     alloc: Global,
     k: usize,
@@ -105,7 +103,7 @@ fn region_lines(
     rows: &[(Mark, Row)],
 ) -> Result<Vec<u8>, AllocError>
     requires { All (λ row. IsRowOver names.now row.1) rows.now }
-    ensures { IfOk result (λ t. t.items ≡ region_lines k names.now rows.now) }
+    ensures { IfOk result (λ t. t.items ≡ decimal k ++ codes " region " ++ decimal (length rows.now) ++ codes "\n" ++ flat_map (row_line k names.now) rows.now) }
 {
     let mut out = Vec::new(alloc);
     write_number(&mut out, k)?;

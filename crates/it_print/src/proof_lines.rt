@@ -1,13 +1,13 @@
 //! Answers with the rows that their proofs use.
-ghost use Rattle.std.specs.Prelude.{◌≡◌, ◌≤◌, ◌<◌, ◌+◌, ◌++◌, length, map, OnOk, IfOk, All};
-ghost use Rattle.it_space.specs.Answers.{answer_view, certificate_view};
+ghost use Rattle.std.specs.Prelude.{◌≡◌, ◌≤◌, ◌<◌, ◌+◌, ◌++◌, length, map, filter, flat_map, OnOk, IfOk, All};
+ghost use Rattle.it_space.specs.Answers.{answer_view, certificate_view, is_nonzero_weight};
 ghost use Rattle.it_polymatroid.specs.Elementals.{elementals, elemental_at};
-ghost use Rattle.it_elemental.specs.Generators.{of_constraint, of_elemental};
+ghost use Rattle.it_elemental.specs.Generators.{of_elemental};
 ghost use Rattle.it_question.specs.Questions.{question_body};
 ghost use Rattle.it_question.specs.Tables.{problem_names};
 ghost use Rattle.it_canon.specs.QuestionDemands.{variables_of};
-ghost use Rattle.it_print.specs.Lines.{AreListed, IsPrintable, IsRowOver, answer_line, origins_of};
-ghost use Rattle.it_print.specs.ProofLines.{certificate_lines, generator_row_text, generator_rows, proof_lines, proof_text, sum_line, weight_line, weight_lines};
+ghost use Rattle.it_print.specs.Lines.{AreListed, IsPrintable, IsRowOver, answer_line, origins_of, row_text};
+ghost use Rattle.it_print.specs.ProofLines.{certificate_lines, generator_rows, proof_lines, proof_text, sum_line, weight_line};
 
 use crate::lines::answer_line;
 use crate::pieces::{write_number, write_signed};
@@ -113,7 +113,7 @@ fn write_weight_lines(
     requires some { 1 ≤ length names.now.variables }
     requires there { All (λ w. w.0 < length (elementals (length names.now.variables)) + length constraints.now) weights.now }
     requires rows { All (λ c. IsRowOver names.now c.row) constraints.now }
-    ensures { OnOk result (out.new.items ≡ out.old.items ++ weight_lines k names.now (origins_of constraints.now) (generator_rows names.now constraints.now) weights.now) }
+    ensures { OnOk result (out.new.items ≡ out.old.items ++ flat_map (weight_line k names.now (origins_of constraints.now) (generator_rows names.now constraints.now)) (filter is_nonzero_weight weights.now)) }
 {
     for weight in weights {
         if is_nonzero_weight(weight) {
@@ -157,7 +157,7 @@ fn write_generator_row(
     requires some { 1 ≤ length names.now.variables }
     requires there { generator < length (elementals (length names.now.variables)) + length constraints.now }
     requires rows { All (λ c. IsRowOver names.now c.row) constraints.now }
-    ensures { OnOk result (out.new.items ≡ out.old.items ++ generator_row_text names.now (generator_rows names.now constraints.now generator)) }
+    ensures { OnOk result (out.new.items ≡ out.old.items ++ row_text names.now (generator_rows names.now constraints.now generator).kind (generator_rows names.now constraints.now generator).row) }
 {
     let elementals = count(names.space().variables);
     if generator < elementals {
@@ -168,7 +168,6 @@ fn write_generator_row(
 }
 
 /// The row of an elemental inequality.
-#[tactic(auto, unfolding(crate::specs::ProofLines::generator_row_text))]
 fn write_elemental_row(
     alloc: Global,
     out: &mut Vec<u8>,
@@ -177,21 +176,20 @@ fn write_elemental_row(
 ) -> Result<(), AllocError>
     requires some { 1 ≤ length names.now.variables }
     requires listed { index < length (elementals (length names.now.variables)) }
-    ensures { OnOk result (out.new.items ≡ out.old.items ++ generator_row_text names.now (of_elemental (length names.now.variables) (elemental_at (length names.now.variables) index))) }
+    ensures { OnOk result (out.new.items ≡ out.old.items ++ row_text names.now (of_elemental (length names.now.variables) (elemental_at (length names.now.variables) index)).kind (of_elemental (length names.now.variables) (elemental_at (length names.now.variables) index)).row) }
 {
     let row = row(alloc, names.space().variables, index)?;
     write_constraint(out, names, Kind::Inequality, &row)
 }
 
 /// The row of a constraint.
-#[tactic(auto, unfolding(crate::specs::ProofLines::generator_row_text))]
 fn write_constraint_row(
     out: &mut Vec<u8>,
     names: &Names,
     constraint: &Constraint,
 ) -> Result<(), AllocError>
     requires { IsRowOver names.now constraint.now.row }
-    ensures { OnOk result (out.new.items ≡ out.old.items ++ generator_row_text names.now (of_constraint constraint.now)) }
+    ensures { OnOk result (out.new.items ≡ out.old.items ++ row_text names.now constraint.now.kind constraint.now.row) }
 {
     write_constraint(out, names, constraint.kind, &constraint.row)
 }

@@ -1,6 +1,6 @@
 //! Rows that are to be at least 0 or to be 0, and the lines of those of a region.
-ghost use Rattle.std.specs.Prelude.{◌≡◌, ◌<◌, ◌+◌, ◌^◌, ◌++◌, length, IfOk, OnOk, All, true, false};
-ghost use Rattle.it_print.specs.Lines.{IsRowOver, factor_text, form_text, is_below_zero, kind_text, row_line, row_lines, row_text, sign_text, term_text, terms_text};
+ghost use Rattle.std.specs.Prelude.{◌≡◌, ◌<◌, ◌+◌, ◌^◌, ◌++◌, length, IfOk, OnOk, All, true, false, flat_map, int_lt, pos};
+ghost use Rattle.it_print.specs.Lines.{IsRowOver, factor_text, form_text, kind_text, row_line, row_text, sign_text, term_text, terms_text};
 
 use crate::pieces::write_number;
 use crate::values::write_coordinate;
@@ -17,7 +17,7 @@ pub fn write_row_lines(
     rows: &[(Mark, Row)],
 ) -> Result<(), AllocError>
     requires { All (λ row. IsRowOver names.now row.1) rows.now }
-    ensures { OnOk result (out.new.items ≡ out.old.items ++ row_lines k names.now rows.now) }
+    ensures { OnOk result (out.new.items ≡ out.old.items ++ flat_map (row_line k names.now) rows.now) }
 {
     for row in rows {
         write_row_line(out, k, names, row)?;
@@ -125,7 +125,7 @@ fn write_term(
 
 /// Whether a number is below 0.
 fn is_below_zero(number: i128) -> bool
-    ensures { result ≡ is_below_zero number }
+    ensures { result ≡ int_lt number (pos 0) }
 {
     number < 0
 }

@@ -1,6 +1,6 @@
 //! Sets of variables.
-ghost use Rattle.std.specs.Prelude.{◌≡◌, ◌<◌, ◌++◌, [], length, slice_index_or, OnOk};
-ghost use Rattle.it_print.specs.Lines.{given_set_text, set_or_zero_text, set_text};
+ghost use Rattle.std.specs.Prelude.{◌≡◌, ◌<◌, ◌++◌, [], length, slice_index_or, OnOk, codes, ◌==◌, if◌then◌else◌};
+ghost use Rattle.it_print.specs.Lines.{given_set_text, set_text};
 
 use crate::pieces::write_if;
 use it_space::VarSet;
@@ -28,9 +28,8 @@ pub fn write_set(out: &mut Vec<u8>, names: &Names, set: VarSet) -> Result<(), Al
 }
 
 /// The same, or `0` for the empty set.
-#[tactic(auto, unfolding(crate::specs::Lines::set_or_zero_text))]
 pub fn write_set_or_zero(out: &mut Vec<u8>, names: &Names, set: VarSet) -> Result<(), AllocError>
-    ensures { OnOk result (out.new.items ≡ out.old.items ++ set_or_zero_text names.now.variables set) }
+    ensures { OnOk result (out.new.items ≡ out.old.items ++ (if set == 0 then codes "0" else set_text names.now.variables set)) }
 {
     if set.number() == 0 {
         out.extend_from_slice(b"0")

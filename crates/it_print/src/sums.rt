@@ -61,7 +61,7 @@ fn write_certificate(
 }
 
 /// The weights other than 0 with ` + ` between them, or `0`.
-#[tactic(auto, using(crate::proofs::LineLemmas::sum_step), unfolding(crate::specs::Lines::sum_text))]
+#[tactic(auto, using(crate::proofs::LineLemmas::sum_begins, crate::proofs::LineLemmas::sum_step))]
 fn write_sum(
     alloc: Global,
     out: &mut Vec<u8>,

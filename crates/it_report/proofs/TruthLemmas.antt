@@ -43,7 +43,7 @@ use Rattle.it_check.specs.declared.verdicts.Verdict.{Verdict}
 use Rattle.it_check.specs.declared.verdicts.Verdict.TheVariants.{Valid, BadScale, UnknownGenerator, NegativeWeight, Width, Mismatch, BrokenElemental, UnmetConstraint, NotViolated}
 use Rattle.it_check.proofs.Truth.{valid_yes_is, valid_no_is, yes_is_true}
 use Rattle.it_report.specs.RowVerdicts.{is_valid, proof_verdict, proofs_verdict, point_verdict, place_named}
-use Rattle.it_report.specs.Judging.{judged_parts, judged_forms_by, answer_verdict, IsJudged}
+use Rattle.it_report.specs.Judging.{judged_forms_by, answer_verdict, IsJudged}
 use Rattle.it_report.specs.Meaning.{IsClaimTrueBy, ValidIsTrue}
 use Rattle.it_report.proofs.JudgingLemmas.{verb_fits, target_is_there, point_is_complete, parts_as_named}
 use Rattle.it_report.proofs.CountLemmas.{obligations_counted, targets_counted}
@@ -182,7 +182,7 @@ judged_true q (Prove r) a names about k fits j = by_answer a fits (subst (λ v. 
 judged_true q (Eliminate rates) a names about k fits j = tt
 judged_true q (Contain first second tries) a names about k fits j = by_answer a fits (subst (λ v. ArePulledRows j.problem.space (judged_forms_by q v a) j.rows) about j.are) j.verdict
   where
-    by_answer : (a : AnswerView) → HasQuestionShape q a → ArePulledRows j.problem.space (obligations q first second (judged_parts a)) j.rows → answer_verdict j.problem j.rows a ≡ Some Valid → IsClaimTrueBy q (Contain first second tries) a
+    by_answer : (a : AnswerView) → HasQuestionShape q a → ArePulledRows j.problem.space (judged_forms_by q (Contain first second tries) a) j.rows → answer_verdict j.problem j.rows a ≡ Some Valid → IsClaimTrueBy q (Contain first second tries) a
     by_answer (Yes ws) fits are e = tt
     by_answer (No back values) fits are e = tt
     by_answer (Undecided cause) fits are e = tt

@@ -8,7 +8,7 @@ use Rattle.it_space.specs.Problems.{ProblemView}
 use Rattle.it_space.specs.Rows.{Terms}
 use Rattle.it_polymatroid.specs.Certificates.{Form}
 use Rattle.it_syntax.specs.NamesViews.{NamesView}
-use Rattle.it_question.specs.Questions.{BodyView, QuestionView, VerbView, Prove, Eliminate, Contain}
+use Rattle.it_question.specs.Questions.{BodyView, QuestionView, VerbView, Prove, Contain}
 use Rattle.it_question.specs.Tables.{problem_names}
 use Rattle.it_canon.specs.QuestionDemands.{variables_of, IsProblemOf}
 use Rattle.it_demand.specs.Targets.{targets}
@@ -18,16 +18,11 @@ use Rattle.it_check.specs.declared.verdicts.Verdict.{Verdict}
 use Rattle.it_report.specs.RowVerdicts.{proofs_verdict, point_verdict}
 use Rattle.it_report.specs.LineVerdicts.{LineVerdict, NotJson, Shape, Skipped, Judged, IsLineOf}
 
--- the sets that an answer names
-abbrev pub judged_parts : AnswerView → List ℕ
-judged_parts (Contained parts proofs) = parts
-judged_parts answer = []
-
--- what an answer speaks of: the targets of the relation, or the obligations of the parts that it names
+-- what an answer speaks of: the targets of the relation, or the obligations of the sets that it names
 abbrev pub judged_forms_by : BodyView → VerbView → AnswerView → List Form
 judged_forms_by q (Prove r) answer = targets (variables_of q) r
-judged_forms_by q (Eliminate rates) answer = []
-judged_forms_by q (Contain first second tries) answer = obligations q first second (judged_parts answer)
+judged_forms_by q (Contain first second tries) (Contained parts proofs) = obligations q first second parts
+judged_forms_by q verb answer = []
 
 -- what an answer to the question speaks of
 abbrev pub judged_forms : BodyView → AnswerView → List Form
@@ -73,8 +68,7 @@ pub record HasAnswer (line : List ℕ) (v : LineVerdict) : Type 0 where
 abbrev pub IsVerdict : List ℕ → LineVerdict → Type 0
 IsVerdict line NotJson = IsUtf8 line → read line ≡ None
 IsVerdict line (Shape key) = ReadsReport line (Err key)
-IsVerdict line Skipped = HasAnswer line Skipped
-IsVerdict line (Judged names v) = HasAnswer line (Judged names v)
+IsVerdict line verdict = HasAnswer line verdict
 
 -- the text is the line of the verdict on line k of a report, and `invalid` tells whether it says so
 pub record IsJudgedLine (k : ℕ) (line text : List ℕ) (invalid : Bool) : Type 0 where

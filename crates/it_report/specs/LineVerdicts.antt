@@ -1,5 +1,5 @@
 -- The verdict on a line of a report, and its own line.
-use Rattle.std.specs.Prelude.{◌≡◌, ℕ, ℤ, List, ◌++◌, Bool, true, false, not, codes, decimal}
+use Rattle.std.specs.Prelude.{◌≡◌, ℕ, List, ◌++◌, Bool, true, false, not, codes, decimal}
 use Rattle.std.specs.Fmt.{signed_decimal}
 use Rattle.it_syntax.specs.NamesViews.{NamesView}
 use Rattle.it_certificate.specs.declared.keys.Key.{Key}
@@ -19,10 +19,9 @@ pub data LineVerdict : Type 0 where
 
 -- all but the valid and the skipped ones
 abbrev pub is_invalid : LineVerdict → Bool
-is_invalid NotJson = true
-is_invalid (Shape key) = true
 is_invalid Skipped = false
 is_invalid (Judged names verdict) = not (is_valid verdict)
+is_invalid verdict = true
 
 -- a key as it stands in reports
 abbrev pub key_text : Key → List ℕ
@@ -37,14 +36,6 @@ key_text keys.Rows = codes "rows"
 key_text keys.Parts = codes "parts"
 key_text keys.Tried = codes "tried"
 
--- a generator with its value
-unfoldable pub generator_value_text : ℕ → ℤ → List ℕ
-generator_value_text i x = decimal i ++ codes " " ++ signed_decimal x
-
--- a coordinate by its name, with the numbers of the two sides
-unfoldable pub mismatch_text : NamesView → ℕ → ℤ → ℤ → List ℕ
-mismatch_text names c left right = coordinate_text names c ++ codes " " ++ signed_decimal left ++ codes " " ++ signed_decimal right
-
 -- the words of a verdict on an answer; a coordinate has the name of its set or rate
 unfoldable pub verdict_text : NamesView → Verdict → List ℕ
 verdict_text names Valid = codes "valid"
@@ -52,9 +43,9 @@ verdict_text names (BadScale scale) = codes "invalid scale " ++ signed_decimal s
 verdict_text names (UnknownGenerator i) = codes "invalid generator " ++ decimal i
 verdict_text names (NegativeWeight i) = codes "invalid negative " ++ decimal i
 verdict_text names (Width place) = codes "invalid width " ++ decimal place
-verdict_text names (Mismatch c left right) = codes "invalid mismatch " ++ mismatch_text names c left right
-verdict_text names (BrokenElemental i x) = codes "invalid elemental " ++ generator_value_text i x
-verdict_text names (UnmetConstraint i x) = codes "invalid constraint " ++ generator_value_text i x
+verdict_text names (Mismatch c left right) = codes "invalid mismatch " ++ coordinate_text names c ++ codes " " ++ signed_decimal left ++ codes " " ++ signed_decimal right
+verdict_text names (BrokenElemental i x) = codes "invalid elemental " ++ decimal i ++ codes " " ++ signed_decimal x
+verdict_text names (UnmetConstraint i x) = codes "invalid constraint " ++ decimal i ++ codes " " ++ signed_decimal x
 verdict_text names (NotViolated x) = codes "invalid target " ++ signed_decimal x
 
 -- the words about a line

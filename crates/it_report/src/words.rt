@@ -1,7 +1,8 @@
 //! What the checker's verdicts are called.
-ghost use Rattle.std.specs.Prelude.{◌≡◌, ◌<◌, ◌+◌, ◌^◌, ◌++◌, length, OnOk, decimal};
+ghost use Rattle.std.specs.Prelude.{◌≡◌, ◌<◌, ◌+◌, ◌^◌, ◌++◌, length, OnOk, codes, decimal};
 ghost use Rattle.std.specs.Fmt.{signed_decimal};
-ghost use Rattle.it_report.specs.LineVerdicts.{generator_value_text, key_text, mismatch_text, verdict_text};
+ghost use Rattle.it_report.specs.LineVerdicts.{key_text, verdict_text};
+ghost use Rattle.it_print.specs.Lines.{coordinate_text};
 ghost use Rattle.it_report.specs.Steps.{IsVerdictOver};
 
 use it_certificate::Key;
@@ -45,21 +46,19 @@ fn write_value(out: &mut Vec<u8>, words: &[u8], value: &i128) -> Result<(), Allo
 }
 
 /// Appends words, a generator's number and its value.
-#[tactic(auto, unfolding(crate::specs::LineVerdicts::generator_value_text))]
 fn write_generator_value(
     out: &mut Vec<u8>,
     words: &[u8],
     index: u32,
     value: &i128,
 ) -> Result<(), AllocError>
-    ensures { OnOk result (out.new.items ≡ out.old.items ++ (words.now ++ generator_value_text index value.now)) }
+    ensures { OnOk result (out.new.items ≡ out.old.items ++ (words.now ++ decimal index ++ codes " " ++ signed_decimal value.now)) }
 {
     write_place(out, words, index)?;
     write_value(out, b" ", value)
 }
 
 /// Appends words and a coordinate with the numbers of the two sides, where they differ.
-#[tactic(auto, unfolding(crate::specs::LineVerdicts::mismatch_text))]
 fn write_mismatch(
     out: &mut Vec<u8>,
     names: &Names,
@@ -69,7 +68,7 @@ fn write_mismatch(
     right: &i128,
 ) -> Result<(), AllocError>
     requires { coordinate < 2 ^ length names.now.variables + length names.now.rates }
-    ensures { OnOk result (out.new.items ≡ out.old.items ++ (words.now ++ mismatch_text names.now coordinate left.now right.now)) }
+    ensures { OnOk result (out.new.items ≡ out.old.items ++ (words.now ++ coordinate_text names.now coordinate ++ codes " " ++ signed_decimal left.now ++ codes " " ++ signed_decimal right.now)) }
 {
     out.extend_from_slice(words)?;
     write_coordinate(out, names, coordinate)?;

@@ -1,6 +1,6 @@
 -- The reading, from what clap gave.
 use Rattle.std.proofs.Math.Path.{fun_ext}
-use Rattle.std.proofs.Common.{◌≡◌, [], ◌∷◌, List, refl, ap, sym, ◌∙◌, Option, None, Err}
+use Rattle.std.proofs.Common.{◌≡◌, [], ◌∷◌, List, refl, ap, sym, ◌∙◌, codes, Option, None, Err}
 use Rattle.clap.specs.Words.{Text, Kinds, fault_of, matches_of, rows_of, first_of, first_value}
 use Rattle.clap.specs.declared.parser.matches.Found.{Found}
 use Rattle.clap.specs.declared.error.kind.ErrorKind.{ErrorKind}
@@ -8,20 +8,28 @@ use Rattle.clap.specs.declared.error.kind.ErrorKind.TheVariants as kinds
 use Rattle.clap.proofs.WalkLemmas.{first_value-rows}
 use Rattle.it_settings.specs.App.{itip_app}
 use Rattle.it_settings.specs.ErrorKinds.{IsFaultOf}
-use Rattle.it_settings.specs.Settings.{settings_of, settings_by, values_by, unless_fault, TellsReading}
+use Rattle.it_settings.specs.Settings.{settings_of, settings_by, answer_of, bench_of, steps_of, unless_fault, TellsReading}
+use Rattle.it_settings.specs.ValuesViews.{AreTexts, by_name, texts_of}
+use Rattle.it_settings.specs.declared.reading.Values.{Values}
 use Rattle.it_settings.specs.declared.types.Settings.{Settings}
 use Rattle.it_settings.specs.declared.types.WordsFault.{WordsFault}
 use Rattle.it_settings.specs.declared.types.WordsFault.TheVariants.{Usage, Memory}
 
-same_values : (f : Found) → values_by (first_value f) ≡ values_by (λ id. first_of id (rows_of f))
-same_values f = ap values_by (fun_ext (first_value-rows f))
+by_their_names : (given : Text → Option Text)
+    → settings_by (by_name (given (codes "mode")) (given (codes "format")) (given (codes "pivots")) (given (codes "rows")) (given (codes "tries")) (given (codes "seed")) (given (codes "count"))) ≡ settings_by given
+unfolding settings_by answer_of bench_of steps_of
+by_their_names given = refl
+
+pub same_settings : (given : Text → Option Text) (v : Values) → AreTexts given v → settings_by (texts_of v) ≡ settings_by given
+same_settings given v are =
+    (λ i. settings_by (by_name (are.mode i) (are.format i) (are.pivots i) (are.rows i) (are.tries i) (are.seed i) (are.count i))) ∙ by_their_names given
 
 pub has_reading : (words : List Text) (f : Found) → fault_of itip_app words ≡ [] → rows_of f ≡ matches_of itip_app words
-    → settings_of words ≡ settings_by (values_by (first_value f))
+    → settings_of words ≡ settings_by (first_value f)
 unfolding settings_of
 has_reading words f none rows =
-    ap (λ ks. unless_fault ks (settings_by (values_by (λ id. first_of id (matches_of itip_app words))))) none
-    ∙ ap (λ rs. settings_by (values_by (λ id. first_of id rs))) (sym rows) ∙ ap settings_by (sym (same_values f))
+    ap (λ ks. unless_fault ks (settings_by (λ id. first_of id (matches_of itip_app words)))) none
+    ∙ ap (λ rs. settings_by (λ id. first_of id rs)) (sym rows) ∙ ap settings_by (sym (fun_ext (first_value-rows f)))
 
 none_with_fault : (ks : Kinds) (o : Option Settings) → (ks ≡ [] → ⊥) → unless_fault ks o ≡ None
 none_with_fault [] o some = absurd (some refl)

@@ -1,16 +1,35 @@
--- The values of mode and options as texts. No public clause cites this module: it serves the proofs of `settings`.
-use Rattle.std.specs.Prelude.{option_map}
+-- The texts of the mode and of each option by their names. No public clause cites this module: it serves the proofs of `settings`.
+use Rattle.std.specs.Prelude.{◌≡◌, Option, None, if◌then◌else◌, codes, option_map}
+use Rattle.std.proofs.Common.{Bor}
+use Rattle.std.specs.Str.{bytes_eq}
+use Rattle.clap.specs.Words.{Text}
 use Rattle.it_settings.specs.declared.reading.Values.{Values}
-use Rattle.it_settings.specs.Settings.{ValuesView}
 
--- the texts that were given for the mode and for each option, as contracts see them
-abbrev pub values_view : Values → ValuesView
-values_view v = record {
-  mode = option_map (λ s. s.now) v.mode;
-  format = option_map (λ s. s.now) v.format;
-  pivots = option_map (λ s. s.now) v.pivots;
-  rows = option_map (λ s. s.now) v.rows;
-  tries = option_map (λ s. s.now) v.tries;
-  seed = option_map (λ s. s.now) v.seed;
-  count = option_map (λ s. s.now) v.count;
-}
+-- these texts of the mode and of each option, by their names
+abbrev pub by_name : (mode format pivots rows tries seed count : Option Text) → Text → Option Text
+by_name mode format pivots rows tries seed count name =
+    if bytes_eq name (codes "mode") then mode else
+    if bytes_eq name (codes "format") then format else
+    if bytes_eq name (codes "pivots") then pivots else
+    if bytes_eq name (codes "rows") then rows else
+    if bytes_eq name (codes "tries") then tries else
+    if bytes_eq name (codes "seed") then seed else
+    if bytes_eq name (codes "count") then count else None
+
+-- a text that was given, as contracts see it
+abbrev pub text_of : Option (Bor Text) → Option Text
+text_of o = option_map (λ s. s.now) o
+
+-- the texts that were given
+abbrev pub texts_of : Values → Text → Option Text
+texts_of v name = by_name (text_of v.mode) (text_of v.format) (text_of v.pivots) (text_of v.rows) (text_of v.tries) (text_of v.seed) (text_of v.count) name
+
+-- the values are these texts
+pub record AreTexts (given : Text → Option Text) (v : Values) : Type 0 where
+  pub mode : text_of v.mode ≡ given (codes "mode")
+  pub format : text_of v.format ≡ given (codes "format")
+  pub pivots : text_of v.pivots ≡ given (codes "pivots")
+  pub rows : text_of v.rows ≡ given (codes "rows")
+  pub tries : text_of v.tries ≡ given (codes "tries")
+  pub seed : text_of v.seed ≡ given (codes "seed")
+  pub count : text_of v.count ≡ given (codes "count")

@@ -1,7 +1,9 @@
 //! The values of options.
 ghost use Rattle.std.specs.Prelude.{◌≡◌, ◌≤◌, ◌<◌, ◌+◌, ◌*◌, ◌-◌, ◌&&◌, if◌then◌else◌, nat_le, None, Some, option_map, IfSome, length};
 ghost use Rattle.it_number.specs.Decimals.{value_from};
-ghost use Rattle.it_settings.specs.Settings.{number_of, number_or, pivots_of, pivots_or, format_of, format_or};
+ghost use Rattle.it_settings.specs.Settings.{number_of, pivots_of, format_of};
+ghost use Rattle.std.specs.Option.{option_map_or};
+ghost use Rattle.it_settings.specs.declared.types.Format.TheVariants as formats;
 
 use crate::types::Format;
 
@@ -49,7 +51,7 @@ fn number(text: &str, least: u32, most: u32) -> Option<u32>
 /// The number that was given, or the default where none was.
 pub fn number_or(text: Option<&str>, least: u32, most: u32, default: u32) -> Option<u32>
     requires default { (least ≤ default) × (default ≤ most) }
-    ensures reads { result ≡ number_or least most default (option_map (λ s. s.now) text.entry) }
+    ensures reads { result ≡ option_map_or (number_of least most) (option_map (λ s. s.now) text.entry) (Some default) }
     ensures range { IfSome result (λ n. (least ≤ n) × (n ≤ most)) }
 {
     match text {
@@ -60,7 +62,7 @@ pub fn number_or(text: Option<&str>, least: u32, most: u32, default: u32) -> Opt
 
 /// The most rows that were given, or the default where none was.
 pub fn rows_or(text: Option<&str>) -> Option<u32>
-    ensures reads { result ≡ number_or 1 4096 512 (option_map (λ s. s.now) text.entry) }
+    ensures reads { result ≡ option_map_or (number_of 1 4096) (option_map (λ s. s.now) text.entry) (Some 512) }
     ensures range { IfSome result (λ n. (1 ≤ n) × (n ≤ 4096)) }
 {
     number_or(text, 1, 4096, 512)
@@ -68,7 +70,7 @@ pub fn rows_or(text: Option<&str>) -> Option<u32>
 
 /// The most candidates that were given, or the default where none was.
 pub fn tries_or(text: Option<&str>) -> Option<u32>
-    ensures reads { result ≡ number_or 1 4096 256 (option_map (λ s. s.now) text.entry) }
+    ensures reads { result ≡ option_map_or (number_of 1 4096) (option_map (λ s. s.now) text.entry) (Some 256) }
     ensures range { IfSome result (λ n. (1 ≤ n) × (n ≤ 4096)) }
 {
     number_or(text, 1, 4096, 256)
@@ -87,7 +89,7 @@ fn pivots(text: &str) -> Option<Option<u32>>
 
 /// The budget of steps that was given, or the default where none was.
 pub fn pivots_or(text: Option<&str>) -> Option<Option<u32>>
-    ensures { result ≡ pivots_or (option_map (λ s. s.now) text.entry) }
+    ensures { result ≡ option_map_or pivots_of (option_map (λ s. s.now) text.entry) (Some (Some 20000)) }
 {
     match text {
         Some(text) => pivots(text),
@@ -110,7 +112,7 @@ fn format(text: &str) -> Option<Format>
 
 /// The format that was given, or text where none was.
 pub fn format_or(text: Option<&str>) -> Option<Format>
-    ensures { result ≡ format_or (option_map (λ s. s.now) text.entry) }
+    ensures { result ≡ option_map_or format_of (option_map (λ s. s.now) text.entry) (Some formats.Text) }
 {
     match text {
         Some(text) => format(text),

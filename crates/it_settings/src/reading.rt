@@ -1,10 +1,10 @@
 //! The reading of the words: what the command takes, each value then judged.
-ghost use Rattle.std.specs.Prelude.{◌≡◌, Option, map, IfOk, IfSome, option_map};
+ghost use Rattle.std.specs.Prelude.{◌≡◌, [], ◌∷◌, Option, Some, codes, map, IfOk, IfSome, option_map};
 ghost use Rattle.clap.specs.Words.{first_value, found_of, kind_of};
-ghost use Rattle.it_settings.specs.ValuesViews.{values_view};
+ghost use Rattle.it_settings.specs.ValuesViews.{AreTexts, texts_of};
 ghost use Rattle.it_settings.specs.declared.types.Settings.TheVariants as settings;
 ghost use Rattle.it_settings.specs.ErrorKinds.{IsFaultOf};
-ghost use Rattle.it_settings.specs.Settings.{answer_of, check_of, bench_of, steps_of, settings_by, values_by, settings_of, TellsReading, AreInRange};
+ghost use Rattle.it_settings.specs.Settings.{answer_of, bench_of, steps_of, settings_by, settings_of, without, TellsReading, AreInRange};
 
 use crate::command::parse;
 use crate::numbers::{format_or, number_or, pivots_or, rows_or, tries_or};
@@ -27,7 +27,7 @@ struct Values<'a> {
 
 /// The values that clap matched.
 fn matched_values<'a>(matches: &ArgMatches<'a>) -> Values<'a>
-    ensures { values_view result ≡ values_by (first_value (found_of matches.now)) }
+    ensures { AreTexts (first_value (found_of matches.now)) result }
 {
     Values {
         mode: matches.get_str("mode"),
@@ -43,7 +43,7 @@ fn matched_values<'a>(matches: &ArgMatches<'a>) -> Values<'a>
 /// The settings of mode `answer`.
 #[tactic(auto, unfolding(crate::specs::Settings::answer_of))]
 fn answer(values: Values) -> Option<Settings>
-    ensures reads { result ≡ answer_of (values_view values.entry) }
+    ensures reads { result ≡ without (texts_of values.entry) (codes "seed" ∷ codes "count" ∷ []) (answer_of (texts_of values.entry)) }
     ensures ranges { IfSome result AreInRange }
 {
     if values.seed.is_some() || values.count.is_some() {
@@ -62,9 +62,8 @@ fn answer(values: Values) -> Option<Settings>
 }
 
 /// The settings of mode `check`, which has no options.
-#[tactic(auto, unfolding(crate::specs::Settings::check_of))]
 fn check(values: Values) -> Option<Settings>
-    ensures reads { result ≡ check_of (values_view values.entry) }
+    ensures reads { result ≡ without (texts_of values.entry) (codes "format" ∷ codes "pivots" ∷ codes "rows" ∷ codes "tries" ∷ codes "seed" ∷ codes "count" ∷ []) (Some settings.Check) }
     ensures ranges { IfSome result AreInRange }
 {
     let none = values.format.is_none()
@@ -79,7 +78,7 @@ fn check(values: Values) -> Option<Settings>
 /// The settings of mode `bench`.
 #[tactic(auto, unfolding(crate::specs::Settings::bench_of))]
 fn bench(values: Values) -> Option<Settings>
-    ensures reads { result ≡ bench_of (values_view values.entry) }
+    ensures reads { result ≡ without (texts_of values.entry) (codes "format" ∷ []) (bench_of (texts_of values.entry)) }
     ensures ranges { IfSome result AreInRange }
 {
     if values.format.is_some() {
@@ -102,7 +101,7 @@ fn bench(values: Values) -> Option<Settings>
 /// The budget of steps of a mode that has no other option.
 #[tactic(auto, unfolding(crate::specs::Settings::steps_of))]
 fn steps(values: Values) -> Option<Option<u32>>
-    ensures { result ≡ steps_of (values_view values.entry) }
+    ensures { result ≡ steps_of (texts_of values.entry) }
 {
     let none = values.format.is_none()
         && values.rows.is_none()
@@ -114,7 +113,7 @@ fn steps(values: Values) -> Option<Option<u32>>
 
 /// The settings of mode `copy`.
 fn copy(values: Values) -> Option<Settings>
-    ensures reads { result ≡ option_map settings.Copy (steps_of (values_view values.entry)) }
+    ensures reads { result ≡ option_map settings.Copy (steps_of (texts_of values.entry)) }
     ensures ranges { IfSome result AreInRange }
 {
     let pivots = steps(values)?;
@@ -123,7 +122,7 @@ fn copy(values: Values) -> Option<Settings>
 
 /// The settings of mode `best`.
 fn best(values: Values) -> Option<Settings>
-    ensures reads { result ≡ option_map settings.Best (steps_of (values_view values.entry)) }
+    ensures reads { result ≡ option_map settings.Best (steps_of (texts_of values.entry)) }
     ensures ranges { IfSome result AreInRange }
 {
     let pivots = steps(values)?;
@@ -132,7 +131,7 @@ fn best(values: Values) -> Option<Settings>
 
 /// The settings of mode `sharing`.
 fn sharing(values: Values) -> Option<Settings>
-    ensures reads { result ≡ option_map settings.Sharing (steps_of (values_view values.entry)) }
+    ensures reads { result ≡ option_map settings.Sharing (steps_of (texts_of values.entry)) }
     ensures ranges { IfSome result AreInRange }
 {
     let pivots = steps(values)?;
@@ -142,7 +141,7 @@ fn sharing(values: Values) -> Option<Settings>
 /// The settings by the mode's word.
 #[tactic(auto, unfolding(crate::specs::Settings::settings_by))]
 fn settings_by_mode(values: Values) -> Option<Settings>
-    ensures reads { result ≡ settings_by (values_view values.entry) }
+    ensures reads { result ≡ settings_by (texts_of values.entry) }
     ensures ranges { IfSome result AreInRange }
 {
     match values.mode {
@@ -157,8 +156,9 @@ fn settings_by_mode(values: Values) -> Option<Settings>
 }
 
 /// The settings of what was matched.
+#[tactic(auto, using(crate::proofs::ReadingLemmas::same_settings))]
 fn matched_settings(matches: &ArgMatches) -> Option<Settings>
-    ensures reads { result ≡ settings_by (values_by (first_value (found_of matches.now))) }
+    ensures reads { result ≡ settings_by (first_value (found_of matches.now)) }
     ensures ranges { IfSome result AreInRange }
 {
     settings_by_mode(matched_values(matches))
