@@ -10,7 +10,7 @@ use Rattle.it_contain.specs.Proposals.{Plan, plan_after}
 use Rattle.it_contain.specs.Search.{Goal, Proofs, IsProof, IsFirstProved, IsOpen, SearchEnds, joined_lists, lists_of, plan_of}
 use Rattle.it_contain.specs.SearchSteps.{KeepsLater}
 use Rattle.it_contain.proofs.BoxLemmas.{member_same}
-use Rattle.it_contain.proofs.SearchLemmas.{first_front, first_later}
+use Rattle.it_contain.proofs.SearchLemmas.{first_prefix, first_later}
 use Rattle.it_contain.proofs.OpenLemmas.{open_more}
 
 pub joined_parts : (ls : List (List Candidate)) (i : ℕ) → i < length ls → joined_lists ls ≡ joined_lists (take i ls) ++ (get_or ls i [] ++ joined_lists (drop (i + 1) ls))
@@ -27,7 +27,7 @@ pub found_at_once : (goal : Goal) (tries : ℕ) (first : List Candidate) (shape 
 unfolding plan_of
 found_at_once goal tries first shape plans plans_after plans_first c w r ends is same =
     let now : SearchEnds goal tries first plans (Found c w) plans_after = subst (λ z. SearchEnds goal tries first plans z plans_after) is ends in
-    (first_front goal tries first (joined_lists (lists_of shape plans_first)) c now.0, now.1, now.2 ∙ ap (map (plan_after c)) same)
+    (first_prefix goal tries first (joined_lists (lists_of shape plans_first)) c now.0, now.1, now.2 ∙ ap (map (plan_after c)) same)
 
 pub found_in_box : (goal : Goal) (tries : ℕ) (first : List Candidate) (shape : Shape) (plans plans_after plans_first : List Plan) (lists : List (List Candidate)) (i t : ℕ) (c : Candidate) (w : Proofs) (r : Contained)
     → i < length (lists_of shape plans_first) → drop i lists ≡ drop i (lists_of shape plans_first) → plans ≡ plans_first
@@ -41,7 +41,7 @@ found_in_box goal tries first shape plans plans_after plans_first lists i t c w 
     let parts : first ++ joined_lists (lists_of shape plans_first) ≡ (first ++ joined_lists (take i (lists_of shape plans_first))) ++ (get_or (lists_of shape plans_first) i [] ++ joined_lists (drop (i + 1) (lists_of shape plans_first))) =
     ap (λ zs. first ++ zs) (joined_parts (lists_of shape plans_first) i lt) ∙ sym (append_assoc first _ _) in
     let all : IsFirstProved goal tries (first ++ joined_lists (lists_of shape plans_first)) c =
-    subst (λ zs. IsFirstProved goal tries zs c) (sym parts) (first_later goal tries _ _ t c o (first_front goal (tries - t) _ (joined_lists (drop (i + 1) (lists_of shape plans_first))) c own)) in
+    subst (λ zs. IsFirstProved goal tries zs c) (sym parts) (first_later goal tries _ _ t c o (first_prefix goal (tries - t) _ (joined_lists (drop (i + 1) (lists_of shape plans_first))) c own)) in
     (all, now.1, now.2 ∙ ap (map (plan_after c)) same)
 
 pub open_at_first : (goal : Goal) (tries : ℕ) (first : List Candidate) (ls : List (List Candidate)) (t : ℕ)

@@ -28,9 +28,9 @@ passed_found goal tries whole rest rest_after c t w p is proof lt = record {
   proved = (proof_views w, proof);
 }
 
--- what was found in a front is found in the whole
-pub first_front : (goal : Goal) (tries : ℕ) (xs ys : List Candidate) (c : Candidate) → IsFirstProved goal tries xs c → IsFirstProved goal tries (xs ++ ys) c
-first_front goal tries xs ys c f = record {
+-- what was found in a prefix is found in the whole
+pub first_prefix : (goal : Goal) (tries : ℕ) (xs ys : List Candidate) (c : Candidate) → IsFirstProved goal tries xs c → IsFirstProved goal tries (xs ++ ys) c
+first_prefix goal tries xs ys c f = record {
   before = f.before;
   after = f.after ++ ys;
   parts = ap (λ zs. zs ++ ys) f.parts ∙ append_assoc f.before (c ∷ f.after) ys;
@@ -39,7 +39,7 @@ first_front goal tries xs ys c f = record {
   proved = f.proved;
 }
 
--- an open front is all of it, where tries are left
+-- an open prefix is all of it, where tries are left
 pub open_whole : (goal : Goal) (tries : ℕ) (xs : List Candidate) (t : ℕ) → IsOpen goal tries xs t → t < tries → (All (IsUnproved goal) xs) × (length xs ≡ t)
 open_whole goal tries xs t o lt =
     let is = o.tried_is in

@@ -65,7 +65,7 @@ unfolding tuples
 at_tuples xs zero k some lt = let z : k ≡ 0 = omega (arith, pow-zero (length xs)) in ap (λ n. get_or ([] ∷ []) n []) z
 at_tuples xs (suc a) k some lt =
     let m = length xs in
-    let front : k / length xs < length xs ^ a = (div-lt_iff_lt-mul some).1 (subst (λ n. k < n) (pow-suc (length xs) a) lt) in
+    let prefix : k / length xs < length xs ^ a = (div-lt_iff_lt-mul some).1 (subst (λ n. k < n) (pow-suc (length xs) a) lt) in
     let small : k % length xs < length xs = mod-lt k some in
     let far : k / length xs < length (tuples xs a) = omega (arith, length_tuples xs a) in
     let parts : k ≡ k / length xs * length xs + k % length xs = omega (arith, mod-add-div' k (length xs)) in
@@ -73,7 +73,7 @@ at_tuples xs (suc a) k some lt =
     ∙ ap (λ n. get_or (flat_map (λ t. map (λ y. t ++ y ∷ []) xs) (tuples xs a)) n []) parts
     ∙ at_blocks (λ t. map (λ y. t ++ y ∷ []) xs) (length xs) (λ t. length-map xs (λ y. t ++ y ∷ [])) (tuples xs a) (k / length xs) (k % length xs) [] [] far small
     ∙ get_or-map (λ y. get_or (tuples xs a) (k / length xs) [] ++ y ∷ []) xs (k % length xs) 0 [] small
-    ∙ ap (λ t. t ++ get_or xs (k % length xs) 0 ∷ []) (at_tuples xs a (k / length xs) some front)
+    ∙ ap (λ t. t ++ get_or xs (k % length xs) 0 ∷ []) (at_tuples xs a (k / length xs) some prefix)
     ∙ sym (map-append (λ d. get_or xs d 0) (digits (length xs) a (k / length xs)) (k % length xs ∷ []))
 
 pub length_small_sets : (n : ℕ) → length (small_sets n) ≡ n + 1

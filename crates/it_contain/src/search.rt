@@ -16,6 +16,13 @@ use it_simplex::Budget;
 use it_space::Certificate;
 use std::alloc::{AllocError, Global};
 
+/// What candidates are to show, and the budget of the runs that may show it.
+#[derive(Drop)]
+struct Goal<'a> {
+    pair: &'a Pair,
+    budget: Budget,
+}
+
 /// Looks for a substitution that shows that the pair's first region lies in the second, by runs of at most the budget's
 /// steps, where there is a budget. All boxes are begun, and at most `tries` candidates are tried: those of `first`, then those
 /// of each box in order. A candidate that doesn't fit counts. Each box is told of each candidate that was tried. Where memory
@@ -36,35 +43,26 @@ pub fn contain(
         parts: pair.parts,
     };
     let mut outcomes = Outcomes::new(alloc, &pair.first)?;
+    let goal = Goal { pair, budget };
     // named before it is answered, so that the contract of the call stands at the answer
-    let end = try_all(
-        alloc,
-        pair,
-        shape,
-        first,
-        boxes,
-        tries,
-        budget,
-        &mut outcomes,
-    )?;
+    let end = try_all(alloc, &goal, shape, first, boxes, tries, &mut outcomes)?;
     Ok(end)
 }
 
 /// Tries a candidate, and tells all boxes whether it is proved. The answer is its proofs, if it is.
 fn try_one(
     alloc: Global,
-    pair: &Pair,
+    goal: &Goal<'_>,
     candidate: &Candidate,
     boxes: &mut Vec<Box<dyn Proposer>>,
-    budget: Budget,
     outcomes: &mut Outcomes,
 ) -> Result<Option<Vec<Certificate>>, AllocError>
-    requires pair { IsPair pair.now }
-    requires outcomes { AreOutcomes (problem_view pair.now.first) budget outcomes.old }
-    ensures tries { IfOk result (λ o. Tries (goal_of pair.now budget) candidate.now o (map pending boxes.old.items) (map plan boxes.old.items) (map pending boxes.new.items) (map plan boxes.new.items)) }
-    ensures outcomes { OnOk result (AreOutcomes (problem_view pair.now.first) budget outcomes.new) }
+    requires pair { IsPair goal.now.pair.now }
+    requires outcomes { AreOutcomes (problem_view goal.now.pair.now.first) goal.now.budget outcomes.old }
+    ensures tries { IfOk result (λ o. Tries (goal_of goal.now.pair.now goal.now.budget) candidate.now o (map pending boxes.old.items) (map plan boxes.old.items) (map pending boxes.new.items) (map plan boxes.new.items)) }
+    ensures outcomes { OnOk result (AreOutcomes (problem_view goal.now.pair.now.first) goal.now.budget outcomes.new) }
 {
-    match proofs_of_candidate(alloc, pair, candidate, budget, outcomes)? {
+    match proofs_of_candidate(alloc, goal.pair, candidate, goal.budget, outcomes)? {
         Some(proof) => {
             teach_all(boxes, candidate);
             Ok(Some(proof))
@@ -79,25 +77,24 @@ fn try_one(
 /// Tries the first `tries` candidates of a list.
 fn try_list(
     alloc: Global,
-    pair: &Pair,
+    goal: &Goal<'_>,
     first: &[Candidate],
     boxes: &mut Vec<Box<dyn Proposer>>,
     tries: u32,
-    budget: Budget,
     outcomes: &mut Outcomes,
 ) -> Result<Contained, AllocError>
-    requires pair { IsPair pair.now }
-    requires outcomes { AreOutcomes (problem_view pair.now.first) budget outcomes.old }
-    ensures ends { IfOk result (λ r. SearchEnds (goal_of pair.now budget) tries first.now (map plan boxes.old.items) r (map plan boxes.new.items)) }
+    requires pair { IsPair goal.now.pair.now }
+    requires outcomes { AreOutcomes (problem_view goal.now.pair.now.first) goal.now.budget outcomes.old }
+    ensures ends { IfOk result (λ r. SearchEnds (goal_of goal.now.pair.now goal.now.budget) tries first.now (map plan boxes.old.items) r (map plan boxes.new.items)) }
     ensures later { IfOk result (λ r. KeepsLater r (map pending boxes.old.items) (map pending boxes.new.items)) }
-    ensures outcomes { OnOk result (AreOutcomes (problem_view pair.now.first) budget outcomes.new) }
+    ensures outcomes { OnOk result (AreOutcomes (problem_view goal.now.pair.now.first) goal.now.budget outcomes.new) }
 {
     let mut count: u32 = 0;
     for candidate in first {
         if count == tries {
             return Ok(Contained::Open { tried: count });
         }
-        match try_one(alloc, pair, candidate, boxes, budget, outcomes)? {
+        match try_one(alloc, goal, candidate, boxes, outcomes)? {
             Some(proof) => return Ok(Contained::Found(*candidate, proof)),
             None => count += 1,
         }
@@ -108,25 +105,24 @@ fn try_list(
 /// Tries the first `tries` candidates of the box at a place.
 fn try_box(
     alloc: Global,
-    pair: &Pair,
+    goal: &Goal<'_>,
     boxes: &mut Vec<Box<dyn Proposer>>,
     i: usize,
     tries: u32,
-    budget: Budget,
     outcomes: &mut Outcomes,
 ) -> Result<Contained, AllocError>
-    requires pair { IsPair pair.now }
-    requires outcomes { AreOutcomes (problem_view pair.now.first) budget outcomes.old }
+    requires pair { IsPair goal.now.pair.now }
+    requires outcomes { AreOutcomes (problem_view goal.now.pair.now.first) goal.now.budget outcomes.old }
     requires box_is { i < vec_len boxes.old }
-    ensures ends { IfOk result (λ r. SearchEnds (goal_of pair.now budget) tries (get_or (map pending boxes.old.items) i []) (map plan boxes.old.items) r (map plan boxes.new.items)) }
+    ensures ends { IfOk result (λ r. SearchEnds (goal_of goal.now.pair.now goal.now.budget) tries (get_or (map pending boxes.old.items) i []) (map plan boxes.old.items) r (map plan boxes.new.items)) }
     ensures later { IfOk result (λ r. KeepsLater r (drop (i + 1) (map pending boxes.old.items)) (drop (i + 1) (map pending boxes.new.items))) }
-    ensures outcomes { OnOk result (AreOutcomes (problem_view pair.now.first) budget outcomes.new) }
+    ensures outcomes { OnOk result (AreOutcomes (problem_view goal.now.pair.now.first) goal.now.budget outcomes.new) }
 {
     for count in 0..tries {
         let Some(candidate) = next_at(boxes, i) else {
             return Ok(Contained::Open { tried: count });
         };
-        match try_one(alloc, pair, &candidate, boxes, budget, outcomes)? {
+        match try_one(alloc, goal, &candidate, boxes, outcomes)? {
             Some(proof) => return Ok(Contained::Found(candidate, proof)),
             None => {}
         }
@@ -137,26 +133,25 @@ fn try_box(
 /// Tries the first `tries` candidates of the plan for a shape.
 fn try_all(
     alloc: Global,
-    pair: &Pair,
+    goal: &Goal<'_>,
     shape: Shape,
     first: &[Candidate],
     boxes: &mut Vec<Box<dyn Proposer>>,
     tries: u32,
-    budget: Budget,
     outcomes: &mut Outcomes,
 ) -> Result<Contained, AllocError>
-    requires pair { IsPair pair.now }
-    requires outcomes { AreOutcomes (problem_view pair.now.first) budget outcomes.old }
+    requires pair { IsPair goal.now.pair.now }
+    requires outcomes { AreOutcomes (problem_view goal.now.pair.now.first) goal.now.budget outcomes.old }
     requires shape { IsShape shape }
-    ensures { IfOk result (λ r. SearchEnds (goal_of pair.now budget) tries (plan_of first.now (map plan boxes.old.items) shape) (map plan boxes.old.items) r (map plan boxes.new.items)) }
+    ensures { IfOk result (λ r. SearchEnds (goal_of goal.now.pair.now goal.now.budget) tries (plan_of first.now (map plan boxes.old.items) shape) (map plan boxes.old.items) r (map plan boxes.new.items)) }
 {
     begin_all(boxes, shape);
-    let mut count = match try_list(alloc, pair, first, boxes, tries, budget, outcomes)? {
+    let mut count = match try_list(alloc, goal, first, boxes, tries, outcomes)? {
         Contained::Found(candidate, proof) => return Ok(Contained::Found(candidate, proof)),
         Contained::Open { tried } => tried,
     };
     for i in 0..boxes.len() {
-        match try_box(alloc, pair, boxes, i, tries - count, budget, outcomes)? {
+        match try_box(alloc, goal, boxes, i, tries - count, outcomes)? {
             Contained::Found(candidate, proof) => return Ok(Contained::Found(candidate, proof)),
             Contained::Open { tried: more } => count += more,
         }

@@ -23,23 +23,23 @@ moved_spelling k at at' bytes (t ∷ ts) e h =
       moved_spelling k t.end (k + t.end) h.0 ts refl h.2,
     )
 
-drop_front : (front line : List ℕ) (i : ℕ) → drop (length front + i) (front ++ line) ≡ drop i line
-drop_front [] line i = ap (λ (n : ℕ). drop n line) (let e : 0 + i ≡ i = omega arith in e)
-drop_front (b ∷ bs) line i = ap (λ (n : ℕ). drop n (b ∷ (bs ++ line))) (let e : suc (length bs) + i ≡ suc (length bs + i) = omega arith in e) ∙ drop_front bs line i
+drop_prefix : (prefix line : List ℕ) (i : ℕ) → drop (length prefix + i) (prefix ++ line) ≡ drop i line
+drop_prefix [] line i = ap (λ (n : ℕ). drop n line) (let e : 0 + i ≡ i = omega arith in e)
+drop_prefix (b ∷ bs) line i = ap (λ (n : ℕ). drop n (b ∷ (bs ++ line))) (let e : suc (length bs) + i ≡ suc (length bs + i) = omega arith in e) ∙ drop_prefix bs line i
 
-moved_letter : (front line : List ℕ) (start end : ℕ) (kind : TokenKind) → letter_of (front ++ line) (length front + start) (length front + end) kind ≡ letter_of line start end kind
-moved_letter front line start end kinds.Word = ap Word (ap₂ (λ (n : ℕ) (bytes : List ℕ). take n bytes) (let e : length front + end - (length front + start) ≡ end - start = omega arith in e) (drop_front front line start))
-moved_letter front line start end (kinds.Number n) = refl
-moved_letter front line start end (kinds.Symbol s) = refl
+moved_letter : (prefix line : List ℕ) (start end : ℕ) (kind : TokenKind) → letter_of (prefix ++ line) (length prefix + start) (length prefix + end) kind ≡ letter_of line start end kind
+moved_letter prefix line start end kinds.Word = ap Word (ap₂ (λ (n : ℕ) (bytes : List ℕ). take n bytes) (let e : length prefix + end - (length prefix + start) ≡ end - start = omega arith in e) (drop_prefix prefix line start))
+moved_letter prefix line start end (kinds.Number n) = refl
+moved_letter prefix line start end (kinds.Symbol s) = refl
 
-moved_letters : (front line : List ℕ) (ts : List Token) (last : Letter) → letters_until (front ++ line) (map (moved (length front)) ts) last ≡ letters_until line ts last
+moved_letters : (prefix line : List ℕ) (ts : List Token) (last : Letter) → letters_until (prefix ++ line) (map (moved (length prefix)) ts) last ≡ letters_until line ts last
 unfolding moved
-moved_letters front line [] last = refl
-moved_letters front line (t ∷ ts) last = ap₂ (λ (l : Letter) (ls : List Letter). l ∷ ls) (moved_letter front line t.start t.end t.kind) (moved_letters front line ts last)
+moved_letters prefix line [] last = refl
+moved_letters prefix line (t ∷ ts) last = ap₂ (λ (l : Letter) (ls : List Letter). l ∷ ls) (moved_letter prefix line t.start t.end t.kind) (moved_letters prefix line ts last)
 
 pub texts_move : TextsMove
-texts_move v front text r h = record {
-  tokens = map (moved (length front)) h.tokens;
-  spelled = moved_spelling (length front) 0 (length front) text h.tokens (let e : length front ≡ length front + 0 = omega arith in e) h.spelled;
-  says = subst (λ (ls : List Letter). Says (relation_line v true) ls r) (sym (moved_letters front text h.tokens End)) h.says;
+texts_move v prefix text r h = record {
+  tokens = map (moved (length prefix)) h.tokens;
+  spelled = moved_spelling (length prefix) 0 (length prefix) text h.tokens (let e : length prefix ≡ length prefix + 0 = omega arith in e) h.spelled;
+  says = subst (λ (ls : List Letter). Says (relation_line v true) ls r) (sym (moved_letters prefix text h.tokens End)) h.says;
 }

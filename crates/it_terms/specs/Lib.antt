@@ -4,3 +4,4 @@ pub mod ProofSteps
 pub mod Sums
 pub mod Points
 pub mod Settling
+pub mod Proposals

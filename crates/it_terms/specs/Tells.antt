@@ -26,12 +26,12 @@ pub record TellsRow (v : NamesView) (row : Terms) (text : List ℕ) : Type 0 whe
   pub is : IsRelationText v text relation
   pub same : SaysRow (length v.variables) relation row
 
--- after `front` the line goes on with this text up to its end, and from there on it is this relation
-pub record Follows (v : NamesView) (front text : List ℕ) (r : RelationView) : Type 0 where
+-- after `prefix` the line goes on with this text up to its end, and from there on it is this relation
+pub record Follows (v : NamesView) (prefix text : List ℕ) (r : RelationView) : Type 0 where
   pub tokens : List Token
-  pub spelled : SpellsUntil (length front) text tokens None
-  pub says : Says (relation_line v true) (letters_until (front ++ text) tokens End) r
+  pub spelled : SpellsUntil (length prefix) text tokens None
+  pub says : Says (relation_line v true) (letters_until (prefix ++ text) tokens End) r
 
 -- A text that is a relation is the same one after whatever stands before it in a line, as `row ` or `prove `.
 abbrev pub TextsMove : Type 0
-TextsMove = (v : NamesView) (front text : List ℕ) (r : RelationView) → IsRelationText v text r → Follows v front text r
+TextsMove = (v : NamesView) (prefix text : List ℕ) (r : RelationView) → IsRelationText v text r → Follows v prefix text r

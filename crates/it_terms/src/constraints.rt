@@ -104,8 +104,11 @@ fn put_atom(out: &mut Vec<Term>, atom: Atom, times: i128) -> Result<(), Untold> 
 
 /// The union of some sets.
 fn union_of(sets: &[VarSet]) -> VarSet {
-    sets.iter()
-        .fold(VarSet::empty(), |union, set| union.union(*set))
+    let mut union = VarSet::empty();
+    for set in sets {
+        union = union.union(*set);
+    }
+    union
 }
 
 /// The link of a chain at its member of this number, counted from 0: that those before it and the one after it are

@@ -4,7 +4,7 @@ use it_space::VarSet;
 
 /// What is said of a point: the entropy of a set, the value of a rate; that a variable is constant, that two are functions of
 /// each other, that one is a function of a set, that the members of a set are independent.
-#[derive(Clone, Copy, Debug, PartialEq, Eq)]
+#[derive(Clone, Copy)]
 pub enum Fact {
     Entropy { set: VarSet, value: i128 },
     Rate { rate: u8, value: i128 },

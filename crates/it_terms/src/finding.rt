@@ -10,11 +10,11 @@ use it_space::{Row, Space, VarSet};
 use it_syntax::types::{Atom, Term};
 use std::alloc::{AllocError, Global};
 
-/// How many steps a run may make that looks for a sum.
+/// How many steps a run may make that looks for weights of columns.
 const STEPS: u32 = 20000;
 
 /// A measure by its place among others, and how often a sum has it.
-#[derive(Debug, Drop)]
+#[derive(Clone, Copy)]
 struct Share {
     place: usize,
     negative: bool,
@@ -22,7 +22,7 @@ struct Share {
 }
 
 /// The sum of a row's part over sets, so many times: each term with its sign.
-#[derive(Debug, Drop)]
+#[derive(Drop)]
 pub struct Found {
     pub scale: i128,
     pub terms: Vec<Term>,
@@ -96,6 +96,19 @@ fn columns(alloc: Global, measures: &[Measure], kept: &[usize]) -> Result<Vec<Ro
     Ok(columns)
 }
 
+/// Weights of columns by which these add up to a row over the coordinates.
+pub fn weights_of(
+    alloc: Global,
+    coordinates: &[u32],
+    columns: &[Row],
+    row: &Row,
+) -> Result<Vec<(usize, Fraction)>, Untold> {
+    match solve(alloc, coordinates, columns, row, Budget::at_most(STEPS))? {
+        Solved::Weights(weights) => Ok(weights),
+        _ => Err(Untold::NotFound),
+    }
+}
+
 /// The shares that weights of the columns are.
 fn shares(
     alloc: Global,
@@ -125,16 +138,8 @@ fn sum_of(
     row: &Row,
 ) -> Result<Vec<Share>, Untold> {
     let columns = columns(alloc, measures, kept)?;
-    match solve(
-        alloc,
-        coordinates,
-        columns.as_slice(),
-        row,
-        Budget::at_most(STEPS),
-    )? {
-        Solved::Weights(weights) => Ok(shares(alloc, weights.as_slice(), kept)?),
-        _ => Err(Untold::NotFound),
-    }
+    let weights = weights_of(alloc, coordinates, columns.as_slice(), row)?;
+    Ok(shares(alloc, weights.as_slice(), kept)?)
 }
 
 /// The places without one.
@@ -269,13 +274,18 @@ fn found_sum(alloc: Global, measures: &[Measure], row: &Row, space: Space) -> Re
     Ok(Found { scale, terms })
 }
 
+/// Whether a term is so many times another one.
+fn is_times(term: &(u32, i128), times: i128, other: &(u32, i128)) -> bool {
+    term.0 == other.0 && product(times, other.1) == Ok(term.1)
+}
+
 /// Whether one list of terms is so many times the other.
 fn is_multiple(terms: &[(u32, i128)], times: i128, others: &[(u32, i128)]) -> bool {
     if terms.len() != others.len() {
         return false;
     }
-    for (term, other) in terms.iter().zip(others) {
-        if term.0 != other.0 || signed_product(times, other.1) != Ok(term.1) {
+    for i in 0..terms.len() {
+        if !is_times(&terms[i], times, &others[i]) {
             return false;
         }
     }

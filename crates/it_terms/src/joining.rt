@@ -115,7 +115,7 @@ fn joined(first: &Atom, second: &Atom) -> Option<Atom> {
 }
 
 /// Two terms by their places, and what they are together.
-#[derive(Clone, Copy, Debug)]
+#[derive(Clone, Copy)]
 struct Pair {
     first: usize,
     second: usize,

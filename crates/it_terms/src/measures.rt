@@ -9,11 +9,21 @@ use it_syntax::types::{Atom, Relation};
 use std::alloc::{AllocError, Global};
 
 /// An entropy or a mutual information, its spelling without blanks, and its row.
-#[derive(Debug, Drop)]
 pub struct Measure {
     pub atom: Atom,
     pub spelling: Vec<u8>,
     pub row: Row,
+}
+
+// written out, so that letting it go is one call, and not a step for each field
+impl Drop for Measure {
+    fn drop(self) {
+        let Measure {
+            atom: _,
+            spelling: _,
+            row: _,
+        } = self;
+    }
 }
 
 /// What stands after a measure that is read by itself.

@@ -17,7 +17,7 @@ use std::alloc::{AllocError, Global};
 
 /// A proof that is proposed: its text, how many terms of the right side are over sets, the weight of the target on the left,
 /// which is number 0, and the weights of the constraints, which the other terms are.
-#[derive(Debug, Drop)]
+#[derive(Drop)]
 pub struct Proposal {
     pub text: Vec<u8>,
     pub shannon: usize,
@@ -74,11 +74,12 @@ fn is_proof(
     }
     let multiple = multiple_of(relation);
     let left = side_row(alloc, relation.left.terms.as_slice(), multiple, space)?;
-    let rest = side_row(alloc, rest, multiple, space)?;
     let is_target = is_multiple(alloc, space, &left, target, &proposal.target)?;
+    drop(left);
     if !is_target {
         return Ok(false);
     }
+    let rest = side_row(alloc, rest, multiple, space)?;
     let is_rest = is_sum(alloc, space, &rest, constraints, weights)?;
     Ok(is_rest)
 }

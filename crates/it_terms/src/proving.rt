@@ -1,11 +1,11 @@
 //! The line of a proof, judged before it is handed out.
-ghost use Rattle.std.specs.Prelude.{◌≤◌, ◌<◌, IfOk, IfSome, length, map};
+ghost use Rattle.std.specs.Prelude.{◌≤◌, ◌<◌, IfOk, IfSome, length};
 ghost use Rattle.it_space.specs.Rows.{value};
 ghost use Rattle.it_polymatroid.specs.Elementals.{elementals};
-ghost use Rattle.it_elemental.specs.Generators.{forms_of, of_constraint};
 ghost use Rattle.it_question.specs.Limits.{IsQuestion};
 ghost use Rattle.it_question.specs.Questions.{question_body};
-ghost use Rattle.it_terms.specs.Proofs.{TellsForm, TellsProof};
+ghost use Rattle.it_terms.specs.Proposals.{MayProve};
+ghost use Rattle.it_terms.specs.Proofs.{TellsForm};
 
 use crate::constraints::{put_constraint, put_relation, put_terms};
 use crate::drafts::row_terms;
@@ -27,18 +27,38 @@ use it_syntax::types::{Atom, Relation, Sign, Term};
 use std::alloc::{AllocError, Global};
 
 /// The terms of a target, and how often they have it.
-#[derive(Debug, Drop)]
+#[derive(Drop)]
 struct Goal {
     terms: Vec<Term>,
     factor: i128,
 }
 
 /// What a certificate sums up: terms over sets, the terms of constraints, and the weights of these.
-#[derive(Debug, Drop)]
 struct Summands {
     shannon: Vec<Term>,
     rest: Vec<Term>,
     weights: Vec<(u32, i128)>,
+}
+
+// written out, so that letting them go is one call, and not a step for each list
+impl Drop for Summands {
+    fn drop(self) {
+        let Summands {
+            shannon: _,
+            rest: _,
+            weights: _,
+        } = self;
+    }
+}
+
+/// What is to be proved and what may be used: a target, the constraints of the question's problem, and how these are written.
+#[derive(Drop)]
+struct Asked<'a> {
+    question: &'a Question,
+    measures: &'a [Measure],
+    names: &'a Names,
+    target: &'a Row,
+    constraints: &'a [Constraint],
 }
 
 /// The set of one variable.
@@ -92,16 +112,15 @@ fn put_elemental(shannon: &mut Vec<Term>, n: u8, index: u32, times: i128) -> Res
 /// Adds a constraint by its number so many times.
 fn put_weighted(
     summands: &mut Summands,
-    question: &Question,
-    constraints: &[Constraint],
+    asked: &Asked<'_>,
     index: u32,
     times: i128,
 ) -> Result<(), Untold> {
-    if index as usize >= constraints.len() {
+    if index as usize >= asked.constraints.len() {
         return Err(Untold::NotFound);
     }
-    let origin = constraints[index as usize].origin;
-    put_constraint(&mut summands.rest, question, origin, times)?;
+    let origin = asked.constraints[index as usize].origin;
+    put_constraint(&mut summands.rest, asked.question, origin, times)?;
     summands.weights.push((index, times))?;
     Ok(())
 }
@@ -109,33 +128,25 @@ fn put_weighted(
 /// What a certificate sums up, so many times.
 fn summed_up(
     alloc: Global,
-    question: &Question,
-    n: u8,
-    constraints: &[Constraint],
+    asked: &Asked<'_>,
     certificate: &Certificate,
     factor: i128,
 ) -> Result<Summands, Untold>
-    requires some { 1 ≤ n }
-    requires few { n ≤ 10 }
+    requires { 1 ≤ length asked.now.names.now.variables }
 {
     let mut summands = Summands {
         shannon: Vec::new(alloc),
         rest: Vec::new(alloc),
         weights: Vec::new(alloc),
     };
+    let n = asked.names.space().variables;
     let elementals = count(n);
     for weight in certificate.weights.as_slice() {
         let times = product(weight.1, factor)?;
         if weight.0 < elementals {
             put_elemental(&mut summands.shannon, n, weight.0, times)?;
         } else {
-            put_weighted(
-                &mut summands,
-                question,
-                constraints,
-                weight.0 - elementals,
-                times,
-            )?;
+            put_weighted(&mut summands, asked, weight.0 - elementals, times)?;
         }
     }
     Ok(summands)
@@ -145,52 +156,55 @@ fn summed_up(
 /// constraints.
 fn proposal(
     alloc: Global,
-    measures: &[Measure],
-    names: &Names,
+    asked: &Asked<'_>,
     goal: &Goal,
     scale: i128,
     shannon: &[Term],
     summands: &Summands,
 ) -> Result<Proposal, Untold> {
-    let mut left = Vec::new(alloc);
-    put_terms(&mut left, goal.terms.as_slice(), scale)?;
-    let mut right = Vec::new(alloc);
-    right.extend_from_slice(shannon)?;
-    right.extend_from_slice(summands.rest.as_slice())?;
-    // a side without terms is written and read as `0`
-    let shannon = if right.is_empty() { 1 } else { shannon.len() };
-    let draft = Draft {
-        left,
+    let target = (0, product(scale, goal.factor)?);
+    let mut draft = Draft {
+        left: Vec::new(alloc),
         sign: Sign::Equal,
-        right,
+        right: Vec::new(alloc),
     };
+    put_terms(&mut draft.left, goal.terms.as_slice(), scale)?;
+    draft.right.extend_from_slice(shannon)?;
+    draft.right.extend_from_slice(summands.rest.as_slice())?;
+    let text = draft_text(alloc, asked.measures, asked.names, &draft)?;
+    // a side without terms is written and read as `0`
+    let shannon = if draft.right.is_empty() {
+        1
+    } else {
+        shannon.len()
+    };
+    drop(draft);
     let mut weights = Vec::new(alloc);
     weights.extend_from_slice(summands.weights.as_slice())?;
     Ok(Proposal {
-        text: draft_text(alloc, measures, names, &draft)?,
+        text,
         shannon,
-        target: (0, product(scale, goal.factor)?),
+        target,
         weights,
     })
 }
 
-/// The text of a proposal, where there is one and it tells a proof of the target.
+/// The text of a proposal, where it tells a proof of the target.
 fn judged(
     alloc: Global,
-    names: &Names,
-    target: &Row,
-    constraints: &[Constraint],
-    proposal: Result<Proposal, Untold>,
+    asked: &Asked<'_>,
+    proposal: Proposal,
 ) -> Result<Option<Vec<u8>>, AllocError>
-    requires { 1 ≤ length names.now.variables }
-    ensures { IfOk result (λ o. IfSome o (λ text. TellsProof names.now (value target.now) (forms_of (map of_constraint constraints.now)) text.items)) }
+    requires { 1 ≤ length asked.now.names.now.variables }
+    ensures { IfOk result (MayProve asked.now.names.now asked.now.target.now asked.now.constraints.now) }
 {
-    let proposal = match proposal {
-        Ok(proposal) => proposal,
-        Err(Untold::Memory) => return Err(AllocError),
-        Err(Untold::NotFound) => return Ok(None),
-    };
-    let tells = tells_proof(alloc, names, target, constraints, &proposal)?;
+    let tells = tells_proof(
+        alloc,
+        asked.names,
+        asked.target,
+        asked.constraints,
+        &proposal,
+    )?;
     if tells {
         Ok(Some(proposal.text))
     } else {
@@ -198,36 +212,42 @@ fn judged(
     }
 }
 
+/// The text of a proof with these terms over sets, where there is one.
+fn text_with(
+    alloc: Global,
+    asked: &Asked<'_>,
+    goal: &Goal,
+    scale: i128,
+    shannon: &[Term],
+    summands: &Summands,
+) -> Result<Option<Vec<u8>>, AllocError>
+    requires { 1 ≤ length asked.now.names.now.variables }
+    ensures { IfOk result (MayProve asked.now.names.now asked.now.target.now asked.now.constraints.now) }
+{
+    match proposal(alloc, asked, goal, scale, shannon, summands) {
+        Ok(proposal) => judged(alloc, asked, proposal),
+        Err(Untold::Memory) => Err(AllocError),
+        Err(Untold::NotFound) => Ok(None),
+    }
+}
+
 /// The text of a proof by what a certificate sums up: with the terms over sets joined, else with each elemental inequality.
 fn text_by(
     alloc: Global,
-    measures: &[Measure],
-    names: &Names,
-    target: &Row,
-    constraints: &[Constraint],
+    asked: &Asked<'_>,
     goal: &Goal,
     scale: i128,
     summands: &Summands,
 ) -> Result<Option<Vec<u8>>, AllocError>
-    requires { 1 ≤ length names.now.variables }
-    ensures { IfOk result (λ o. IfSome o (λ text. TellsProof names.now (value target.now) (forms_of (map of_constraint constraints.now)) text.items)) }
+    requires { 1 ≤ length asked.now.names.now.variables }
+    ensures { IfOk result (MayProve asked.now.names.now asked.now.target.now asked.now.constraints.now) }
 {
     let plain = summands.shannon.as_slice();
     let joined = joined_terms(alloc, plain)?;
-    let short = proposal(
-        alloc,
-        measures,
-        names,
-        goal,
-        scale,
-        joined.as_slice(),
-        summands,
-    );
-    if let Some(text) = judged(alloc, names, target, constraints, short)? {
+    if let Some(text) = text_with(alloc, asked, goal, scale, joined.as_slice(), summands)? {
         return Ok(Some(text));
     }
-    let long = proposal(alloc, measures, names, goal, scale, plain, summands);
-    judged(alloc, names, target, constraints, long)
+    text_with(alloc, asked, goal, scale, plain, summands)
 }
 
 /// The sum of the numbers of terms.
@@ -242,27 +262,25 @@ fn sum_of_numbers(terms: &[Term]) -> i128 {
 /// What a proof with the least sum of terms over sets sums up, and how often it has the goal: no more terms than these.
 fn least_summands(
     alloc: Global,
-    question: &Question,
-    space: Space,
-    target: &Row,
-    constraints: &[Constraint],
+    asked: &Asked<'_>,
     goal: &Goal,
     scale: i128,
     terms: &[Term],
 ) -> Result<(i128, Summands), Untold> {
     let often = product(scale, goal.factor)?;
-    let most = sum_of_numbers(terms);
-    let least = shortest(alloc, space, constraints, target, often, most)?;
     if goal.factor <= 0 {
         return Err(Untold::NotFound);
     }
+    let most = sum_of_numbers(terms);
+    let space = asked.names.space();
+    let least = shortest(alloc, space, asked.constraints, asked.target, often, most)?;
     let mut summands = Summands {
         shannon: least.terms,
         rest: Vec::new(alloc),
         weights: Vec::new(alloc),
     };
     for weight in least.weights.as_slice() {
-        put_weighted(&mut summands, question, constraints, weight.0, weight.1)?;
+        put_weighted(&mut summands, asked, weight.0, weight.1)?;
     }
     Ok((least.scale / goal.factor, summands))
 }
@@ -271,40 +289,17 @@ fn least_summands(
 /// sums up.
 fn least_text(
     alloc: Global,
-    question: &Question,
-    measures: &[Measure],
-    names: &Names,
-    target: &Row,
-    constraints: &[Constraint],
+    asked: &Asked<'_>,
     goal: &Goal,
     scale: i128,
     summands: &Summands,
 ) -> Result<Option<Vec<u8>>, AllocError>
-    requires { 1 ≤ length names.now.variables }
-    ensures { IfOk result (λ o. IfSome o (λ text. TellsProof names.now (value target.now) (forms_of (map of_constraint constraints.now)) text.items)) }
+    requires { 1 ≤ length asked.now.names.now.variables }
+    ensures { IfOk result (MayProve asked.now.names.now asked.now.target.now asked.now.constraints.now) }
 {
     let terms = joined_terms(alloc, summands.shannon.as_slice())?;
-    let found = least_summands(
-        alloc,
-        question,
-        names.space(),
-        target,
-        constraints,
-        goal,
-        scale,
-        terms.as_slice(),
-    );
-    match found {
-        Ok((often, least)) => text_by(
-            alloc,
-            measures,
-            names,
-            target,
-            constraints,
-            goal,
-            often,
-            &least,
-        ),
+    match least_summands(alloc, asked, goal, scale, terms.as_slice()) {
+        Ok((often, least)) => text_by(alloc, asked, goal, often, &least),
         Err(Untold::Memory) => Err(AllocError),
         Err(Untold::NotFound) => Ok(None),
     }
@@ -313,81 +308,36 @@ fn least_text(
 /// The text of a proof by what a certificate sums up, or, where a short one is asked for, by the least sum if it is found.
 fn short_text(
     alloc: Global,
-    question: &Question,
-    measures: &[Measure],
-    names: &Names,
-    target: &Row,
-    constraints: &[Constraint],
+    asked: &Asked<'_>,
     goal: &Goal,
     scale: i128,
     summands: &Summands,
     short: bool,
 ) -> Result<Option<Vec<u8>>, AllocError>
-    requires { 1 ≤ length names.now.variables }
-    ensures { IfOk result (λ o. IfSome o (λ text. TellsProof names.now (value target.now) (forms_of (map of_constraint constraints.now)) text.items)) }
+    requires { 1 ≤ length asked.now.names.now.variables }
+    ensures { IfOk result (MayProve asked.now.names.now asked.now.target.now asked.now.constraints.now) }
 {
     if short {
-        let least = least_text(
-            alloc,
-            question,
-            measures,
-            names,
-            target,
-            constraints,
-            goal,
-            scale,
-            summands,
-        )?;
-        if let Some(text) = least {
+        if let Some(text) = least_text(alloc, asked, goal, scale, summands)? {
             return Ok(Some(text));
         }
     }
-    text_by(
-        alloc,
-        measures,
-        names,
-        target,
-        constraints,
-        goal,
-        scale,
-        summands,
-    )
+    text_by(alloc, asked, goal, scale, summands)
 }
 
 /// The text of a proof of a target from constraints.
 fn proof_text(
     alloc: Global,
-    question: &Question,
-    measures: &[Measure],
-    names: &Names,
-    target: &Row,
-    constraints: &[Constraint],
-    goal: Result<Goal, Untold>,
+    asked: &Asked<'_>,
+    goal: &Goal,
     certificate: &Certificate,
     short: bool,
 ) -> Result<Option<Vec<u8>>, AllocError>
-    requires { 1 ≤ length names.now.variables }
-    ensures { IfOk result (λ o. IfSome o (λ text. TellsProof names.now (value target.now) (forms_of (map of_constraint constraints.now)) text.items)) }
+    requires { 1 ≤ length asked.now.names.now.variables }
+    ensures { IfOk result (MayProve asked.now.names.now asked.now.target.now asked.now.constraints.now) }
 {
-    let goal = match goal {
-        Ok(goal) => goal,
-        Err(Untold::Memory) => return Err(AllocError),
-        Err(Untold::NotFound) => return Ok(None),
-    };
-    let n = names.space().variables;
-    match summed_up(alloc, question, n, constraints, certificate, goal.factor) {
-        Ok(summands) => short_text(
-            alloc,
-            question,
-            measures,
-            names,
-            target,
-            constraints,
-            &goal,
-            certificate.scale,
-            &summands,
-            short,
-        ),
+    match summed_up(alloc, asked, certificate, goal.factor) {
+        Ok(summands) => short_text(alloc, asked, goal, certificate.scale, &summands, short),
         Err(Untold::Memory) => Err(AllocError),
         Err(Untold::NotFound) => Ok(None),
     }
@@ -399,7 +349,7 @@ fn form_text(
     question: &Question,
     measures: &[Measure],
     target: &Row,
-    goal: Result<Goal, Untold>,
+    goal: &Goal,
     certificate: &Certificate,
     short: bool,
 ) -> Result<Option<Vec<u8>>, AllocError>
@@ -408,17 +358,14 @@ fn form_text(
 {
     let names = names_of(question);
     let posed = problem(alloc, question)?;
-    let text = proof_text(
-        alloc,
+    let asked = Asked {
         question,
         measures,
         names,
         target,
-        posed.constraints.as_slice(),
-        goal,
-        certificate,
-        short,
-    )?;
+        constraints: posed.constraints.as_slice(),
+    };
+    let text = proof_text(alloc, &asked, goal, certificate, short)?;
     Ok(text)
 }
 
@@ -488,14 +435,17 @@ pub fn told_form(
 {
     let names = names_of(question);
     let measures = measures(alloc, question.text.as_slice(), names)?;
-    let goal = goal_of(alloc, question, measures.as_slice(), names, target);
-    form_text(
-        alloc,
-        question,
-        measures.as_slice(),
-        target,
-        goal,
-        certificate,
-        short,
-    )
+    match goal_of(alloc, question, measures.as_slice(), names, target) {
+        Ok(goal) => form_text(
+            alloc,
+            question,
+            measures.as_slice(),
+            target,
+            &goal,
+            certificate,
+            short,
+        ),
+        Err(Untold::Memory) => Err(AllocError),
+        Err(Untold::NotFound) => Ok(None),
+    }
 }

@@ -4,18 +4,14 @@ ghost use Rattle.std.specs.Prelude.{◌≡◌, ◌+◌, ◌*◌, ◌^◌, ◌≤
 ghost use Rattle.it_space.specs.Spaces.{IsSpace, size_of};
 ghost use Rattle.it_demand.specs.Coefficients.{largest};
 
-use crate::finding::{product, term_of, turned};
+use crate::finding::{product, term_of, turned, weights_of};
 use crate::untold::Untold;
 use it_columns::{common_scale, opposite_row};
 use it_demand::Coefficients;
 use it_fraction::Fraction;
-use it_simplex::{Budget, Solved, solve};
 use it_space::{Constraint, Kind, Row, Space, VarSet};
 use it_syntax::types::{Atom, Term};
 use std::alloc::{AllocError, Global};
-
-/// How many steps a run may make that looks for a shorter proof.
-const STEPS: u32 = 20000;
 
 /// A proof is looked for among terms over the sets of so many variables at most.
 const MOST_VARIABLES: u8 = 6;
@@ -24,7 +20,7 @@ const MOST_VARIABLES: u8 = 6;
 const MOST_TERMS: usize = 1024;
 
 /// A sum of terms over sets and of constraints, by their numbers, that is a target so many times.
-#[derive(Debug, Drop)]
+#[derive(Drop)]
 pub struct LeastSum {
     pub scale: i128,
     pub terms: Vec<Term>,
@@ -33,11 +29,21 @@ pub struct LeastSum {
 
 /// Columns: first those of terms over sets, then those of constraints by their numbers with signs turned or not, and last one
 /// for what a sum of terms is less than its bound.
-#[derive(Debug, Drop)]
 struct Columns {
     terms: Vec<Term>,
     constraints: Vec<(u32, bool)>,
     rows: Vec<Row>,
+}
+
+// written out, so that letting them go is one call, and not a step for each list
+impl Drop for Columns {
+    fn drop(self) {
+        let Columns {
+            terms: _,
+            constraints: _,
+            rows: _,
+        } = self;
+    }
 }
 
 /// The space with a rate more, in whose place each row has the sum of the terms over sets.
@@ -217,16 +223,7 @@ fn weights_within(
 {
     let row = row_with(alloc, space, target.terms(), scale, bound)?;
     let coordinates: Vec<u32> = (1..space.size() + 1).collect(alloc)?;
-    match solve(
-        alloc,
-        coordinates.as_slice(),
-        columns.rows.as_slice(),
-        &row,
-        Budget::at_most(STEPS),
-    )? {
-        Solved::Weights(weights) => Ok(weights),
-        _ => Err(Untold::NotFound),
-    }
+    weights_of(alloc, coordinates.as_slice(), columns.rows.as_slice(), &row)
 }
 
 /// The weights for the least bound for which some are found, none of them above a bound for which there are.
@@ -293,6 +290,26 @@ fn put_times(
     Ok(())
 }
 
+/// The sum that weights of the columns make of a target so many times, as often as makes each weight a whole number.
+fn sum_by_weights(
+    alloc: Global,
+    columns: &Columns,
+    weights: &[(usize, Fraction)],
+    scale: i128,
+) -> Result<LeastSum, Untold> {
+    let multiple = common_multiple(alloc, weights)?;
+    let mut sum = LeastSum {
+        scale: product(scale, multiple)?,
+        terms: Vec::new(alloc),
+        weights: Vec::new(alloc),
+    };
+    for weight in weights {
+        let times = product(weight.1.num(), multiple / weight.1.den())?;
+        put_times(&mut sum, columns, weight.0, times)?;
+    }
+    Ok(sum)
+}
+
 /// Terms over sets with a plus and weights of constraints that add up to a multiple of a target: with the least sum of such
 /// terms for the target so many times, where there are some whose sum is at most a bound.
 pub fn shortest(
@@ -306,15 +323,5 @@ pub fn shortest(
     let wider = wider_space(space)?;
     let columns = all_columns(alloc, wider, constraints)?;
     let weights = least_weights(alloc, wider, &columns, target, scale, most)?;
-    let multiple = common_multiple(alloc, weights.as_slice())?;
-    let mut found = LeastSum {
-        scale: product(scale, multiple)?,
-        terms: Vec::new(alloc),
-        weights: Vec::new(alloc),
-    };
-    for weight in weights.as_slice() {
-        let times = product(weight.1.num(), multiple / weight.1.den())?;
-        put_times(&mut found, &columns, weight.0, times)?;
-    }
-    Ok(found)
+    sum_by_weights(alloc, &columns, weights.as_slice(), scale)
 }

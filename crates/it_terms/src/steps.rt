@@ -23,7 +23,7 @@ use it_syntax::types::{Relation, Sign, Term};
 use std::alloc::{AllocError, Global};
 
 /// The line of a step, and the sum after it.
-#[derive(Debug, Drop)]
+#[derive(Drop)]
 struct Step {
     text: Vec<u8>,
     sum: Vec<Term>,

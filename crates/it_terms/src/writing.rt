@@ -8,11 +8,21 @@ use it_syntax::types::{Atom, Sign, Term};
 use std::alloc::{AllocError, Global};
 
 /// Two sums and the sign between them, before they are written.
-#[derive(Debug, Drop)]
 pub struct Draft {
     pub left: Vec<Term>,
     pub sign: Sign,
     pub right: Vec<Term>,
+}
+
+// written out, so that letting it go is one call, and not a step for each side
+impl Drop for Draft {
+    fn drop(self) {
+        let Draft {
+            left: _,
+            sign: _,
+            right: _,
+        } = self;
+    }
 }
 
 /// A number before an atom with a blank, and nothing where it is 1.

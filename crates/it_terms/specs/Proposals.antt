@@ -1,0 +1,12 @@
+-- No public clause cites this module: what the makers of a proof's text say of it.
+use Rattle.std.specs.Prelude.{ℕ, List, map, Option, IfSome, Vec}
+use Rattle.std.specs.Global.{Global}
+use Rattle.it_space.specs.declared.problems.Constraint.{Constraint}
+use Rattle.it_space.specs.Rows.{Terms, value}
+use Rattle.it_elemental.specs.Generators.{forms_of, of_constraint}
+use Rattle.it_syntax.specs.NamesViews.{NamesView}
+use Rattle.it_terms.specs.Proofs.{TellsProof}
+
+-- a text, if there is one, tells a proof of the target from the constraints
+abbrev pub MayProve : NamesView → Terms → List Constraint → Option (Vec ℕ Global) → Type 0
+MayProve names target constraints o = IfSome o (λ text. TellsProof names (value target) (forms_of (map of_constraint constraints)) text.items)
