@@ -26,18 +26,18 @@ module _ (back : ReadsBack) (budgets : Budgets) (plans : List Plan) (few : IfSom
   abbrev Judges : ℕ → Bool → List (List ℕ) → Bool → List ℕ → Type 0
   Judges j before lines some told = Groups check_mode.IsRight check_mode.after check_mode.text j before lines some told
 
-  none_invalid : (k j : ℕ) (front qs : List QuestionView) (s t : Context) (some : Bool) (out told : List ℕ) → whole ≡ front ++ qs → All (λ q. IsQuestion q.body) qs → All (λ q. length q.text ≤ length bytes + 1) qs
+  none_invalid : (k j : ℕ) (prefix qs : List QuestionView) (s t : Context) (some : Bool) (out told : List ℕ) → whole ≡ prefix ++ qs → All (λ q. IsQuestion q.body) qs → All (λ q. length q.text ≤ length bytes + 1) qs
       → Groups (answer_mode budgets plans Json).IsRight after_answer (answer_mode budgets plans Json).text k s qs t out → Judges j false (split_lines out) some told → some ≡ false
-  none_invalid k j front [] s t some out told e limits lengths g v = (subst (λ (o : List ℕ). Judges j false (split_lines o) some told) g.1 v).0
-  none_invalid k j front (q ∷ qs) s t some out told e limits lengths g v =
+  none_invalid k j prefix [] s t some out told e limits lengths g v = (subst (λ (o : List ℕ). Judges j false (split_lines o) some told) g.1 v).0
+  none_invalid k j prefix (q ∷ qs) s t some out told e limits lengths g v =
       let long = All-head (λ (q : QuestionView). length q.text ≤ length bytes + 1) q qs lengths in
       let limit = All-head (λ (q : QuestionView). IsQuestion q.body) q qs limits in
-      let fine = right_accepted back budgets (map (plan_after_all s) plans) q g.0 few few_tries (omega (arith, long, short)) (text_reads_back bytes whole qs q front file e) limit g.2 in
+      let fine = right_accepted back budgets (map (plan_after_all s) plans) q g.0 few few_tries (omega (arith, long, short)) (text_reads_back bytes whole qs q prefix file e) limit g.2 in
       let line = answer_text q.text q.body.names g.0.answer in
       let cut : split_lines out ≡ line ∷ split_lines g.1 = ap split_lines g.4 ∙ split_one line g.1 fine.clear in
       let w = subst (λ (ls : List (List ℕ)). Judges j false ls some told) cut v in
       let ok = fine.verdicts w.0 w.2 in
-      none_invalid (k + 1) (j + 1) (front ++ q ∷ []) qs (after_answer s q g.0) t some g.1 w.1 (e ∙ sym (append_assoc front (q ∷ []) qs))
+      none_invalid (k + 1) (j + 1) (prefix ++ q ∷ []) qs (after_answer s q g.0) t some g.1 w.1 (e ∙ sym (append_assoc prefix (q ∷ []) qs))
       (All-tail (λ (q : QuestionView). IsQuestion q.body) q qs limits) (All-tail (λ (q : QuestionView). length q.text ≤ length bytes + 1) q qs lengths) g.3
       (subst (λ (b : Bool). Judges (j + 1) (false || b) (split_lines g.1) some w.1) ok w.3)
 

@@ -2,7 +2,7 @@
 use Rattle.std.proofs.Common.{◌≡◌, ℕ, zero, suc, ◌+◌, ◌<◌, ◌≤◌, List, [], ◌∷◌, length, drop, get_or, Bool, true, false, ◌||◌, ◌==◌, Option, refl, sym, ap, subst, ◌∙◌, arith}
 use Rattle.std.proofs.lemmas.Bool.{eqb-true}
 use Rattle.std.proofs.lemmas.List.{nil_from_length}
-use Rattle.it_outside.specs.Traffic.{Gains, TookFront}
+use Rattle.it_outside.specs.Traffic.{Gains, TookPrefix}
 use Rattle.it_question.specs.Lines.{split_lines}
 use Rattle.it_report.specs.Judging.{IsJudgedLine}
 use Rattle.it_cli.specs.Outputs.{check_mode, verdict_status}
@@ -39,7 +39,7 @@ checked_more a b c bytes rest line after k some_invalid invalid text piece h spl
     }
 
 pub checked_stops : (a b c : Option (List ℕ)) (bytes rest line after : List ℕ) (k : ℕ) (some_invalid invalid : Bool) (text piece : List ℕ) → IsChecked a b bytes rest k some_invalid
-    → split_lines rest ≡ line ∷ split_lines after → IsJudgedLine (k + 1) line text invalid → piece ≡ text → TookFront b c piece → WroteInPart check_mode a c bytes
+    → split_lines rest ≡ line ∷ split_lines after → IsJudgedLine (k + 1) line text invalid → piece ≡ text → TookPrefix b c piece → WroteInPart check_mode a c bytes
 checked_stops a b c bytes rest line after k some_invalid invalid text piece h split judged same took =
     let next = next_item k (split_lines bytes) (split_lines after) line (h.rest_is ∙ split) in
     replies_stop check_mode a b c bytes (split_lines bytes) k some_invalid line judged.verdict text piece refl h.written next.0 next.1 judged.is judged.told.0 same took

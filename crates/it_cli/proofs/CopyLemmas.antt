@@ -1,48 +1,29 @@
--- What mode `copy` reads and writes, and what a yes with copies says.
-use Rattle.std.proofs.Common.{◌≡◌, ℕ, ◌+◌, ◌<◌, ◌≤◌, ◌^◌, ℤ, List, [], drop, length, map, get_or, inl, inr, refl, sym, ap, subst, ◌∙◌, arith}
+-- What mode `copy` writes, and what a yes with copies says.
+use Rattle.std.proofs.Common.{◌≡◌, ℕ, ◌<◌, ℤ, List, [], length, map, get_or, Option, Result, Ok, Err, IfOk, refl, sym, ap, subst, ◌∙◌, arith}
+use Rattle.std.specs.Global.{Vec}
 use Rattle.std.proofs.lemmas.List.{length-map, get_or-map}
 use Rattle.it_space.specs.Answers.{AnswerView}
 use Rattle.it_polymatroid.specs.Polymatroid.{IsPolymatroid}
-use Rattle.it_forms.specs.declared.types.Code.{Code}
 use Rattle.it_syntax.specs.Meaning.{RelationView, Holds}
 use Rattle.it_question.specs.declared.types.Question.{Question}
-use Rattle.it_question.specs.declared.types.FileFault.{FileFault}
-use Rattle.it_question.specs.declared.types.FileFault.TheVariants as faults
-use Rattle.it_question.specs.Files.{FileFaultAt, IsFile}
-use Rattle.it_question.specs.Questions.{BodyView, QuestionView, question_view, VerbView, Prove, Eliminate, Contain}
+use Rattle.it_question.specs.Questions.{BodyView, question_view, VerbView, Prove, Eliminate, Contain}
 use Rattle.it_question.specs.Tables.{problem_lines_by, problem_names_by}
 use Rattle.it_canon.specs.QuestionDemands.{AreTrueAt}
 use Rattle.it_copy.specs.CopyLines.{CopyView}
-use Rattle.it_copy.specs.Extensions.{IsProof}
-use Rattle.it_copy.specs.Files.{CopyFileFaultAt, IsCopyFile}
-use Rattle.it_copy.specs.Heads.{IsFirstHeadFault, IsHead}
+use Rattle.it_copy.specs.declared.types.CopyFault.{CopyFault}
+use Rattle.it_copy.specs.declared.types.CopyFault.TheVariants.{Memory}
+use Rattle.it_copy.specs.Extensions.{IsMisfit, IsProof}
 use Rattle.it_copy.specs.Points.{YesByCopies}
-use Rattle.it_copy.proofs.NumberLemmas.{fault_line_few}
 use Rattle.it_region.specs.declared.types.Candidate.{Candidate}
 use Rattle.it_contain.specs.Proposals.{Plan}
 use Rattle.it_answer.specs.declared.types.Budgets.{Budgets}
 use Rattle.it_answer.specs.RightAnswers.{IsDueBy, IsRightAnswer}
 use Rattle.it_answer.specs.Shows.{AYesIsTrue}
-use Rattle.it_cli.specs.Copies.{AYesWithCopiesIsTrue, CopyQuestion, IsRightProof, steps_alone, with_copies}
-use Rattle.it_cli.specs.InnerEnds.{IsFirstCopyFault}
+use Rattle.it_cli.specs.Copies.{AYesWithCopiesIsTrue, CopyQuestion, IsRightProof, Misfit, steps_alone, with_copies}
+use Rattle.it_cli.specs.InnerEnds.{IsTextOf}
+use Rattle.it_cli.specs.Misfits.{misfit_line}
+use Rattle.it_cli.specs.Outputs.{copy_mode}
 use Rattle.it_cli.proofs.RightLemmas.{question_at}
-
--- ---- the file
-
-pub read_file : (bytes : List ℕ) (copies : List CopyView) (from skipped : ℕ) (qs : List QuestionView) (rest : List ℕ) → IsHead bytes copies from skipped → rest ≡ drop from bytes → IsFile rest qs → IsCopyFile bytes copies qs
-read_file bytes copies from skipped qs rest asks is file = record { from = from; skipped = skipped; asks = asks; asked = subst (λ (b : List ℕ). IsFile b qs) is file }
-
-pub head_fault : (bytes : List ℕ) (fault : FileFault) → IsFirstHeadFault bytes fault → IsFirstCopyFault bytes fault
-head_fault bytes faults.Memory is = tt
-head_fault bytes (faults.Fault line column code) is = inl is
-
-pub later_fault : (bytes : List ℕ) (copies : List CopyView) (from skipped line column : ℕ) (code : Code) (rest : List ℕ) → IsHead bytes copies from skipped → rest ≡ drop from bytes → FileFaultAt rest line column code → CopyFileFaultAt bytes (skipped + line) column code
-later_fault bytes copies from skipped line column code rest asks is fault =
-    inr (record { copies = copies; from = from; skipped = skipped; asks = asks; own = line; fault = subst (λ (b : List ℕ). FileFaultAt b line column code) is fault; place = refl })
-
--- the line of a fault after the head fits
-pub line_fits : (rest : List ℕ) (skipped line column : ℕ) (code : Code) → length rest ≤ 1048576 → skipped ≤ 1048576 → FileFaultAt rest line column code → skipped + line < 2 ^ 32
-line_fits rest skipped line column code short few fault = omega (arith, fault_line_few rest line column code fault)
 
 -- ---- the answer to one question
 
@@ -55,6 +36,12 @@ due_alone b plans q (Contain first second tries) a found proof h = absurd proof
 -- a right answer to a question about a relation finds no candidate, and rests on its steps alone
 pub right_alone : (b : Budgets) (plans : List Plan) (q : BodyView) (a : AnswerView) (found : List Candidate) → IsProof q.verb → IsRightAnswer b plans q (record { answer = a; found = found }) → IsRightProof b.pivots q a
 right_alone b plans q a found proof right = record { shows = right.shows; due = due_alone b plans q q.verb a found proof right.due }
+
+-- the line that says why there is no such question is a right reply
+pub misfit_text : {E : Type 0} (pivots : Option ℕ) (x : CopyQuestion) (k : ℕ) (fault : CopyFault) (r : Result (Vec ℕ) E) → IsMisfit x.question.body x.copies fault → IfOk r (λ t. t.items ≡ misfit_line k fault) → IfOk r (λ t. fault ≡ Memory → ⊥)
+    → IfOk r (λ t. IsTextOf (copy_mode pivots) tt k x t.items)
+misfit_text pivots x k fault (Ok t) misfit told some = record { reply = Misfit fault; right = (some, misfit); is = told }
+misfit_text pivots x k fault (Err e) misfit told some = tt
 
 -- ---- what a yes says
 

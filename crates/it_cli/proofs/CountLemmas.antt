@@ -16,7 +16,8 @@ use Rattle.it_answer.specs.declared.types.Budgets.{Budgets}
 use Rattle.it_answer.specs.Replies.{Reply}
 use Rattle.it_answer.specs.Shows.{ShowsBy}
 use Rattle.it_answer.specs.RightAnswers.{OneRightAnswer, IsRightAnswer, IsAnswered}
-use Rattle.it_cli.specs.Counts.{AreCounted, no_counts, total, with_answer}
+use Rattle.it_cli.specs.Counts.{AreCounted, no_counts, with_answer}
+use Rattle.it_cli.specs.CountSteps.{total}
 use Rattle.it_cli.specs.Laws.{CountsAddUp}
 use Rattle.it_cli.specs.Right.{Context, IsRightAfter, after_answer}
 use Rattle.it_cli.specs.declared.counts.Counts.{Counts}

@@ -63,9 +63,9 @@ no_limit r settings most reading none h = some_not_none (sym h.limit ∙ ap most
 -- ---- the usage line
 
 untouched_in_part : (r : Call) → HasNone r → IsDueInPart r → IsUntouched r
-untouched_in_part r none (inl (no_reading, untouched, front)) = untouched
-untouched_in_part r none (inr (inl (t, front))) = absurd (has_one_or_none r t.limit.settings t.limit.reading none)
-untouched_in_part r none (inr (inr (inl (u, front)))) = absurd (has_one_or_none r u.settings u.input.reading none)
+untouched_in_part r none (inl (no_reading, untouched, prefix)) = untouched
+untouched_in_part r none (inr (inl (t, prefix))) = absurd (has_one_or_none r t.limit.settings t.limit.reading none)
+untouched_in_part r none (inr (inr (inl (u, prefix)))) = absurd (has_one_or_none r u.settings u.input.reading none)
 untouched_in_part r none (inr (inr (inr part))) = absurd (has_one_or_none r part.settings part.input.reading none)
 
 pub usage_is_due : UsageIsDue
@@ -163,9 +163,9 @@ module _ (determined : ModesAreDetermined) where
 -- ---- mode bench
 
 unread_in_part : (r : Call) (seed count : ℕ) (pivots : Option ℕ) (rows tries : ℕ) → IsReading r (Bench seed count pivots rows tries) → IsDueInPart r → IsUntouched r
-unread_in_part r seed count pivots rows tries reading (inl (none, untouched, front)) = untouched
-unread_in_part r seed count pivots rows tries reading (inr (inl (t, front))) = absurd (no_limit r (Bench seed count pivots rows tries) t.most reading refl t.limit)
-unread_in_part r seed count pivots rows tries reading (inr (inr (inl (u, front)))) = absurd (fault_of r (Bench seed count pivots rows tries) u reading)
+unread_in_part r seed count pivots rows tries reading (inl (none, untouched, prefix)) = untouched
+unread_in_part r seed count pivots rows tries reading (inr (inl (t, prefix))) = absurd (no_limit r (Bench seed count pivots rows tries) t.most reading refl t.limit)
+unread_in_part r seed count pivots rows tries reading (inr (inr (inl (u, prefix)))) = absurd (fault_of r (Bench seed count pivots rows tries) u reading)
 unread_in_part r seed count pivots rows tries reading (inr (inr (inr part))) = unread_input r (Bench seed count pivots rows tries) part.settings part.bytes reading refl part.input
 
 never_invalid : (r : Call) (seed count : ℕ) (pivots : Option ℕ) (rows tries : ℕ) → IsReading r (Bench seed count pivots rows tries) → HasOutput r Invalid → ⊥

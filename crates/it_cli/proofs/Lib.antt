@@ -9,7 +9,7 @@ pub mod EndLemmas
 pub mod LawLemmas
 pub mod ShownLemmas
 pub mod OutputLemmas
-pub mod FrontLemmas
+pub mod PrefixLemmas
 pub mod CheckLemmas
 pub mod CopyLemmas
 pub mod SharingLemmas

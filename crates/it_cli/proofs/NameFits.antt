@@ -1,5 +1,5 @@
 -- The rates of a question that a file asks are found by their names, and none is the text of a number.
-use Rattle.std.proofs.Common.{◌≡◌, inl, inr, ℕ, zero, suc, ◌+◌, ◌-◌, ◌*◌, ◌<◌, ◌≤◌, ◌==◌, ◌&&◌, nat_lt, nat_le, pos, Bool, true, false, cond, not, List, [], ◌∷◌, ◌++◌, take, drop, length, get_or, Option, Some, None, option_map, option_and_then, bytes_eq, refl, sym, ap, subst, ◌∙◌, arith, rules, append_assoc, append-nil, length-append}
+use Rattle.std.proofs.Common.{◌≡◌, inl, inr, ℕ, zero, suc, ◌+◌, ◌-◌, ◌*◌, ◌<◌, ◌≤◌, ◌==◌, ◌&&◌, nat_lt, nat_le, pos, neg_ℤ, Bool, true, false, cond, not, List, [], ◌∷◌, ◌++◌, take, drop, length, get_or, Option, Some, None, option_map, option_and_then, bytes_eq, refl, sym, ap, subst, ◌∙◌, arith, rules, append_assoc, append-nil, length-append}
 use Rattle.std.specs.Char.{is_ascii_alphabetic, is_ascii_digit}
 use Rattle.std.specs.List.{AllByRecursion as Every, IsDistinct, position_or_len}
 use Rattle.std.proofs.lemmas.Bool.{ne_eqb}
@@ -26,7 +26,7 @@ use Rattle.it_question.specs.Texts.{text_of_lines, question_line_count, with_tex
 use Rattle.it_question.proofs.NewNameLemmas.{new_of}
 use Rattle.it_certificate.specs.AnswerShapes.{IsFoundIn}
 use Rattle.it_number.specs.Decimals.{value_from}
-use Rattle.it_certificate.specs.Numerals.{up_to_limit, magnitude_of, negative_of, integer_of, count_of_integer, step_of}
+use Rattle.it_certificate.specs.Numerals.{up_to_limit, magnitude_of, integer_of, count_of_integer, step_of}
 use Rattle.it_certificate.specs.Values.{rate_name}
 use Rattle.it_space.proofs.EveryLemmas.{every-append, every_front, every_back}
 use Rattle.it_forms.specs.Forms.{Keyword, Punctuation, Give, Then}
@@ -62,18 +62,18 @@ token_sound kinds.Word line start end text e h = subst IsLettered (sym e) h.0
 token_sound (kinds.Number n) line start end text e h = tt
 token_sound (kinds.Symbol s) line start end text e h = tt
 
-line_sound : (line front : List ℕ) (at : ℕ) (bytes : List ℕ) (ts : List Token) (m : Option Misspelling) → line ≡ front ++ bytes → length front ≡ at → SpellsUntil at bytes ts m
+line_sound : (line prefix : List ℕ) (at : ℕ) (bytes : List ℕ) (ts : List Token) (m : Option Misspelling) → line ≡ prefix ++ bytes → length prefix ≡ at → SpellsUntil at bytes ts m
     → Every IsSound (letters_until line ts (last_letter m))
-line_sound line front at bytes [] m e n h = (last_sound m, tt)
-line_sound line front at bytes (t ∷ ts) m e n h =
+line_sound line prefix at bytes [] m e n h = (last_sound m, tt)
+line_sound line prefix at bytes (t ∷ ts) m e n h =
     let c = h.1 in
-    let whole : line ≡ (front ++ c.gap) ++ (c.text ++ h.0) = e ∙ ap (λ (b : List ℕ). front ++ b) c.whole ∙ sym (append_assoc front c.gap (c.text ++ h.0)) in
-    let start : length (front ++ c.gap) ≡ t.start = omega (arith, length-append front c.gap, n, c.start) in
+    let whole : line ≡ (prefix ++ c.gap) ++ (c.text ++ h.0) = e ∙ ap (λ (b : List ℕ). prefix ++ b) c.whole ∙ sym (append_assoc prefix c.gap (c.text ++ h.0)) in
+    let start : length (prefix ++ c.gap) ≡ t.start = omega (arith, length-append prefix c.gap, n, c.start) in
     let long : length c.text ≡ t.end - t.start = omega (arith, c.end) in
     let text : take (t.end - t.start) (drop t.start line) ≡ c.text
-    = ap (λ (b : List ℕ). take (t.end - t.start) (drop t.start b)) whole ∙ ap (take (t.end - t.start)) (drop_at (front ++ c.gap) (c.text ++ h.0) t.start start) ∙ take_at c.text h.0 (t.end - t.start) long in
-    let end : length ((front ++ c.gap) ++ c.text) ≡ t.end = omega (arith, length-append (front ++ c.gap) c.text, start, c.end) in
-    (token_sound t.kind line t.start t.end c.text text c.spelled, line_sound line ((front ++ c.gap) ++ c.text) t.end h.0 ts m (whole ∙ sym (append_assoc (front ++ c.gap) c.text h.0)) end h.2)
+    = ap (λ (b : List ℕ). take (t.end - t.start) (drop t.start b)) whole ∙ ap (take (t.end - t.start)) (drop_at (prefix ++ c.gap) (c.text ++ h.0) t.start start) ∙ take_at c.text h.0 (t.end - t.start) long in
+    let end : length ((prefix ++ c.gap) ++ c.text) ≡ t.end = omega (arith, length-append (prefix ++ c.gap) c.text, start, c.end) in
+    (token_sound t.kind line t.start t.end c.text text c.spelled, line_sound line ((prefix ++ c.gap) ++ c.text) t.end h.0 ts m (whole ∙ sym (append_assoc (prefix ++ c.gap) c.text h.0)) end h.2)
 
 lines_sound : (n : ℕ) (split : List (List ℕ)) (lines : List LineView) → AreLines n split lines → Every IsSound (letters_of_lines lines)
 lines_sound n [] lines h = subst (λ (ls : List LineView). Every IsSound (letters_of_lines ls)) (sym h) (tt, tt)
@@ -212,7 +212,7 @@ unfolding step_of integer_of
 no_number [] h = absurd h
 no_number (c ∷ cs) h =
     let n = no_digit c h in
-    ap (λ b. option_and_then count_of_integer (cond b (option_map negative_of (magnitude_of cs)) (option_map pos (magnitude_of (c ∷ cs))))) n.1
+    ap (λ b. option_and_then count_of_integer (cond b (option_map (λ n. neg_ℤ (pos n)) (magnitude_of cs)) (option_map pos (magnitude_of (c ∷ cs))))) n.1
     ∙ ap (λ o. option_and_then count_of_integer (option_map pos o)) (magnitude_none c cs n.0)
 
 -- a rate of the question that a text asks

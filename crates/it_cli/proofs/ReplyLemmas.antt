@@ -1,7 +1,7 @@
 -- The loop over the items of a mode: the groups of it_outside, at right replies.
 use Rattle.std.proofs.Common.{◌≡◌, ℕ, ◌+◌, ◌<◌, ◌≤◌, List, ◌∷◌, ◌++◌, length, take, drop, get_or, Option, refl, sym, ap, subst, ◌∙◌, arith}
 use Rattle.std.proofs.lemmas.List.{drop_more, length-take-le, take-append-drop}
-use Rattle.it_outside.specs.Traffic.{Gains, TookFront, IsFront}
+use Rattle.it_outside.specs.Traffic.{Gains, TookPrefix, IsPrefix}
 use Rattle.it_outside.proofs.GroupLemmas.{UnderWay, under_way_first, under_way_more, under_way_done}
 use Rattle.it_outside.proofs.Moved.{Gains-trans}
 use Rattle.it_cli.specs.InnerEnds.{WroteFirst, WroteInPart, WroteWhole}
@@ -35,7 +35,7 @@ module _ (m : Mode) where
   }
 
   pub replies_stop : (a b c : Option (List ℕ)) (bytes : List ℕ) (items : List m.Item) (i : ℕ) (s : m.State) (x : m.Item) (reply : m.Reply) (text piece : List ℕ) → m.Asks bytes items → Replied a b items i s → i < length items
-      → get_or items i x ≡ x → m.IsRight s x reply → text ≡ m.text (i + 1) x reply → piece ≡ text → TookFront b c piece → WroteInPart m a c bytes
+      → get_or items i x ≡ x → m.IsRight s x reply → text ≡ m.text (i + 1) x reply → piece ≡ text → TookPrefix b c piece → WroteInPart m a c bytes
   replies_stop a b c bytes items i s x reply text piece asked w h read right is same took = record {
     out = w.out ++ took.part;
     output = record {
@@ -49,7 +49,7 @@ module _ (m : Mode) where
       reply = reply;
       right = right;
       part = took.part;
-      front = subst (IsFront took.part) (same ∙ is ∙ ap (λ n. m.text n x reply) (let e : i + 1 ≡ length (take i items) + 1 = omega (arith, length-take-le i items w.few) in e)) took.front;
+      prefix = subst (IsPrefix took.part) (same ∙ is ∙ ap (λ n. m.text n x reply) (let e : i + 1 ≡ length (take i items) + 1 = omega (arith, length-take-le i items w.few) in e)) took.prefix;
       is = refl;
     };
     wrote = Gains-trans a b c w.out took.part w.wrote took.taken;

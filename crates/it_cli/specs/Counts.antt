@@ -24,10 +24,6 @@ with_answer c (Region rows) = record c { regions = c.regions + 1 }
 with_answer c (Contained parts proofs) = record c { contained = c.contained + 1 }
 with_answer c (Open tried) = record c { left_open = c.left_open + 1 }
 
--- how many answers are counted
-abbrev pub total : Counts → ℕ
-total c = c.yes + c.no + c.undecided + c.regions + c.contained + c.left_open
-
 -- the counts before, and one right answer more for each question in order, come to this
 abbrev pub AreCounted : Budgets → List Plan → Context → Counts → List QuestionView → Counts → Type 0
 AreCounted budgets plans before counts [] end = end ≡ counts

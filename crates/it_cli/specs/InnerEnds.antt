@@ -1,12 +1,9 @@
 -- How the calls inside the top call end, by which its end is proved. No public clause cites this module.
 use Rattle.std.specs.Prelude.{◌≡◌, ℕ, List, [], ◌⊎◌, map, Option}
 use Rattle.it_outside.specs.Causes.{next_count}
-use Rattle.it_outside.specs.Traffic.{Gains, TookFront}
+use Rattle.it_outside.specs.Traffic.{Gains, TookPrefix}
 use Rattle.it_forms.specs.declared.types.Code.{Code}
-use Rattle.it_question.specs.declared.types.FileFault.{FileFault}
-use Rattle.it_question.specs.declared.types.FileFault.TheVariants as faults
 use Rattle.it_question.specs.Questions.{BodyView, QuestionView}
-use Rattle.it_copy.specs.Files.{CopyFileFaultAt}
 use Rattle.it_settings.specs.declared.types.Format.{Format}
 use Rattle.it_contain.specs.Proposals.{Plan, plan_after_all}
 use Rattle.it_space.specs.Answers.{AnswerView}
@@ -21,10 +18,10 @@ use Rattle.it_cli.specs.Refusals.{fault_line}
 use Rattle.it_cli.specs.declared.status.Status.{Status}
 use Rattle.it_cli.specs.declared.status.Status.TheVariants.{Done, Invalid, Refused, WriteFault, Memory}
 
--- a line was written and the status is this one, or a front of it was and a write failed
+-- a line was written and the status is this one, or a prefix of it was and a write failed
 abbrev pub EndOfLine : Option (List ℕ) → Option (List ℕ) → ℕ → ℕ → List ℕ → Status → Status → Type 0
 EndOfLine old new before now line status result =
-    ((result ≡ status) × (now ≡ before) × Gains old new line) ⊎ ((result ≡ WriteFault) × (now ≡ next_count before) × TookFront old new line)
+    ((result ≡ status) × (now ≡ before) × Gains old new line) ⊎ ((result ≡ WriteFault) × (now ≡ next_count before) × TookPrefix old new line)
 
 -- and there may have been too little memory for the line
 abbrev pub EndOfLineOrMemory : Option (List ℕ) → Option (List ℕ) → ℕ → ℕ → List ℕ → Status → Status → Type 0
@@ -48,11 +45,6 @@ pub record IsTextOf (m : Mode) (s : m.State) (k : ℕ) (x : m.Item) (bytes : Lis
   pub reply : m.Reply
   pub right : m.IsRight s x reply
   pub is : bytes ≡ m.text k x reply
-
--- of an error: memory ran out, or it is the first fault of a file with a head
-abbrev pub IsFirstCopyFault : List ℕ → FileFault → Type 0
-IsFirstCopyFault bytes faults.Memory = Unit {0}
-IsFirstCopyFault bytes (faults.Fault line column code) = CopyFileFaultAt bytes line column code
 
 -- the line with which bytes are refused, that of their first fault
 abbrev pub IsRefusal : Mode → List ℕ → List ℕ → Type 0
@@ -79,7 +71,7 @@ pub record WroteInPart (m : Mode) (old new : Option (List ℕ)) (bytes : List �
 -- what was done for these bytes
 abbrev pub EndOfBytes : Mode → Option (List ℕ) → Option (List ℕ) → ℕ → ℕ → List ℕ → Status → Type 0
 EndOfBytes m old new before now bytes Refused = (now ≡ before) × (text : List ℕ) × IsRefusal m bytes text × Gains old new text
-EndOfBytes m old new before now bytes WriteFault = (now ≡ next_count before) × (((text : List ℕ) × IsRefusal m bytes text × TookFront old new text) ⊎ WroteInPart m old new bytes)
+EndOfBytes m old new before now bytes WriteFault = (now ≡ next_count before) × (((text : List ℕ) × IsRefusal m bytes text × TookPrefix old new text) ⊎ WroteInPart m old new bytes)
 EndOfBytes m old new before now bytes Done = (now ≡ before) × WroteWhole m old new bytes Done
 EndOfBytes m old new before now bytes Invalid = (now ≡ before) × WroteWhole m old new bytes Invalid
 EndOfBytes m old new before now bytes Memory = (now ≡ before) × (Gains old new [] ⊎ WroteFirst m old new bytes)

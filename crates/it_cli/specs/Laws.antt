@@ -16,7 +16,7 @@ use Rattle.it_gen.specs.GeneratedFiles.{generated_file}
 use Rattle.it_cli.specs.Counts.{AreCounted, IsBenchLine, no_counts}
 use Rattle.it_cli.specs.declared.counts.Counts.{Counts}
 use Rattle.it_cli.specs.Modes.{IsDetermined}
-use Rattle.it_cli.specs.Outputs.{IsFirstOutput, IsFrontOfOutput, IsOutput, IsOutputInPart, Verdicts, mode_of, most_bytes, verdict_status}
+use Rattle.it_cli.specs.Outputs.{IsFirstOutput, IsPrefixOfOutput, IsOutput, IsOutputInPart, Verdicts, mode_of, most_bytes, verdict_status}
 use Rattle.it_cli.specs.Refusals.{long_line, fault_line}
 use Rattle.it_cli.specs.Ends.{Call, Ends, IsReading, HasNone, IsUntouched, ReadFailed, WriteFailed, Wrote, HasOutput}
 use Rattle.it_cli.specs.declared.status.Status.{Status}
@@ -107,12 +107,12 @@ NoLineIsOutOfSteps = (budgets : Budgets) (plans : List Plan) (q : BodyView) (ste
 
 -- ---- what is written in part
 
--- what is written of the verdicts on a report, whichever way they are cut off, is a front of a whole output
-abbrev pub VerdictsAreFront : Type 0
-VerdictsAreFront = (plans : List Plan) (bytes out : List ℕ) → IsFirstOutput plans Check bytes out ⊎ IsOutputInPart plans Check bytes out → IsFrontOfOutput plans Check bytes out
+-- what is written of the verdicts on a report, whichever way they are cut off, is a prefix of a whole output
+abbrev pub VerdictsArePrefix : Type 0
+VerdictsArePrefix = (plans : List Plan) (bytes out : List ℕ) → IsFirstOutput plans Check bytes out ⊎ IsOutputInPart plans Check bytes out → IsPrefixOfOutput plans Check bytes out
 
--- what is written of the line of counts where a write fails is a front of a whole output; where memory is wanted, nothing or a whole output
-abbrev pub CountsAreFront : Type 0
-CountsAreFront = (plans : List Plan) (seed count : ℕ) (pivots : Option ℕ) (rows tries : ℕ) (bytes out : List ℕ)
-    → (IsOutputInPart plans (Bench seed count pivots rows tries) bytes out → IsFrontOfOutput plans (Bench seed count pivots rows tries) bytes out)
-    × (IsFirstOutput plans (Bench seed count pivots rows tries) bytes out → (out ≡ []) ⊎ IsFrontOfOutput plans (Bench seed count pivots rows tries) bytes out)
+-- what is written of the line of counts where a write fails is a prefix of a whole output; where memory is wanted, nothing or a whole output
+abbrev pub CountsArePrefix : Type 0
+CountsArePrefix = (plans : List Plan) (seed count : ℕ) (pivots : Option ℕ) (rows tries : ℕ) (bytes out : List ℕ)
+    → (IsOutputInPart plans (Bench seed count pivots rows tries) bytes out → IsPrefixOfOutput plans (Bench seed count pivots rows tries) bytes out)
+    × (IsFirstOutput plans (Bench seed count pivots rows tries) bytes out → (out ≡ []) ⊎ IsPrefixOfOutput plans (Bench seed count pivots rows tries) bytes out)

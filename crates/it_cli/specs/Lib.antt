@@ -1,6 +1,7 @@
 pub mod Refusals
 pub mod Right
 pub mod Counts
+pub mod CountSteps
 pub mod Modes
 pub mod Misfits
 pub mod Copies

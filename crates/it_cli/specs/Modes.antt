@@ -1,7 +1,7 @@
 -- What a mode is, and what it makes of an input.
 use Rattle.std.specs.Prelude.{◌≡◌, ℕ, ◌+◌, List, ◌∷◌, ◌++◌, length}
 use Rattle.it_outside.specs.Groups.{Groups}
-use Rattle.it_outside.specs.Traffic.{IsFront}
+use Rattle.it_outside.specs.Traffic.{IsPrefix}
 use Rattle.it_forms.specs.declared.types.Code.{Code}
 use Rattle.it_cli.specs.declared.status.Status.{Status}
 
@@ -40,7 +40,7 @@ pub record FirstOutput (m : Mode) (bytes out : List ℕ) : Type 0 where
   pub state : m.State
   pub replies : Replies m items state out
 
--- the same, and then a front of the lines of a right reply to the next
+-- the same, and then a prefix of the lines of a right reply to the next
 pub record OutputInPart (m : Mode) (bytes out : List ℕ) : Type 0 where
   pub items : List m.Item
   pub next : m.Item
@@ -52,7 +52,7 @@ pub record OutputInPart (m : Mode) (bytes out : List ℕ) : Type 0 where
   pub reply : m.Reply
   pub right : m.IsRight state next reply
   pub part : List ℕ
-  pub front : IsFront part (m.text (length items + 1) next reply)
+  pub prefix : IsPrefix part (m.text (length items + 1) next reply)
   pub is : out ≡ whole ++ part
 
 -- bytes ask for one list of items, or have one first fault, and not both; and an item has one right reply in a state

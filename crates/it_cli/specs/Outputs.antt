@@ -1,6 +1,6 @@
 -- The modes, and what a whole input is answered with by the one that the words ask for.
 use Rattle.std.specs.Prelude.{◌≡◌, ℕ, List, [], ◌∷◌, Bool, true, false, ◌||◌, Option, Some, None}
-use Rattle.it_outside.specs.Traffic.{IsFront}
+use Rattle.it_outside.specs.Traffic.{IsPrefix}
 use Rattle.it_settings.specs.declared.types.Format.{Format}
 use Rattle.it_settings.specs.declared.types.Settings.{Settings}
 use Rattle.it_settings.specs.declared.types.Settings.TheVariants.{Answer, Check, Bench, Copy, Best, Sharing}
@@ -27,12 +27,9 @@ use Rattle.it_cli.specs.declared.status.Status.TheVariants.{Done, Invalid}
 
 -- the most bytes of an input; none where the mode has no input
 abbrev pub most_bytes : Settings → Option ℕ
-most_bytes (Answer format pivots rows tries) = Some 1048576
 most_bytes Check = Some 67108864
 most_bytes (Bench seed count pivots rows tries) = None
-most_bytes (Copy pivots) = Some 1048576
-most_bytes (Best pivots) = Some 1048576
-most_bytes (Sharing pivots) = Some 1048576
+most_bytes settings = Some 1048576
 
 -- ---- the modes
 
@@ -122,13 +119,13 @@ IsOutput plans settings bytes out status = WholeOutput (mode_of plans settings) 
 abbrev pub IsFirstOutput : List Plan → Settings → List ℕ → List ℕ → Type 0
 IsFirstOutput plans settings bytes out = FirstOutput (mode_of plans settings) bytes out
 
--- what is written of it where a write failed: the lines of the first items, and then a front of those of the next one
+-- what is written of it where a write failed: the lines of the first items, and then a prefix of those of the next one
 abbrev pub IsOutputInPart : List Plan → Settings → List ℕ → List ℕ → Type 0
 IsOutputInPart plans settings bytes out = OutputInPart (mode_of plans settings) bytes out
 
--- a front of an output
-abbrev pub IsFrontOfOutput : List Plan → Settings → List ℕ → List ℕ → Type 0
-IsFrontOfOutput plans settings bytes out = (whole : List ℕ) × (status : Status) × IsOutput plans settings bytes whole status × IsFront out whole
+-- a prefix of an output
+abbrev pub IsPrefixOfOutput : List Plan → Settings → List ℕ → List ℕ → Type 0
+IsPrefixOfOutput plans settings bytes out = (whole : List ℕ) × (status : Status) × IsOutput plans settings bytes whole status × IsPrefix out whole
 
 -- the output for a report: the verdict's line for each of its lines, and whether one is invalid
 abbrev pub Verdicts : List ℕ → Bool → List ℕ → Type 0

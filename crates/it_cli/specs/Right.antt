@@ -59,12 +59,8 @@ row_of_demand q d = record { kind = d.kind; row = terms_in q d.form }
 abbrev pub question_generators : BodyView → ℕ → Generator
 question_generators q g = row_of_demand q (demand_at (all_demands (variables_of q) (question_demands q)) g)
 
--- the line of an answer in the format `json`
-abbrev pub json_line : QuestionView → AnswerView → List ℕ
-json_line q a = answer_text q.text q.body.names a ++ codes "\n"
-
 -- the lines of an answer to question k
 abbrev pub answer_lines : Format → ℕ → QuestionView → AnswerView → List ℕ
 answer_lines Text k q a = answer_line k q.body (question_origins q.body) a
-answer_lines Json k q a = json_line q a
+answer_lines Json k q a = answer_text q.text q.body.names a ++ codes "\n"
 answer_lines Proof k q a = proof_text k q.body (question_origins q.body) (question_generators q.body) (map (terms_in q.body) (answer_forms q.body a)) a

@@ -1,5 +1,5 @@
 //! Mode `answer`: a question file and its answers.
-ghost use Rattle.std.specs.Prelude.{◌≡◌, ◌≤◌, length, map, All, IfOk, IsAscii};
+ghost use Rattle.std.specs.Prelude.{◌≡◌, ◌≤◌, ◌++◌, codes, length, map, All, IfOk, IsAscii};
 ghost use Rattle.it_space.specs.Answers.{answer_view};
 ghost use Rattle.it_question.specs.AsciiTexts.{IsAsciiQuestion};
 ghost use Rattle.it_question.specs.Limits.{IsQuestion};
@@ -11,11 +11,11 @@ ghost use Rattle.it_canon.specs.QuestionDemands.{question_demands};
 ghost use Rattle.it_answer.specs.AnswerForms.{IsAnswerTo, answer_forms};
 ghost use Rattle.it_print.specs.Lines.{IsPrintable, answer_line, origins_of};
 ghost use Rattle.it_print.specs.ProofLines.{generator_rows, proof_text};
-ghost use Rattle.it_certificate.specs.Values.{IsWritable};
+ghost use Rattle.it_certificate.specs.Values.{IsWritable, answer_text};
 ghost use Rattle.it_cli.specs.InnerEnds.{EndOfBytes, EndOfItems, EndOfLineOrMemory, IsAnswerText};
 ghost use Rattle.it_cli.specs.Outputs.{answer_mode};
 ghost use Rattle.it_cli.specs.Refusals.{fault_line};
-ghost use Rattle.it_cli.specs.Right.{answer_lines, json_line, terms_in};
+ghost use Rattle.it_cli.specs.Right.{answer_lines, terms_in};
 
 use crate::refusals::fault_line;
 use crate::status::Status;
@@ -89,9 +89,7 @@ fn answer_one(
     ensures { IfOk result (λ text. IsAnswerText budgets (map plan boxes.old.items) format k (question_view question.now) (map plan boxes.new.items) text.items) }
 {
     let answered = answer(alloc, question, budgets, boxes)?;
-    // named before it is answered, so that the contract of the call stands at the answer
-    let text = lines(alloc, format, k, question, &answered)?;
-    Ok(text)
+    lines(alloc, format, k, question, &answered)
 }
 
 /// The lines of an answer in a format.
@@ -141,7 +139,7 @@ pub fn text_lines(
 fn json_line(alloc: Global, question: &Question, answer: &Answer) -> Result<Vec<u8>, AllocError>
     requires ascii { IsAscii question.now.text.items }
     requires writable { IsWritable question.now.names (answer_view answer.now) }
-    ensures { IfOk result (λ line. line.items ≡ json_line (question_view question.now) (answer_view answer.now)) }
+    ensures { IfOk result (λ line. line.items ≡ answer_text question.now.text.items question.now.names (answer_view answer.now) ++ codes "\n") }
 {
     let mut line = answer_json(alloc, question.text.as_slice(), &question.names, answer)?;
     line.extend_from_slice(b"\n")?;

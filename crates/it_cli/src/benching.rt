@@ -54,9 +54,7 @@ fn generated_line(
 {
     let questions = generated_questions(alloc, seed, count)?;
     let counts = counts_of(alloc, budgets, questions.as_slice(), boxes)?;
-    // named before it is answered, so that the contract of the call stands at the answer
-    let line = bench_line(alloc, seed, count, counts)?;
-    Ok(line)
+    bench_line(alloc, seed, count, counts)
 }
 
 /// The questions of the generated file of a seed and a count.

@@ -1,32 +1,22 @@
 //! Mode `copy`: a file whose head asks for copies of variables, and the answers to its questions with these copies.
-ghost use Rattle.std.specs.Prelude.{◌≡◌, ◌≤◌, All, IfOk, IfErr, drop, length, map};
+ghost use Rattle.std.specs.Prelude.{◌≤◌, All, IfOk, length, map};
 ghost use Rattle.it_question.specs.Limits.{IsQuestion};
 ghost use Rattle.it_question.specs.Questions.{question_body, question_view};
 ghost use Rattle.it_copy.specs.CopyLines.{AreNamed, copy_view};
 ghost use Rattle.it_copy.specs.Extensions.{IsProof};
-ghost use Rattle.it_copy.specs.Files.{IsCopyFile};
-ghost use Rattle.it_copy.specs.Heads.{IsHead};
 ghost use Rattle.it_cli.specs.Copies.{with_copies};
-ghost use Rattle.it_cli.specs.InnerEnds.{EndOfBytes, EndOfItems, IsFirstCopyFault, IsProofText, IsTextOf};
+ghost use Rattle.it_cli.specs.InnerEnds.{EndOfBytes, EndOfItems, IsProofText, IsTextOf};
 ghost use Rattle.it_cli.specs.Outputs.{copy_mode};
 
 use crate::answering::{tell_fault, text_lines};
 use crate::misfits::misfit_line;
 use crate::status::Status;
 use it_answer::{Budgets, answer};
-use it_copy::types::{CopyLine, Head};
-use it_copy::{extend, head};
+use it_copy::types::CopyLine;
+use it_copy::{copy_file, extend};
 use it_outside::{Sink, write_all};
-use it_question::questions;
 use it_question::types::{FileFault, Question};
 use std::alloc::{AllocError, Global};
-
-/// What a file with a head asks: its copies and its questions.
-#[derive(Drop)]
-struct CopyFile {
-    copies: Vec<CopyLine>,
-    questions: Vec<Question>,
-}
 
 /// What is done for the bytes of a file with a head.
 pub fn answer_with_copies<K: Sink>(
@@ -49,56 +39,6 @@ pub fn answer_with_copies<K: Sink>(
         Err(FileFault::Fault { line, column, code }) => tell_fault(alloc, line, column, code, sink),
         Err(FileFault::Memory) => Status::Memory,
     }
-}
-
-/// The copies and the questions of a file with a head, or its first fault.
-fn copy_file(alloc: Global, bytes: &[u8]) -> Result<CopyFile, FileFault>
-    requires { length bytes.now ≤ 1048576 }
-    ensures read { IfOk result (λ f. IsCopyFile bytes.now (map copy_view f.copies.items) (map question_view f.questions.items)) }
-    ensures limits { IfOk result (λ f. All (λ q. IsQuestion (question_body q)) f.questions.items) }
-    ensures names { IfOk result (λ f. AreNamed f.copies.items) }
-    ensures few { IfOk result (λ f. length f.copies.items ≤ 4) }
-    ensures fault { IfErr result (IsFirstCopyFault bytes.now) }
-{
-    match head(alloc, bytes) {
-        Ok(head) => questions_after(alloc, bytes, head),
-        Err(fault) => Err(fault),
-    }
-}
-
-/// The questions after a head, or their first fault, with lines counted from the file's first one.
-fn questions_after(alloc: Global, bytes: &[u8], head: Head) -> Result<CopyFile, FileFault>
-    requires short { length bytes.now ≤ 1048576 }
-    requires asks { IsHead bytes.now (map copy_view head.lines.items) head.from head.skipped }
-    requires within { head.skipped ≤ length bytes.now }
-    requires names { AreNamed head.lines.items }
-    requires few { length head.lines.items ≤ 4 }
-    ensures read { IfOk result (λ f. IsCopyFile bytes.now (map copy_view f.copies.items) (map question_view f.questions.items)) }
-    ensures limits { IfOk result (λ f. All (λ q. IsQuestion (question_body q)) f.questions.items) }
-    ensures names { IfOk result (λ f. AreNamed f.copies.items) }
-    ensures few { IfOk result (λ f. length f.copies.items ≤ 4) }
-    ensures fault { IfErr result (IsFirstCopyFault bytes.now) }
-{
-    match questions(alloc, bytes_from(bytes, head.from)) {
-        Ok(questions) => Ok(CopyFile {
-            copies: head.lines,
-            questions,
-        }),
-        Err(FileFault::Memory) => Err(FileFault::Memory),
-        Err(FileFault::Fault { line, column, code }) => Err(FileFault::Fault {
-            line: head.skipped + line,
-            column,
-            code,
-        }),
-    }
-}
-
-/// The bytes from one on.
-fn bytes_from(bytes: &[u8], from: usize) -> &[u8]
-    requires { from ≤ length bytes.now }
-    ensures { result.now ≡ drop from bytes.now }
-{
-    bytes.split_at(from).1
 }
 
 /// Writes the lines of each question, as soon as they are there.
@@ -139,14 +79,8 @@ fn reply(
     ensures { IfOk result (λ text. IsTextOf (copy_mode pivots) tt k (with_copies (map copy_view copies.now) (question_view question.now)) text.items) }
 {
     match extend(alloc, question, copies) {
-        Ok(extended) => {
-            let text = proof_lines(alloc, pivots, k, &extended)?;
-            Ok(text)
-        }
-        Err(fault) => {
-            let text = misfit_line(alloc, k, fault)?;
-            Ok(text)
-        }
+        Ok(extended) => proof_lines(alloc, pivots, k, &extended),
+        Err(fault) => misfit_line(alloc, k, fault),
     }
 }
 
@@ -168,7 +102,5 @@ pub fn proof_lines(
     };
     let mut boxes = Vec::new(alloc);
     let answered = answer(alloc, question, budgets, &mut boxes)?;
-    // named before it is answered, so that the contract of the call stands at the answer
-    let text = text_lines(alloc, k, question, &answered)?;
-    Ok(text)
+    text_lines(alloc, k, question, &answered)
 }

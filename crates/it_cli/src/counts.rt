@@ -1,14 +1,15 @@
 //! How many answers are of each kind.
-ghost use Rattle.std.specs.Prelude.{◌≡◌, ◌<◌, ◌^◌, ◌++◌, IfOk, OnOk, decimal};
+ghost use Rattle.std.specs.Prelude.{◌≡◌, ◌<◌, ◌^◌, ◌++◌, IfOk, OnOk, codes, decimal};
 ghost use Rattle.it_space.specs.Answers.{answer_view};
-ghost use Rattle.it_cli.specs.Counts.{bench_line, no_counts, total, with_answer};
+ghost use Rattle.it_cli.specs.Counts.{bench_line, no_counts, with_answer};
+ghost use Rattle.it_cli.specs.CountSteps.{total};
 
 use it_print::write_number;
 use it_space::Answer;
 use std::alloc::{AllocError, Global};
 
 /// How many answers are of each kind.
-#[derive(Clone, Copy, Debug, PartialEq, Eq)]
+#[derive(Clone, Copy)]
 pub struct Counts {
     pub yes: usize,
     pub no: usize,
@@ -75,6 +76,32 @@ fn write_count(out: &mut Vec<u8>, word: &[u8], count: usize) -> Result<(), Alloc
     write_number(out, count)
 }
 
+/// Appends what was asked for: a seed and a count of questions.
+fn write_asked(out: &mut Vec<u8>, seed: u32, count: u32) -> Result<(), AllocError>
+    ensures { OnOk result (out.new.items ≡ out.old.items ++ codes "bench seed " ++ decimal seed ++ codes " count " ++ decimal count) }
+{
+    write_count(out, b"bench seed ", seed as usize)?;
+    write_count(out, b" count ", count as usize)
+}
+
+/// Appends how many answers are a yes, a no, or undecided.
+fn write_outcomes(out: &mut Vec<u8>, counts: Counts) -> Result<(), AllocError>
+    ensures { OnOk result (out.new.items ≡ out.old.items ++ codes " yes " ++ decimal counts.yes ++ codes " no " ++ decimal counts.no ++ codes " undecided " ++ decimal counts.undecided) }
+{
+    write_count(out, b" yes ", counts.yes)?;
+    write_count(out, b" no ", counts.no)?;
+    write_count(out, b" undecided ", counts.undecided)
+}
+
+/// Appends how many answers are about regions: a region, a substitution that was found, or none.
+fn write_regions(out: &mut Vec<u8>, counts: Counts) -> Result<(), AllocError>
+    ensures { OnOk result (out.new.items ≡ out.old.items ++ codes " region " ++ decimal counts.regions ++ codes " contained " ++ decimal counts.contained ++ codes " open " ++ decimal counts.left_open) }
+{
+    write_count(out, b" region ", counts.regions)?;
+    write_count(out, b" contained ", counts.contained)?;
+    write_count(out, b" open ", counts.left_open)
+}
+
 /// The line of mode `bench` for a seed and a count of questions.
 #[tactic(auto, unfolding(crate::specs::Counts::bench_line))]
 pub fn bench_line(
@@ -86,14 +113,9 @@ pub fn bench_line(
     ensures { IfOk result (λ line. line.items ≡ bench_line seed count counts) }
 {
     let mut line = Vec::new(alloc);
-    write_count(&mut line, b"bench seed ", seed as usize)?;
-    write_count(&mut line, b" count ", count as usize)?;
-    write_count(&mut line, b" yes ", counts.yes)?;
-    write_count(&mut line, b" no ", counts.no)?;
-    write_count(&mut line, b" undecided ", counts.undecided)?;
-    write_count(&mut line, b" region ", counts.regions)?;
-    write_count(&mut line, b" contained ", counts.contained)?;
-    write_count(&mut line, b" open ", counts.left_open)?;
+    write_asked(&mut line, seed, count)?;
+    write_outcomes(&mut line, counts)?;
+    write_regions(&mut line, counts)?;
     line.extend_from_slice(b"\n")?;
     Ok(line)
 }

@@ -62,13 +62,11 @@ pub fn factor_line(
     ensures { IfOk result (λ text. IsTextOf (best_mode pivots) tt k (question_view question.now) text.items) }
 {
     let replied = reply(alloc, question, pivots)?;
-    // named before it is answered, so that the contract of the call stands at the answer
-    let text = reply_line(
+    reply_line(
         alloc,
         k,
         question,
         replied.problem.constraints.as_slice(),
         &replied.reply,
-    )?;
-    Ok(text)
+    )
 }

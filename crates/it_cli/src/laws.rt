@@ -4,7 +4,7 @@ ghost use Rattle.it_answer.specs.RightAnswers.{AYesAscends, NoStepIsZero, OneRig
 ghost use Rattle.it_factor.specs.RightReplies.{LeastIsTrue, NeverIsTrue, UnboundedIsTrue};
 ghost use Rattle.it_cli.specs.Accepted.{OutputIsAccepted, ReportsAreAccepted};
 ghost use Rattle.it_cli.specs.Copies.{AYesWithCopiesIsTrue};
-ghost use Rattle.it_cli.specs.Laws.{BenchReadsNothing, CountsAddUp, CountsAreFront, CountsAreWritten, FaultIsDue, Headline, IsComplete, LongIsDue, ModesAreDetermined, NoLineIsOutOfSteps, OneOutput, SureEnds, UsageIsDue, VerdictsAreFront, VerdictsAreWritten};
+ghost use Rattle.it_cli.specs.Laws.{BenchReadsNothing, CountsAddUp, CountsArePrefix, CountsAreWritten, FaultIsDue, Headline, IsComplete, LongIsDue, ModesAreDetermined, NoLineIsOutOfSteps, OneOutput, SureEnds, UsageIsDue, VerdictsArePrefix, VerdictsAreWritten};
 ghost use Rattle.it_cli.specs.SharingVerdicts.{AYesHoldsWherePerfect, ANoSharesPerfectly, FactorsHoldWherePerfect};
 ghost use Rattle.it_cli.specs.Shown.{AnswersShow};
 
@@ -64,10 +64,10 @@ pub fn modes_are_determined()
     sharing_is_one();
 }
 
-/// What modes `check` and `bench` have written of an output in part is a front of a whole output.
-pub fn parts_are_fronts()
-    ensures verdicts { VerdictsAreFront }
-    ensures counts { CountsAreFront }
+/// What modes `check` and `bench` have written of an output in part is a prefix of a whole output.
+pub fn parts_are_prefixes()
+    ensures verdicts { VerdictsArePrefix }
+    ensures counts { CountsArePrefix }
 {
     each_line_is_judged();
 }

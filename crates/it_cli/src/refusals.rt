@@ -1,5 +1,5 @@
 //! The lines with which an input is refused.
-ghost use Rattle.std.specs.Prelude.{◌≡◌, IfOk};
+ghost use Rattle.std.specs.Prelude.{◌≡◌, ◌++◌, IfOk, OnOk, codes, decimal};
 ghost use Rattle.it_cli.specs.Refusals.{code_word, fault_line};
 
 use it_print::write_number;
@@ -26,6 +26,15 @@ fn word(code: Code) -> &'static [u8]
     }
 }
 
+/// Appends a line and a column.
+fn write_place(out: &mut Vec<u8>, line: u32, column: u32) -> Result<(), AllocError>
+    ensures { OnOk result (out.new.items ≡ out.old.items ++ decimal line ++ codes ":" ++ decimal column) }
+{
+    write_number(out, line as usize)?;
+    out.extend_from_slice(b":")?;
+    write_number(out, column as usize)
+}
+
 /// The line of a file's first fault.
 #[tactic(auto, unfolding(crate::specs::Refusals::fault_line))]
 pub fn fault_line(alloc: Global, line: u32, column: u32, code: Code) -> Result<Vec<u8>, AllocError>
@@ -33,9 +42,7 @@ pub fn fault_line(alloc: Global, line: u32, column: u32, code: Code) -> Result<V
 {
     let mut out = Vec::new(alloc);
     out.extend_from_slice(b"refused ")?;
-    write_number(&mut out, line as usize)?;
-    out.extend_from_slice(b":")?;
-    write_number(&mut out, column as usize)?;
+    write_place(&mut out, line, column)?;
     out.extend_from_slice(b" ")?;
     out.extend_from_slice(word(code))?;
     out.extend_from_slice(b"\n")?;

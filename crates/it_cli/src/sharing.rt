@@ -56,14 +56,8 @@ fn lines(alloc: Global, pivots: Option<u32>, sharing: &Sharing) -> Result<Vec<u8
     ensures { IfOk result (λ text. IsTextOf (sharing_mode pivots) tt 1 (sharing_view sharing.now) text.items) }
 {
     match made(alloc, sharing) {
-        Ok(made) => {
-            let text = made_lines(alloc, pivots, sharing, &made)?;
-            Ok(text)
-        }
-        Err(MadeFault::Many) => {
-            let text = many_line(alloc)?;
-            Ok(text)
-        }
+        Ok(made) => made_lines(alloc, pivots, sharing, &made),
+        Err(MadeFault::Many) => many_line(alloc),
         Err(MadeFault::Memory) => Err(AllocError),
     }
 }

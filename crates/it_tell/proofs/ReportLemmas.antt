@@ -2,7 +2,7 @@
 use Rattle.std.proofs.Common.{◌≡◌, ℕ, ◌+◌, ◌<◌, ◌≤◌, List, [], ◌∷◌, length, drop, get_or, Bool, true, false, ◌||◌, ◌==◌, Option, refl, sym, ap, subst, ◌∙◌, arith}
 use Rattle.std.proofs.lemmas.Bool.{eqb-true}
 use Rattle.std.proofs.lemmas.List.{drop_more, length-drop, nil_from_length}
-use Rattle.it_outside.specs.Traffic.{Gains, TookFront}
+use Rattle.it_outside.specs.Traffic.{Gains, TookPrefix}
 use Rattle.it_question.specs.Lines.{split_lines}
 use Rattle.it_cli.specs.Outputs.{verdict_status}
 use Rattle.it_cli.specs.InnerEnds.{EndOfBytes, WroteFirst, WroteInPart, WroteWhole}
@@ -41,7 +41,7 @@ told_more with_steps a b c bytes rest line after k some_invalid invalid text pie
     }
 
 pub told_stops : (with_steps : Bool) (a b c : Option (List ℕ)) (bytes rest line after : List ℕ) (k : ℕ) (some_invalid invalid : Bool) (text piece : List ℕ) → IsTold with_steps a b bytes rest k some_invalid
-    → split_lines rest ≡ line ∷ split_lines after → IsToldLine with_steps (k + 1) line text invalid → piece ≡ text → TookFront b c piece → WroteInPart (tell_mode with_steps) a c bytes
+    → split_lines rest ≡ line ∷ split_lines after → IsToldLine with_steps (k + 1) line text invalid → piece ≡ text → TookPrefix b c piece → WroteInPart (tell_mode with_steps) a c bytes
 told_stops with_steps a b c bytes rest line after k some_invalid invalid text piece h split told same took =
     let next = item_of_drop k (split_lines bytes) (split_lines after) line (h.rest_is ∙ split) in
     replies_stop (tell_mode with_steps) a b c bytes (split_lines bytes) k some_invalid line told.telling text piece refl h.written next.0 next.1 told.is told.text_is same took

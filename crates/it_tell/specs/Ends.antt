@@ -2,7 +2,7 @@
 use Rattle.std.specs.Prelude.{◌≡◌, ℕ, List, [], codes, Bool, false, ◌||◌, ◌⊎◌, Option, Some, None, option_and_then}
 use Rattle.it_outside.specs.Traffic.{GaveMore}
 use Rattle.it_question.specs.Lines.{split_lines}
-use Rattle.it_cli.specs.Ends.{Call, IsFaultless, IsTaken, IsUntouched, ReadFailed, WriteFailed, Wrote, WroteFront}
+use Rattle.it_cli.specs.Ends.{Call, IsFaultless, IsTaken, IsUntouched, ReadFailed, WriteFailed, Wrote, WrotePrefix}
 use Rattle.it_cli.specs.Modes.{FirstOutput, Mode, OutputInPart, WholeOutput}
 use Rattle.it_cli.specs.Outputs.{verdict_status}
 use Rattle.it_cli.specs.Refusals.{long_line}
@@ -79,7 +79,7 @@ pub record HasToldFirst (r : Call) : Type 0 where
   pub output : FirstOutput (tell_mode options.steps) bytes out
   pub wrote : Wrote r out
 
--- of the first lines, and a front of what is told of the next one
+-- of the first lines, and a prefix of what is told of the next one
 pub record HasToldInPart (r : Call) : Type 0 where
   pub options : Options
   pub asked : AsksToTell r options
@@ -101,5 +101,5 @@ Ends r Invalid = IsFaultless r × HasTold r Invalid
 Ends r Usage = IsFaultless r × HasNone r × IsUntouched r × Wrote r []
 Ends r Refused = IsFaultless r × IsTooLong r × Wrote r long_line
 Ends r ReadFault = ReadFailed r × ((options : Options) × AsksToTell r options) × Wrote r []
-Ends r WriteFault = WriteFailed r × ((IsTooLong r × WroteFront r long_line) ⊎ (HasToldInPart r ⊎ ((text : List ℕ) × (IsShowing r text × WroteFront r text))))
+Ends r WriteFault = WriteFailed r × ((IsTooLong r × WrotePrefix r long_line) ⊎ (HasToldInPart r ⊎ ((text : List ℕ) × (IsShowing r text × WrotePrefix r text))))
 Ends r Memory = IsFaultless r × ((((options : Options) × AsksToTell r options) × Wrote r []) ⊎ HasToldFirst r)

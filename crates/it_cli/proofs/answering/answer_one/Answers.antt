@@ -1,6 +1,10 @@
-use Rattle.it_question.specs.Questions.{question_body}
+use Rattle.std.proofs.Common.{◌≡◌}
+use Rattle.it_run.proofs.AnswerLemmas.{if_ok}
+use Rattle.it_question.specs.Questions.{question_body, question_view}
 use Rattle.it_space.specs.Answers.{answer_view}
 use Rattle.it_answer.proofs.KindLemmas.{is_answer_to}
+use Rattle.it_cli.specs.InnerEnds.{IsAnswerText}
+use Rattle.it_cli.specs.Right.{answer_lines}
 use Rattle.it_cli.proofs.LineLemmas.{few_constraints, right_is_printable}
 use Rattle.it_cli.proofs.answering.answer_one.Goals as goal
 
@@ -14,9 +18,10 @@ lines-requires-clause-printable g c =
     c.in_ok-answered.ensures.answered.right
 
 pub returns : goal.returns
-returns g c = record {
-  reply = record { answer = answer_view c.in_ok-answered.answered.answer; found = c.in_ok-answered.ensures.answered.found };
-  right = c.in_ok-answered.ensures.answered.right;
-  learned = c.in_ok-answered.ensures.answered.learned;
-  is = c.in_ok-text.ensures;
-}
+returns g c = if_ok c.lines.result (λ t. t.items ≡ answer_lines c.args.format c.args.k (question_view c.args.question.now) (answer_view c.in_ok-answered.answered.answer))
+    (λ t. IsAnswerText c.args.budgets _ c.args.format c.args.k (question_view c.args.question.now) _ t.items) c.lines.ensures (λ t is. record {
+      reply = record { answer = answer_view c.in_ok-answered.answered.answer; found = c.in_ok-answered.ensures.answered.found };
+      right = c.in_ok-answered.ensures.answered.right;
+      learned = c.in_ok-answered.ensures.answered.learned;
+      is = is;
+    })

@@ -1,5 +1,9 @@
+use Rattle.std.proofs.Common.{◌≡◌}
+use Rattle.it_run.proofs.AnswerLemmas.{if_ok}
 use Rattle.it_question.specs.Questions.{question_body, question_view}
 use Rattle.it_space.specs.Answers.{answer_view}
+use Rattle.it_print.specs.Lines.{answer_line, origins_of}
+use Rattle.it_cli.specs.InnerEnds.{IsProofText}
 use Rattle.it_cli.proofs.CopyLemmas.{right_alone}
 use Rattle.it_cli.proofs.LineLemmas.{few_constraints, right_is_printable, text_by_places}
 use Rattle.it_cli.proofs.copying.proof_lines.Goals as goal
@@ -11,8 +15,9 @@ text_lines-requires-clause-printable c =
     c.in_ok-answered.ensures.answered.right
 
 pub returns : goal.returns
-returns c = record {
-  answer = answer_view c.in_ok-answered.answered.answer;
-  right = right_alone (record { pivots = c.args.pivots; rows = 1; tries = 1 }) _ (question_body c.args.question.now) (answer_view c.in_ok-answered.answered.answer) c.in_ok-answered.ensures.answered.found c.requires.proof c.in_ok-answered.ensures.answered.right;
-  is = text_by_places (question_view c.args.question.now) c.args.k c.in_ok-answered.answered.problem.space c.in_ok-answered.answered.problem.constraints.items (answer_view c.in_ok-answered.answered.answer) c.in_ok-text.text.items c.in_ok-answered.ensures.problem c.in_ok-text.ensures;
-}
+returns c = if_ok c.text_lines.result (λ t. t.items ≡ answer_line c.args.k (question_body c.args.question.now) (origins_of c.in_ok-answered.answered.problem.constraints.items) (answer_view c.in_ok-answered.answered.answer))
+    (λ t. IsProofText c.args.pivots c.args.k (question_body c.args.question.now) t.items) c.text_lines.ensures (λ t is. record {
+      answer = answer_view c.in_ok-answered.answered.answer;
+      right = right_alone (record { pivots = c.args.pivots; rows = 1; tries = 1 }) _ (question_body c.args.question.now) (answer_view c.in_ok-answered.answered.answer) c.in_ok-answered.ensures.answered.found c.requires.proof c.in_ok-answered.ensures.answered.right;
+      is = text_by_places (question_view c.args.question.now) c.args.k c.in_ok-answered.answered.problem.space c.in_ok-answered.answered.problem.constraints.items (answer_view c.in_ok-answered.answered.answer) t.items c.in_ok-answered.ensures.problem is;
+    })

@@ -1,17 +1,17 @@
-use Rattle.it_question.specs.Questions.{question_body}
-use Rattle.it_cli.specs.Copies.{Extended, Misfit}
+use Rattle.std.proofs.Common.{map}
+use Rattle.it_run.proofs.AnswerLemmas.{if_ok}
+use Rattle.it_question.specs.Questions.{question_body, question_view}
+use Rattle.it_copy.specs.CopyLines.{copy_view}
+use Rattle.it_cli.specs.Copies.{Extended, with_copies}
+use Rattle.it_cli.specs.InnerEnds.{IsProofText, IsTextOf}
+use Rattle.it_cli.specs.Outputs.{copy_mode}
+use Rattle.it_cli.proofs.CopyLemmas.{misfit_text}
 use Rattle.it_cli.proofs.copying.reply.Goals as goal
 
-pub returns-in_ok-text-in-Ok : goal.returns-in_ok-text-in-Ok
-returns-in_ok-text-in-Ok c = record {
-  reply = Extended (question_body c.in-Ok.extended) c.in_ok-text-in-Ok.ensures.answer;
-  right = (c.in-Ok.ensures.extension, c.in_ok-text-in-Ok.ensures.right);
-  is = c.in_ok-text-in-Ok.ensures.is;
-}
+pub returns-in-Ok : goal.returns-in-Ok
+returns-in-Ok c = if_ok c.proof_lines.result (λ t. IsProofText c.args.pivots c.args.k (question_body c.in-Ok.extended) t.items)
+    (λ t. IsTextOf (copy_mode c.args.pivots) tt c.args.k (with_copies (map copy_view c.args.copies.now) (question_view c.args.question.now)) t.items) c.proof_lines.ensures
+    (λ t lines. record { reply = Extended (question_body c.in-Ok.extended) lines.answer; right = (c.in-Ok.ensures.extension, lines.right); is = lines.is })
 
-pub returns-in_ok-text-in-Err : goal.returns-in_ok-text-in-Err
-returns-in_ok-text-in-Err c = record {
-  reply = Misfit c.in-Err.fault;
-  right = (c.in_ok-text-in-Err.ensures.some, c.in-Err.ensures.misfit);
-  is = c.in_ok-text-in-Err.ensures.told;
-}
+pub returns-in-Err : goal.returns-in-Err
+returns-in-Err c = misfit_text c.args.pivots (with_copies (map copy_view c.args.copies.now) (question_view c.args.question.now)) c.args.k c.in-Err.fault c.misfit_line.result c.in-Err.ensures.misfit c.misfit_line.ensures.told c.misfit_line.ensures.some

@@ -1,13 +1,13 @@
--- What is written of an output in part is a front of a whole output: in a mode where each item has a right reply in each state, and in
+-- What is written of an output in part is a prefix of a whole output: in a mode where each item has a right reply in each state, and in
 -- mode `bench`.
 use Rattle.std.proofs.Common.{◌≡◌, ℕ, ◌+◌, inl, inr, List, [], ◌∷◌, ◌++◌, length, ◌⊎◌, refl, sym, ap, subst, ◌∙◌, arith, append_assoc, append-nil}
 use Rattle.it_outside.specs.Groups.{Groups}
-use Rattle.it_outside.specs.Traffic.{IsFront}
+use Rattle.it_outside.specs.Traffic.{IsPrefix}
 use Rattle.it_contain.specs.Proposals.{Plan}
 use Rattle.it_answer.specs.declared.types.Budgets.{Budgets}
 use Rattle.it_report.specs.Meaning.{EachLineIsJudged}
 use Rattle.it_cli.specs.Counts.{IsBenchLine}
-use Rattle.it_cli.specs.Laws.{CountsAreFront, VerdictsAreFront}
+use Rattle.it_cli.specs.Laws.{CountsArePrefix, VerdictsArePrefix}
 use Rattle.it_cli.specs.Modes.{FirstOutput, Mode, OutputInPart, WholeOutput}
 use Rattle.it_cli.specs.Outputs.{bench_mode, check_mode}
 use Rattle.it_cli.specs.Right.{budgets_of}
@@ -34,12 +34,12 @@ module _ (m : Mode) (each : (s : m.State) (x : m.Item) → (reply : m.Reply) × 
   replies_join k n s t u (x ∷ xs) ys out more e (reply, rest, right, groups, is) later =
       (reply, rest ++ more, right, replies_join (k + 1) n (m.after s x reply) t u xs ys rest more (let next : n ≡ (k + 1) + length xs = omega (arith, e) in next) groups later, ap (λ o. o ++ more) is ∙ append_assoc (m.text k x reply) rest more)
 
-  -- a front of a whole output
-  abbrev IsFrontOfWhole : List ℕ → List ℕ → Type 0
-  IsFrontOfWhole bytes out = (whole : List ℕ) × (status : Status) × WholeOutput m bytes whole status × IsFront out whole
+  -- a prefix of a whole output
+  abbrev IsPrefixOfWhole : List ℕ → List ℕ → Type 0
+  IsPrefixOfWhole bytes out = (whole : List ℕ) × (status : Status) × WholeOutput m bytes whole status × IsPrefix out whole
 
-  first_is_front : (bytes out : List ℕ) → FirstOutput m bytes out → IsFrontOfWhole bytes out
-  first_is_front bytes out o =
+  first_is_prefix : (bytes out : List ℕ) → FirstOutput m bytes out → IsPrefixOfWhole bytes out
+  first_is_prefix bytes out o =
       let later = some_replies (1 + length o.items) o.state o.later in (
         out ++ later.1,
         m.status later.0,
@@ -47,8 +47,8 @@ module _ (m : Mode) (each : (s : m.State) (x : m.Item) → (reply : m.Reply) × 
         (later.1, refl),
       )
 
-  part_is_front : (bytes out : List ℕ) → OutputInPart m bytes out → IsFrontOfWhole bytes out
-  part_is_front bytes out o =
+  part_is_prefix : (bytes out : List ℕ) → OutputInPart m bytes out → IsPrefixOfWhole bytes out
+  part_is_prefix bytes out o =
       let later = some_replies (length o.items + 1 + 1) (m.after o.state o.next o.reply) o.later in
       let text = m.text (length o.items + 1) o.next o.reply in (
         o.whole ++ (text ++ later.1),
@@ -61,14 +61,14 @@ module _ (m : Mode) (each : (s : m.State) (x : m.Item) → (reply : m.Reply) × 
           is = refl;
         },
         (
-          o.front.0 ++ later.1,
-          ap (λ t. o.whole ++ (t ++ later.1)) o.front.1 ∙ ap (λ t. o.whole ++ t) (append_assoc o.part o.front.0 later.1) ∙ sym (append_assoc o.whole o.part (o.front.0 ++ later.1)) ∙ ap (λ t. t ++ (o.front.0 ++ later.1)) (sym o.is),
+          o.prefix.0 ++ later.1,
+          ap (λ t. o.whole ++ (t ++ later.1)) o.prefix.1 ∙ ap (λ t. o.whole ++ t) (append_assoc o.part o.prefix.0 later.1) ∙ sym (append_assoc o.whole o.part (o.prefix.0 ++ later.1)) ∙ ap (λ t. t ++ (o.prefix.0 ++ later.1)) (sym o.is),
         ),
       )
 
-pub verdicts_are_front : EachLineIsJudged → VerdictsAreFront
-verdicts_are_front each plans bytes out (inl first) = first_is_front check_mode (λ s line. let judged = (each 1 line).2 in (judged.verdict, judged.is)) bytes out first
-verdicts_are_front each plans bytes out (inr part) = part_is_front check_mode (λ s line. let judged = (each 1 line).2 in (judged.verdict, judged.is)) bytes out part
+pub verdicts_are_prefix : EachLineIsJudged → VerdictsArePrefix
+verdicts_are_prefix each plans bytes out (inl first) = first_is_prefix check_mode (λ s line. let judged = (each 1 line).2 in (judged.verdict, judged.is)) bytes out first
+verdicts_are_prefix each plans bytes out (inr part) = part_is_prefix check_mode (λ s line. let judged = (each 1 line).2 in (judged.verdict, judged.is)) bytes out part
 
 -- ---- the line of counts
 
@@ -93,13 +93,13 @@ module _ (budgets : Budgets) (plans : List Plan) (seed count : ℕ) (bytes : Lis
   by_first_items [] later next state whole e (same, none) = none
   by_first_items (x ∷ xs) later next state whole e replies = absurd (none_follow xs later next (let tail : xs ++ next ∷ later ≡ [] = cc in tail))
 
-pub counts_are_front : CountsAreFront
-counts_are_front plans seed count pivots rows tries bytes out = (
+pub counts_are_prefix : CountsArePrefix
+counts_are_prefix plans seed count pivots rows tries bytes out = (
   λ o. (
     o.reply,
     Done,
     counts_whole (budgets_of pivots rows tries) plans seed count bytes o.reply o.right,
-    (o.front.0, o.front.1 ∙ ap (λ t. t ++ o.front.0) (sym (o.is ∙ ap (λ w. w ++ o.part) (by_first_items (budgets_of pivots rows tries) plans seed count bytes o.items o.later o.next o.state o.whole o.asked o.replies)))),
+    (o.prefix.0, o.prefix.1 ∙ ap (λ t. t ++ o.prefix.0) (sym (o.is ∙ ap (λ w. w ++ o.part) (by_first_items (budgets_of pivots rows tries) plans seed count bytes o.items o.later o.next o.state o.whole o.asked o.replies)))),
   ),
   λ o. elim (by_items (budgets_of pivots rows tries) plans seed count bytes o.items o.later o.state out o.asked o.replies) [
     | inl nothing ↦ inl nothing
