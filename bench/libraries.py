@@ -21,11 +21,20 @@ def stamp(crate):
     return SUMS[crate.folder]
 
 
+def stamped(crate):
+    """The sum of the files that the crate's library was made of."""
+    try:
+        with open(f"{os.path.dirname(crate.rlib)}/stamp", encoding="utf-8") as file:
+            return file.read()
+    except OSError:
+        return None
+
+
 def is_given(crate, theirs):
     """Whether the crate and all below it are proved there, of the same files."""
     if crate.name not in KNOWN:
         other = theirs.get(crate.name)
-        proved = other is not None and os.path.isfile(f"{other.rlib}/format")
+        proved = other is not None and os.path.isfile(f"{other.rlib}/format") and stamped(other) == stamp(other)
         KNOWN[crate.name] = proved and all(is_given(it, theirs) for it in crate.below()) and stamp(other) == stamp(crate)
     return KNOWN[crate.name]
 
@@ -47,6 +56,8 @@ def main(source):
         shutil.rmtree(f"{crate.folder}/out/rlib", ignore_errors=True)
         os.makedirs(f"{crate.folder}/out", exist_ok=True)
         shutil.copytree(os.path.dirname(theirs[crate.name].rlib), f"{crate.folder}/out/rlib", copy_function=link_or_copy)
+        # a file of its own: the other checkout's may be the same one by another name
+        os.remove(f"{crate.folder}/out/rlib/stamp")
         with open(f"{crate.folder}/out/rlib/stamp", "w", encoding="utf-8") as file:
             file.write(stamp(crate))
         taken.append(crate.name)

@@ -121,6 +121,23 @@ fn write_region(rt: HostRuntime, region: &Region) -> io::Result<()> {
     print!(rt; ")")
 }
 
+/// Writes rates by number.
+fn write_rates(rt: HostRuntime, rates: &[u8]) -> io::Result<()> {
+    for rate in rates {
+        print!(rt; " {rate}")?;
+    }
+    Ok(())
+}
+
+/// Writes the sets of the `try` lines.
+fn write_tries(rt: HostRuntime, tries: &[[VarSet; 4]]) -> io::Result<()> {
+    for sets in tries {
+        print!(rt; " try")?;
+        write_sets(rt, sets.as_slice())?;
+    }
+    Ok(())
+}
+
 /// Writes a verb with what it has.
 fn write_verb(rt: HostRuntime, verb: &Verb) -> io::Result<()> {
     match verb {
@@ -130,10 +147,7 @@ fn write_verb(rt: HostRuntime, verb: &Verb) -> io::Result<()> {
         }
         Verb::Eliminate(rates) => {
             print!(rt; " eliminate")?;
-            for rate in rates.as_slice() {
-                print!(rt; " {rate}")?;
-            }
-            Ok(())
+            write_rates(rt, rates.as_slice())
         }
         Verb::Contain {
             first,
@@ -143,11 +157,7 @@ fn write_verb(rt: HostRuntime, verb: &Verb) -> io::Result<()> {
             print!(rt; " contain")?;
             write_region(rt, first)?;
             write_region(rt, second)?;
-            for sets in tries.as_slice() {
-                print!(rt; " try")?;
-                write_sets(rt, sets.as_slice())?;
-            }
-            Ok(())
+            write_tries(rt, tries.as_slice())
         }
     }
 }
@@ -190,14 +200,21 @@ fn write_rows(rt: HostRuntime, word: &str, rows: &[Row]) -> io::Result<()> {
     Ok(())
 }
 
-/// Writes the constraints of a question, and the rows of its targets or of the system that it has rates eliminated from.
-fn write_problem(rt: HostRuntime, question: &Question) -> io::Result<()>
+/// Writes the constraints of a question.
+fn write_constraints(rt: HostRuntime, question: &Question) -> io::Result<()>
+    requires { IsQuestion (question_body question.now) }
+{
+    for constraint in problem(rt.alloc(), question)?.constraints.as_slice() {
+        write_constraint(rt, constraint)?;
+    }
+    Ok(())
+}
+
+/// Writes the rows of a question's targets, or of the system that it has rates eliminated from.
+fn write_asked(rt: HostRuntime, question: &Question) -> io::Result<()>
     requires { IsQuestion (question_body question.now) }
 {
     let alloc = rt.alloc();
-    for constraint in problem(alloc, question)?.constraints.as_slice() {
-        write_constraint(rt, constraint)?;
-    }
     match &question.verb {
         Verb::Prove(relation) => {
             let rows = target_rows(alloc, relation, question.names.space())?;
@@ -206,6 +223,14 @@ fn write_problem(rt: HostRuntime, question: &Question) -> io::Result<()>
         Verb::Eliminate(_) => write_rows(rt, "system", system(alloc, question)?.rows.as_slice()),
         Verb::Contain { .. } => Ok(()),
     }
+}
+
+/// Writes the constraints of a question, and the rows that it asks about.
+fn write_problem(rt: HostRuntime, question: &Question) -> io::Result<()>
+    requires { IsQuestion (question_body question.now) }
+{
+    write_constraints(rt, question)?;
+    write_asked(rt, question)
 }
 
 /// Writes a question in the task's way: as it is read, its text, or its rows.

@@ -167,6 +167,33 @@ fn after(
     }
 }
 
+/// The list after a rate without the rows that the others give, in one of the ways, and how many rows were asked about; None where
+/// there is no such list.
+fn reduced_after(
+    alloc: Global,
+    list: &System,
+    givens: &Problem,
+    rate: u8,
+    way: &str,
+) -> Result<Option<(System, usize)>, AllocError> {
+    let Some(after) = after(alloc, list, givens, rate)? else {
+        return Ok(None);
+    };
+    if !is_under(&after, givens) {
+        return Ok(None);
+    }
+    let asked = if way == "plain" { 0 } else { after.rows.len() };
+    Ok(Some((reduction(alloc, after, givens, way)?, asked)))
+}
+
+/// The rows of a question, and what they are under.
+fn rows_and_givens(alloc: Global, question: &Question) -> Result<(System, Problem), AllocError>
+    requires { IsQuestion (question_body question.now) }
+{
+    let rows = system(alloc, question)?;
+    Ok((rows, problem(alloc, question)?))
+}
+
 /// How many rows each rate leaves, up to a rate that has no list, and how often the solver was called.
 fn elimination(
     alloc: Global,
@@ -176,21 +203,15 @@ fn elimination(
 ) -> Result<(Vec<usize>, usize), AllocError>
     requires { IsQuestion (question_body question.now) }
 {
-    let givens = problem(alloc, question)?;
-    let mut list = system(alloc, question)?;
+    let (mut list, givens) = rows_and_givens(alloc, question)?;
     let (mut counts, mut calls) = (Vec::new(alloc), 0usize);
     for rate in rates {
-        let Some(after) = after(alloc, &list, &givens, *rate)? else {
+        let Some((after, asked)) = reduced_after(alloc, &list, &givens, *rate, way)? else {
             return Ok((counts, calls));
         };
-        if !is_under(&after, &givens) {
-            return Ok((counts, calls));
-        }
-        if way != "plain" {
-            calls = calls.wrapping_add(after.rows.len());
-        }
-        list = reduction(alloc, after, &givens, way)?;
-        counts.push(list.rows.len())?;
+        calls = calls.wrapping_add(asked);
+        counts.push(after.rows.len())?;
+        list = after;
     }
     Ok((counts, calls))
 }

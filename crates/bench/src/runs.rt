@@ -1,5 +1,6 @@
 //! Runs of the simplex method.
 
+ghost use Rattle.std.specs.Prelude.{◌≤◌};
 ghost use Rattle.it_question.specs.Limits.{IsQuestion};
 ghost use Rattle.it_question.specs.Questions.{question_body};
 
@@ -22,6 +23,18 @@ struct System {
     target: Row,
 }
 
+/// The rows of the elemental inequalities.
+fn elemental_rows(alloc: Global, variables: u8) -> Result<Vec<Row>, AllocError>
+    requires some { 1 ≤ variables }
+    requires few { variables ≤ 10 }
+{
+    let mut rows = Vec::new(alloc);
+    for index in 0..count(variables) {
+        rows.push(row(alloc, variables, index)?)?;
+    }
+    Ok(rows)
+}
+
 /// The system of a question that proves a relation.
 fn system_of(alloc: Global, question: &Question) -> Result<Option<System>, AllocError>
     requires { IsQuestion (question_body question.now) }
@@ -30,12 +43,8 @@ fn system_of(alloc: Global, question: &Question) -> Result<Option<System>, Alloc
     let Verb::Prove(relation) = &question.verb else {
         return Ok(None);
     };
-    let mut columns = Vec::new(alloc);
-    for index in 0..count(space.variables) {
-        columns.push(row(alloc, space.variables, index)?)?;
-    }
     Ok(Some(System {
-        columns,
+        columns: elemental_rows(alloc, space.variables)?,
         coordinates: (1..1u32 << space.variables).collect(alloc)?,
         target: canon(alloc, relation, space)?,
     }))

@@ -13,6 +13,7 @@ use it_contain::{
 use it_prove::{Proof, prove};
 use it_question::types::{Question, Verb};
 use it_simplex::Budget;
+use it_space::Row;
 use std::alloc::{AllocError, Global};
 use std::io;
 
@@ -34,6 +35,14 @@ fn is_containment(verb: &Verb) -> bool
     }
 }
 
+/// One more call, about a row.
+fn note(alloc: Global, calls: &mut Calls, row: &Row) -> Result<(), AllocError> {
+    calls.count = calls.count.wrapping_add(1);
+    let terms = Vec::from_slice(alloc, row.terms())?;
+    calls.rows.insert(terms)?;
+    Ok(())
+}
+
 /// Whether a candidate is proved, each obligation by a run of its own.
 fn is_proved(
     alloc: Global,
@@ -48,9 +57,7 @@ fn is_proved(
     }
     let rows = obligations(alloc, pair, candidate)?;
     for row in rows.as_slice() {
-        calls.count = calls.count.wrapping_add(1);
-        let terms = row.terms().iter().copied().collect(alloc)?;
-        calls.rows.insert(terms)?;
+        note(alloc, calls, row)?;
         match prove(alloc, &pair.first, row, Budget::none())? {
             Proof::Yes(_) => {}
             Proof::No(_) => return Ok(false),
@@ -108,7 +115,45 @@ fn search_plainly(
     Ok((count, false))
 }
 
-/// Makes one search, and prints how it ends.
+/// Makes one search that keeps outcomes, and prints how it ends.
+fn search_kept(
+    rt: HostRuntime,
+    pair: &Pair,
+    boxes: &mut Vec<Box<dyn Proposer>>,
+    tries: u32,
+) -> io::Result<()>
+    requires { IsPair pair.now }
+{
+    match contain(rt.alloc(), pair, &[], boxes, tries, Budget::none())? {
+        Contained::Found(_, proofs) => println!(rt; "found {} proofs", proofs.len()),
+        Contained::Open { tried } => println!(rt; "open {tried}"),
+    }
+}
+
+/// Makes one search that keeps none, and prints how it ends and what it called.
+fn search_anew(
+    rt: HostRuntime,
+    pair: &Pair,
+    boxes: &mut Vec<Box<dyn Proposer>>,
+    tries: u32,
+) -> io::Result<()>
+    requires { IsPair pair.now }
+{
+    let alloc = rt.alloc();
+    let mut calls = Calls {
+        count: 0,
+        rows: IndexSet::new(alloc),
+    };
+    let (tried, is_found) = search_plainly(alloc, pair, boxes, tries, &mut calls)?;
+    let end = if is_found { "found" } else { "open" };
+    println!(rt;
+        "{end} {tried} calls {} rows {}",
+        calls.count,
+        calls.rows.len()
+    )
+}
+
+/// Makes one search in the task's way.
 fn search(
     rt: HostRuntime,
     pair: &Pair,
@@ -117,24 +162,11 @@ fn search(
 ) -> io::Result<()>
     requires { IsPair pair.now }
 {
-    let alloc = rt.alloc();
     if task.way == "kept" {
-        return match contain(alloc, pair, &[], boxes, task.limit, Budget::none())? {
-            Contained::Found(_, proofs) => println!(rt; "found {} proofs", proofs.len()),
-            Contained::Open { tried } => println!(rt; "open {tried}"),
-        };
+        search_kept(rt, pair, boxes, task.limit)
+    } else {
+        search_anew(rt, pair, boxes, task.limit)
     }
-    let mut calls = Calls {
-        count: 0,
-        rows: IndexSet::new(alloc),
-    };
-    let (tried, is_found) = search_plainly(alloc, pair, boxes, task.limit, &mut calls)?;
-    let end = if is_found { "found" } else { "open" };
-    println!(rt;
-        "{end} {tried} calls {} rows {}",
-        calls.count,
-        calls.rows.len()
-    )
 }
 
 /// Makes the searches of a question, among all sets of at most one variable and then all sets, and prints how each ends.

@@ -19,12 +19,15 @@ const USAGE: &[u8] =
 
 const MUTUAL: &[u8] = b"vars X, Y\nprove I(X;Y) >= 0\n";
 
+/// The answer to it.
+const YES: &[u8] = b"1 yes 1 : 1 I(X;Y)\n";
+
 /// The same question three times.
 const THRICE: &[u8] =
     b"vars X, Y\nprove I(X;Y) >= 0\nvars X, Y\nprove I(X;Y) >= 0\nvars X, Y\nprove I(X;Y) >= 0\n";
 
 /// A source of these bytes that gives `step` at a call and fails at the calls `failing`.
-fn source(
+fn source_of(
     alloc: Global,
     bytes: &[u8],
     step: usize,
@@ -37,7 +40,7 @@ fn source(
 }
 
 /// A sink with room that takes `step` bytes at a call and fails at the calls `failing`.
-fn sink(alloc: Global, step: usize, failing: &[u64]) -> Result<MemorySink, AllocError>
+fn sink_of(alloc: Global, step: usize, failing: &[u64]) -> Result<MemorySink, AllocError>
     requires { 0 < step }
 {
     let mut sink = MemorySink::new(alloc, step, Vec::from_slice(alloc, failing)?);
@@ -59,138 +62,140 @@ fn call(
     Ok(itip(alloc, words, source, sink, proposers))
 }
 
+/// Whether a call over this source and this sink ends so, with these bytes in the sink.
+fn ends(
+    alloc: Global,
+    words: &[&str],
+    source: MemorySource,
+    sink: MemorySink,
+    status: Status,
+    bytes: &[u8],
+) -> Result<bool, AllocError> {
+    let (mut source, mut sink) = (source, sink);
+    let end = call(alloc, words, &mut source, &mut sink)?;
+    Ok(end == status && sink.bytes() == bytes)
+}
+
+/// Whether a call that reads these bytes at once, over this sink, fails to write after these bytes.
+fn stops(
+    alloc: Global,
+    words: &[&str],
+    input: &[u8],
+    sink: MemorySink,
+    bytes: &[u8],
+) -> Result<bool, AllocError> {
+    let source = source_of(alloc, input, WHOLE, &[])?;
+    ends(alloc, words, source, sink, Status::WriteFault, bytes)
+}
+
+/// Whether a call whose first read would fail ends so, with these bytes written.
+fn reads_nothing(
+    alloc: Global,
+    words: &[&str],
+    status: Status,
+    bytes: &[u8],
+) -> Result<bool, AllocError> {
+    let source = source_of(alloc, MUTUAL, WHOLE, &[1])?;
+    let sink = sink_of(alloc, WHOLE, &[])?;
+    ends(alloc, words, source, sink, status, bytes)
+}
+
 #[test]
-fn other_words_get_the_usage_line(rt: HostRuntime) -> Result<(), Fail> {
+fn other_words_get_the_usage_line_and_no_read(rt: HostRuntime) -> Result<(), Fail> {
     let alloc = rt.alloc();
-    let cases: [&[&str]; 9] = [
-        &[],
-        &["answer", "--pivots", "0"],
-        &["check", "--pivots", "none"],
-        &["bench", "--count", "1001"],
-        &["check", "--rows", "5"],
-        &["answers"],
-        &["Answer"],
-        &["answer", "answer"],
-        &[""],
-    ];
-    for (i, words) in cases.iter().enumerate() {
-        // The source isn't read: its first read would fail.
-        let mut source = source(alloc, MUTUAL, WHOLE, &[1])?;
-        let mut sink = sink(alloc, WHOLE, &[])?;
-        let status = call(alloc, words, &mut source, &mut sink)?;
-        assert_eq!(rt; status, Status::Usage, "case {i}");
-        assert_eq!(rt; sink.bytes(), USAGE, "case {i}");
-    }
+    let words = ["answer", "--pivots", "0"];
+    assert!(rt; reads_nothing(alloc, &words, Status::Usage, USAGE)?);
+    assert!(rt; reads_nothing(alloc, &[], Status::Usage, USAGE)?);
     Ok(())
 }
 
 #[test]
+fn bench_leaves_its_input(rt: HostRuntime) -> Result<(), Fail> {
+    let words = ["bench", "--count=2", "--pivots=1"];
+    let counts = b"bench seed 1 count 2 yes 0 no 0 undecided 2 region 0 contained 0 open 0\n";
+    assert!(rt; reads_nothing(rt.alloc(), &words, Status::Done, counts)?);
+    Ok(())
+}
+
+/// Whether an answer to a question that is read byte by byte, where this read would fail, ends so.
+fn reads(alloc: Global, failing: u64, status: Status, bytes: &[u8]) -> Result<bool, AllocError> {
+    let source = source_of(alloc, MUTUAL, 1, &[failing])?;
+    let sink = sink_of(alloc, WHOLE, &[])?;
+    ends(alloc, &["answer"], source, sink, status, bytes)
+}
+
+#[test]
 fn a_failed_read_writes_nothing(rt: HostRuntime) -> Result<(), Fail> {
-    let alloc = rt.alloc();
     // The input is read in 28 calls of one byte and one that tells the end.
     for failing in 1..30 {
-        let mut source = source(alloc, MUTUAL, 1, &[failing])?;
-        let mut sink = sink(alloc, WHOLE, &[])?;
-        let status = call(alloc, &["answer"], &mut source, &mut sink)?;
-        assert_eq!(rt; status, Status::ReadFault, "call {failing}");
-        assert_eq!(rt; sink.bytes(), b"".as_slice(), "call {failing}");
+        assert!(rt;
+            reads(rt.alloc(), failing, Status::ReadFault, b"")?,
+            "{failing}"
+        );
     }
     Ok(())
 }
 
 #[test]
 fn a_read_that_would_fail_after_the_end_changes_nothing(rt: HostRuntime) -> Result<(), Fail> {
-    let alloc = rt.alloc();
     // The first 29 calls tell the input and its end, so the thirtieth isn't made.
-    let mut source = source(alloc, MUTUAL, 1, &[30])?;
-    let mut sink = sink(alloc, WHOLE, &[])?;
-    let status = call(alloc, &["answer"], &mut source, &mut sink)?;
-    assert_eq!(rt; status, Status::Done);
-    assert_eq!(rt; sink.bytes(), b"1 yes 1 : 1 I(X;Y)\n".as_slice());
+    assert!(rt; reads(rt.alloc(), 30, Status::Done, YES)?);
     Ok(())
 }
 
 #[test]
-fn a_failed_write_leaves_a_front(rt: HostRuntime) -> Result<(), Fail> {
+fn a_failed_write_leaves_a_front_of_an_answer(rt: HostRuntime) -> Result<(), Fail> {
     let alloc = rt.alloc();
-    let answer: &[&str] = &["answer"];
-    let cases: [(&[&str], &[u8], usize, &[u64], &[u8], Status); 8] = [
-        (answer, MUTUAL, WHOLE, &[1], b"", Status::WriteFault),
-        (answer, MUTUAL, 1, &[5], b"1 ye", Status::WriteFault),
-        (
-            answer,
-            MUTUAL,
-            WHOLE,
-            &[2],
-            b"1 yes 1 : 1 I(X;Y)\n",
-            Status::Done,
-        ),
-        (
-            answer,
-            THRICE,
-            WHOLE,
-            &[2],
-            b"1 yes 1 : 1 I(X;Y)\n",
-            Status::WriteFault,
-        ),
-        (
-            answer,
-            b"vars X, X\n",
-            4,
-            &[3],
-            b"refused ",
-            Status::WriteFault,
-        ),
-        (&["prove"], MUTUAL, 3, &[2], b"usa", Status::WriteFault),
-        (
-            &["check"],
-            b"x\n\n",
-            WHOLE,
-            &[2],
-            b"1 invalid json\n",
-            Status::WriteFault,
-        ),
-        (&[], MUTUAL, WHOLE, &[1], b"", Status::WriteFault),
-    ];
-    for (i, (words, input, step, failing, want, wanted)) in cases.iter().enumerate() {
-        let mut source = source(alloc, input, WHOLE, &[])?;
-        let mut sink = sink(alloc, *step, failing)?;
-        let status = call(alloc, words, &mut source, &mut sink)?;
-        assert_eq!(rt; status, *wanted, "case {i}");
-        assert_eq!(rt; sink.bytes(), *want, "case {i}");
-    }
+    let first = sink_of(alloc, WHOLE, &[1])?;
+    assert!(rt; stops(alloc, &["answer"], MUTUAL, first, b"")?);
+    let fifth = sink_of(alloc, 1, &[5])?;
+    assert!(rt; stops(alloc, &["answer"], MUTUAL, fifth, b"1 ye")?);
     Ok(())
 }
 
 #[test]
-fn bench_leaves_its_input(rt: HostRuntime) -> Result<(), Fail> {
+fn the_second_write_is_of_the_second_answer(rt: HostRuntime) -> Result<(), Fail> {
     let alloc = rt.alloc();
-    // The first read would fail.
-    let mut source = source(alloc, MUTUAL, WHOLE, &[1])?;
-    let mut sink = sink(alloc, WHOLE, &[])?;
-    let words = ["bench", "--count=2", "--pivots=1"];
-    let status = call(alloc, &words, &mut source, &mut sink)?;
-    let want =
-        b"bench seed 1 count 2 yes 0 no 0 undecided 2 region 0 contained 0 open 0\n".as_slice();
-    assert_eq!(rt; status, Status::Done);
-    assert_eq!(rt; sink.bytes(), want);
+    let second = sink_of(alloc, WHOLE, &[2])?;
+    assert!(rt; stops(alloc, &["answer"], THRICE, second, YES)?);
+    let source = source_of(alloc, MUTUAL, WHOLE, &[])?;
+    let second = sink_of(alloc, WHOLE, &[2])?;
+    assert!(rt; ends(alloc, &["answer"], source, second, Status::Done, YES)?);
     Ok(())
 }
 
 #[test]
-fn a_sure_sink_keeps_a_front_of_the_output(rt: HostRuntime) -> Result<(), Fail> {
+fn a_failed_write_leaves_a_front_of_a_refusal_or_a_verdict(rt: HostRuntime) -> Result<(), Fail> {
     let alloc = rt.alloc();
-    // the limit, what is kept of `1 yes 1 : 1 I(X;Y)` and its line feed, whether there was more
-    let cases: [(usize, &[u8], bool); 2] = [
-        (19, b"1 yes 1 : 1 I(X;Y)\n", false),
-        (5, b"1 yes", true),
-    ];
-    for (i, (limit, kept, more)) in cases.iter().enumerate() {
-        let mut source = SureSource::new(Vec::from_slice(alloc, MUTUAL)?);
-        let mut sink = SureSink::new(Vec::with_capacity(alloc, *limit)?, *limit);
-        let status = itip(alloc, &["answer"], &mut source, &mut sink, Vec::new(alloc));
-        assert_eq!(rt; status, Status::Done, "case {i}");
-        assert_eq!(rt; (sink.bytes(), sink.has_more()), (*kept, *more), "case {i}");
-    }
+    let third = sink_of(alloc, 4, &[3])?;
+    assert!(rt; stops(alloc, &["answer"], b"vars X, X\n", third, b"refused ")?);
+    let second = sink_of(alloc, WHOLE, &[2])?;
+    assert!(rt; stops(alloc, &["check"], b"x\n\n", second, b"1 invalid json\n")?);
+    Ok(())
+}
+
+#[test]
+fn a_failed_write_leaves_a_front_of_the_usage_line(rt: HostRuntime) -> Result<(), Fail> {
+    let alloc = rt.alloc();
+    let second = sink_of(alloc, 3, &[2])?;
+    assert!(rt; stops(alloc, &["prove"], MUTUAL, second, b"usa")?);
+    let first = sink_of(alloc, WHOLE, &[1])?;
+    assert!(rt; stops(alloc, &[], MUTUAL, first, b"")?);
+    Ok(())
+}
+
+/// Whether a sure sink with such a limit keeps this of an answer, and tells whether there was more.
+fn keeps(alloc: Global, limit: usize, kept: &[u8], more: bool) -> Result<bool, AllocError> {
+    let mut source = SureSource::new(Vec::from_slice(alloc, MUTUAL)?);
+    let mut sink = SureSink::new(Vec::with_capacity(alloc, limit)?, limit);
+    let status = itip(alloc, &["answer"], &mut source, &mut sink, Vec::new(alloc));
+    Ok(status == Status::Done && sink.bytes() == kept && sink.has_more() == more)
+}
+
+#[test]
+fn a_sure_sink_keeps_a_prefix_of_the_output(rt: HostRuntime) -> Result<(), Fail> {
+    let alloc = rt.alloc();
+    assert!(rt; keeps(alloc, 19, YES, false)?);
+    assert!(rt; keeps(alloc, 5, b"1 yes", true)?);
     Ok(())
 }

@@ -1,4 +1,4 @@
-//! Tests of the libraries of words and bytes, of the language, and of containment, printing and drawn questions.
+//! Tests of the libraries of bytes, of the language, and of containment, printing and drawn questions.
 #![tactic(auto)]
 
 #[cfg(test)]
@@ -13,5 +13,3 @@ mod outside;
 mod searches;
 #[cfg(test)]
 mod texts;
-#[cfg(test)]
-mod words;

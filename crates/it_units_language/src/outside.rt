@@ -1,69 +1,113 @@
 //! Tests: reading and writing, with calls that fail at the read, the write and the flush.
-ghost use Rattle.std.specs.Prelude.{◌≡◌, IfOk};
+ghost use Rattle.std.specs.Prelude.{◌≡◌, ◌<◌, IfOk};
 
 use it_outside::{
     InFault, MemorySink, MemorySource, OutFault, StdSink, StdSource, SureSink, SureSource,
     read_all, write_all,
 };
+use std::alloc::{AllocError, Global};
 use std::io;
 use std::io::{ErrorKind, Read, Write};
 use std::test::Fail;
 
 const LINE: &[u8] = b"1 yes 1 : 1 I(X;Y)\n";
 
+/// A source of these bytes that gives `step` at a call and fails at the calls `failing`.
+fn source(
+    alloc: Global,
+    bytes: &[u8],
+    step: usize,
+    failing: &[u64],
+) -> Result<MemorySource, AllocError>
+    requires { 0 < step }
+{
+    let failing = Vec::from_slice(alloc, failing)?;
+    Ok(MemorySource::new(Vec::from_slice(alloc, bytes)?, step, failing))
+}
+
+/// Whether the reading of a source up to a limit ends so.
+fn reads(alloc: Global, source: MemorySource, limit: usize, want: Result<&[u8], InFault>) -> bool {
+    let mut source = source;
+    match read_all(alloc, &mut source, limit) {
+        Ok(all) => want == Ok(all.as_slice()),
+        Err(fault) => want == Err(fault),
+    }
+}
+
 #[test]
 fn reading_ends_at_the_end_the_limit_or_a_fault(rt: HostRuntime) -> Result<(), Fail> {
     let alloc = rt.alloc();
-    let cases: [(&[u8], usize, usize, &[u64], Result<&[u8], InFault>); 7] = [
-        (b"abc", 3, 1, &[], Ok(b"abc")),
-        (b"abc", 3, 9, &[], Ok(b"abc")),
-        (b"abc", 2, 1, &[], Err(InFault::TooLong)),
-        (b"abc", 2, 9, &[], Err(InFault::TooLong)),
-        (b"abc", 3, 1, &[2], Err(InFault::ReadFault)),
-        (b"abc", 3, 9, &[3], Ok(b"abc")),
-        (b"", 0, 1, &[], Ok(b"")),
-    ];
-    for (i, (bytes, limit, step, failing, want)) in cases.iter().enumerate() {
-        let failing = Vec::from_slice(alloc, failing)?;
-        let mut source = MemorySource::new(Vec::from_slice(alloc, bytes)?, *step, failing);
-        match read_all(alloc, &mut source, *limit) {
-            Ok(all) => assert_eq!(rt; Ok(all.as_slice()), *want, "case {i}"),
-            Err(fault) => assert_eq!(rt; Err(fault), *want, "case {i}"),
-        }
-    }
+    let all: &[u8] = b"abc";
+    assert!(rt; reads(alloc, source(alloc, all, 1, &[])?, 3, Ok(all)));
+    assert!(rt; reads(alloc, source(alloc, all, 9, &[])?, 3, Ok(all)));
+    assert!(rt; reads(alloc, source(alloc, all, 1, &[])?, 2, Err(InFault::TooLong)));
+    assert!(rt; reads(alloc, source(alloc, all, 9, &[])?, 2, Err(InFault::TooLong)));
+    assert!(rt;
+        reads(
+            alloc,
+            source(alloc, all, 1, &[2])?,
+            3,
+            Err(InFault::ReadFault)
+        )
+    );
+    assert!(rt; reads(alloc, source(alloc, b"", 1, &[])?, 0, Ok(b"")));
     Ok(())
+}
+
+#[test]
+fn a_read_that_would_fail_after_the_end_changes_nothing(rt: HostRuntime) -> Result<(), Fail> {
+    let alloc = rt.alloc();
+    let all: &[u8] = b"abc";
+    // One read gives all bytes and the second tells the end, so the third isn't made.
+    assert!(rt; reads(alloc, source(alloc, all, 9, &[3])?, 3, Ok(all)));
+    // Three reads give a byte each and the fourth tells the end.
+    assert!(rt; reads(alloc, source(alloc, all, 1, &[5])?, 3, Ok(all)));
+    Ok(())
+}
+
+/// A sink with room for so many bytes that takes `step` at a call and fails at the calls `failing`.
+fn sink(alloc: Global, room: usize, step: usize, failing: &[u64]) -> Result<MemorySink, AllocError>
+    requires { 0 < step }
+{
+    let mut sink = MemorySink::new(alloc, step, Vec::from_slice(alloc, failing)?);
+    sink.reserve(room)?;
+    Ok(sink)
+}
+
+/// Whether the writing of the line to a sink ends so, with the line's first so many bytes there.
+fn writes(sink: MemorySink, count: usize, want: Result<(), OutFault>) -> bool {
+    let mut sink = sink;
+    let end = write_all(&mut sink, LINE);
+    end == want && LINE.get(..count) == Some(sink.bytes())
 }
 
 #[test]
 fn writing_stops_at_a_fault_or_without_room(rt: HostRuntime) -> Result<(), Fail> {
     let alloc = rt.alloc();
-    let cases: [(usize, usize, &[u64], usize, Result<(), OutFault>); 5] = [
-        (19, 1, &[], 19, Ok(())),
-        (19, 7, &[4], 19, Ok(())),
-        (19, 1, &[5], 4, Err(OutFault::WriteFault)),
-        (3, 7, &[], 3, Err(OutFault::WriteFault)),
-        (0, 7, &[], 0, Err(OutFault::WriteFault)),
-    ];
-    for (i, (room, step, failing, count, want)) in cases.iter().enumerate() {
-        let mut sink = MemorySink::new(alloc, *step, Vec::from_slice(alloc, failing)?);
-        sink.reserve(*room)?;
-        assert_eq!(rt; write_all(&mut sink, LINE), *want, "case {i}");
-        assert_eq!(rt; sink.bytes(), &LINE[..*count], "case {i}");
-    }
+    let fault = Err(OutFault::WriteFault);
+    assert!(rt; writes(sink(alloc, 19, 1, &[])?, 19, Ok(())));
+    assert!(rt; writes(sink(alloc, 19, 7, &[4])?, 19, Ok(())));
+    assert!(rt; writes(sink(alloc, 19, 1, &[5])?, 4, fault));
+    assert!(rt; writes(sink(alloc, 3, 7, &[])?, 3, fault));
+    assert!(rt; writes(sink(alloc, 0, 7, &[])?, 0, fault));
     Ok(())
+}
+
+/// Whether the writing of a piece ends so, with these bytes in the sink.
+fn ends(sink: &mut MemorySink, piece: &[u8], want: Result<(), OutFault>, bytes: &[u8]) -> bool {
+    let end = write_all(sink, piece);
+    end == want && sink.bytes() == bytes
 }
 
 #[test]
 fn room_is_what_was_reserved_and_not_yet_taken(rt: HostRuntime) -> Result<(), Fail> {
-    let alloc = rt.alloc();
-    let mut sink = MemorySink::new(alloc, 100, Vec::new(alloc));
-    assert_eq!(rt; write_all(&mut sink, b""), Ok(()));
+    let mut sink = sink(rt.alloc(), 0, 100, &[])?;
+    assert!(rt; ends(&mut sink, b"", Ok(()), b""));
     sink.reserve(4)?;
     sink.reserve(2)?;
-    assert_eq!(rt; write_all(&mut sink, LINE), Err(OutFault::WriteFault));
+    assert!(rt; ends(&mut sink, LINE, Err(OutFault::WriteFault), b"1 ye"));
     sink.reserve(1)?;
-    assert_eq!(rt; write_all(&mut sink, b"!"), Ok(()));
-    assert_eq!(rt; sink.bytes(), b"1 ye!".as_slice());
+    assert!(rt; ends(&mut sink, b"!", Ok(()), b"1 ye!"));
     Ok(())
 }
 
@@ -127,15 +171,17 @@ impl Write for Trial {
 }
 
 #[test]
-fn adapters_pass_on_what_they_stand_over(rt: HostRuntime) -> Result<(), Fail> {
-    let alloc = rt.alloc();
-    let mut source = StdSource::new(LINE);
-    let all = read_all(alloc, &mut source, 19)?;
-    assert_eq!(rt; all.as_slice(), LINE);
-    let mut out: Vec<u8> = Vec::new(alloc);
-    let mut sink = StdSink::new(&mut out);
-    assert_eq!(rt; write_all(&mut sink, LINE), Ok(()));
-    assert_eq!(rt; out.as_slice(), LINE);
+fn a_source_passes_on_what_its_reader_gives(rt: HostRuntime) -> Result<(), Fail> {
+    let all = read_all(rt.alloc(), &mut StdSource::new(LINE), 19)?;
+    assert!(rt; all.as_slice() == LINE);
+    Ok(())
+}
+
+#[test]
+fn a_sink_passes_on_what_it_takes(rt: HostRuntime) -> Result<(), Fail> {
+    let mut out: Vec<u8> = Vec::new(rt.alloc());
+    assert!(rt; write_all(&mut StdSink::new(&mut out), LINE) == Ok(()));
+    assert!(rt; out.as_slice() == LINE);
     Ok(())
 }
 
@@ -147,24 +193,21 @@ fn a_source_fails_where_its_reader_does(rt: HostRuntime) {
     assert_eq!(rt; trial.reads, 2);
 }
 
+/// Whether the writing of the line ends so where these calls fail, after so many writes and so many flushes.
+fn tries(failing_write: u32, failing_flush: u32, calls: u32, want: Result<(), OutFault>) -> bool {
+    let mut trial = Trial::new(0, failing_write, failing_flush);
+    let end = write_all(&mut StdSink::new(&mut trial), LINE);
+    end == want && trial.writes == calls && trial.flushes == calls
+}
+
 #[test]
 fn a_sink_fails_where_its_writer_does(rt: HostRuntime) {
-    // the write that fails, the flush that fails, and how many of both were made of a line of 19 bytes
-    let cases: [(u32, u32, Result<(), OutFault>, u32); 4] = [
-        (0, 0, Ok(()), 19),
-        (3, 0, Err(OutFault::WriteFault), 3),
-        (0, 3, Err(OutFault::WriteFault), 3),
-        (0, 1, Err(OutFault::WriteFault), 1),
-    ];
-    for (i, (failing_write, failing_flush, want, calls)) in cases.iter().enumerate() {
-        let mut trial = Trial::new(0, *failing_write, *failing_flush);
-        assert_eq!(rt;
-            write_all(&mut StdSink::new(&mut trial), LINE),
-            *want,
-            "case {i}"
-        );
-        assert_eq!(rt; (trial.writes, trial.flushes), (*calls, *calls), "case {i}");
-    }
+    let fault = Err(OutFault::WriteFault);
+    // without a fault the line takes a write and a flush for each of its 19 bytes
+    assert!(rt; tries(0, 0, 19, Ok(())));
+    assert!(rt; tries(3, 0, 3, fault));
+    assert!(rt; tries(0, 3, 3, fault));
+    assert!(rt; tries(0, 1, 1, fault));
 }
 
 #[test]
@@ -175,22 +218,23 @@ fn a_sink_fails_where_nothing_was_taken(rt: HostRuntime) {
     assert_eq!(rt; two.as_slice(), b"ab".as_slice());
 }
 
+/// Whether a sure sink with such a limit keeps this of what a sure source gives, and tells whether there was more.
+fn keeps(alloc: Global, limit: usize, kept: &[u8], more: bool) -> Result<bool, AllocError> {
+    let mut source = SureSource::new(Vec::from_slice(alloc, b"abc")?);
+    let Ok(all) = read_all(alloc, &mut source, 3) else {
+        return Ok(false);
+    };
+    let mut sink = SureSink::new(Vec::with_capacity(alloc, limit)?, limit);
+    let end = write_all(&mut sink, all.as_slice());
+    Ok(end == Ok(()) && sink.bytes() == kept && sink.has_more() == more)
+}
+
 #[test]
 fn a_sure_sink_keeps_what_a_sure_source_gives(rt: HostRuntime) -> Result<(), Fail> {
     let alloc = rt.alloc();
-    // the limit, what is kept, whether there was more
-    let cases: [(usize, &[u8], bool); 3] = [
-        (4, b"abc", false),
-        (3, b"abc", false),
-        (2, b"ab", true),
-    ];
-    for (i, (limit, kept, more)) in cases.iter().enumerate() {
-        let mut source = SureSource::new(Vec::from_slice(alloc, b"abc")?);
-        let all = read_all(alloc, &mut source, 3)?;
-        let mut sink = SureSink::new(Vec::with_capacity(alloc, *limit)?, *limit);
-        assert_eq!(rt; write_all(&mut sink, all.as_slice()), Ok(()), "case {i}");
-        assert_eq!(rt; (sink.bytes(), sink.has_more()), (*kept, *more), "case {i}");
-    }
+    assert!(rt; keeps(alloc, 4, b"abc", false)?);
+    assert!(rt; keeps(alloc, 3, b"abc", false)?);
+    assert!(rt; keeps(alloc, 2, b"ab", true)?);
     Ok(())
 }
 
@@ -212,15 +256,4 @@ impl Write for BrokenPipe {
 fn a_sink_fails_where_the_flush_finds_a_broken_pipe(rt: HostRuntime) {
     let mut sink = StdSink::new(BrokenPipe);
     assert_eq!(rt; write_all(&mut sink, LINE), Err(OutFault::WriteFault));
-}
-
-#[test]
-fn a_read_that_would_fail_after_the_end_changes_nothing(rt: HostRuntime) -> Result<(), Fail> {
-    let alloc = rt.alloc();
-    // Three reads give a byte each and the fourth tells the end, so the fifth isn't made.
-    let failing = Vec::from_slice(alloc, &[5])?;
-    let mut source = MemorySource::new(Vec::from_slice(alloc, b"abc")?, 1, failing);
-    let all = read_all(alloc, &mut source, 3)?;
-    assert_eq!(rt; all.as_slice(), b"abc".as_slice());
-    Ok(())
 }

@@ -65,9 +65,8 @@ fn boxes_with(
         times,
         left: 0,
     };
-    boxes
-        .push(Box::new(alloc, one).expect(rt, "memory"))
-        .expect(rt, "memory");
+    let one = Box::new(alloc, one).expect(rt, "memory");
+    boxes.push(one).expect(rt, "memory");
     boxes
 }
 
@@ -110,6 +109,32 @@ fn is_found(end: &Contained, part: VarSet) -> bool {
     }
 }
 
+/// How a search by these boxes ends.
+fn search(
+    rt: &impl Abort,
+    alloc: Global,
+    pair: &Pair,
+    first: &[Candidate],
+    boxes: &mut Vec<Box<dyn Proposer>>,
+    tries: u32,
+) -> Contained
+    requires { IsPair pair.now }
+{
+    contain(alloc, pair, first, boxes, tries, Budget::none()).expect(rt, "memory")
+}
+
+/// Adds the box of all sets.
+fn add_subsets(rt: &impl Abort, alloc: Global, boxes: &mut Vec<Box<dyn Proposer>>) {
+    let subsets = Box::new(alloc, Subsets::new()).expect(rt, "memory");
+    boxes.push(subsets).expect(rt, "memory");
+}
+
+/// Adds the box of all sets of at most one variable.
+fn add_singles(rt: &impl Abort, alloc: Global, boxes: &mut Vec<Box<dyn Proposer>>) {
+    let singles = Box::new(alloc, Singles::new()).expect(rt, "memory");
+    boxes.push(singles).expect(rt, "memory");
+}
+
 /// A set of a variable that there isn't, and sets for two auxiliaries where there is one, are tried and not proved. The
 /// next candidate, the empty set, is.
 #[test]
@@ -118,13 +143,14 @@ fn candidates_that_do_not_fit(rt: HostRuntime) {
     let pair = free_pair(alloc);
     let first = [candidate(1, VarSet::single(9))];
     let mut boxes = boxes_with(&rt, alloc, candidate(2, VarSet::single(9)), 1);
-    let end = contain(alloc, &pair, &first, &mut boxes, 256, Budget::none()).expect(&rt, "memory");
-    assert!(rt; is_open(&end, 2));
-    boxes
-        .push(Box::new(alloc, Subsets::new()).expect(&rt, "memory"))
-        .expect(&rt, "memory");
-    let end = contain(alloc, &pair, &first, &mut boxes, 256, Budget::none()).expect(&rt, "memory");
-    assert!(rt; is_found(&end, VarSet::empty()));
+    assert!(rt; is_open(&search(&rt, alloc, &pair, &first, &mut boxes, 256), 2));
+    add_subsets(&rt, alloc, &mut boxes);
+    assert!(rt;
+        is_found(
+            &search(&rt, alloc, &pair, &first, &mut boxes, 256),
+            VarSet::empty()
+        )
+    );
 }
 
 /// Under the first region a rate is at most I(X;Y), and with U standing for X it lies in the second.
@@ -155,7 +181,7 @@ fn pair_of_regions(rt: &impl Abort, alloc: Global) -> Pair
 {
     assert!(rt; REGIONS.len() <= LONGEST_FILE);
     let asked = questions(alloc, REGIONS).expect(rt, "reading");
-    assert_eq!(rt; asked.len(), 1);
+    assert!(rt; asked.len() == 1);
     let question = &asked.as_slice()[0];
     assert!(rt; is_containment(&question.verb));
     pair(alloc, question).expect(rt, "memory")
@@ -165,10 +191,8 @@ fn pair_of_regions(rt: &impl Abort, alloc: Global) -> Pair
 fn end_after_strangers(rt: &impl Abort, alloc: Global, tries: u32) -> Contained {
     let pair = pair_of_regions(rt, alloc);
     let mut boxes = boxes_with(rt, alloc, candidate(1, VarSet::single(2)), 3);
-    boxes
-        .push(Box::new(alloc, Singles::new()).expect(rt, "memory"))
-        .expect(rt, "memory");
-    contain(alloc, &pair, &[], &mut boxes, tries, Budget::none()).expect(rt, "memory")
+    add_singles(rt, alloc, &mut boxes);
+    search(rt, alloc, &pair, &[], &mut boxes, tries)
 }
 
 /// Strangers count among the tries: X is the fifth candidate.
@@ -186,11 +210,8 @@ fn candidates_without_end(rt: HostRuntime) {
     let alloc = rt.alloc();
     let pair = pair_of_regions(&rt, alloc);
     let mut boxes = boxes_with(&rt, alloc, candidate(1, VarSet::empty()), u64::MAX);
-    boxes
-        .push(Box::new(alloc, Singles::new()).expect(&rt, "memory"))
-        .expect(&rt, "memory");
-    let end = contain(alloc, &pair, &[], &mut boxes, 256, Budget::none()).expect(&rt, "memory");
-    assert!(rt; is_open(&end, 256));
+    add_singles(&rt, alloc, &mut boxes);
+    assert!(rt; is_open(&search(&rt, alloc, &pair, &[], &mut boxes, 256), 256));
 }
 
 /// What was proved for one question is tried first for the next.
@@ -199,12 +220,11 @@ fn what_worked_last(rt: HostRuntime) {
     let alloc = rt.alloc();
     let pair = pair_of_regions(&rt, alloc);
     let mut boxes: Vec<Box<dyn Proposer>> = Vec::new(alloc);
-    boxes
-        .push(Box::new(alloc, Recent::new()).expect(&rt, "memory"))
-        .expect(&rt, "memory");
+    let recent = Box::new(alloc, Recent::new()).expect(&rt, "memory");
+    boxes.push(recent).expect(&rt, "memory");
     let known = [candidate(1, VarSet::single(0))];
-    let end = contain(alloc, &pair, &known, &mut boxes, 1, Budget::none()).expect(&rt, "memory");
+    let end = search(&rt, alloc, &pair, &known, &mut boxes, 1);
     assert!(rt; is_found(&end, VarSet::single(0)));
-    let end = contain(alloc, &pair, &[], &mut boxes, 1, Budget::none()).expect(&rt, "memory");
+    let end = search(&rt, alloc, &pair, &[], &mut boxes, 1);
     assert!(rt; is_found(&end, VarSet::single(0)));
 }

@@ -1,10 +1,9 @@
-//! Tests: eliminations of one and of two rates, and products past the limit.
+//! Tests: eliminations of rates without a reduction, and products past the limit.
 
 ghost use Rattle.std.specs.Prelude.{◌≡◌, IfOk};
 ghost use Rattle.it_space.specs.Problems.{IsSystem};
-ghost use Rattle.it_space.specs.Rows.{IsUpTo};
 
-use it_eliminate::{Eliminated, eliminate, step};
+use it_eliminate::{Eliminated, eliminate};
 use it_space::{Row, Space, System};
 use std::alloc::{AllocError, Global};
 use std::test::Fail;
@@ -49,10 +48,32 @@ fn superposition(alloc: Global) -> Result<System, AllocError>
     })
 }
 
-/// A system of two rows over one variable and two rates.
-fn two_rows(first: Row, second: Row, alloc: Global) -> Result<System, AllocError>
-    requires first { IsUpTo 3 first }
-    requires second { IsUpTo 3 second }
+#[test]
+fn superposition_coding_has_its_rate_region(rt: HostRuntime) -> Result<(), Fail> {
+    let alloc = rt.alloc();
+    let system = superposition(alloc)?;
+    let end = eliminate(alloc, &system, [1, 2].as_slice(), 10000)?;
+    let rows: &[&[(u32, i128)]] = &[
+        &[(1, 1), (4, 1), (5, -1)],
+        &[(1, -1), (3, 1), (5, 1), (7, -1)],
+        &[(8, 1)],
+        &[(3, 1), (4, 1), (7, -1), (8, -1)],
+    ];
+    assert!(rt; is_region(&end, rows));
+    Ok(())
+}
+
+#[test]
+fn an_elimination_names_the_rate_that_leaves_too_many_rows(rt: HostRuntime) -> Result<(), Fail> {
+    let alloc = rt.alloc();
+    let system = superposition(alloc)?;
+    let end = eliminate(alloc, &system, [1, 2].as_slice(), 2)?;
+    assert!(rt; matches!(end, Eliminated::Rows { rate: 1 }));
+    Ok(())
+}
+
+/// M A >= (M - 1) B and M B >= (M - 1) A with M = 2^64 - 1: A and B are rates 0 and 1, at coordinates 2 and 3.
+fn wide_products(alloc: Global) -> Result<System, AllocError>
     ensures system { IfOk result IsSystem }
     ensures rates { IfOk result (λ s. s.space.rates ≡ 2) }
 {
@@ -61,74 +82,18 @@ fn two_rows(first: Row, second: Row, alloc: Global) -> Result<System, AllocError
             variables: 1,
             rates: 2,
         },
-        rows: vec![in alloc; first, second]?,
+        rows: vec![in alloc;
+            Row::new(vec![in alloc; (2, 18446744073709551615), (3, -18446744073709551614)]?),
+            Row::new(vec![in alloc; (2, -18446744073709551614), (3, 18446744073709551615)]?),
+        ]?,
     })
-}
-
-#[test]
-fn superposition_coding_has_its_rate_region(rt: HostRuntime) -> Result<(), Fail> {
-    let alloc = rt.alloc();
-    let system = superposition(alloc)?;
-    let end = eliminate(alloc, &system, [1, 2].as_slice(), 10000)?;
-    assert!(rt;
-        is_region(
-            &end,
-            [
-                [(1u32, 1i128), (4, 1), (5, -1)].as_slice(),
-                [(1, -1), (3, 1), (5, 1), (7, -1)].as_slice(),
-                [(8, 1)].as_slice(),
-                [(3, 1), (4, 1), (7, -1), (8, -1)].as_slice()
-            ]
-            .as_slice()
-        )
-    );
-    assert!(rt;
-        matches!(
-            eliminate(alloc, &system, [1, 2].as_slice(), 2)?,
-            Eliminated::Rows { rate: 1 }
-        )
-    );
-    Ok(())
 }
 
 #[test]
 fn products_past_the_limit_are_wide(rt: HostRuntime) -> Result<(), Fail> {
     let alloc = rt.alloc();
-    let system = two_rows(
-        Row::new(vec![in alloc; (2, 18446744073709551615), (3, -18446744073709551614)]?),
-        Row::new(vec![in alloc; (2, -18446744073709551614), (3, 18446744073709551615)]?),
-        alloc,
-    )?;
-    assert!(rt;
-        matches!(
-            eliminate(alloc, &system, [0].as_slice(), 0)?,
-            Eliminated::Wide { rate: 0 }
-        )
-    );
-    Ok(())
-}
-
-#[test]
-fn one_rate_is_eliminated(rt: HostRuntime) -> Result<(), Fail> {
-    let alloc = rt.alloc();
-    // A - R and h(X) - A
-    let system = two_rows(
-        Row::new(vec![in alloc; (2, 1), (3, -1)]?),
-        Row::new(vec![in alloc; (1, 1), (2, -1)]?),
-        alloc,
-    )?;
-    assert!(rt;
-        is_region(
-            &step(alloc, &system, 0, 10000)?,
-            [[(1u32, 1i128), (3, -1)].as_slice()].as_slice()
-        )
-    );
-    // 2 A - R and its negation
-    let equation = two_rows(
-        Row::new(vec![in alloc; (2, 2), (3, -1)]?),
-        Row::new(vec![in alloc; (2, -2), (3, 1)]?),
-        alloc,
-    )?;
-    assert!(rt; is_region(&step(alloc, &equation, 0, 10000)?, [].as_slice()));
+    let system = wide_products(alloc)?;
+    let end = eliminate(alloc, &system, [0].as_slice(), 0)?;
+    assert!(rt; matches!(end, Eliminated::Wide { rate: 0 }));
     Ok(())
 }

@@ -1,8 +1,6 @@
-//! Tests of the solver's libraries, from fractions to reduced elimination.
+//! Tests of the solver's libraries, from fractions to elimination.
 #![tactic(auto)]
 
-#[cfg(test)]
-mod checks;
 #[cfg(test)]
 mod closures;
 #[cfg(test)]
@@ -11,12 +9,6 @@ mod divisors;
 mod elementals;
 #[cfg(test)]
 mod eliminations;
-#[cfg(test)]
-mod fixtures;
-#[cfg(test)]
-mod outcomes;
-#[cfg(test)]
-mod reductions;
 #[cfg(test)]
 mod spaces;
 #[cfg(test)]
