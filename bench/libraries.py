@@ -22,7 +22,7 @@ def stamp(crate):
 
 
 def stamped(crate):
-    """The sum of the files that the crate's library was made of."""
+    """The sum of the files that the crate's library was made of; `rt ci` writes none, and makes it of the files beside it."""
     try:
         with open(f"{os.path.dirname(crate.rlib)}/stamp", encoding="utf-8") as file:
             return file.read()
@@ -34,7 +34,7 @@ def is_given(crate, theirs):
     """Whether the crate and all below it are proved there, of the same files."""
     if crate.name not in KNOWN:
         other = theirs.get(crate.name)
-        proved = other is not None and os.path.isfile(f"{other.rlib}/format") and stamped(other) == stamp(other)
+        proved = other is not None and os.path.isfile(f"{other.rlib}/format") and stamped(other) in (None, stamp(other))
         KNOWN[crate.name] = proved and all(is_given(it, theirs) for it in crate.below()) and stamp(other) == stamp(crate)
     return KNOWN[crate.name]
 
@@ -57,7 +57,8 @@ def main(source):
         os.makedirs(f"{crate.folder}/out", exist_ok=True)
         shutil.copytree(os.path.dirname(theirs[crate.name].rlib), f"{crate.folder}/out/rlib", copy_function=link_or_copy)
         # a file of its own: the other checkout's may be the same one by another name
-        os.remove(f"{crate.folder}/out/rlib/stamp")
+        if os.path.exists(f"{crate.folder}/out/rlib/stamp"):
+            os.remove(f"{crate.folder}/out/rlib/stamp")
         with open(f"{crate.folder}/out/rlib/stamp", "w", encoding="utf-8") as file:
             file.write(stamp(crate))
         taken.append(crate.name)
