@@ -2,7 +2,7 @@
 """libraries.py FROM: gives the checkout that it is called in the libraries that `rt ci` has proved in the checkout FROM, of the same files.
 
 A check there then begins at its own crate, and not at those below. Nothing rests on it but the session's own checks: the gate proves
-all anew or takes what it has kept itself."""
+all anew or takes what it has kept itself. A library of `rt ci` doesn't say of which files it is: change none in FROM after its run."""
 import os
 import shutil
 import sys
