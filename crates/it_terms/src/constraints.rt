@@ -12,13 +12,8 @@ fn with_denominator(multiple: u64, denominator: u64) -> Result<u64, Untold> {
     if multiple == 0 || denominator == 0 {
         return Err(Untold::NotFound);
     }
-    let Ok(both) = lcm(multiple as i128, denominator as i128) else {
-        return Err(Untold::NotFound);
-    };
-    match u64::try_from(both) {
-        Ok(both) => Ok(both),
-        Err(_) => Err(Untold::NotFound),
-    }
+    let both = lcm(multiple as i128, denominator as i128)?;
+    Ok(u64::try_from(both)?)
 }
 
 /// The least common multiple of a number and the denominators of terms.
@@ -30,26 +25,15 @@ fn with_denominators(multiple: u64, terms: &[Term]) -> Result<u64, Untold> {
     Ok(multiple)
 }
 
-/// A number so many times.
-fn number_times(number: u64, parts: u64, times: i128) -> Result<u64, Untold> {
-    let Ok(times) = u64::try_from(times.unsigned_abs()) else {
-        return Err(Untold::NotFound);
-    };
-    let Some(whole) = number.checked_mul(parts) else {
-        return Err(Untold::NotFound);
-    };
-    match whole.checked_mul(times) {
-        Some(number) => Ok(number),
-        None => Err(Untold::NotFound),
-    }
-}
-
 /// Puts a term so many times after the others, unless it is nothing; its denominator divides the multiple.
 fn put_times(out: &mut Vec<Term>, term: &Term, multiple: u64, times: i128) -> Result<(), Untold> {
     if term.denominator == 0 {
         return Err(Untold::NotFound);
     }
-    let number = number_times(term.number, multiple / term.denominator, times)?;
+    let often = u64::try_from(times.unsigned_abs())?;
+    let parts = multiple / term.denominator;
+    let whole = term.number.checked_mul(parts).ok_or(Untold::NotFound)?;
+    let number = whole.checked_mul(often).ok_or(Untold::NotFound)?;
     if number != 0 {
         out.push(Term {
             negative: term.negative != (times < 0),
@@ -61,17 +45,17 @@ fn put_times(out: &mut Vec<Term>, term: &Term, multiple: u64, times: i128) -> Re
     Ok(())
 }
 
-/// Puts a side so many times after the others.
-fn put_side(out: &mut Vec<Term>, terms: &[Term], multiple: u64, times: i128) -> Result<(), Untold> {
+/// Puts terms so many times after the others; their denominators divide the multiple.
+pub fn put_side(
+    out: &mut Vec<Term>,
+    terms: &[Term],
+    multiple: u64,
+    times: i128,
+) -> Result<(), Untold> {
     for term in terms {
         put_times(out, term, multiple, times)?;
     }
     Ok(())
-}
-
-/// Puts terms without denominators so many times after the others.
-pub fn put_terms(out: &mut Vec<Term>, terms: &[Term], times: i128) -> Result<(), Untold> {
-    put_side(out, terms, 1, times)
 }
 
 /// Puts what a relation says to be at least 0, or to be 0, so many times after the others: its left side less its right one,

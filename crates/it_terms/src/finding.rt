@@ -4,7 +4,7 @@ ghost use Rattle.std.specs.Prelude.{◌≤◌};
 use crate::measures::Measure;
 use crate::untold::Untold;
 use it_columns::{common_scale, opposite_row};
-use it_fraction::{Fraction, signed_product};
+use it_fraction::{Fraction, signed_product, sum};
 use it_simplex::{Budget, Solved, solve};
 use it_space::{Row, Space, VarSet};
 use it_syntax::types::{Atom, Term};
@@ -13,46 +13,57 @@ use std::alloc::{AllocError, Global};
 /// How many steps a run may make that looks for weights of columns.
 const STEPS: u32 = 20000;
 
-/// A measure by its place among others, and how often a sum has it.
-#[derive(Clone, Copy)]
-struct Share {
-    place: usize,
-    negative: bool,
-    times: Fraction,
+/// Some measures, by their places among others, and the weights of their columns that make a sum.
+struct Choice {
+    places: Vec<usize>,
+    weights: Vec<(usize, Fraction)>,
+}
+
+// written out, so that letting it go is one call, and not a step for each list
+impl Drop for Choice {
+    fn drop(self) {
+        let Choice {
+            places: _,
+            weights: _,
+        } = self;
+    }
 }
 
 /// The sum of a row's part over sets, so many times: each term with its sign.
-#[derive(Drop)]
 pub struct Found {
     pub scale: i128,
     pub terms: Vec<Term>,
 }
 
+// written out, so that letting it go is one call, and not a step for each field
+impl Drop for Found {
+    fn drop(self) {
+        let Found { scale: _, terms: _ } = self;
+    }
+}
+
 /// A term of so many times an atom, where the number has at most 64 bits.
 pub fn term_of(times: i128, atom: Atom) -> Result<Term, Untold> {
-    let number = times.unsigned_abs();
-    if number > u64::MAX as u128 {
-        return Err(Untold::NotFound);
-    }
+    let number = u64::try_from(times.unsigned_abs())?;
     Ok(Term {
         negative: times < 0,
-        number: number as u64,
+        number,
         denominator: 1,
         atom,
     })
 }
 
-/// The terms of a row over sets.
-fn set_terms(alloc: Global, row: &Row, space: Space) -> Result<Vec<(u32, i128)>, AllocError>
+/// The terms of a row over sets, which stand before those of rates.
+fn set_terms(row: &Row, space: Space) -> &[(u32, i128)]
     requires { space.variables ≤ 10 }
 {
-    let mut terms = Vec::new(alloc);
-    for term in row.terms() {
-        if term.0 < 1u32 << space.variables {
-            terms.push((term.0, term.1))?;
+    let terms = row.terms();
+    for i in 0..terms.len() {
+        if terms[i].0 >= 1u32 << space.variables {
+            return &terms[..i];
         }
     }
-    Ok(terms)
+    terms
 }
 
 /// Whether one of the measures has a coefficient at a coordinate.
@@ -84,9 +95,9 @@ fn used_coordinates(
 }
 
 /// The rows of some measures by their places, each with its opposite after it.
-fn columns(alloc: Global, measures: &[Measure], kept: &[usize]) -> Result<Vec<Row>, AllocError> {
+fn columns(alloc: Global, measures: &[Measure], places: &[usize]) -> Result<Vec<Row>, AllocError> {
     let mut columns = Vec::new(alloc);
-    for place in kept {
+    for place in places {
         if *place < measures.len() {
             let row = &measures[*place].row;
             columns.push(row.copy(alloc)?)?;
@@ -109,66 +120,44 @@ pub fn weights_of(
     }
 }
 
-/// The shares that weights of the columns are.
-fn shares(
-    alloc: Global,
-    weights: &[(usize, Fraction)],
-    kept: &[usize],
-) -> Result<Vec<Share>, AllocError> {
-    let mut shares = Vec::new(alloc);
-    for weight in weights {
-        let column = weight.0;
-        if column / 2 < kept.len() {
-            shares.push(Share {
-                place: kept[column / 2],
-                negative: column % 2 == 1,
-                times: weight.1,
-            })?;
-        }
-    }
-    Ok(shares)
-}
-
 /// A sum of some of the measures, by their places, that a row's part over the coordinates is.
 fn sum_of(
     alloc: Global,
     coordinates: &[u32],
     measures: &[Measure],
-    kept: &[usize],
     row: &Row,
-) -> Result<Vec<Share>, Untold> {
-    let columns = columns(alloc, measures, kept)?;
+    places: Vec<usize>,
+) -> Result<Choice, Untold> {
+    let columns = columns(alloc, measures, places.as_slice())?;
     let weights = weights_of(alloc, coordinates, columns.as_slice(), row)?;
-    Ok(shares(alloc, weights.as_slice(), kept)?)
+    Ok(Choice { places, weights })
 }
 
-/// The places without one.
-fn without(alloc: Global, kept: &[usize], place: usize) -> Result<Vec<usize>, AllocError> {
+/// The places without the one of this number.
+fn without(alloc: Global, places: &[usize], number: usize) -> Result<Vec<usize>, AllocError> {
     let mut others = Vec::new(alloc);
-    for other in kept {
-        if *other != place {
-            others.push(*other)?;
+    for (i, place) in places.iter().enumerate() {
+        if i != number {
+            others.push(*place)?;
         }
     }
     Ok(others)
 }
 
-/// A sum of fewer measures than that of these shares, where one is found without the measure of one of them: with the places
-/// that it is a sum of.
+/// A sum of fewer measures than these, where one is found without one of them.
 fn shorter(
     alloc: Global,
     coordinates: &[u32],
     measures: &[Measure],
-    kept: &[usize],
     row: &Row,
-    found: &[Share],
-) -> Result<(Vec<usize>, Vec<Share>), Untold> {
-    for share in found {
-        let others = without(alloc, kept, share.place)?;
-        match sum_of(alloc, coordinates, measures, others.as_slice(), row) {
-            Ok(sum) => {
-                if sum.len() < found.len() {
-                    return Ok((others, sum));
+    found: &Choice,
+) -> Result<Choice, Untold> {
+    for weight in found.weights.as_slice() {
+        let others = without(alloc, found.places.as_slice(), weight.0 / 2)?;
+        match sum_of(alloc, coordinates, measures, row, others) {
+            Ok(choice) => {
+                if choice.weights.len() < found.weights.len() {
+                    return Ok(choice);
                 }
             }
             Err(Untold::NotFound) => {}
@@ -182,36 +171,15 @@ fn shorter(
 const MOST_ROUNDS: u32 = 16;
 
 /// A sum of measures that a row's part over sets is, without measures that can be left out one by one.
-fn short_sum(
-    alloc: Global,
-    measures: &[Measure],
-    row: &Row,
-    space: Space,
-) -> Result<Vec<Share>, Untold>
+fn short_sum(alloc: Global, measures: &[Measure], row: &Row, space: Space) -> Result<Choice, Untold>
     requires { space.variables ≤ 10 }
 {
     let coordinates = used_coordinates(alloc, measures, row, space)?;
-    let mut kept: Vec<usize> = (0..measures.len()).collect(alloc)?;
-    let mut best = sum_of(
-        alloc,
-        coordinates.as_slice(),
-        measures,
-        kept.as_slice(),
-        row,
-    )?;
+    let all: Vec<usize> = (0..measures.len()).collect(alloc)?;
+    let mut best = sum_of(alloc, coordinates.as_slice(), measures, row, all)?;
     for _ in 0..MOST_ROUNDS {
-        match shorter(
-            alloc,
-            coordinates.as_slice(),
-            measures,
-            kept.as_slice(),
-            row,
-            best.as_slice(),
-        ) {
-            Ok((others, sum)) => {
-                kept = others;
-                best = sum;
-            }
+        match shorter(alloc, coordinates.as_slice(), measures, row, &best) {
+            Ok(choice) => best = choice,
             Err(Untold::NotFound) => return Ok(best),
             Err(Untold::Memory) => return Err(Untold::Memory),
         }
@@ -219,16 +187,14 @@ fn short_sum(
     Ok(best)
 }
 
-/// The least common multiple of the denominators of shares.
-fn common_multiple(alloc: Global, shares: &[Share]) -> Result<i128, Untold> {
+/// The least common multiple of the denominators of weights.
+pub fn common_multiple(alloc: Global, weights: &[(usize, Fraction)]) -> Result<i128, Untold> {
     let mut numbers = Vec::new(alloc);
-    for share in shares {
-        numbers.push(share.times)?;
+    for weight in weights {
+        numbers.push(weight.1)?;
     }
-    match common_scale(numbers.as_slice()) {
-        Ok(scale) => Ok(scale as i128),
-        Err(_) => Err(Untold::NotFound),
-    }
+    let scale = common_scale(numbers.as_slice())?;
+    Ok(scale as i128)
 }
 
 /// A number with its sign turned or not.
@@ -244,39 +210,33 @@ pub fn turned(number: i128, negative: bool) -> Result<i128, Untold> {
     }
 }
 
-/// The product of two numbers.
-pub fn product(a: i128, b: i128) -> Result<i128, Untold> {
-    match signed_product(a, b) {
-        Ok(product) => Ok(product),
-        Err(_) => Err(Untold::NotFound),
-    }
-}
-
-/// The term of a share so many times.
-fn share_term(measures: &[Measure], share: &Share, scale: i128) -> Result<Term, Untold> {
-    if share.place >= measures.len() {
+/// The term that a weight of a column makes of its measure, so many times.
+fn weight_term(
+    measures: &[Measure],
+    places: &[usize],
+    weight: &(usize, Fraction),
+    scale: i128,
+) -> Result<Term, Untold> {
+    let column = weight.0;
+    if column / 2 >= places.len() || places[column / 2] >= measures.len() {
         return Err(Untold::NotFound);
     }
-    let number = product(share.times.num(), scale / share.times.den())?;
-    term_of(turned(number, share.negative)?, measures[share.place].atom)
+    let number = signed_product(weight.1.num(), scale / weight.1.den())?;
+    let times = turned(number, column % 2 == 1)?;
+    term_of(times, measures[places[column / 2]].atom)
 }
 
 /// A sum of several of the measures that a row's part over sets is.
 fn found_sum(alloc: Global, measures: &[Measure], row: &Row, space: Space) -> Result<Found, Untold>
     requires { space.variables ≤ 10 }
 {
-    let shares = short_sum(alloc, measures, row, space)?;
-    let scale = common_multiple(alloc, shares.as_slice())?;
+    let choice = short_sum(alloc, measures, row, space)?;
+    let scale = common_multiple(alloc, choice.weights.as_slice())?;
     let mut terms = Vec::new(alloc);
-    for share in shares.as_slice() {
-        terms.push(share_term(measures, share, scale)?)?;
+    for weight in choice.weights.as_slice() {
+        terms.push(weight_term(measures, choice.places.as_slice(), weight, scale)?)?;
     }
     Ok(Found { scale, terms })
-}
-
-/// Whether a term is so many times another one.
-fn is_times(term: &(u32, i128), times: i128, other: &(u32, i128)) -> bool {
-    term.0 == other.0 && product(times, other.1) == Ok(term.1)
 }
 
 /// Whether one list of terms is so many times the other.
@@ -285,7 +245,7 @@ fn is_multiple(terms: &[(u32, i128)], times: i128, others: &[(u32, i128)]) -> bo
         return false;
     }
     for i in 0..terms.len() {
-        if !is_times(&terms[i], times, &others[i]) {
+        if terms[i].0 != others[i].0 || signed_product(times, others[i].1) != Ok(terms[i].1) {
             return false;
         }
     }
@@ -307,31 +267,16 @@ fn multiple_of(terms: &[(u32, i128)], others: &[(u32, i128)]) -> Result<i128, Un
     }
 }
 
-/// A multiple of one of the measures, which these terms are.
-fn own_single(terms: &[(u32, i128)], measures: &[Measure]) -> Result<Term, Untold> {
-    for measure in measures {
-        if let Ok(times) = multiple_of(terms, measure.row.terms()) {
-            return term_of(times, measure.atom);
-        }
-    }
-    Err(Untold::NotFound)
-}
-
 /// The set of a coordinate, which is one.
 fn set_at(coordinate: u32) -> VarSet {
     VarSet::from_number((coordinate % 65536) as u16)
-}
-
-/// Whether two numbers differ in their signs alone.
-fn are_opposite(a: i128, b: i128) -> bool {
-    turned(a, true) == Ok(b)
 }
 
 /// H(B|A) so many times, by the coordinates of A and of both.
 fn conditional(given: (u32, i128), all: (u32, i128)) -> Result<Term, Untold> {
     let small = set_at(given.0);
     let large = set_at(all.0);
-    if !are_opposite(given.1, all.1) || !small.inside(large) {
+    if sum(given.1, all.1) != Ok(0) || !small.inside(large) {
         return Err(Untold::NotFound);
     }
     let of = large.minus(small);
@@ -347,7 +292,7 @@ fn mutual(
 ) -> Result<Term, Untold> {
     let one = set_at(first.0);
     let other = set_at(second.0);
-    if first.1 != second.1 || !are_opposite(all.1, first.1) {
+    if first.1 != second.1 || sum(first.1, all.1) != Ok(0) {
         return Err(Untold::NotFound);
     }
     if one.union(other) != set_at(all.0) || one.meet(other) != given {
@@ -383,33 +328,24 @@ fn any_single(terms: &[(u32, i128)]) -> Result<Term, Untold> {
     }
 }
 
-/// One measure that a row's part over sets is a multiple of: one of the question's own, else one of any sets.
-fn single(alloc: Global, measures: &[Measure], terms: &[(u32, i128)]) -> Result<Found, Untold> {
-    let term = match own_single(terms, measures) {
-        Ok(term) => term,
-        Err(_) => any_single(terms)?,
-    };
-    let mut terms = Vec::new(alloc);
-    terms.push(term)?;
-    Ok(Found { scale: 1, terms })
-}
-
-/// Puts the joint entropies that terms over sets are after the others.
-fn put_joint(joint_terms: &mut Vec<Term>, terms: &[(u32, i128)]) -> Result<(), Untold> {
-    for term in terms {
-        let atom = joint(term.0);
-        joint_terms.push(term_of(term.1, atom)?)?;
+/// A multiple of one measure, which these terms are: of one of the question's own, else of one of any sets.
+fn single(measures: &[Measure], terms: &[(u32, i128)]) -> Result<Term, Untold> {
+    for measure in measures {
+        if let Ok(times) = multiple_of(terms, measure.row.terms()) {
+            return term_of(times, measure.atom);
+        }
     }
-    Ok(())
+    any_single(terms)
 }
 
 /// The joint entropies that a row's part over sets is.
 pub fn joint_sum(alloc: Global, row: &Row, space: Space) -> Result<Found, Untold>
     requires { space.variables ≤ 10 }
 {
-    let set_terms = set_terms(alloc, row, space)?;
     let mut terms = Vec::new(alloc);
-    put_joint(&mut terms, set_terms.as_slice())?;
+    for term in set_terms(row, space) {
+        terms.push(term_of(term.1, joint(term.0))?)?;
+    }
     Ok(Found { scale: 1, terms })
 }
 
@@ -423,13 +359,15 @@ pub fn own_sum(
 ) -> Result<Found, Untold>
     requires { space.variables ≤ 10 }
 {
-    let terms = set_terms(alloc, row, space)?;
+    let terms = set_terms(row, space);
     if terms.is_empty() {
         return joint_sum(alloc, row, space);
     }
-    match single(alloc, measures, terms.as_slice()) {
-        Ok(found) => Ok(found),
-        Err(Untold::NotFound) => found_sum(alloc, measures, row, space),
-        Err(Untold::Memory) => Err(Untold::Memory),
+    match single(measures, terms) {
+        Ok(term) => Ok(Found {
+            scale: 1,
+            terms: Vec::from_slice(alloc, &[term])?,
+        }),
+        Err(_) => found_sum(alloc, measures, row, space),
     }
 }

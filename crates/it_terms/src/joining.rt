@@ -21,86 +21,39 @@ fn mutual(one: VarSet, other: VarSet, given: VarSet) -> Atom {
     }
 }
 
-/// I(A;B|C) + I(A;D|B,C) = I(A;B,D|C), where D has none of the variables before.
-fn joined_mutual(
-    a: VarSet,
-    b: VarSet,
-    c: VarSet,
-    also: VarSet,
-    d: VarSet,
-    given: VarSet,
-) -> Option<Atom> {
+/// What I(A;B|C) and another atom are together by the chain rule for the side A, the other one being given B and C:
+/// I(A;B|C) + I(A;D|B,C) = I(A;B,D|C), where D has none of the variables before, and I(A;B|C) + H(A|B,C) = H(A|C).
+fn joined_side(a: VarSet, b: VarSet, c: VarSet, second: &Atom) -> Option<Atom> {
     let before = b.union(c);
-    if also == a && given == before && d.meet(a.union(before)) == VarSet::empty() {
-        Some(mutual(a, b.union(d), c))
-    } else {
-        None
-    }
-}
-
-/// I(A;B|C) + H(A|B,C) = H(A|C).
-fn joined_conditional(a: VarSet, b: VarSet, c: VarSet, of: VarSet, given: VarSet) -> Option<Atom> {
-    if of == a && given == b.union(c) {
-        Some(Atom::Entropy { of: a, given: c })
-    } else {
-        None
-    }
-}
-
-/// H(A|C) + H(B|A,C) = H(A,B|C).
-fn joined_entropy(a: VarSet, c: VarSet, of: VarSet, given: VarSet) -> Option<Atom> {
-    if given == a.union(c) && of.meet(given) == VarSet::empty() {
-        Some(Atom::Entropy {
-            of: a.union(of),
-            given: c,
-        })
-    } else {
-        None
-    }
-}
-
-/// The first of two, if any.
-fn either(first: Option<Atom>, second: Option<Atom>) -> Option<Atom> {
-    match first {
-        Some(atom) => Some(atom),
-        None => second,
-    }
-}
-
-/// A mutual information joined with a second one, either of whose sides may be the common one.
-fn joined_sides(
-    a: VarSet,
-    b: VarSet,
-    c: VarSet,
-    left: VarSet,
-    right: VarSet,
-    given: VarSet,
-) -> Option<Atom> {
-    either(
-        joined_mutual(a, b, c, left, right, given),
-        joined_mutual(a, b, c, right, left, given),
-    )
-}
-
-/// What I(A;B|C) and another atom are together by one chain rule, the other one being given more.
-fn joined_to_mutual(a: VarSet, b: VarSet, c: VarSet, second: &Atom) -> Option<Atom> {
     match second {
-        Atom::Mutual { left, right, given } => either(
-            joined_sides(a, b, c, *left, *right, *given),
-            joined_sides(b, a, c, *left, *right, *given),
-        ),
-        Atom::Entropy { of, given } => either(
-            joined_conditional(a, b, c, *of, *given),
-            joined_conditional(b, a, c, *of, *given),
-        ),
+        Atom::Mutual { left, right, given } if *given == before => {
+            let all = a.union(before);
+            if *left == a && right.meet(all) == VarSet::empty() {
+                Some(mutual(a, b.union(*right), c))
+            } else if *right == a && left.meet(all) == VarSet::empty() {
+                Some(mutual(a, b.union(*left), c))
+            } else {
+                None
+            }
+        }
+        Atom::Entropy { of, given } if *of == a && *given == before => {
+            Some(Atom::Entropy { of: a, given: c })
+        }
         _ => None,
     }
 }
 
-/// What H(A|C) and another atom are together by the chain rule.
-fn joined_to_entropy(a: VarSet, c: VarSet, second: &Atom) -> Option<Atom> {
+/// What H(A|C) and another atom are together by the chain rule: H(A|C) + H(B|A,C) = H(A,B|C).
+fn joined_entropy(a: VarSet, c: VarSet, second: &Atom) -> Option<Atom> {
     match second {
-        Atom::Entropy { of, given } => joined_entropy(a, c, *of, *given),
+        Atom::Entropy { of, given } => {
+            if *given == a.union(c) && of.meet(*given) == VarSet::empty() {
+                let of = a.union(*of);
+                Some(Atom::Entropy { of, given: c })
+            } else {
+                None
+            }
+        }
         _ => None,
     }
 }
@@ -108,17 +61,23 @@ fn joined_to_entropy(a: VarSet, c: VarSet, second: &Atom) -> Option<Atom> {
 /// What two atoms are together by one chain rule, the second one being given more.
 fn joined(first: &Atom, second: &Atom) -> Option<Atom> {
     match first {
-        Atom::Mutual { left, right, given } => joined_to_mutual(*left, *right, *given, second),
-        Atom::Entropy { of, given } => joined_to_entropy(*of, *given, second),
+        Atom::Mutual { left, right, given } => {
+            match joined_side(*left, *right, *given, second) {
+                Some(atom) => Some(atom),
+                None => joined_side(*right, *left, *given, second),
+            }
+        }
+        Atom::Entropy { of, given } => joined_entropy(*of, *given, second),
         _ => None,
     }
 }
 
-/// Two terms by their places, and what they are together.
+/// Two terms by their places, how often both are there, and what they are together.
 #[derive(Clone, Copy)]
 struct Pair {
     first: usize,
     second: usize,
+    times: u64,
     atom: Atom,
 }
 
@@ -128,9 +87,11 @@ fn first_pair(terms: &[Term]) -> Option<Pair> {
         for second in 0..terms.len() {
             if first != second {
                 if let Some(atom) = joined(&terms[first].atom, &terms[second].atom) {
+                    let times = terms[first].number.min(terms[second].number);
                     return Some(Pair {
                         first,
                         second,
+                        times,
                         atom,
                     });
                 }
@@ -167,40 +128,19 @@ pub fn add_term(terms: &mut Vec<Term>, number: u64, atom: Atom) -> Result<(), Al
     Ok(())
 }
 
-/// The number of a term by its place, 0 where there is none.
-fn number_at(terms: &[Term], place: usize) -> u64 {
-    if place < terms.len() {
-        terms[place].number
-    } else {
-        0
-    }
-}
-
-/// What is taken off a term by its place where a pair is joined so many times.
-fn taken(pair: &Pair, place: usize, times: u64) -> u64 {
-    if place == pair.first || place == pair.second {
-        times
-    } else {
-        0
-    }
-}
-
-/// What is put in the place of a term where a pair is joined so many times.
-fn put(pair: &Pair, place: usize, times: u64) -> u64 {
-    if place == pair.first { times } else { 0 }
-}
-
 /// The terms with the pair joined as often as both have it; what it makes stands in the place of its first.
 fn with_pair(alloc: Global, terms: &[Term], pair: &Pair) -> Result<Vec<Term>, AllocError> {
-    let times = number_at(terms, pair.first).min(number_at(terms, pair.second));
     let mut others = Vec::new(alloc);
     for (i, term) in terms.iter().enumerate() {
-        add_term(&mut others, put(pair, i, times), pair.atom)?;
-        add_term(
-            &mut others,
-            term.number.saturating_sub(taken(pair, i, times)),
-            term.atom,
-        )?;
+        if i == pair.first {
+            add_term(&mut others, pair.times, pair.atom)?;
+        }
+        let taken = if i == pair.first || i == pair.second {
+            pair.times
+        } else {
+            0
+        };
+        add_term(&mut others, term.number.saturating_sub(taken), term.atom)?;
     }
     Ok(others)
 }
@@ -210,8 +150,7 @@ const MOST_JOINED: u32 = 4096;
 
 /// Terms with a plus over sets, joined by the chain rules as long as two go together.
 pub fn joined_terms(alloc: Global, terms: &[Term]) -> Result<Vec<Term>, AllocError> {
-    let mut joined = Vec::new(alloc);
-    joined.extend_from_slice(terms)?;
+    let mut joined = Vec::from_slice(alloc, terms)?;
     for _ in 0..MOST_JOINED {
         match first_pair(joined.as_slice()) {
             Some(pair) => joined = with_pair(alloc, joined.as_slice(), &pair)?,

@@ -39,11 +39,6 @@ fn is_blank(byte: u8) -> bool {
     byte == b' ' || byte == b'\t'
 }
 
-/// Whether a word may begin at a place: the byte before it is none of a word.
-fn begins_word(text: &[u8], at: usize) -> bool {
-    at == 0 || at > text.len() || !is_word_byte(text[at - 1])
-}
-
 /// The place of the first byte from a place on that is no blank.
 fn after_blanks(text: &[u8], from: usize) -> usize {
     for at in from..text.len() {
@@ -59,15 +54,15 @@ fn stands(text: &[u8], at: usize, byte: u8) -> bool {
     at < text.len() && text[at] == byte
 }
 
-/// Whether an entropy or a mutual information begins at a place.
+/// Whether an entropy or a mutual information begins at a place: no byte of a word stands before it.
 fn begins_measure(text: &[u8], at: usize) -> bool
     requires { at < length text.now }
 {
-    if stands(text, at, b'H') || stands(text, at, b'I') {
-        begins_word(text, at) && stands(text, after_blanks(text, at + 1), b'(')
-    } else {
-        false
+    if text[at] != b'H' && text[at] != b'I' {
+        return false;
     }
+    let is_first = at == 0 || !is_word_byte(text[at - 1]);
+    is_first && stands(text, after_blanks(text, at + 1), b'(')
 }
 
 /// The bytes from a place up to the next right parenthesis, without blanks.
@@ -114,20 +109,20 @@ fn measure_of(
     }))
 }
 
-/// Whether a measure is among others.
-fn is_among(measures: &[Measure], atom: Atom) -> bool {
+/// The spelling that the question's author gave an atom, if any.
+pub fn own_spelling<'a>(measures: &'a [Measure], atom: &Atom) -> Option<&'a [u8]> {
     for measure in measures {
-        if measure.atom == atom {
-            return true;
+        if measure.atom == *atom {
+            return Some(measure.spelling.as_slice());
         }
     }
-    false
+    None
 }
 
 /// Puts a measure after the others, unless it is there.
 fn put_new(measures: &mut Vec<Measure>, found: Option<Measure>) -> Result<(), AllocError> {
     if let Some(measure) = found {
-        if !is_among(measures.as_slice(), measure.atom) {
+        if own_spelling(measures.as_slice(), &measure.atom).is_none() {
             measures.push(measure)?;
         }
     }

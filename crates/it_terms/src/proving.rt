@@ -7,19 +7,20 @@ ghost use Rattle.it_question.specs.Questions.{question_body};
 ghost use Rattle.it_terms.specs.Proposals.{MayProve};
 ghost use Rattle.it_terms.specs.Proofs.{TellsForm};
 
-use crate::constraints::{put_constraint, put_relation, put_terms};
+use crate::constraints::{put_constraint, put_relation, put_side};
 use crate::drafts::row_terms;
-use crate::finding::{joint_sum, own_sum, product, turned};
+use crate::finding::{joint_sum, own_sum};
 use crate::joining::{add_term, joined_terms};
 use crate::judging::is_same;
 use crate::measures::{Measure, measures};
 use crate::proof_judging::{Proposal, tells_proof};
 use crate::shortest::shortest;
 use crate::telling::names_of;
-use crate::untold::Untold;
-use crate::writing::{Draft, draft_text};
+use crate::untold::{Untold, unless_memory};
+use crate::writing::sums_text;
 use it_canon::{problem, target_rows};
 use it_elemental::{Elemental, count, parts};
+use it_fraction::signed_product;
 use it_question::types::{Question, Verb};
 use it_space::{Certificate, Constraint, Row, Space, VarSet};
 use it_syntax::Names;
@@ -27,14 +28,24 @@ use it_syntax::types::{Atom, Relation, Sign, Term};
 use std::alloc::{AllocError, Global};
 
 /// The terms of a target, and how often they have it.
-#[derive(Drop)]
 struct Goal {
     terms: Vec<Term>,
     factor: i128,
 }
 
-/// What a certificate sums up: terms over sets, the terms of constraints, and the weights of these.
+// written out, so that letting it go is one call, and not a step for each field
+impl Drop for Goal {
+    fn drop(self) {
+        let Goal {
+            terms: _,
+            factor: _,
+        } = self;
+    }
+}
+
+/// What is summed up, for a target so many times: terms over sets, the terms of constraints, and the weights of these.
 struct Summands {
+    scale: i128,
     shannon: Vec<Term>,
     rest: Vec<Term>,
     weights: Vec<(u32, i128)>,
@@ -44,6 +55,7 @@ struct Summands {
 impl Drop for Summands {
     fn drop(self) {
         let Summands {
+            scale: _,
             shannon: _,
             rest: _,
             weights: _,
@@ -51,13 +63,15 @@ impl Drop for Summands {
     }
 }
 
-/// What is to be proved and what may be used: a target, the constraints of the question's problem, and how these are written.
+/// What is to be proved and what may be used: a target, its terms, the constraints of the question's problem, and how these
+/// are written.
 #[derive(Drop)]
 struct Asked<'a> {
     question: &'a Question,
     measures: &'a [Measure],
     names: &'a Names,
     target: &'a Row,
+    goal: &'a Goal,
     constraints: &'a [Constraint],
 }
 
@@ -70,13 +84,6 @@ fn variable(i: u8) -> VarSet {
     }
 }
 
-/// The set of the first n variables.
-fn first_variables(n: u8) -> VarSet
-    requires { n ≤ 10 }
-{
-    VarSet::from_number((1u16 << n) - 1)
-}
-
 /// An elemental inequality as an atom.
 fn elemental_atom(n: u8, index: u32) -> Atom
     requires some { 1 ≤ n }
@@ -86,7 +93,7 @@ fn elemental_atom(n: u8, index: u32) -> Atom
     match parts(n, index) {
         Elemental::Conditional { of } => {
             let of = variable(of);
-            let given = first_variables(n).minus(of);
+            let given = VarSet::from_number((1u16 << n) - 1).minus(of);
             Atom::Entropy { of, given }
         }
         Elemental::Mutual { left, right, given } => Atom::Mutual {
@@ -94,18 +101,6 @@ fn elemental_atom(n: u8, index: u32) -> Atom
             right: variable(right),
             given,
         },
-    }
-}
-
-/// Adds an elemental inequality so many times.
-fn put_elemental(shannon: &mut Vec<Term>, n: u8, index: u32, times: i128) -> Result<(), Untold>
-    requires some { 1 ≤ n }
-    requires few { n ≤ 10 }
-    requires listed { index < length (elementals n) }
-{
-    match u64::try_from(times) {
-        Ok(number) => Ok(add_term(shannon, number, elemental_atom(n, index))?),
-        Err(_) => Err(Untold::NotFound),
     }
 }
 
@@ -125,16 +120,16 @@ fn put_weighted(
     Ok(())
 }
 
-/// What a certificate sums up, so many times.
+/// What a certificate sums up, as often as the goal has its target.
 fn summed_up(
     alloc: Global,
     asked: &Asked<'_>,
     certificate: &Certificate,
-    factor: i128,
 ) -> Result<Summands, Untold>
     requires { 1 ≤ length asked.now.names.now.variables }
 {
     let mut summands = Summands {
+        scale: certificate.scale,
         shannon: Vec::new(alloc),
         rest: Vec::new(alloc),
         weights: Vec::new(alloc),
@@ -142,9 +137,10 @@ fn summed_up(
     let n = asked.names.space().variables;
     let elementals = count(n);
     for weight in certificate.weights.as_slice() {
-        let times = product(weight.1, factor)?;
+        let times = signed_product(weight.1, asked.goal.factor)?;
         if weight.0 < elementals {
-            put_elemental(&mut summands.shannon, n, weight.0, times)?;
+            let number = u64::try_from(times)?;
+            add_term(&mut summands.shannon, number, elemental_atom(n, weight.0))?;
         } else {
             put_weighted(&mut summands, asked, weight.0 - elementals, times)?;
         }
@@ -152,35 +148,40 @@ fn summed_up(
     Ok(summands)
 }
 
-/// The proposal of a proof: an equation between a goal, as often as the scale says, and terms over sets with those of
-/// constraints.
+/// The text of an equation between the goal, as often as summands say, and these terms over sets with those of constraints.
+fn equation_text(
+    alloc: Global,
+    asked: &Asked<'_>,
+    shannon: &[Term],
+    summands: &Summands,
+) -> Result<Vec<u8>, Untold> {
+    let mut left = Vec::new(alloc);
+    put_side(&mut left, asked.goal.terms.as_slice(), 1, summands.scale)?;
+    let mut right = Vec::from_slice(alloc, shannon)?;
+    right.extend_from_slice(summands.rest.as_slice())?;
+    Ok(sums_text(
+        alloc,
+        asked.measures,
+        asked.names,
+        left.as_slice(),
+        Sign::Equal,
+        right.as_slice(),
+    )?)
+}
+
+/// The proposal of a proof with these terms over sets.
 fn proposal(
     alloc: Global,
     asked: &Asked<'_>,
-    goal: &Goal,
-    scale: i128,
     shannon: &[Term],
     summands: &Summands,
 ) -> Result<Proposal, Untold> {
-    let target = (0, product(scale, goal.factor)?);
-    let mut draft = Draft {
-        left: Vec::new(alloc),
-        sign: Sign::Equal,
-        right: Vec::new(alloc),
-    };
-    put_terms(&mut draft.left, goal.terms.as_slice(), scale)?;
-    draft.right.extend_from_slice(shannon)?;
-    draft.right.extend_from_slice(summands.rest.as_slice())?;
-    let text = draft_text(alloc, asked.measures, asked.names, &draft)?;
+    let target = (0, signed_product(summands.scale, asked.goal.factor)?);
+    let text = equation_text(alloc, asked, shannon, summands)?;
+    let weights = Vec::from_slice(alloc, summands.weights.as_slice())?;
     // a side without terms is written and read as `0`
-    let shannon = if draft.right.is_empty() {
-        1
-    } else {
-        shannon.len()
-    };
-    drop(draft);
-    let mut weights = Vec::new(alloc);
-    weights.extend_from_slice(summands.weights.as_slice())?;
+    let is_empty = shannon.is_empty() && summands.rest.is_empty();
+    let shannon = if is_empty { 1 } else { shannon.len() };
     Ok(Proposal {
         text,
         shannon,
@@ -189,65 +190,18 @@ fn proposal(
     })
 }
 
-/// The text of a proposal, where it tells a proof of the target.
-fn judged(
+/// Puts the proposals by what is summed up after the others: with the terms over sets joined, and with each by itself.
+fn put_proposals(
+    proposals: &mut Vec<Proposal>,
     alloc: Global,
     asked: &Asked<'_>,
-    proposal: Proposal,
-) -> Result<Option<Vec<u8>>, AllocError>
-    requires { 1 ≤ length asked.now.names.now.variables }
-    ensures { IfOk result (MayProve asked.now.names.now asked.now.target.now asked.now.constraints.now) }
-{
-    let tells = tells_proof(
-        alloc,
-        asked.names,
-        asked.target,
-        asked.constraints,
-        &proposal,
-    )?;
-    if tells {
-        Ok(Some(proposal.text))
-    } else {
-        Ok(None)
-    }
-}
-
-/// The text of a proof with these terms over sets, where there is one.
-fn text_with(
-    alloc: Global,
-    asked: &Asked<'_>,
-    goal: &Goal,
-    scale: i128,
-    shannon: &[Term],
     summands: &Summands,
-) -> Result<Option<Vec<u8>>, AllocError>
-    requires { 1 ≤ length asked.now.names.now.variables }
-    ensures { IfOk result (MayProve asked.now.names.now asked.now.target.now asked.now.constraints.now) }
-{
-    match proposal(alloc, asked, goal, scale, shannon, summands) {
-        Ok(proposal) => judged(alloc, asked, proposal),
-        Err(Untold::Memory) => Err(AllocError),
-        Err(Untold::NotFound) => Ok(None),
-    }
-}
-
-/// The text of a proof by what a certificate sums up: with the terms over sets joined, else with each elemental inequality.
-fn text_by(
-    alloc: Global,
-    asked: &Asked<'_>,
-    goal: &Goal,
-    scale: i128,
-    summands: &Summands,
-) -> Result<Option<Vec<u8>>, AllocError>
-    requires { 1 ≤ length asked.now.names.now.variables }
-    ensures { IfOk result (MayProve asked.now.names.now asked.now.target.now asked.now.constraints.now) }
-{
-    let plain = summands.shannon.as_slice();
-    let joined = joined_terms(alloc, plain)?;
-    if let Some(text) = text_with(alloc, asked, goal, scale, joined.as_slice(), summands)? {
-        return Ok(Some(text));
-    }
-    text_with(alloc, asked, goal, scale, plain, summands)
+) -> Result<(), Untold> {
+    let single = summands.shannon.as_slice();
+    let joined = joined_terms(alloc, single)?;
+    proposals.push(proposal(alloc, asked, joined.as_slice(), summands)?)?;
+    proposals.push(proposal(alloc, asked, single, summands)?)?;
+    Ok(())
 }
 
 /// The sum of the numbers of terms.
@@ -259,114 +213,44 @@ fn sum_of_numbers(terms: &[Term]) -> i128 {
     sum
 }
 
-/// What a proof with the least sum of terms over sets sums up, and how often it has the goal: no more terms than these.
+/// What a proof with the least sum of terms over sets sums up: no more terms than so many.
 fn least_summands(
     alloc: Global,
     asked: &Asked<'_>,
-    goal: &Goal,
     scale: i128,
-    terms: &[Term],
-) -> Result<(i128, Summands), Untold> {
-    let often = product(scale, goal.factor)?;
-    if goal.factor <= 0 {
+    most: i128,
+) -> Result<Summands, Untold> {
+    let factor = asked.goal.factor;
+    let often = signed_product(scale, factor)?;
+    if factor <= 0 {
         return Err(Untold::NotFound);
     }
-    let most = sum_of_numbers(terms);
     let space = asked.names.space();
     let least = shortest(alloc, space, asked.constraints, asked.target, often, most)?;
     let mut summands = Summands {
-        shannon: least.terms,
+        scale: least.scale / factor,
+        shannon: Vec::from_slice(alloc, least.terms.as_slice())?,
         rest: Vec::new(alloc),
         weights: Vec::new(alloc),
     };
     for weight in least.weights.as_slice() {
         put_weighted(&mut summands, asked, weight.0, weight.1)?;
     }
-    Ok((least.scale / goal.factor, summands))
+    Ok(summands)
 }
 
-/// The text of the proof with the least sum of terms over sets, where one is found that is no longer than what a certificate
-/// sums up.
-fn least_text(
+/// Puts the proposals with the least sum of terms over sets after the others, where one is found that is no longer than these
+/// summands.
+fn put_least(
+    proposals: &mut Vec<Proposal>,
     alloc: Global,
     asked: &Asked<'_>,
-    goal: &Goal,
-    scale: i128,
     summands: &Summands,
-) -> Result<Option<Vec<u8>>, AllocError>
-    requires { 1 ≤ length asked.now.names.now.variables }
-    ensures { IfOk result (MayProve asked.now.names.now asked.now.target.now asked.now.constraints.now) }
-{
+) -> Result<(), Untold> {
     let terms = joined_terms(alloc, summands.shannon.as_slice())?;
-    match least_summands(alloc, asked, goal, scale, terms.as_slice()) {
-        Ok((often, least)) => text_by(alloc, asked, goal, often, &least),
-        Err(Untold::Memory) => Err(AllocError),
-        Err(Untold::NotFound) => Ok(None),
-    }
-}
-
-/// The text of a proof by what a certificate sums up, or, where a short one is asked for, by the least sum if it is found.
-fn short_text(
-    alloc: Global,
-    asked: &Asked<'_>,
-    goal: &Goal,
-    scale: i128,
-    summands: &Summands,
-    short: bool,
-) -> Result<Option<Vec<u8>>, AllocError>
-    requires { 1 ≤ length asked.now.names.now.variables }
-    ensures { IfOk result (MayProve asked.now.names.now asked.now.target.now asked.now.constraints.now) }
-{
-    if short {
-        if let Some(text) = least_text(alloc, asked, goal, scale, summands)? {
-            return Ok(Some(text));
-        }
-    }
-    text_by(alloc, asked, goal, scale, summands)
-}
-
-/// The text of a proof of a target from constraints.
-fn proof_text(
-    alloc: Global,
-    asked: &Asked<'_>,
-    goal: &Goal,
-    certificate: &Certificate,
-    short: bool,
-) -> Result<Option<Vec<u8>>, AllocError>
-    requires { 1 ≤ length asked.now.names.now.variables }
-    ensures { IfOk result (MayProve asked.now.names.now asked.now.target.now asked.now.constraints.now) }
-{
-    match summed_up(alloc, asked, certificate, goal.factor) {
-        Ok(summands) => short_text(alloc, asked, goal, certificate.scale, &summands, short),
-        Err(Untold::Memory) => Err(AllocError),
-        Err(Untold::NotFound) => Ok(None),
-    }
-}
-
-/// The text of a proof of a target from the lines of a question.
-fn form_text(
-    alloc: Global,
-    question: &Question,
-    measures: &[Measure],
-    target: &Row,
-    goal: &Goal,
-    certificate: &Certificate,
-    short: bool,
-) -> Result<Option<Vec<u8>>, AllocError>
-    requires { IsQuestion (question_body question.now) }
-    ensures { IfOk result (λ o. IfSome o (λ text. TellsForm (question_body question.now) (value target.now) text.items)) }
-{
-    let names = names_of(question);
-    let posed = problem(alloc, question)?;
-    let asked = Asked {
-        question,
-        measures,
-        names,
-        target,
-        constraints: posed.constraints.as_slice(),
-    };
-    let text = proof_text(alloc, &asked, goal, certificate, short)?;
-    Ok(text)
+    let most = sum_of_numbers(terms.as_slice());
+    let least = least_summands(alloc, asked, summands.scale, most)?;
+    put_proposals(proposals, alloc, asked, &least)
 }
 
 /// A row as a goal, in measures where it is a sum of these, else in joint entropies.
@@ -387,7 +271,7 @@ fn row_goal(alloc: Global, measures: &[Measure], names: &Names, row: &Row) -> Re
 /// A target of a relation as a goal, in the relation's own terms.
 fn relation_goal(alloc: Global, relation: &Relation, target: usize) -> Result<Goal, Untold> {
     let mut terms = Vec::new(alloc);
-    put_relation(&mut terms, relation, turned(1, target == 1)?)?;
+    put_relation(&mut terms, relation, if target == 1 { -1 } else { 1 })?;
     Ok(Goal { terms, factor: 1 })
 }
 
@@ -420,6 +304,74 @@ fn goal_of(
     row_goal(alloc, measures, names, row)
 }
 
+/// Puts the proposals of proofs by a certificate after the others, and before these, where a short one is asked for, those
+/// with the least sum.
+fn put_all(
+    proposals: &mut Vec<Proposal>,
+    alloc: Global,
+    question: &Question,
+    target: &Row,
+    constraints: &[Constraint],
+    certificate: &Certificate,
+    short: bool,
+) -> Result<(), Untold>
+    requires { IsQuestion (question_body question.now) }
+{
+    let names = names_of(question);
+    let measures = measures(alloc, question.text.as_slice(), names)?;
+    let goal = goal_of(alloc, question, measures.as_slice(), names, target)?;
+    let asked = Asked {
+        question,
+        measures: measures.as_slice(),
+        names,
+        target,
+        goal: &goal,
+        constraints,
+    };
+    let summands = summed_up(alloc, &asked, certificate)?;
+    if short {
+        unless_memory(put_least(proposals, alloc, &asked, &summands))?;
+    }
+    put_proposals(proposals, alloc, &asked, &summands)
+}
+
+/// The text of a proposal, where it tells a proof of the target.
+fn judged(
+    alloc: Global,
+    names: &Names,
+    target: &Row,
+    constraints: &[Constraint],
+    proposal: Proposal,
+) -> Result<Option<Vec<u8>>, AllocError>
+    requires { 1 ≤ length names.now.variables }
+    ensures { IfOk result (MayProve names.now target.now constraints.now) }
+{
+    if tells_proof(alloc, names, target, constraints, &proposal)? {
+        Ok(Some(proposal.text))
+    } else {
+        Ok(None)
+    }
+}
+
+/// The text of the first proposal that tells a proof of the target.
+fn first_proof(
+    alloc: Global,
+    names: &Names,
+    target: &Row,
+    constraints: &[Constraint],
+    proposals: Vec<Proposal>,
+) -> Result<Option<Vec<u8>>, AllocError>
+    requires { 1 ≤ length names.now.variables }
+    ensures { IfOk result (MayProve names.now target.now constraints.now) }
+{
+    for proposal in proposals {
+        if let Some(text) = judged(alloc, names, target, constraints, proposal)? {
+            return Ok(Some(text));
+        }
+    }
+    Ok(None)
+}
+
 /// The text of the proof of a row from the lines of a question, by a certificate: an equation between a multiple of the row
 /// and a sum of terms over sets and of multiples of the question's constraints; None where none was found. Where a short one
 /// is asked for, one with the least sum of terms over sets is looked for first, which may take long.
@@ -434,18 +386,18 @@ pub fn told_form(
     ensures { IfOk result (λ o. IfSome o (λ text. TellsForm (question_body question.now) (value target.now) text.items)) }
 {
     let names = names_of(question);
-    let measures = measures(alloc, question.text.as_slice(), names)?;
-    match goal_of(alloc, question, measures.as_slice(), names, target) {
-        Ok(goal) => form_text(
-            alloc,
-            question,
-            measures.as_slice(),
-            target,
-            &goal,
-            certificate,
-            short,
-        ),
-        Err(Untold::Memory) => Err(AllocError),
-        Err(Untold::NotFound) => Ok(None),
-    }
+    let posed = problem(alloc, question)?;
+    let constraints = posed.constraints.as_slice();
+    let mut proposals = Vec::new(alloc);
+    unless_memory(put_all(
+        &mut proposals,
+        alloc,
+        question,
+        target,
+        constraints,
+        certificate,
+        short,
+    ))?;
+    let text = first_proof(alloc, names, target, constraints, proposals)?;
+    Ok(text)
 }

@@ -4,11 +4,11 @@ ghost use Rattle.std.specs.Prelude.{◌≡◌, ◌+◌, ◌*◌, ◌^◌, ◌≤
 ghost use Rattle.it_space.specs.Spaces.{IsSpace, size_of};
 ghost use Rattle.it_demand.specs.Coefficients.{largest};
 
-use crate::finding::{product, term_of, turned, weights_of};
+use crate::finding::{common_multiple, term_of, turned, weights_of};
 use crate::untold::Untold;
-use it_columns::{common_scale, opposite_row};
+use it_columns::opposite_row;
 use it_demand::Coefficients;
-use it_fraction::Fraction;
+use it_fraction::{Fraction, signed_product};
 use it_space::{Constraint, Kind, Row, Space, VarSet};
 use it_syntax::types::{Atom, Term};
 use std::alloc::{AllocError, Global};
@@ -20,11 +20,21 @@ const MOST_VARIABLES: u8 = 6;
 const MOST_TERMS: usize = 1024;
 
 /// A sum of terms over sets and of constraints, by their numbers, that is a target so many times.
-#[derive(Drop)]
 pub struct LeastSum {
     pub scale: i128,
     pub terms: Vec<Term>,
     pub weights: Vec<(u32, i128)>,
+}
+
+// written out, so that letting it go is one call, and not a step for each field
+impl Drop for LeastSum {
+    fn drop(self) {
+        let LeastSum {
+            scale: _,
+            terms: _,
+            weights: _,
+        } = self;
+    }
 }
 
 /// Columns: first those of terms over sets, then those of constraints by their numbers with signs turned or not, and last one
@@ -94,7 +104,7 @@ fn row_with(
     let places = space.size() as usize + 1;
     let mut coefficients = Coefficients::new(alloc, space)?;
     for term in terms {
-        let number = product(term.1, times)?;
+        let number = signed_product(term.1, times)?;
         put(&mut coefficients, places, term.0 as usize, number)?;
     }
     put(&mut coefficients, places, places - 1, last)?;
@@ -239,9 +249,7 @@ fn least_weights(
 {
     let mut best = weights_within(alloc, space, columns, target, scale, most)?;
     let mut low: u64 = 0;
-    let Ok(mut high) = u64::try_from(most) else {
-        return Err(Untold::NotFound);
-    };
+    let mut high = u64::try_from(most)?;
     for _ in 0..64 {
         if low >= high {
             return Ok(best);
@@ -257,18 +265,6 @@ fn least_weights(
         }
     }
     Ok(best)
-}
-
-/// The least common multiple of the denominators of weights.
-fn common_multiple(alloc: Global, weights: &[(usize, Fraction)]) -> Result<i128, Untold> {
-    let mut numbers = Vec::new(alloc);
-    for weight in weights {
-        numbers.push(weight.1)?;
-    }
-    match common_scale(numbers.as_slice()) {
-        Ok(scale) => Ok(scale as i128),
-        Err(_) => Err(Untold::NotFound),
-    }
 }
 
 /// Adds what a column stands for so many times.
@@ -299,12 +295,12 @@ fn sum_by_weights(
 ) -> Result<LeastSum, Untold> {
     let multiple = common_multiple(alloc, weights)?;
     let mut sum = LeastSum {
-        scale: product(scale, multiple)?,
+        scale: signed_product(scale, multiple)?,
         terms: Vec::new(alloc),
         weights: Vec::new(alloc),
     };
     for weight in weights {
-        let times = product(weight.1.num(), multiple / weight.1.den())?;
+        let times = signed_product(weight.1.num(), multiple / weight.1.den())?;
         put_times(&mut sum, columns, weight.0, times)?;
     }
     Ok(sum)

@@ -14,7 +14,7 @@ use crate::measures::{Measure, measures};
 use crate::reading::relation_text;
 use crate::telling::names_of;
 use crate::untold::Untold;
-use crate::writing::{Draft, draft_text};
+use crate::writing::sums_text;
 use it_canon::canon;
 use it_question::types::Question;
 use it_space::{Row, Space};
@@ -55,36 +55,16 @@ fn are_same_terms(terms: &[Term], others: &[Term]) -> bool
 fn with_term(alloc: Global, sum: &[Term], term: &Term) -> Result<Vec<Term>, AllocError>
     ensures { IfOk result (λ v. v.items ≡ sum.now ++ term.now ∷ []) }
 {
-    let mut terms = Vec::new(alloc);
-    terms.extend_from_slice(sum)?;
+    let mut terms = Vec::from_slice(alloc, sum)?;
     terms.push(*term)?;
     Ok(terms)
-}
-
-/// The text of two sums and the sign between them.
-fn text_of(
-    alloc: Global,
-    measures: &[Measure],
-    names: &Names,
-    left: &[Term],
-    sign: Sign,
-    right: &[Term],
-) -> Result<Vec<u8>, AllocError> {
-    let mut draft = Draft {
-        left: Vec::new(alloc),
-        sign,
-        right: Vec::new(alloc),
-    };
-    draft.left.extend_from_slice(left)?;
-    draft.right.extend_from_slice(right)?;
-    draft_text(alloc, measures, names, &draft)
 }
 
 /// The row of a sum, by the text that says it to be at least 0.
 fn row_of(alloc: Global, measures: &[Measure], names: &Names, sum: &[Term]) -> Result<Row, Untold>
     requires { 1 ≤ length names.now.variables }
 {
-    let text = text_of(alloc, measures, names, sum, Sign::AtLeast, &[])?;
+    let text = sums_text(alloc, measures, names, sum, Sign::AtLeast, &[])?;
     match relation_text(alloc, text.as_slice(), names)? {
         Some(relation) => Ok(canon(alloc, &relation, names.space())?),
         None => Err(Untold::NotFound),
@@ -136,10 +116,10 @@ fn step_text(
     requires { 1 ≤ length names.now.variables }
 {
     if is_last {
-        return Ok(text_of(alloc, measures, names, left, Sign::Equal, total)?);
+        return Ok(sums_text(alloc, measures, names, left, Sign::Equal, total)?);
     }
     let right = short_sum(alloc, measures, names, left)?;
-    Ok(text_of(alloc, measures, names, left, Sign::Equal, right.as_slice())?)
+    Ok(sums_text(alloc, measures, names, left, Sign::Equal, right.as_slice())?)
 }
 
 /// The step that a text is, where it is an equation that is true of every map, with the sum and the term on its left.
@@ -157,11 +137,10 @@ fn judged(
     let Some(read) = equation(alloc, text.as_slice(), names)? else {
         return Ok(None);
     };
+    let right = read.right.terms.as_slice();
     if are_same_terms(read.left.terms.as_slice(), left.as_slice()) {
-        Ok(Some(Step {
-            text,
-            sum: read.right.terms,
-        }))
+        let after = Vec::from_slice(alloc, right)?;
+        Ok(Some(Step { text, sum: after }))
     } else {
         Ok(None)
     }
@@ -201,8 +180,7 @@ fn step_texts(
     ensures { IfOk result (λ o. IfSome o (λ lines. AreStepTexts names.now first.now terms.now total.now (map (λ line. line.items) lines.items))) }
 {
     let mut lines = Vec::new(alloc);
-    let mut sum = Vec::new(alloc);
-    sum.extend_from_slice(first)?;
+    let mut sum = Vec::from_slice(alloc, first)?;
     for (i, term) in terms.iter().enumerate() {
         let is_last = i + 1 == terms.len();
         match next_step(alloc, measures, names, sum.as_slice(), term, total, is_last)? {

@@ -1,9 +1,8 @@
 //! Whether a row is a multiple of another one, or a sum of multiples of constraints.
-ghost use Rattle.std.specs.Prelude.{◌≡◌, ◌<◌, ◌≤◌, ◌^◌, ◌*ℤ◌, ℤ, length, map, All, IfOk, OnOk};
+ghost use Rattle.std.specs.Prelude.{◌≡◌, ◌≤◌, ◌^◌, ◌*ℤ◌, ℤ, length, map, All, IfOk, OnOk};
 ghost use Rattle.std.specs.Bool.{OnTrue};
 ghost use Rattle.it_space.specs.Rows.{value};
 ghost use Rattle.it_space.specs.Spaces.{IsSpace};
-ghost use Rattle.it_space.specs.Sums.{IsAdded};
 ghost use Rattle.it_polymatroid.specs.Certificates.{IsAllowed, combination};
 ghost use Rattle.it_elemental.specs.Generators.{forms_of, of_constraint};
 ghost use Rattle.it_demand.specs.Coefficients.{dense_form};
@@ -14,27 +13,6 @@ use crate::untold::Untold;
 use it_fraction::signed_product;
 use it_space::{Constraint, Kind, Row, Space, Sums};
 use std::alloc::{AllocError, Global};
-
-/// The product of two numbers.
-fn product(a: i128, b: i128) -> Result<i128, Untold>
-    ensures { IfOk result (λ n. n ≡ a *ℤ b) }
-{
-    match signed_product(a, b) {
-        Ok(product) => Ok(product),
-        Err(_) => Err(Untold::NotFound),
-    }
-}
-
-/// Adds an amount at a place that is there.
-fn add_at(sums: &mut Sums, place: usize, amount: i128) -> Result<(), Untold>
-    requires { place < length sums.old }
-    ensures { OnOk result (IsAdded sums.old sums.new place amount) }
-{
-    match sums.add(place, amount) {
-        Ok(()) => Ok(()),
-        Err(_) => Err(Untold::NotFound),
-    }
-}
 
 /// Adds a term so often as a weight says to sums at so many places, where its place is one of them and no number is wide.
 fn add_term(
@@ -50,8 +28,8 @@ fn add_term(
     if place >= places {
         return Err(Untold::NotFound);
     }
-    let amount = product(weight.1, term.1)?;
-    add_at(sums, place, amount)?;
+    let amount = signed_product(weight.1, term.1)?;
+    sums.add(place, amount)?;
     Ok(())
 }
 

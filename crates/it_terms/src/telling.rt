@@ -5,12 +5,12 @@ ghost use Rattle.it_question.specs.Questions.{question_body};
 ghost use Rattle.it_question.specs.Tables.{problem_names};
 ghost use Rattle.it_terms.specs.Tells.{TellsRow};
 
-use crate::drafts::{draft, row_terms};
+use crate::drafts::{laid_out, row_terms};
 use crate::finding::{Found, joint_sum, own_sum};
 use crate::judging::tells;
 use crate::measures::{Measure, measures};
 use crate::untold::Untold;
-use crate::writing::draft_text;
+use crate::writing::sums_text;
 use it_canon::problem_names;
 use it_question::types::Question;
 use it_space::Row;
@@ -37,8 +37,15 @@ fn written(
 ) -> Result<Vec<u8>, Untold> {
     let found = sum?;
     let terms = row_terms(alloc, row, &found, names.space())?;
-    let draft = draft(alloc, terms.as_slice())?;
-    Ok(draft_text(alloc, measures, names, &draft)?)
+    let draft = laid_out(alloc, terms.as_slice())?;
+    Ok(sums_text(
+        alloc,
+        measures,
+        names,
+        draft.left.as_slice(),
+        draft.sign,
+        draft.right.as_slice(),
+    )?)
 }
 
 /// A text, where there is one and it tells the row.

@@ -1,8 +1,10 @@
 //! Why something isn't told.
+use it_fraction::Wide;
 use std::alloc::{AllocError, AllocFailed};
+use std::num::TryFromIntError;
 
 /// Memory ran out; or nothing was found, or a number of it is too large.
-#[derive(Clone, Copy, PartialEq, Eq)]
+#[derive(Clone, Copy)]
 pub enum Untold {
     Memory,
     NotFound,
@@ -17,5 +19,25 @@ impl From<AllocError> for Untold {
 impl<T: Drop> From<AllocFailed<T>> for Untold {
     fn from(_error: AllocFailed<T>) -> Untold {
         Untold::Memory
+    }
+}
+
+impl From<Wide> for Untold {
+    fn from(_error: Wide) -> Untold {
+        Untold::NotFound
+    }
+}
+
+impl From<TryFromIntError> for Untold {
+    fn from(_error: TryFromIntError) -> Untold {
+        Untold::NotFound
+    }
+}
+
+/// Whether memory ran out: that nothing was found is let pass.
+pub fn unless_memory(told: Result<(), Untold>) -> Result<(), AllocError> {
+    match told {
+        Err(Untold::Memory) => Err(AllocError),
+        _ => Ok(()),
     }
 }
