@@ -12,7 +12,7 @@ use Rattle.it_syntax.specs.declared.types.TokenKind.{TokenKind}
 use Rattle.it_syntax.specs.declared.types.TokenKind.TheVariants as kinds
 use Rattle.it_forms.specs.declared.types.Symbol.TheVariants.{Comma}
 use Rattle.it_forms.specs.Letters.{Letter, Word, Number, Sym, End, Bad}
-use Rattle.it_syntax.specs.NameMarks.{is_measure}
+use Rattle.it_syntax.specs.NameFlags.{is_measure}
 use Rattle.it_syntax.specs.Misspellings.{SpellsUntil}
 use Rattle.it_syntax.specs.NamesViews.{NamesView, index_of, IsNew}
 use Rattle.it_syntax.specs.Spans.{letter_of, letters_until, last_letter}
@@ -21,7 +21,7 @@ use Rattle.it_syntax.proofs.NameLemmas.{nowhere_all, distinct_insert, differs_bo
 use Rattle.it_question.specs.Files.{IsFile}
 use Rattle.it_question.specs.Keywords.{vars_keyword, rates_keyword}
 use Rattle.it_question.specs.Lines.{LineView, AreLines, split_lines, letters_of_lines}
-use Rattle.it_question.specs.NewNames.{NameSortView, Variable, Rate, with_name, no_names, is_taken, new_mark}
+use Rattle.it_question.specs.NewNames.{NameSortView, Variable, Rate, with_name, no_names, is_taken, new_flag}
 use Rattle.it_question.specs.Texts.{text_of_lines, question_line_count, with_texts}
 use Rattle.it_question.proofs.NewNameLemmas.{new_of}
 use Rattle.it_certificate.specs.AnswerShapes.{IsFoundIn}
@@ -30,7 +30,7 @@ use Rattle.it_certificate.specs.Numerals.{up_to_limit, magnitude_of, integer_of,
 use Rattle.it_certificate.specs.Values.{rate_name}
 use Rattle.it_space.proofs.EveryLemmas.{every-append, every_front, every_back}
 use Rattle.it_forms.specs.Forms.{Keyword, Punctuation, Give, Then}
-use Rattle.it_forms.specs.Words.{limit_mark}
+use Rattle.it_forms.specs.Words.{limit_flag}
 use Rattle.it_forms.proofs.FormParts.{Fact, OfEach, Always, always_weaker, loop_keeps}
 use Rattle.it_question.specs.QuestionForms.{count, new_name, more_new, new_names, names_line, own_lines, verb, question, more_questions, file}
 use Rattle.it_question.specs.QuestionLimits.{most_questions, most_variables, most_rates, most_lines}
@@ -105,7 +105,7 @@ good_name Rate v w g new h = record {
 abbrev IfSound : Fact NamesView
 IfSound p v = Every IsSound p → AreGood v
 
-not_taken : (measure taken : Bool) (n : ℕ) → new_mark measure taken n ≡ None → taken ≡ false
+not_taken : (measure taken : Bool) (n : ℕ) → new_flag measure taken n ≡ None → taken ≡ false
 not_taken true taken n e = absurd cc
 not_taken false true n e = absurd cc
 not_taken false false n e = refl
@@ -155,9 +155,9 @@ IfSoundAll p qs = Every IsSound p → Every (λ q. AreGood q.names) qs
 
 more_questions_keep : (p : List Letter) (qs : List BodyView) → IfSoundAll p qs → Always (more_questions qs) (λ q rs. IfSoundAll (p ++ q) rs)
 unfolding Always more_questions
-more_questions_keep p qs s = loop_keeps (Keyword vars_keyword ∷ []) (λ qs l. (limit_mark (most_questions - length qs), tt {0})) (λ qs u. Then question (λ q. Give (qs ++ q ∷ []))) IfSoundAll turn p qs s
+more_questions_keep p qs s = loop_keeps (Keyword vars_keyword ∷ []) (λ qs l. (limit_flag (most_questions - length qs), tt {0})) (λ qs u. Then question (λ q. Give (qs ++ q ∷ []))) IfSoundAll turn p qs s
   where
-    turn : (p : List Letter) (qs : List BodyView) → IfSoundAll p qs → OfEach (record { kinds = Keyword vars_keyword ∷ []; says = λ l. (limit_mark (most_questions - length qs), tt {0}) }) (λ p0 b. Always (Then question (λ q. Give (qs ++ q ∷ []))) (λ q rs. IfSoundAll (p ++ (p0 ++ q)) rs))
+    turn : (p : List Letter) (qs : List BodyView) → IfSoundAll p qs → OfEach (record { kinds = Keyword vars_keyword ∷ []; says = λ l. (limit_flag (most_questions - length qs), tt {0}) }) (λ p0 b. Always (Then question (λ q. Give (qs ++ q ∷ []))) (λ q rs. IfSoundAll (p ++ (p0 ++ q)) rs))
     turn p qs s l e m = always_weaker question (λ q b. IfSound q b.names) _ (λ q b h all.
         let parts = every_back IsSound p ((l ∷ []) ++ (q ++ [])) all in
         every-append (λ b. AreGood b.names) qs (b ∷ []) (s (every_front IsSound p ((l ∷ []) ++ (q ++ [])) all)) (h (every_front IsSound q [] parts.1), tt)) question_keeps

@@ -18,10 +18,19 @@ const MOST_ROWS: usize = 4096;
 
 /// Rows that were targets of runs about one problem, each with the certificate that its run ended with, if it did. The first
 /// `MOST_ROWS` of them are kept. What is made once of the problem serves all these runs.
-#[derive(Drop)]
 pub(crate) struct Outcomes {
     pub(crate) by_row: IndexMap<Vec<(u32, i128)>, Option<Certificate>>,
     pub(crate) closed: ClosedProblem,
+}
+
+// written out, so that letting an outcomes go is one call
+impl Drop for Outcomes {
+    fn drop(self) {
+        let Outcomes {
+            by_row: _,
+            closed: _,
+        } = self;
+    }
 }
 
 impl Outcomes {

@@ -4,8 +4,8 @@ use Rattle.std.proofs.lemmas.List.Elements.{All-weaker}
 use Rattle.it_forms.specs.Forms.{Keyword, Give, Then, Spells}
 use Rattle.it_forms.specs.FormReading.{read}
 use Rattle.it_forms.specs.FormTexts.{spelling}
-use Rattle.it_forms.specs.Letters.{Letter, MarkedLetters}
-use Rattle.it_forms.specs.Words.{limit_mark, to_end}
+use Rattle.it_forms.specs.Letters.{Letter, FlaggedLetters}
+use Rattle.it_forms.specs.Words.{limit_flag, to_end}
 use Rattle.it_forms.proofs.LineEnds.{HasNoEnd}
 use Rattle.it_question.specs.declared.bodies.Body.{Body}
 use Rattle.it_question.specs.declared.types.Question.{Question}
@@ -36,10 +36,10 @@ copy_has_no_end : HasNoEnd copy
 unfolding HasNoEnd copy member
 copy_has_no_end = (refl, λ fresh. (refl, λ u. (refl, λ old. (refl, λ u. (over_has_no_end, λ set. tt)))))
 
-pub copies_lines : (cs all : List CopyView) (m k : MarkedLetters) → Spells (more_copies cs) all m k → Grows length cs all m k
+pub copies_lines : (cs all : List CopyView) (m k : FlaggedLetters) → Spells (more_copies cs) all m k → Grows length cs all m k
 unfolding more_copies Spells
 copies_lines cs all m k s =
-    turns_grow (λ (cs : List CopyView). record { kinds = Keyword copy_keyword ∷ []; says = λ l. (limit_mark (most_copies - length cs), tt {0}) }) (λ cs u. Spells (Then (to_end copy) (λ c. Give (cs ++ c ∷ [])))) length (λ cs. refl) (λ cs u c m k t. (0, puts_at (line_puts copy copy_has_no_end t.0 m t.1 t.2) t.3.1, sym (ap length t.3.0) ∙ omega (arith, length-append cs (t.0 ∷ [])))) s.0 cs all m k s.1
+    turns_grow (λ (cs : List CopyView). record { kinds = Keyword copy_keyword ∷ []; says = λ l. (limit_flag (most_copies - length cs), tt {0}) }) (λ cs u. Spells (Then (to_end copy) (λ c. Give (cs ++ c ∷ [])))) length (λ cs. refl) (λ cs u c m k t. (0, puts_at (line_puts copy copy_has_no_end t.0 m t.1 t.2) t.3.1, sym (ap length t.3.0) ∙ omega (arith, length-append cs (t.0 ∷ [])))) s.0 cs all m k s.1
 
 pub copy_file_ends : EndsFile copy_file
 unfolding copy_file Spells

@@ -4,15 +4,15 @@ use Rattle.std.proofs.lemmas.List.{append-nil, drop-drop, drop_all}
 use Rattle.it_forms.specs.FirstFault.{own_code}
 use Rattle.it_forms.specs.Forms.{Keyword, FileEnd, Give, Then, Spells}
 use Rattle.it_forms.specs.FormReading.{read}
-use Rattle.it_forms.specs.Letters.{Letter, letters, without_marks}
+use Rattle.it_forms.specs.Letters.{Letter, letters, without_flags}
 use Rattle.it_forms.specs.Reads.{Reads, ◌>>=◌, no_rule}
-use Rattle.it_forms.specs.Words.{just, file_end, limit_mark}
+use Rattle.it_forms.specs.Words.{just, file_end, limit_flag}
 use Rattle.it_forms.proofs.FormFound.{reading_tells}
 use Rattle.it_forms.proofs.FormTraces.{Went, By, other_is}
 use Rattle.it_forms.proofs.FormWritten.{written_is_read}
 use Rattle.it_forms.proofs.KindLemmas.{IsFree, apart_among}
 use Rattle.it_forms.proofs.LetterLemmas.{letters_append, letters_after, letters_cleaned, cleaned_append, clean_is_clean}
-use Rattle.it_forms.proofs.MarkedReadings.{Answers}
+use Rattle.it_forms.proofs.FlaggedReadings.{Answers}
 use Rattle.it_syntax.specs.declared.rest.Stop.{Stop}
 use Rattle.it_syntax.specs.declared.rest.Stop.TheVariants as stops
 use Rattle.it_syntax.specs.Gives.{StopsAs}
@@ -106,7 +106,7 @@ pub head_read : (bytes : List ℕ) (lines : List LineView) (copies : List CopyVi
 head_read bytes lines copies r from skipped cut e begins counted within after =
     let ls = letters_of_lines lines in
     let w : Went (read (more_copies [])) (Spells (more_copies [])) ls copies r = subst (λ (t : Reads (List CopyView)). By (read (more_copies [])) (Spells (more_copies [])) ls t) e (reading_tells (more_copies []) _ (copies_has []) ls) in
-    let g = copies_lines [] copies (without_marks w.prefix ++ []) [] (w.spells []) in
+    let g = copies_lines [] copies (without_flags w.prefix ++ []) [] (w.spells []) in
     let prefix : letters g.puts.prefix ≡ w.prefix =
     sym (append-nil (letters g.puts.prefix)) ∙ sym (letters_append g.puts.prefix []) ∙ sym (ap letters g.puts.is) ∙ letters_after w.prefix [] ∙ append-nil w.prefix in
     let count : g.lines ≡ length copies = omega (arith, g.grows) in
@@ -117,23 +117,23 @@ head_read bytes lines copies r from skipped cut e begins counted within after =
       cut = cut;
       rest = drop (length copies) lines;
       rest_is = refl;
-      spells = subst (λ (s : List Letter). Spells (more_copies []) copies (without_marks ls) (without_marks s)) (sym first.after)
-          (subst (λ m. Spells (more_copies []) copies m (without_marks r)) (sym (ap without_marks w.parts ∙ cleaned_append w.prefix r)) (w.spells (without_marks r)));
+      spells = subst (λ (s : List Letter). Spells (more_copies []) copies (without_flags ls) (without_flags s)) (sym first.after)
+          (subst (λ m. Spells (more_copies []) copies m (without_flags r)) (sym (ap without_flags w.parts ∙ cleaned_append w.prefix r)) (w.spells (without_flags r)));
       begins = ap begins_questions first.after ∙ begins;
       counted = counted;
       within = within;
       after = after;
     }
 
-free_of_copies : (r : List Letter) → begins_questions r ≡ true → IsFree (Keyword copy_keyword ∷ []) (without_marks r)
+free_of_copies : (r : List Letter) → begins_questions r ≡ true → IsFree (Keyword copy_keyword ∷ []) (without_flags r)
 free_of_copies [] e = tt
 free_of_copies (l ∷ r) e = apart_among (Keyword copy_keyword ∷ []) (Keyword vars_keyword ∷ FileEnd ∷ []) l refl e
 
 -- a head that is written is read
-written_head_is_read : (cs : List CopyView) (ls r : List Letter) → Spells (more_copies []) cs (without_marks ls) (without_marks r) → begins_questions r ≡ true → read (more_copies []) ls ≡ Ok (cs, r)
-written_head_is_read cs ls r s begins = by_answer (written_is_read (more_copies []) _ (copies_has []) cs (without_marks ls) (without_marks r) s (free_of_copies r begins))
+written_head_is_read : (cs : List CopyView) (ls r : List Letter) → Spells (more_copies []) cs (without_flags ls) (without_flags r) → begins_questions r ≡ true → read (more_copies []) ls ≡ Ok (cs, r)
+written_head_is_read cs ls r s begins = by_answer (written_is_read (more_copies []) _ (copies_has []) cs (without_flags ls) (without_flags r) s (free_of_copies r begins))
   where
-    by_answer : Answers (read (more_copies []) (letters (without_marks ls))) (without_marks ls) cs (without_marks r) → read (more_copies []) ls ≡ Ok (cs, r)
+    by_answer : Answers (read (more_copies []) (letters (without_flags ls))) (without_flags ls) cs (without_flags r) → read (more_copies []) ls ≡ Ok (cs, r)
     by_answer (inl a) = sym (ap (read (more_copies [])) (letters_cleaned ls)) ∙ a.0 ∙ ap (λ (s : List Letter). Ok (cs, s)) (letters_cleaned r)
     by_answer (inr b) = absurd (clean_is_clean ls b.1.1.prefix b.0.0 (b.1.1.letter, b.1.1.rest, b.1.1.is))
 
@@ -154,7 +154,7 @@ unfolding read file more_questions
 no_file [] e = refl
 no_file (l ∷ ls) e =
     let other = both_false _ _ e in
-    let question : read (more_questions []) (l ∷ ls) ≡ Ok ([], l ∷ ls) = word_ends vars_keyword (λ qs. limit_mark (most_questions - length qs)) (λ qs. question) (λ qs q. qs ++ q ∷ []) [] (l ∷ ls) _ refl (ap (λ (b : Bool). cond b (Some ((None, tt), ls)) None) other.0) in
+    let question : read (more_questions []) (l ∷ ls) ≡ Ok ([], l ∷ ls) = word_ends vars_keyword (λ qs. limit_flag (most_questions - length qs)) (λ qs. question) (λ qs q. qs ++ q ∷ []) [] (l ∷ ls) _ refl (ap (λ (b : Bool). cond b (Some ((None, tt), ls)) None) other.0) in
     let end : read file_end (l ∷ ls) ≡ Err (own_code (l ∷ ls), l ∷ ls) = other_is (just (FileEnd ∷ []) tt) l other.1 (λ a rest. Ok (a, rest)) ls (no_rule (l ∷ ls)) in
     ap (λ (t : Reads (List BodyView)). t >>= λ x. read (Then file_end (λ u. Give x.0)) x.1) question ∙ ap (λ (t : Reads (Unit {0})). t >>= λ x. read (Give []) x.1) end
 

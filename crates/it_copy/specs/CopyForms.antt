@@ -2,16 +2,16 @@
 -- against the first letter past a limit.
 use Rattle.std.specs.Prelude.{ℕ, ◌-◌, List, [], ◌∷◌, ◌++◌, length}
 use Rattle.it_forms.specs.declared.types.Symbol.TheVariants.{Comma}
-use Rattle.it_syntax.specs.NameMarks.{is_measure}
+use Rattle.it_syntax.specs.NameFlags.{is_measure}
 use Rattle.it_question.specs.QuestionForms.{file}
 use Rattle.it_question.specs.Questions.{BodyView}
-use Rattle.it_copy.specs.CopyLines.{CopyView, most_copies, copy_keyword, of_keyword, over_keyword, most_members, member_mark}
+use Rattle.it_copy.specs.CopyLines.{CopyView, most_copies, copy_keyword, of_keyword, over_keyword, most_members, member_flag}
 use Rattle.it_forms.specs.Forms.{Form, Give, Take, If}
-use Rattle.it_forms.specs.Words.{◌>>=◌, ◌>>◌, word, any_word, each_after, each_marked, to_end, zero_alone, limit_mark}
+use Rattle.it_forms.specs.Words.{◌>>=◌, ◌>>◌, word, any_word, each_after, each_flagged, to_end, zero_alone, limit_flag}
 
 -- a name, of which n are allowed
 unfoldable pub member : ℕ → Form (List ℕ)
-member n = Take (any_word (λ w. (member_mark (is_measure w) n, w)))
+member n = Take (any_word (λ w. (member_flag (is_measure w) n, w)))
 
 -- further names, each after a comma
 unfoldable pub more_members : List (List ℕ) → Form (List (List ℕ))
@@ -33,7 +33,7 @@ copy = do
 
 -- lines that ask for copies, after others
 unfoldable pub more_copies : List CopyView → Form (List CopyView)
-more_copies cs = each_marked copy_keyword (λ cs. limit_mark (most_copies - length cs)) (λ cs. to_end copy) (λ cs c. cs ++ c ∷ []) cs
+more_copies cs = each_flagged copy_keyword (λ cs. limit_flag (most_copies - length cs)) (λ cs. to_end copy) (λ cs c. cs ++ c ∷ []) cs
 
 -- a head, and the question file after it
 unfoldable pub copy_file : Form (List CopyView × List BodyView)

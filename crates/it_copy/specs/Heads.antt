@@ -2,7 +2,7 @@
 use Rattle.std.specs.Prelude.{◌≡◌, ℕ, ◌-◌, ◌≤◌, Bool, true, false, List, [], ◌∷◌, length, drop}
 use Rattle.it_forms.specs.declared.types.Code.{Code}
 use Rattle.it_forms.specs.Forms.{Keyword, FileEnd, is_among, Spells}
-use Rattle.it_forms.specs.Letters.{Letter, without_marks}
+use Rattle.it_forms.specs.Letters.{Letter, without_flags}
 use Rattle.it_question.specs.declared.types.FileFault.{FileFault}
 use Rattle.it_question.specs.declared.types.FileFault.TheVariants.{Memory, Fault}
 use Rattle.it_question.specs.Keywords.{vars_keyword}
@@ -28,7 +28,7 @@ pub record IsHead (bytes : List ℕ) (copies : List CopyView) (from skipped : �
   pub cut : AreLinesOf bytes lines
   pub rest : List LineView
   pub rest_is : rest ≡ drop (length copies) lines
-  pub spells : Spells (more_copies []) copies (without_marks (letters_of_lines lines)) (without_marks (letters_of_lines rest))
+  pub spells : Spells (more_copies []) copies (without_flags (letters_of_lines lines)) (without_flags (letters_of_lines rest))
   pub begins : begins_questions (letters_of_lines rest) ≡ true
   pub counted : skipped ≡ lines_before rest
   pub within : from ≤ length bytes

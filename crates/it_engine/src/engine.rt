@@ -34,7 +34,6 @@ pub enum EngineEnd {
 
 /// What is kept of a table: its rows and last its cost row, each with its entries at the artificial columns and last its right
 /// side; and the basic column of each row but the cost row.
-#[derive(Drop)]
 pub struct Engine {
     alloc: Global,
     rows: Vec<WholeRow>,
@@ -49,6 +48,22 @@ pub struct Engine {
     moved: Vec<bool>,
     // room for a column at which rows that stay behind are looked at
     combined: Column,
+}
+
+// written out, so that letting an engine go is one call
+impl Drop for Engine {
+    fn drop(self) {
+        let Engine {
+            alloc: _,
+            rows: _,
+            basis: _,
+            next: _,
+            room: _,
+            entries: _,
+            moved: _,
+            combined: _,
+        } = self;
+    }
 }
 
 impl Model for Engine {

@@ -22,9 +22,15 @@ pub enum AnyRow {
 }
 
 /// Whole numbers over one denominator, not in lowest terms.
-#[derive(Drop)]
 pub struct WholeRow {
     row: AnyRow,
+}
+
+// written out, so that letting a whole row go is one call
+impl Drop for WholeRow {
+    fn drop(self) {
+        let WholeRow { row: _ } = self;
+    }
 }
 
 impl Model for WholeRow {
@@ -220,7 +226,8 @@ impl WholeRow {
         requires short { AreShort self.numbers }
         ensures { IsQuotient self pivot result }
     {
-        match self.row {
+        let WholeRow { row } = self;
+        match row {
             AnyRow::Narrow(row) => WholeRow {
                 row: AnyRow::Narrow(row.divided_by(pivot)),
             },

@@ -6,7 +6,7 @@ use Rattle.it_forms.specs.declared.types.Code.{Code}
 use Rattle.it_forms.specs.Reads.{Reads, ◌>>=◌}
 use Rattle.it_forms.specs.Letters.{Letter, Word, Number, Sym, End, Bad}
 use Rattle.it_forms.specs.Forms.{Kind, WordBut, is_of, is_among, Terminal, Form, Give, Take, Then, If, While}
-use Rattle.it_forms.specs.FormReading.{if_unmarked, if_taken, read, after}
+use Rattle.it_forms.specs.FormReading.{if_unflagged, if_taken, read, after}
 use Rattle.it_forms.specs.Words.{word, without, all_without, terminal_but, but}
 use Rattle.it_forms.proofs.FormTraces.{Reader}
 
@@ -36,7 +36,7 @@ same_kinds ts (k ∷ ks) l ls e = ap (λ (b : Bool). b || is_among (all_without 
 
 same_terminal : {A B : Type 0} (ts : List (List ℕ)) (t : Terminal A) (ls : List Letter) (g : A → Reader B) (other same : Reads B) → NoneStands ts ls → other ≡ same → if_taken (terminal_but ts t) ls g other ≡ if_taken t ls g same
 same_terminal ts t [] g other same h e = e
-same_terminal ts t (l ∷ ls) g other same h e = ap (λ (b : Bool). cond b (if_unmarked (t.says l) l ls (λ a. g a ls)) other) (same_kinds ts t.kinds l ls h) ∙ ap (λ (r : Reads _). cond (is_among t.kinds l) (if_unmarked (t.says l) l ls (λ a. g a ls)) r) e
+same_terminal ts t (l ∷ ls) g other same h e = ap (λ (b : Bool). cond b (if_unflagged (t.says l) l ls (λ a. g a ls)) other) (same_kinds ts t.kinds l ls h) ∙ ap (λ (r : Reads _). cond (is_among t.kinds l) (if_unflagged (t.says l) l ls (λ a. g a ls)) r) e
 
 pub read_but : {A : Type 0} (ts : List (List ℕ)) (f : Form A) (ls : List Letter) → NoneStands ts ls → read (but ts f) ls ≡ read f ls
 unfolding but read

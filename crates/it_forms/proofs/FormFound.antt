@@ -1,7 +1,7 @@
 -- What a reading of a form tells of the letters that it looked at.
 use Rattle.std.proofs.Common.{◌≡◌, ℕ, zero, suc, ◌≤◌, List, [], ◌∷◌, length, Option, Ok, refl, ◌∙◌, subst, inl, inr, arith}
 use Rattle.it_forms.specs.declared.types.Code.{Code}
-use Rattle.it_forms.specs.Letters.{Letter, MarkedLetters}
+use Rattle.it_forms.specs.Letters.{Letter, FlaggedLetters}
 use Rattle.it_forms.specs.Reads.{◌>>=◌, no_rule}
 use Rattle.it_forms.specs.Forms.{Kind, IsTaken, Form, Give, Take, Then, If, While, Spells}
 use Rattle.it_forms.specs.FormReading.{read}
@@ -22,12 +22,12 @@ form_completes (If t g other) o h = let c = form_completes other h.1 h.3 in (c.0
 form_completes (While ks says step a) o h = (a, λ k. (k, (zero, (refl, refl))))
 
 -- a turn, and those after it
-one_more_turn : {A B : Type 0} (ks : List Kind) (says : A → Letter → Option Code × B) (step : A → B → Form A) (a : A) (b : B) (c y : A) (m p q k : MarkedLetters) → IsTaken (record { kinds = ks; says = says a }) b m p → Spells (step a b) c p q → Spells (While ks says step c) y q k → Spells (While ks says step a) y m k
+one_more_turn : {A B : Type 0} (ks : List Kind) (says : A → Letter → Option Code × B) (step : A → B → Form A) (a : A) (b : B) (c y : A) (m p q k : FlaggedLetters) → IsTaken (record { kinds = ks; says = says a }) b m p → Spells (step a b) c p q → Spells (While ks says step c) y q k → Spells (While ks says step a) y m k
 unfolding Spells
 one_more_turn ks says step a b c y m p q k t s w = (suc w.0, (b, p, c, q, t, s, w.1))
 
 abbrev After : {A B : Type 0} → List Kind → (A → Letter → Option Code × B) → (A → B → Form A) → A → B → Language A
-After {A} ks says step a b y m k = (c : A) × (q : MarkedLetters) × Spells (step a b) c m q × Spells (While ks says step c) y q k
+After {A} ks says step a b y m k = (c : A) × (q : FlaggedLetters) × Spells (step a b) c m q × Spells (While ks says step c) y q k
 
 after_completes : {A B : Type 0} (ks : List Kind) (says : A → Letter → Option Code × B) (step : A → B → Form A) (a : A) (b : B) → Completes (Spells (step a b)) → Completes (After ks says step a b)
 unfolding Spells

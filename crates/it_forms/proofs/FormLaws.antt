@@ -1,11 +1,11 @@
--- The two laws of forms: what is written in a form is read, up to its first mark; and what a reading tells of the letters
+-- The two laws of forms: what is written in a form is read, up to its first flag; and what a reading tells of the letters
 -- that it looked at.
 use Rattle.std.proofs.Common.{◌≡◌, ℕ, zero, suc, ◌≤◌, Bool, true, false, cond, List, [], ◌∷◌, length, Option, Some, None, Ok, Err, refl, arith}
 use Rattle.it_forms.specs.declared.types.Code.{Code}
 use Rattle.it_forms.specs.Letters.{Letter}
 use Rattle.it_forms.specs.Reads.{Reads, ◌>>=◌, no_rule}
 use Rattle.it_forms.specs.Forms.{Terminal, is_among, Form, Give, Take, Then, If, While}
-use Rattle.it_forms.specs.FormReading.{if_unmarked, if_taken, read_turns, read}
+use Rattle.it_forms.specs.FormReading.{if_unflagged, if_taken, read_turns, read}
 use Rattle.it_forms.proofs.FormTraces.{Reader}
 
 -- ---- nothing that is read gets longer
@@ -30,12 +30,12 @@ taken_no_longer {A} {B} t (l ∷ ls) g other next h = by_test (is_among t.kinds 
     by_result (Ok y) n = omega (arith, n)
     by_result (Err e) n = tt
 
-    by_mark : (p : Option Code × A) → NoLonger (l ∷ ls) (if_unmarked p l ls (λ a. g a ls))
-    by_mark (None, a) = by_result (g a ls) (next a ls)
-    by_mark (Some c, a) = tt
+    by_flag : (p : Option Code × A) → NoLonger (l ∷ ls) (if_unflagged p l ls (λ a. g a ls))
+    by_flag (None, a) = by_result (g a ls) (next a ls)
+    by_flag (Some c, a) = tt
 
-    by_test : (b : Bool) (p : Option Code × A) → NoLonger (l ∷ ls) (cond b (if_unmarked p l ls (λ a. g a ls)) other)
-    by_test true p = by_mark p
+    by_test : (b : Bool) (p : Option Code × A) → NoLonger (l ∷ ls) (cond b (if_unflagged p l ls (λ a. g a ls)) other)
+    by_test true p = by_flag p
     by_test false p = h
 
 turns_no_longer : {A B : Type 0} (t : A → Terminal B) (step : A → B → Reader A) → ((a : A) (b : B) (s : List Letter) → NoLonger s (step a b s)) → (n : ℕ) (a : A) (ls : List Letter) → NoLonger ls (read_turns t step n a ls)
@@ -60,12 +60,12 @@ enough_then t step n m ls hn hm same (Err e) h = refl
 turn_same : {A B : Type 0} (t : A → Terminal B) (step : A → B → Reader A) → ((a : A) (b : B) (s : List Letter) → NoLonger s (step a b s)) → (n m : ℕ) (a : A) (l : Letter) (ls : List Letter) → length ls ≤ n → length ls ≤ m → ((a : A) (s : List Letter) → length s ≤ n → length s ≤ m → read_turns t step n a s ≡ read_turns t step m a s) → read_turns t step (suc n) a (l ∷ ls) ≡ read_turns t step (suc m) a (l ∷ ls)
 turn_same {A} {B} t step h n m a l ls ln lm same = by_test (is_among (t a).kinds l) ((t a).says l)
   where
-    by_mark : (p : Option Code × B) → if_unmarked p l ls (λ b. step a b ls >>= λ x. read_turns t step n x.0 x.1) ≡ if_unmarked p l ls (λ b. step a b ls >>= λ x. read_turns t step m x.0 x.1)
-    by_mark (None, b) = enough_then t step n m ls ln lm same (step a b ls) (h a b ls)
-    by_mark (Some c, b) = refl
+    by_flag : (p : Option Code × B) → if_unflagged p l ls (λ b. step a b ls >>= λ x. read_turns t step n x.0 x.1) ≡ if_unflagged p l ls (λ b. step a b ls >>= λ x. read_turns t step m x.0 x.1)
+    by_flag (None, b) = enough_then t step n m ls ln lm same (step a b ls) (h a b ls)
+    by_flag (Some c, b) = refl
 
-    by_test : (b : Bool) (p : Option Code × B) → cond b (if_unmarked p l ls (λ b. step a b ls >>= λ x. read_turns t step n x.0 x.1)) (Ok (a, l ∷ ls)) ≡ cond b (if_unmarked p l ls (λ b. step a b ls >>= λ x. read_turns t step m x.0 x.1)) (Ok (a, l ∷ ls))
-    by_test true p = by_mark p
+    by_test : (b : Bool) (p : Option Code × B) → cond b (if_unflagged p l ls (λ b. step a b ls >>= λ x. read_turns t step n x.0 x.1)) (Ok (a, l ∷ ls)) ≡ cond b (if_unflagged p l ls (λ b. step a b ls >>= λ x. read_turns t step m x.0 x.1)) (Ok (a, l ∷ ls))
+    by_test true p = by_flag p
     by_test false p = refl
 
 pub enough_turns : {A B : Type 0} (t : A → Terminal B) (step : A → B → Reader A) → ((a : A) (b : B) (s : List Letter) → NoLonger s (step a b s)) → (n m : ℕ) (a : A) (ls : List Letter) → length ls ≤ n → length ls ≤ m → read_turns t step n a ls ≡ read_turns t step m a ls
@@ -93,10 +93,10 @@ while_turn {A} {B} ks says step a (l ∷ ls) = by_test (is_among ks l) (says a l
     by_step (Ok x) h = enough_turns (λ a. record { kinds = ks; says = says a }) (λ a b. read (step a b)) (λ a b. rest_no_longer (step a b)) (length ls) (length x.1) x.0 x.1 h (omega arith)
     by_step (Err e) h = refl
 
-    by_mark : (p : Option Code × B) → if_unmarked p l ls (λ b. read (step a b) ls >>= λ x. read_turns (λ a. record { kinds = ks; says = says a }) (λ a b. read (step a b)) (length ls) x.0 x.1) ≡ if_unmarked p l ls (λ b. read (step a b) ls >>= λ x. read (While ks says step x.0) x.1)
-    by_mark (None, b) = by_step (read (step a b) ls) (rest_no_longer (step a b) ls)
-    by_mark (Some c, b) = refl
+    by_flag : (p : Option Code × B) → if_unflagged p l ls (λ b. read (step a b) ls >>= λ x. read_turns (λ a. record { kinds = ks; says = says a }) (λ a b. read (step a b)) (length ls) x.0 x.1) ≡ if_unflagged p l ls (λ b. read (step a b) ls >>= λ x. read (While ks says step x.0) x.1)
+    by_flag (None, b) = by_step (read (step a b) ls) (rest_no_longer (step a b) ls)
+    by_flag (Some c, b) = refl
 
-    by_test : (b : Bool) (p : Option Code × B) → cond b (if_unmarked p l ls (λ b. read (step a b) ls >>= λ x. read_turns (λ a. record { kinds = ks; says = says a }) (λ a b. read (step a b)) (length ls) x.0 x.1)) (Ok (a, l ∷ ls)) ≡ cond b (if_unmarked p l ls (λ b. read (step a b) ls >>= λ x. read (While ks says step x.0) x.1)) (Ok (a, l ∷ ls))
-    by_test true p = by_mark p
+    by_test : (b : Bool) (p : Option Code × B) → cond b (if_unflagged p l ls (λ b. read (step a b) ls >>= λ x. read_turns (λ a. record { kinds = ks; says = says a }) (λ a b. read (step a b)) (length ls) x.0 x.1)) (Ok (a, l ∷ ls)) ≡ cond b (if_unflagged p l ls (λ b. read (step a b) ls >>= λ x. read (While ks says step x.0) x.1)) (Ok (a, l ∷ ls))
+    by_test true p = by_flag p
     by_test false p = refl

@@ -4,7 +4,7 @@ use Rattle.it_forms.specs.declared.types.Code.{Code}
 use Rattle.it_forms.specs.Letters.{Letter}
 use Rattle.it_forms.specs.Reads.{Reads, ◌>>=◌, no_rule}
 use Rattle.it_forms.specs.Forms.{Kind, Terminal, is_among, Form, Give, Take, Then, If, While}
-use Rattle.it_forms.specs.FormReading.{if_unmarked, if_taken, read_turns, read}
+use Rattle.it_forms.specs.FormReading.{if_unflagged, if_taken, read_turns, read}
 use Rattle.it_forms.specs.Words.{each, to_end}
 use Rattle.it_forms.proofs.FormTraces.{Reader}
 
@@ -56,7 +56,7 @@ read_taken {A} {B} t P Q (l ∷ ls) g other h e o = by_test (is_among t.kinds l)
     by_result (Ok y) k = record { prefix = l ∷ k.prefix; parts = ap (λ (t : List Letter). l ∷ t) k.parts; holds = k.holds }
     by_result (Err f) k = tt
 
-    by_test : (b : Bool) (p : Option Code × A) → (b ≡ true → p.0 ≡ None → P (l ∷ []) p.1) → IfRead Q (l ∷ ls) (cond b (if_unmarked p l ls (λ a. g a ls)) other)
+    by_test : (b : Bool) (p : Option Code × A) → (b ≡ true → p.0 ≡ None → P (l ∷ []) p.1) → IfRead Q (l ∷ ls) (cond b (if_unflagged p l ls (λ a. g a ls)) other)
     by_test true (None, a) h = by_result (g a ls) (e (l ∷ []) a ls (h refl refl))
     by_test true (Some c, a) h = tt
     by_test false p h = o

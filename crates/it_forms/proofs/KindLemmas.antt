@@ -5,7 +5,7 @@ use Rattle.std.specs.List.{list_any}
 use Rattle.std.proofs.lemmas.Slice.Eq.{bytes_eq-Decides}
 use Rattle.it_forms.specs.declared.types.Code.TheVariants as codes
 use Rattle.it_forms.specs.SymbolTexts.{symbol_text}
-use Rattle.it_forms.specs.Letters.{Letter, Word, Number, Sym, End, Bad, MarkedLetters}
+use Rattle.it_forms.specs.Letters.{Letter, Word, Number, Sym, End, Bad, FlaggedLetters}
 use Rattle.it_forms.specs.Forms.{Kind, Keyword, Punctuation, WordBut, Zero, Positive, LineEnd, FileEnd, is_of, is_among}
 use Rattle.it_forms.proofs.Outlines.{are_apart, is_apart, all_apart}
 
@@ -80,16 +80,16 @@ apart_among (k ∷ ks) ls x p e = let q = and_both _ _ p in by_test (is_of k x) 
     by_test false h m = m
 
 -- the first letter is of one of these kinds
-abbrev pub IsAt : List Kind → MarkedLetters → Type 0
+abbrev pub IsAt : List Kind → FlaggedLetters → Type 0
 IsAt ks [] = ⊥
 IsAt ks (x ∷ m) = is_among ks x.0 ≡ true
 
 -- the first letter, if there is one, is of none of these kinds
-abbrev pub IsFree : List Kind → MarkedLetters → Type 0
+abbrev pub IsFree : List Kind → FlaggedLetters → Type 0
 IsFree ks [] = Unit {0}
 IsFree ks (x ∷ m) = is_among ks x.0 ≡ false
 
-pub free_of : (ks ls : List Kind) (m : MarkedLetters) → all_apart ks ls ≡ true → IsAt ls m → IsFree ks m
+pub free_of : (ks ls : List Kind) (m : FlaggedLetters) → all_apart ks ls ≡ true → IsAt ls m → IsFree ks m
 free_of ks ls [] p e = absurd e
 free_of ks ls (x ∷ m) p e = apart_among ks ls x.0 p e
 
@@ -105,7 +105,7 @@ or_false : (a b : Bool) → (a || b) ≡ false → (a ≡ false) × (b ≡ false
 or_false true b e = absurd cc
 or_false false b e = (refl, e)
 
-pub free_both : (ks ls : List Kind) (m : MarkedLetters) → IsFree (ks ++ ls) m → IsFree ks m × IsFree ls m
+pub free_both : (ks ls : List Kind) (m : FlaggedLetters) → IsFree (ks ++ ls) m → IsFree ks m × IsFree ls m
 free_both ks ls [] e = (tt, tt)
 free_both ks ls (x ∷ m) e = or_false (is_among ks x.0) (is_among ls x.0) (sym (among_append ks ls x.0) ∙ e)
 
@@ -119,10 +119,10 @@ among_second ks ls x e = among_append ks ls x ∙ by_test (is_among ks x) (is_am
     by_test true b e = refl
     by_test false b e = e
 
-pub at_first : (ks ls : List Kind) (m : MarkedLetters) → IsAt ks m → IsAt (ks ++ ls) m
+pub at_first : (ks ls : List Kind) (m : FlaggedLetters) → IsAt ks m → IsAt (ks ++ ls) m
 at_first ks ls [] e = absurd e
 at_first ks ls (x ∷ m) e = among_first ks ls x.0 e
 
-pub at_second : (ks ls : List Kind) (m : MarkedLetters) → IsAt ls m → IsAt (ks ++ ls) m
+pub at_second : (ks ls : List Kind) (m : FlaggedLetters) → IsAt ls m → IsAt (ks ++ ls) m
 at_second ks ls [] e = absurd e
 at_second ks ls (x ∷ m) e = among_second ks ls x.0 e

@@ -1,34 +1,34 @@
--- Marked letters one after the other.
+-- Flagged letters one after the other.
 use Rattle.std.proofs.Common.{◌≡◌, List, [], ◌∷◌, ◌++◌, Option, Some, None, refl, ap, ◌∙◌}
 use Rattle.it_forms.specs.declared.types.Code.{Code}
-use Rattle.it_forms.specs.Letters.{Letter, MarkedLetters, without_mark, letters, without_marks}
-use Rattle.it_forms.specs.FirstFault.{MarkedAt}
+use Rattle.it_forms.specs.Letters.{Letter, FlaggedLetters, without_flag, letters, without_flags}
+use Rattle.it_forms.specs.FirstFault.{FlaggedAt}
 
-pub cleaned_append : (p q : List Letter) → without_marks (p ++ q) ≡ without_marks p ++ without_marks q
+pub cleaned_append : (p q : List Letter) → without_flags (p ++ q) ≡ without_flags p ++ without_flags q
 cleaned_append [] q = refl
-cleaned_append (l ∷ p) q = ap (λ (m : MarkedLetters). without_mark l ∷ m) (cleaned_append p q)
+cleaned_append (l ∷ p) q = ap (λ (m : FlaggedLetters). without_flag l ∷ m) (cleaned_append p q)
 
-pub letters_append : (m n : MarkedLetters) → letters (m ++ n) ≡ letters m ++ letters n
+pub letters_append : (m n : FlaggedLetters) → letters (m ++ n) ≡ letters m ++ letters n
 letters_append [] n = refl
 letters_append (x ∷ m) n = ap (λ (t : List Letter). x.0 ∷ t) (letters_append m n)
 
-pub letters_cleaned : (p : List Letter) → letters (without_marks p) ≡ p
+pub letters_cleaned : (p : List Letter) → letters (without_flags p) ≡ p
 letters_cleaned [] = refl
 letters_cleaned (l ∷ p) = ap (λ (t : List Letter). l ∷ t) (letters_cleaned p)
 
 -- the letters of a spelling after letters that nothing is said against
-pub letters_after : (p : List Letter) (m : MarkedLetters) → letters (without_marks p ++ m) ≡ p ++ letters m
-letters_after p m = letters_append (without_marks p) m ∙ ap (λ (t : List Letter). t ++ letters m) (letters_cleaned p)
+pub letters_after : (p : List Letter) (m : FlaggedLetters) → letters (without_flags p ++ m) ≡ p ++ letters m
+letters_after p m = letters_append (without_flags p) m ∙ ap (λ (t : List Letter). t ++ letters m) (letters_cleaned p)
 
-pub second_is : (x y : Letter × Option Code) (a b : MarkedLetters) → x ∷ a ≡ y ∷ b → x.1 ≡ y.1
+pub second_is : (x y : Letter × Option Code) (a b : FlaggedLetters) → x ∷ a ≡ y ∷ b → x.1 ≡ y.1
 second_is x y a b e = let h : x ≡ y = cc in ap (λ (p : Letter × Option Code). p.1) h
 
-pub same_tails : (x y : Letter × Option Code) (a b : MarkedLetters) → x ∷ a ≡ y ∷ b → a ≡ b
+pub same_tails : (x y : Letter × Option Code) (a b : FlaggedLetters) → x ∷ a ≡ y ∷ b → a ≡ b
 same_tails x y a b e = cc
 
--- in letters that nothing is said against is no mark
-pub clean_is_clean : (ls prefix : List Letter) (c : Code) → MarkedAt (without_marks ls) prefix c → ⊥
+-- in letters that nothing is said against is no flag
+pub clean_is_clean : (ls prefix : List Letter) (c : Code) → FlaggedAt (without_flags ls) prefix c → ⊥
 clean_is_clean [] [] c k = let e = k.2 in absurd cc
-clean_is_clean (l ∷ ls) [] c k = let e : None ≡ Some c = second_is (l, None) (k.0, Some c) (without_marks ls) k.1 k.2 in absurd cc
+clean_is_clean (l ∷ ls) [] c k = let e : None ≡ Some c = second_is (l, None) (k.0, Some c) (without_flags ls) k.1 k.2 in absurd cc
 clean_is_clean [] (x ∷ prefix) c k = let e = k.2 in absurd cc
-clean_is_clean (l ∷ ls) (x ∷ prefix) c k = clean_is_clean ls prefix c (k.0, k.1, same_tails (without_mark l) (without_mark x) (without_marks ls) (without_marks prefix ++ ((k.0, Some c) ∷ k.1)) k.2)
+clean_is_clean (l ∷ ls) (x ∷ prefix) c k = clean_is_clean ls prefix c (k.0, k.1, same_tails (without_flag l) (without_flag x) (without_flags ls) (without_flags prefix ++ ((k.0, Some c) ∷ k.1)) k.2)

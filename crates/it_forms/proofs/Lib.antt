@@ -1,5 +1,5 @@
 pub mod LetterLemmas
-pub mod MarkedReadings
+pub mod FlaggedReadings
 pub mod FirstFaults
 pub mod Outlines
 pub mod KindLemmas
@@ -11,8 +11,8 @@ pub mod FormFaults
 pub mod FormLanguage
 pub mod FormParts
 pub mod FormFacts
-pub mod MarkedParts
+pub mod FlaggedParts
 pub mod LineEnds
-pub mod MarkLemmas
+pub mod FlagLemmas
 pub mod ButLemmas
 pub mod SymbolLemmas

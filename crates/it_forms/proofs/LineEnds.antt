@@ -2,7 +2,7 @@
 use Rattle.std.proofs.Common.{◌≡◌, ℕ, Bool, true, ◌&&◌, List, [], ◌∷◌, Option, refl, ap, ◌∙◌}
 use Rattle.it_forms.specs.declared.types.Code.{Code}
 use Rattle.it_forms.specs.Forms.{Kind, WordBut, LineEnd, FileEnd, Form, Give, Take, Then, If, While}
-use Rattle.it_forms.specs.Words.{without, all_without, marked, but}
+use Rattle.it_forms.specs.Words.{without, all_without, flagged, but}
 use Rattle.it_forms.proofs.Outlines.{are_apart, is_apart, all_apart}
 
 -- none of these kinds is that of a line's end or of the file's
@@ -18,13 +18,13 @@ HasNoEnd (If {A} t g h) = NoEndAmong t.kinds × ((a : A) → HasNoEnd (g a)) × 
 HasNoEnd (While {A} {B} ks says step a) = NoEndAmong ks × ((c : A) (b : B) → HasNoEnd (step c b))
 
 -- what is said against the first letter changes nothing of it
-pub no_end_marked : {A : Type 0} (o : Option Code) (f : Form A) → HasNoEnd f → HasNoEnd (marked o f)
-unfolding HasNoEnd marked
-no_end_marked o (Give a) h = h
-no_end_marked o (Take t) h = h
-no_end_marked o (Then f g) h = (no_end_marked o f h.0, h.1)
-no_end_marked o (If t g other) h = (h.0, h.1, no_end_marked o other h.2)
-no_end_marked o (While ks says step a) h = h
+pub no_end_flagged : {A : Type 0} (o : Option Code) (f : Form A) → HasNoEnd f → HasNoEnd (flagged o f)
+unfolding HasNoEnd flagged
+no_end_flagged o (Give a) h = h
+no_end_flagged o (Take t) h = h
+no_end_flagged o (Then f g) h = (no_end_flagged o f h.0, h.1)
+no_end_flagged o (If t g other) h = (h.0, h.1, no_end_flagged o other h.2)
+no_end_flagged o (While ks says step a) h = h
 
 -- nor do words that don't stand in front
 line_end_apart : (ts : List (List ℕ)) (ks : List Kind) → is_apart LineEnd (all_without ts ks) ≡ is_apart LineEnd ks

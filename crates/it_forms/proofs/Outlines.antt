@@ -7,7 +7,7 @@ use Rattle.it_forms.specs.declared.types.Code.{Code}
 use Rattle.it_forms.specs.SymbolTexts.{symbol_text}
 use Rattle.it_forms.specs.Letters.{Letter, Sym, End}
 use Rattle.it_forms.specs.Forms.{Kind, Keyword, Punctuation, WordBut, Zero, Positive, LineEnd, FileEnd, is_among, Terminal, Form, Give, Take, Then, If, While}
-use Rattle.it_forms.specs.Words.{symbol, marked, line_end, to_end}
+use Rattle.it_forms.specs.Words.{symbol, flagged, line_end, to_end}
 use Rattle.it_forms.specs.declared.types.Symbol.{Symbol}
 use Rattle.std.proofs.lemmas.Slice.Eq.{bytes_eq-Decides}
 
@@ -117,13 +117,13 @@ unfolding Has
 has_symbol s = (Sym s, rw ((bytes_eq-Decides (symbol_text s) (symbol_text s)).1 refl) refl, fits_same (one_of (Punctuation s ∷ [])))
 
 -- what is said against the first letter changes no outline
-pub has_marked : {A : Type 0} (m : Option Code) (f : Form A) (o : Outline) → Has f o → Has (marked m f) o
-unfolding Has marked
-has_marked m (Give a) o h = h
-has_marked m (Take t) o h = h
-has_marked m (Then f g) o h = (h.0, h.1, has_marked m f h.0 h.2, h.3, h.4, h.5)
-has_marked m (If t g other) o h = (h.0, h.1, h.2, has_marked m other h.1 h.3, h.4, h.5)
-has_marked m (While ks says step a) o h = h
+pub has_flagged : {A : Type 0} (m : Option Code) (f : Form A) (o : Outline) → Has f o → Has (flagged m f) o
+unfolding Has flagged
+has_flagged m (Give a) o h = h
+has_flagged m (Take t) o h = h
+has_flagged m (Then f g) o h = (h.0, h.1, has_flagged m f h.0 h.2, h.3, h.4, h.5)
+has_flagged m (If t g other) o h = (h.0, h.1, h.2, has_flagged m other h.1 h.3, h.4, h.5)
+has_flagged m (While ks says step a) o h = h
 
 -- ---- up to the line's end
 

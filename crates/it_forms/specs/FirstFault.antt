@@ -2,7 +2,7 @@
 use Rattle.std.specs.Prelude.{◌≡◌, ◌⊎◌, List, [], ◌∷◌, ◌++◌, Option, Some, None}
 use Rattle.it_forms.specs.declared.types.Code.{Code}
 use Rattle.it_forms.specs.declared.types.Code.TheVariants as codes
-use Rattle.it_forms.specs.Letters.{Letter, Bad, MarkedLetters, letters, without_marks}
+use Rattle.it_forms.specs.Letters.{Letter, Bad, FlaggedLetters, letters, without_flags}
 
 -- the first of these letters, if there is one
 abbrev pub head : List Letter → Option Letter
@@ -14,19 +14,19 @@ abbrev pub own_code : List Letter → Code
 own_code (Bad c ∷ ls) = c
 own_code ls = codes.Word
 
--- what is spelled begins with these letters, nothing is said against them, and the next is marked by c
-abbrev pub MarkedAt : MarkedLetters → List Letter → Code → Type 0
-MarkedAt m prefix c = (l : Letter) × (more : MarkedLetters) × (m ≡ without_marks prefix ++ ((l, Some c) ∷ more))
+-- what is spelled begins with these letters, nothing is said against them, and the next is flagged by c
+abbrev pub FlaggedAt : FlaggedLetters → List Letter → Code → Type 0
+FlaggedAt m prefix c = (l : Letter) × (more : FlaggedLetters) × (m ≡ without_flags prefix ++ ((l, Some c) ∷ more))
 
 -- Fault c comes where r is left.
-pub record FirstFault {X : Type 0} (spell : X → MarkedLetters) (ls : List Letter) (c : Code) (r : List Letter) : Type 0 where
+pub record FirstFault {X : Type 0} (spell : X → FlaggedLetters) (ls : List Letter) (c : Code) (r : List Letter) : Type 0 where
   pub prefix : List Letter
   pub parts : ls ≡ prefix ++ r
   -- what stands before can go on to a line
   pub tree : X
-  pub more : MarkedLetters
-  pub viable : spell tree ≡ without_marks prefix ++ more
-  -- with the letter that stands there no line goes on that the rules don't mark there
-  pub each : (x : X) (q : List Letter) → head q ≡ head r → letters (spell x) ≡ prefix ++ q → MarkedAt (spell x) prefix c
-  -- the code is that mark, or where no line goes on the letter's own
+  pub more : FlaggedLetters
+  pub viable : spell tree ≡ without_flags prefix ++ more
+  -- with the letter that stands there no line goes on that the rules don't flag there
+  pub each : (x : X) (q : List Letter) → head q ≡ head r → letters (spell x) ≡ prefix ++ q → FlaggedAt (spell x) prefix c
+  -- the code is that flag, or where no line goes on the letter's own
   pub code : (own_code r ≡ c) ⊎ ((x : X) × (q : List Letter) × ((head q ≡ head r) × (letters (spell x) ≡ prefix ++ q)))

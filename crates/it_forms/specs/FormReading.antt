@@ -6,15 +6,15 @@ use Rattle.it_forms.specs.Letters.{Letter}
 use Rattle.it_forms.specs.Reads.{Reads, ◌>>=◌, no_rule}
 use Rattle.it_forms.specs.Forms.{Terminal, is_among, Form, Give, Take, Then, If, While}
 
--- a letter that may be marked, and what is read after it
-abbrev pub if_unmarked : {A B : Type 0} → Option Code × A → Letter → List Letter → (A → Reads B) → Reads B
-if_unmarked (None, a) l ls f = f a
-if_unmarked (Some c, a) l ls f = Err (c, l ∷ ls)
+-- a letter that may be flagged, and what is read after it
+abbrev pub if_unflagged : {A B : Type 0} → Option Code × A → Letter → List Letter → (A → Reads B) → Reads B
+if_unflagged (None, a) l ls f = f a
+if_unflagged (Some c, a) l ls f = Err (c, l ∷ ls)
 
 -- what is read where a terminal stands, and else
 abbrev pub if_taken : {A B : Type 0} → Terminal A → List Letter → (A → List Letter → Reads B) → Reads B → Reads B
 if_taken t [] f other = other
-if_taken t (l ∷ ls) f other = if is_among t.kinds l then if_unmarked (t.says l) l ls (λ a. f a ls) else other
+if_taken t (l ∷ ls) f other = if is_among t.kinds l then if_unflagged (t.says l) l ls (λ a. f a ls) else other
 
 -- turns, at most n of them
 abbrev pub read_turns : {A B : Type 0} → (A → Terminal B) → (A → B → List Letter → Reads A) → ℕ → A → List Letter → Reads A

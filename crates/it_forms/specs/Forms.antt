@@ -7,7 +7,7 @@ use Rattle.it_forms.specs.declared.types.Symbol.{Symbol}
 use Rattle.it_forms.specs.declared.types.Code.{Code}
 use Rattle.it_forms.specs.declared.types.Code.TheVariants as codes
 use Rattle.it_forms.specs.SymbolTexts.{symbol_text}
-use Rattle.it_forms.specs.Letters.{Letter, Word, Number, Sym, End, Bad, MarkedLetters}
+use Rattle.it_forms.specs.Letters.{Letter, Word, Number, Sym, End, Bad, FlaggedLetters}
 
 -- ---- letters
 
@@ -64,18 +64,18 @@ pub data Form : Type 0 → Type 1 where
   While : {A B : Type 0} → List Kind → (A → Letter → Option Code × B) → (A → B → Form A) → A → Form A
 
 -- m is a letter of the terminal, which says a, and then k
-abbrev pub IsTaken : {A : Type 0} → Terminal A → A → MarkedLetters → MarkedLetters → Type 0
+abbrev pub IsTaken : {A : Type 0} → Terminal A → A → FlaggedLetters → FlaggedLetters → Type 0
 IsTaken t a m k = (l : Letter) × (is_among t.kinds l ≡ true) × ((t.says l).1 ≡ a) × (m ≡ (l, (t.says l).0) ∷ k)
 
 -- m is n turns from a to y, and then k
-abbrev pub AreTurns : {A B : Type 0} → (A → Terminal B) → (A → B → A → MarkedLetters → MarkedLetters → Type 0) → ℕ → A → A → MarkedLetters → MarkedLetters → Type 0
+abbrev pub AreTurns : {A B : Type 0} → (A → Terminal B) → (A → B → A → FlaggedLetters → FlaggedLetters → Type 0) → ℕ → A → A → FlaggedLetters → FlaggedLetters → Type 0
 AreTurns t Step zero a y m k = (a ≡ y) × (m ≡ k)
-AreTurns {A} {B} t Step (suc n) a y m k = (b : B) × (p : MarkedLetters) × (c : A) × (q : MarkedLetters) × IsTaken (t a) b m p × Step a b c p q × AreTurns t Step n c y q k
+AreTurns {A} {B} t Step (suc n) a y m k = (b : B) × (p : FlaggedLetters) × (c : A) × (q : FlaggedLetters) × IsTaken (t a) b m p × Step a b c p q × AreTurns t Step n c y q k
 
 -- m is written in this form, which says y, and then k
-unfoldable pub Spells : {A : Type 0} → Form A → A → MarkedLetters → MarkedLetters → Type 0
+unfoldable pub Spells : {A : Type 0} → Form A → A → FlaggedLetters → FlaggedLetters → Type 0
 Spells (Give a) y m k = (a ≡ y) × (m ≡ k)
 Spells (Take t) y m k = IsTaken t y m k
-Spells (Then {A} f g) y m k = (a : A) × (n : MarkedLetters) × Spells f a m n × Spells (g a) y n k
-Spells (If {A} t g h) y m k = ((a : A) × (n : MarkedLetters) × IsTaken t a m n × Spells (g a) y n k) ⊎ Spells h y m k
+Spells (Then {A} f g) y m k = (a : A) × (n : FlaggedLetters) × Spells f a m n × Spells (g a) y n k
+Spells (If {A} t g h) y m k = ((a : A) × (n : FlaggedLetters) × IsTaken t a m n × Spells (g a) y n k) ⊎ Spells h y m k
 Spells (While ks says step a) y m k = (n : ℕ) × AreTurns (λ a. record { kinds = ks; says = says a }) (λ a b. Spells (step a b)) n a y m k

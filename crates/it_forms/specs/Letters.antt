@@ -1,4 +1,4 @@
--- Texts as lists of letters: tokens, and the ends of lines. A grammar is stated over them, and marks what it has against one.
+-- Texts as lists of letters: tokens, and the ends of lines. A grammar is stated over them, and flags what it has against one.
 use Rattle.std.specs.Prelude.{ℕ, List, map, Option, None}
 use Rattle.it_forms.specs.declared.types.Symbol.{Symbol}
 use Rattle.it_forms.specs.declared.types.Code.{Code}
@@ -12,17 +12,17 @@ pub data Letter : Type 0 where
   Bad : (code : Code) → Letter
 
 -- a letter, and the code of what the rules say against it where it stands
-abbrev pub MarkedLetters : Type 0
-MarkedLetters = List (Letter × Option Code)
+abbrev pub FlaggedLetters : Type 0
+FlaggedLetters = List (Letter × Option Code)
 
 -- nothing is said against it
-abbrev pub without_mark : Letter → Letter × Option Code
-without_mark l = (l, None)
+abbrev pub without_flag : Letter → Letter × Option Code
+without_flag l = (l, None)
 
 -- the letters without what is said against them
-abbrev pub letters : MarkedLetters → List Letter
+abbrev pub letters : FlaggedLetters → List Letter
 letters m = map (λ (x : Letter × Option Code). x.0) m
 
 -- nothing is said against any of them
-abbrev pub without_marks : List Letter → MarkedLetters
-without_marks ls = map without_mark ls
+abbrev pub without_flags : List Letter → FlaggedLetters
+without_flags ls = map without_flag ls

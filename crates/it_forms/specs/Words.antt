@@ -27,9 +27,9 @@ symbol s = just (Punctuation s ∷ []) tt
 abbrev pub word : List ℕ → Terminal (Unit {0})
 word w = just (Keyword w ∷ []) tt
 
--- a word, with this mark
-abbrev pub marked_word : List ℕ → Option Code → Terminal (Unit {0})
-marked_word w mark = record { kinds = Keyword w ∷ []; says = λ l. (mark, tt) }
+-- a word, with this flag
+abbrev pub flagged_word : List ℕ → Option Code → Terminal (Unit {0})
+flagged_word w flag = record { kinds = Keyword w ∷ []; says = λ l. (flag, tt) }
 
 -- the text of a word
 abbrev pub text_of : Letter → List ℕ
@@ -84,36 +84,36 @@ each ks says item put a = While ks says (λ a b. Then (item a b) (λ c. Give (pu
 abbrev pub each_after : {A C : Type 0} → Symbol → (A → Form C) → (A → C → A) → A → Form A
 each_after s item put a = each (Punctuation s ∷ []) (λ a l. (None, tt {0})) (λ a u. item a) put a
 
--- the same after a word, which may be marked
-abbrev pub each_marked : {A C : Type 0} → List ℕ → (A → Option Code) → (A → Form C) → (A → C → A) → A → Form A
-each_marked w mark item put a = each (Keyword w ∷ []) (λ a l. (mark a, tt {0})) (λ a u. item a) put a
+-- the same after a word, which may be flagged
+abbrev pub each_flagged : {A C : Type 0} → List ℕ → (A → Option Code) → (A → Form C) → (A → C → A) → A → Form A
+each_flagged w flag item put a = each (Keyword w ∷ []) (λ a l. (flag a, tt {0})) (λ a u. item a) put a
 
 -- what is said already, or else what else is said
-abbrev pub or_mark : Option Code → Option Code → Option Code
-or_mark None m = m
-or_mark (Some c) None = Some c
-or_mark (Some c) (Some d) = Some d
+abbrev pub or_flag : Option Code → Option Code → Option Code
+or_flag None m = m
+or_flag (Some c) None = Some c
+or_flag (Some c) (Some d) = Some d
 
--- the terminal, with this mark where nothing else is said
-abbrev pub marked_terminal : {A : Type 0} → Option Code → Terminal A → Terminal A
-marked_terminal o t = record { kinds = t.kinds; says = λ l. (or_mark o (t.says l).0, (t.says l).1) }
+-- the terminal, with this flag where nothing else is said
+abbrev pub flagged_terminal : {A : Type 0} → Option Code → Terminal A → Terminal A
+flagged_terminal o t = record { kinds = t.kinds; says = λ l. (or_flag o (t.says l).0, (t.says l).1) }
 
--- the form, with this mark against its first letter where nothing else is said
-unfoldable pub marked : {A : Type 0} → Option Code → Form A → Form A
-marked o (Give a) = Give a
-marked o (Take t) = Take (marked_terminal o t)
-marked o (Then f g) = Then (marked o f) g
-marked o (If t g h) = If (marked_terminal o t) g (marked o h)
-marked o (While ks says step a) = While ks says step a
+-- the form, with this flag against its first letter where nothing else is said
+unfoldable pub flagged : {A : Type 0} → Option Code → Form A → Form A
+flagged o (Give a) = Give a
+flagged o (Take t) = Take (flagged_terminal o t)
+flagged o (Then f g) = Then (flagged o f) g
+flagged o (If t g h) = If (flagged_terminal o t) g (flagged o h)
+flagged o (While ks says step a) = While ks says step a
 
 -- against a letter, where n more such are allowed
-abbrev pub limit_mark : ℕ → Option Code
-limit_mark zero = Some codes.Many
-limit_mark (suc n) = None
+abbrev pub limit_flag : ℕ → Option Code
+limit_flag zero = Some codes.Many
+limit_flag (suc n) = None
 
 -- the form, where n more are allowed
 abbrev pub allowed : {A : Type 0} → ℕ → Form A → Form A
-allowed n f = marked (limit_mark n) f
+allowed n f = flagged (limit_flag n) f
 
 -- the kind without these words
 abbrev pub without : List (List ℕ) → Kind → Kind

@@ -14,15 +14,15 @@ use Rattle.it_elemental.proofs.PlaceLemmas.{is_elemental}
 use Rattle.it_forms.specs.declared.types.Code.{Code}
 use Rattle.it_forms.specs.declared.types.Symbol.TheVariants as symbols
 use Rattle.it_forms.specs.Forms.{Form}
-use Rattle.it_forms.specs.Letters.{Word, Number, Sym, without_mark}
-use Rattle.it_forms.specs.Words.{symbol, word, any_word, marked}
+use Rattle.it_forms.specs.Letters.{Word, Number, Sym, without_flag}
+use Rattle.it_forms.specs.Words.{symbol, word, any_word, flagged}
 use Rattle.it_syntax.specs.declared.types.Atom.{Atom}
 use Rattle.it_syntax.specs.declared.types.Sign.TheVariants.{AtLeast}
 use Rattle.it_syntax.specs.declared.types.TokenKind.TheVariants as kinds
 use Rattle.it_syntax.specs.LineForms.{variable, more_names, names, given_set, entropy, mutual_information, measure_or, atom, atom_or_nothing, term, signs, is_minus, more_terms, terms, sum, compare, relation}
 use Rattle.it_syntax.specs.Meaning.{multiple_from}
 use Rattle.it_syntax.specs.Multiples.{most_terms}
-use Rattle.it_syntax.specs.NameMarks.{entropy_text, mutual_text, name_mark, index_or}
+use Rattle.it_syntax.specs.NameFlags.{entropy_text, mutual_text, name_flag, index_or}
 use Rattle.it_syntax.specs.NamesViews.{NamesView}
 use Rattle.it_syntax.specs.Scopes.{Environment, Scope, env_of, scope_of}
 use Rattle.it_syntax.specs.Spelling.{is_word_byte, Stops, IsText}
@@ -42,7 +42,7 @@ env = env_of four_variables
 
 -- a word that is one of the names
 abbrev IsKnown : List ℕ → Type 0
-IsKnown w = IsText kinds.Word w × (name_mark env w ≡ None)
+IsKnown w = IsText kinds.Word w × (name_flag env w ≡ None)
 
 abbrev AreKnown : List (List ℕ) → Type 0
 AreKnown [] = Unit {0}
@@ -62,8 +62,8 @@ members_known i (w ∷ ws) set h = by_test (has_member set i) (members_known (i 
     by_test true more = (h.0, more)
     by_test false more = more
 
-name_letter : (w : List ℕ) → IsKnown w → IsLetter (Stops is_word_byte) w (any_word (λ w. (name_mark env w, index_or (env w)))) (index_or (env w))
-name_letter w h = record { letter = Word w; writes = writes_word w h.0; among = refl; says = ap (λ (mark : Option Code). (mark, index_or (env w))) h.1 }
+name_letter : (w : List ℕ) → IsKnown w → IsLetter (Stops is_word_byte) w (any_word (λ w. (name_flag env w, index_or (env w)))) (index_or (env w))
+name_letter w h = record { letter = Word w; writes = writes_word w h.0; among = refl; says = ap (λ (flag : Option Code). (flag, index_or (env w))) h.1 }
 
 variable_written : (w : List ℕ) → IsKnown w → IsWritten (Stops is_word_byte) w (variable env)
 unfolding variable
@@ -205,12 +205,12 @@ digit_text c h = subst (IsText (kinds.Number c)) (sym (decimal_digit c (omega (a
 abbrev pub scope : Scope
 scope = scope_of four_variables true
 
-digit_writes : (c : ℕ) → c < 5 → Writes Anything (decimal c ++ codes " ") (λ k. without_mark (Number c) ∷ k)
+digit_writes : (c : ℕ) → c < 5 → Writes Anything (decimal c ++ codes " ") (λ k. without_flag (Number c) ∷ k)
 digit_writes c h = writes_then (writes_number c (decimal c) (digit_text c h)) writes_space (λ rest d. refl)
 
 -- a digit, a space and an atom
-counted_written : (m c : ℕ) → c < 5 → (text : List ℕ) → ((other : Form Atom) → IsWritten Anything text (measure_or env other)) → IsWritten Anything (decimal c ++ codes " " ++ text) (marked None (term m scope false))
-unfolding marked term atom atom_or_nothing scope_of
+counted_written : (m c : ℕ) → c < 5 → (text : List ℕ) → ((other : Form Atom) → IsWritten Anything text (measure_or env other)) → IsWritten Anything (decimal c ++ codes " " ++ text) (flagged None (term m scope false))
+unfolding flagged term atom atom_or_nothing scope_of
 counted_written m zero h text p = first_written (record { letter = Number 0; writes = digit_writes 0 h; among = refl; says = refl }) (other_written (last_written (p _))) (λ rest d. tt)
 counted_written m (suc c) h text p = other_written (first_written (record { letter = Number (suc c); writes = digit_writes (suc c) h; among = refl; says = refl }) (other_written (last_written (p _))) (λ rest d. tt))
 
@@ -222,14 +222,14 @@ pub drawn_listed : (x : ℕ) → draw 2 28 x < length (elementals 4)
 drawn_listed x = drawn_below 2 28 x (omega arith)
 
 -- a drawn term
-term_written : (m x : ℕ) → IsWritten Anything (generated_term_text x) (marked None (term m scope false))
+term_written : (m x : ℕ) → IsWritten Anything (generated_term_text x) (flagged None (term m scope false))
 unfolding generated_term_text
 term_written m x =
     let e = elemental_at 4 (draw 2 28 x) in
     counted_written m (1 + draw 1 4 x) (omega (arith, drawn_below 1 4 x (omega arith))) (elemental_text four_names e) (elemental_written e (is_elemental 4 (draw 2 28 x) (drawn_listed x)))
 
 -- the drawn bound
-bound_written : (m x : ℕ) → IsWritten Anything (bound_text x) (marked None (term m scope false))
+bound_written : (m x : ℕ) → IsWritten Anything (bound_text x) (flagged None (term m scope false))
 unfolding bound_text
 bound_written m x =
     let s = 1 + draw 2 15 x in

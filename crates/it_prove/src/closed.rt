@@ -16,12 +16,24 @@ use std::alloc::{AllocError, Global};
 
 /// A problem over closed sets: its dependences, its coordinates, and the columns of its first generators, so many as are counted.
 /// It serves each problem that has these dependences and begins with these generators.
-#[derive(Debug, Drop)]
+#[derive(Debug)]
 pub struct ClosedProblem {
     pub(crate) dependences: Dependences,
     pub(crate) coordinates: Vec<u32>,
     pub(crate) columns: Vec<Row>,
     count: u32,
+}
+
+// written out, so that letting a closed problem go is one call
+impl Drop for ClosedProblem {
+    fn drop(self) {
+        let ClosedProblem {
+            dependences: _,
+            coordinates: _,
+            columns: _,
+            count: _,
+        } = self;
+    }
 }
 
 impl ClosedProblem {

@@ -24,7 +24,7 @@ pub mod WholeFileLemmas
 pub mod QuestionOutlines
 pub mod WordLoops
 pub mod QuestionLines
-pub mod TryMarks
+pub mod TryFlags
 pub mod LimitLemmas
 pub mod RegionLemmas
 pub mod QuestionParts

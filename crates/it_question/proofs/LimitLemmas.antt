@@ -15,25 +15,25 @@ use Rattle.it_forms.specs.declared.types.Symbol.TheVariants.{Comma, Semicolon}
 use Rattle.it_forms.specs.Letters.{Letter}
 use Rattle.it_forms.specs.Forms.{Keyword, Punctuation, is_of}
 use Rattle.it_forms.specs.FormReading.{read}
-use Rattle.it_forms.specs.Words.{text_of, limit_mark, to_end}
+use Rattle.it_forms.specs.Words.{text_of, limit_flag, to_end}
 use Rattle.it_forms.proofs.FormParts.{Always, always_weaker, loop_keeps, each_keeps, line_keeps, value_read}
 use Rattle.it_syntax.specs.Givens.{GivenView, IsRelationOf, IsGivenOf}
 use Rattle.it_syntax.specs.Meaning.{RelationView}
 use Rattle.it_question.specs.Bodies.{with_given_line, with_row_line}
 use Rattle.it_syntax.specs.LineForms.{names, relation, given}
-use Rattle.it_syntax.specs.NameMarks.{is_measure, index_or}
+use Rattle.it_syntax.specs.NameFlags.{is_measure, index_or}
 use Rattle.it_syntax.specs.NamesViews.{NamesView}
 use Rattle.it_syntax.specs.Scopes.{Environment, env_of, scope_of}
 use Rattle.it_syntax.proofs.FormLimits.{Knows, empty_is_set, names_keep, relation_keeps, given_keeps, knows_names, scope_covers, variables_covered}
 use Rattle.it_question.specs.Keywords.{vars_keyword, rates_keyword, given_keyword, aux_keyword, try_keyword}
 use Rattle.it_question.specs.Limits.{AreLinesOver, IsRegionOf, IsTryOf, AreRatesOf, IsVerbOver, IsQuestion}
-use Rattle.it_question.specs.NewNames.{NameSortView, Variable, Rate, with_name, no_names, is_taken, new_mark}
+use Rattle.it_question.specs.NewNames.{NameSortView, Variable, Rate, with_name, no_names, is_taken, new_flag}
 use Rattle.it_question.specs.QuestionForms.{count, new_name, more_new, new_names, names_line, own_line, own_words, lines_left, own_keyword, more_own_lines, own_lines, once, more_once, distinct, auxiliary, set, part, more_parts, try_line, more_tries, region, containment, verb, question, more_questions, file}
 use Rattle.it_question.specs.QuestionLimits.{most_questions, most_variables, most_rates, most_lines, auxiliaries_left, givens_left, rows_left}
 use Rattle.it_question.specs.Questions.{OwnLinesView, RegionView, VerbView, Prove, Eliminate, Contain, BodyView, no_lines}
-use Rattle.it_question.specs.RateNames.{is_among, once_mark, rates_env}
-use Rattle.it_question.specs.Tables.{givens_alone, problem_names_by, problem_lines_by, problem_of_lines, most_entries, size_mark, HasSmallTable}
-use Rattle.it_question.specs.TrySets.{Sets, unnamed_sets, with_set, is_whole, set_or, try_mark, auxiliary_env}
+use Rattle.it_question.specs.RateNames.{is_among, once_flag, rates_env}
+use Rattle.it_question.specs.Tables.{givens_alone, problem_names_by, problem_lines_by, problem_of_lines, most_entries, size_flag, HasSmallTable}
+use Rattle.it_question.specs.TrySets.{Sets, unnamed_sets, with_set, is_whole, set_or, try_flag, auxiliary_env}
 use Rattle.it_question.proofs.QuestionLines.{IsGrown, not_grown, grown_more}
 
 -- ---- names
@@ -42,7 +42,7 @@ count_more : (sort : NameSortView) (v : NamesView) (w : List ℕ) → count sort
 count_more Variable v w = omega (arith, length-append v.variables (w ∷ []))
 count_more Rate v w = omega (arith, length-append v.rates (w ∷ []))
 
-name_allowed : (measure taken : Bool) (n : ℕ) → new_mark measure taken n ≡ None → 1 ≤ n
+name_allowed : (measure taken : Bool) (n : ℕ) → new_flag measure taken n ≡ None → 1 ≤ n
 name_allowed true taken n e = absurd cc
 name_allowed false true n e = absurd cc
 name_allowed false false zero e = absurd cc
@@ -81,7 +81,7 @@ names_line_keeps sort most keyword v = (
 
 -- ---- `given` and `row` lines
 
-some_allowed : (n : ℕ) → limit_mark n ≡ None → 1 ≤ n
+some_allowed : (n : ℕ) → limit_flag n ≡ None → 1 ≤ n
 some_allowed zero e = absurd cc
 some_allowed (suc n) e = omega arith
 
@@ -95,7 +95,7 @@ record AreOwn (g r : ℕ) (v : NamesView) (own : OwnLinesView) : Type 0 where
 all_and_one : {X : Type 0} (P : X → Type 0) (xs : List X) (x : X) → All P xs → P x → All P (xs ++ x ∷ [])
 all_and_one P xs x h k = All-append P xs (x ∷ []) h (All-cons P x [] k (All-nil P))
 
-own_line_keeps : (g r : ℕ) (v : NamesView) (own : OwnLinesView) (b : Bool) → AreOwn g r v own → limit_mark (lines_left g r own b) ≡ None → Always (own_line v own b) (λ p y. AreOwn g r v y)
+own_line_keeps : (g r : ℕ) (v : NamesView) (own : OwnLinesView) (b : Bool) → AreOwn g r v own → limit_flag (lines_left g r own b) ≡ None → Always (own_line v own b) (λ p y. AreOwn g r v y)
 unfolding own_line Always
 own_line_keeps g r v own true h m =
     let some = some_allowed (givens_left g own) m in
@@ -124,7 +124,7 @@ knows_rates : (v : NamesView) → Knows (rates_env v) (length v.rates)
 unfolding rates_env
 knows_rates v w i e = (position-Some (bytes_eq w) v.rates i [] e).0
 
-unseen : (m : ℕ) (measure : Bool) (seen : List ℕ) (o : Option ℕ) → ((i : ℕ) → o ≡ Some i → i < m) → once_mark measure seen o ≡ None → (index_or o < m) × (is_among seen (index_or o) ≡ false)
+unseen : (m : ℕ) (measure : Bool) (seen : List ℕ) (o : Option ℕ) → ((i : ℕ) → o ≡ Some i → i < m) → once_flag measure seen o ≡ None → (index_or o < m) × (is_among seen (index_or o) ≡ false)
 unseen m true seen o k e = absurd cc
 unseen m false seen None k e = absurd cc
 unseen m false seen (Some i) k e = (k i refl, by_test (is_among seen i) e)
@@ -216,7 +216,7 @@ try_line_keeps aux env n k sets h = always_weaker (part aux env sets) _ _
     (λ p first hf. always_weaker (more_parts aux env first) _ _ (λ q all ha l e m. record { four = length-map all set_or ∙ ha.four; within = All-map (λ (s : ℕ). s < 2 ^ n) set_or all ha.within })
     (each_keeps (Punctuation Semicolon ∷ []) (λ a l. (None, tt {0})) (λ sets u. part aux env sets) (λ sets more. more) (AreWithin n) (λ sets hs l e m. part_keeps aux env n k sets hs) first hf)) (part_keeps aux env n k sets h)
 
-try_allowed : (whole : Bool) (n : ℕ) → try_mark whole n ≡ None → 1 ≤ n
+try_allowed : (whole : Bool) (n : ℕ) → try_flag whole n ≡ None → 1 ≤ n
 try_allowed true n e = absurd cc
 try_allowed false n e = some_allowed n e
 
@@ -228,7 +228,7 @@ tries_keep : (aux env : Environment) (n : ℕ) → Knows env n → (auxiliaries 
 unfolding more_tries
 tries_keep aux env n k auxiliaries =
     let sets = unnamed_sets auxiliaries in
-    each_keeps (Keyword try_keyword ∷ []) (λ ts l. (try_mark (is_whole sets) (most_lines - length ts), tt {0})) (λ ts u. try_line aux env sets) (λ ts t. ts ++ t ∷ []) (AreTries n)
+    each_keeps (Keyword try_keyword ∷ []) (λ ts l. (try_flag (is_whole sets) (most_lines - length ts), tt {0})) (λ ts u. try_line aux env sets) (λ ts t. ts ++ t ∷ []) (AreTries n)
     (λ ts h l e m. always_weaker (try_line aux env sets) _ _ (λ p t ht. (let some = try_allowed (is_whole sets) (most_lines - length ts) m in omega (arith, some, length-append ts (t ∷ [])), all_and_one (IsTryOf n) ts t h.1 ht)) (try_line_keeps aux env n k sets (unnamed_within n auxiliaries))) []
     (omega arith, All-nil (IsTryOf n))
 
@@ -267,9 +267,9 @@ region_keeps g r v few_g few_r few = λ l e m.
 -- ---- what a question wants
 
 -- a table against which nothing is said
-unmarked_is_small : (v : NamesView) (own : OwnLinesView) → size_mark v own ≡ None → table_size (problem_of_lines v own) ≤ most_entries
-unfolding size_mark
-unmarked_is_small v own e = by_test (nat_lt most_entries (table_size (problem_of_lines v own))) refl e
+unflagged_is_small : (v : NamesView) (own : OwnLinesView) → size_flag v own ≡ None → table_size (problem_of_lines v own) ≤ most_entries
+unfolding size_flag
+unflagged_is_small v own e = by_test (nat_lt most_entries (table_size (problem_of_lines v own))) refl e
   where
     by_test : (b : Bool) → nat_lt most_entries (table_size (problem_of_lines v own)) ≡ b → cond b (Some codes.Large) None ≡ None → table_size (problem_of_lines v own) ≤ most_entries
     by_test true t k = absurd cc
@@ -288,7 +288,7 @@ containment_keeps own v few =
     always_weaker (region g r v) _ _
     (λ p first hf l e m. always_weaker (region (givens_left g first.lines) (rows_left r first.lines) v) _ _
     (λ q second hs. always_weaker (more_tries (auxiliary_env v second.names) (env_of first.names) (unnamed_sets second.auxiliaries) []) _ _
-    (λ s tries ht l e none l' e' m'. record { over = (hf.region, hs.region, ht.0, ht.1); small = unmarked_is_small first.names (problem_lines_by own (Contain first second tries)) none })
+    (λ s tries ht l e none l' e' m'. record { over = (hf.region, hs.region, ht.0, ht.1); small = unflagged_is_small first.names (problem_lines_by own (Contain first second tries)) none })
     (tries_keep (auxiliary_env v second.names) (env_of first.names) (length first.names.variables) (knows_names first.names) second.auxiliaries))
     (region_keeps (givens_left g first.lines) (rows_left r first.lines) v (omega arith) (omega arith) few))
     (region_keeps g r v (omega arith) (omega arith) few)
@@ -296,9 +296,9 @@ containment_keeps own v few =
 verb_keeps : (own : OwnLinesView) (v : NamesView) → length v.variables ≤ 10 → Always (verb own v) (λ p y. IsWanted own v y)
 unfolding verb Always
 verb_keeps own v few = (
-  λ l e m. always_weaker (to_end (relation (scope_of v true))) (λ p x. IsRelationOf (length v.variables) (length v.rates) x) (λ p x. IsWanted own v (Prove x)) (λ p x hx. record { over = hx; small = unmarked_is_small v own m }) (line_keeps (relation (scope_of v true)) (IsRelationOf (length v.variables) (length v.rates)) (relation_keeps (scope_of v true) (length v.variables) (length v.rates) (scope_covers v true))),
+  λ l e m. always_weaker (to_end (relation (scope_of v true))) (λ p x. IsRelationOf (length v.variables) (length v.rates) x) (λ p x. IsWanted own v (Prove x)) (λ p x hx. record { over = hx; small = unflagged_is_small v own m }) (line_keeps (relation (scope_of v true)) (IsRelationOf (length v.variables) (length v.rates)) (relation_keeps (scope_of v true) (length v.variables) (length v.rates) (scope_covers v true))),
   (
-    λ l e m. always_weaker (to_end (distinct (rates_env v))) (λ p x. AreRatesOf (length v.rates) x) (λ p x. IsWanted own v (Eliminate x)) (λ p x hx. record { over = hx; small = unmarked_is_small v (givens_alone own) m }) (line_keeps (distinct (rates_env v)) (AreRatesOf (length v.rates)) (distinct_keeps (rates_env v) (length v.rates) (knows_rates v))),
+    λ l e m. always_weaker (to_end (distinct (rates_env v))) (λ p x. AreRatesOf (length v.rates) x) (λ p x. IsWanted own v (Eliminate x)) (λ p x hx. record { over = hx; small = unflagged_is_small v (givens_alone own) m }) (line_keeps (distinct (rates_env v)) (AreRatesOf (length v.rates)) (distinct_keeps (rates_env v) (length v.rates) (knows_rates v))),
     λ l e m. containment_keeps own v few,
   ),
 )
@@ -339,7 +339,7 @@ question_keeps = always_weaker (new_names Variable most_variables no_names) _ _
 file_keeps : Always file (λ p qs. All IsRead qs)
 unfolding file more_questions Always
 file_keeps = always_weaker (more_questions []) _ _ (λ p qs h l e m. h)
-    (each_keeps (Keyword vars_keyword ∷ []) (λ qs l. (limit_mark (most_questions - length qs), tt {0})) (λ qs u. question) (λ qs q. qs ++ q ∷ []) (All IsRead) (λ qs h l e m. always_weaker question _ _ (λ p q hq. all_and_one IsRead qs q h hq) question_keeps) [] (All-nil IsRead))
+    (each_keeps (Keyword vars_keyword ∷ []) (λ qs l. (limit_flag (most_questions - length qs), tt {0})) (λ qs u. question) (λ qs q. qs ++ q ∷ []) (All IsRead) (λ qs h l e m. always_weaker question _ _ (λ p q hq. all_and_one IsRead qs q h hq) question_keeps) [] (All-nil IsRead))
 
 -- ---- what the readers hand on
 

@@ -3,10 +3,10 @@ use Rattle.std.proofs.Common.{◌≡◌, ℕ, ◌+◌, ◌-◌, ◌<◌, ◌^◌
 use Rattle.std.specs.List.{AllByRecursion as Every}
 use Rattle.it_forms.specs.Forms.{Positive, Keyword, is_of, is_among, Form, Give, Then}
 use Rattle.it_forms.specs.Letters.{Letter, Number}
-use Rattle.it_forms.specs.Words.{number_of, allowed, limit_mark, to_end}
+use Rattle.it_forms.specs.Words.{number_of, allowed, limit_flag, to_end}
 use Rattle.it_forms.proofs.FormFacts.{always_any, always_said}
 use Rattle.it_forms.proofs.FormParts.{Always, always_weaker, loop_keeps}
-use Rattle.it_forms.proofs.MarkedParts.{always_marked, always_but}
+use Rattle.it_forms.proofs.FlaggedParts.{always_flagged, always_but}
 use Rattle.it_syntax.specs.declared.types.Atom.{Atom}
 use Rattle.it_syntax.specs.declared.types.Misspelling.{Misspelling}
 use Rattle.it_syntax.specs.declared.types.Term.{Term}
@@ -106,9 +106,9 @@ term_small m s minus = (
 terms_small : (most m : ℕ) (s : Scope) (minus : Bool) → Always (terms most m s minus) (λ p ts. AreSmall p → Every IsSmall ts)
 unfolding terms more_terms Always
 terms_small most m s minus =
-    always_marked _ (term m s minus) _ (always_weaker (term m s minus) _ _
+    always_flagged _ (term m s minus) _ (always_weaker (term m s minus) _ _
     (λ p t h. loop_keeps signs (λ ts l. (None, is_minus l)) (λ ts minus. Then (allowed (most - length ts) (term (multiple_from m ts) s minus)) (λ t. Give (ts ++ t ∷ []))) (λ p ts. AreSmall p → Every IsSmall ts)
-    (λ p ts h l e u. always_marked _ (term (multiple_from m ts) s (is_minus l)) _ (always_weaker (term (multiple_from m ts) s (is_minus l)) _ _ (λ q t k small. every_more IsSmall ts t (h (front_small p _ small)) (k (front_small q _ (rest_small (l ∷ []) _ (rest_small p _ small))))) (term_small (multiple_from m ts) s (is_minus l))))
+    (λ p ts h l e u. always_flagged _ (term (multiple_from m ts) s (is_minus l)) _ (always_weaker (term (multiple_from m ts) s (is_minus l)) _ _ (λ q t k small. every_more IsSmall ts t (h (front_small p _ small)) (k (front_small q _ (rest_small (l ∷ []) _ (rest_small p _ small))))) (term_small (multiple_from m ts) s (is_minus l))))
     p (t ∷ []) (λ small. (h small, tt))) (term_small m s minus))
 
 sum_small : (most m : ℕ) (s : Scope) → Always (sum most m s) (λ p ts. AreSmall p → Every IsSmall ts)
@@ -182,7 +182,7 @@ question_small = always_any (new_names Variable most_variables no_names) _ (λ p
 file_small : Always file (λ p qs. AreSmall p → Every QuestionHasSmallNumbers qs)
 unfolding file more_questions Always
 file_small = always_weaker (more_questions []) _ _ (λ p qs h l e u small. h (front_small p _ small))
-    (loop_keeps (Keyword vars_keyword ∷ []) (λ qs l. (limit_mark (most_questions - length qs), tt {0})) (λ qs u. Then question (λ q. Give (qs ++ q ∷ []))) (λ p qs. AreSmall p → Every QuestionHasSmallNumbers qs)
+    (loop_keeps (Keyword vars_keyword ∷ []) (λ qs l. (limit_flag (most_questions - length qs), tt {0})) (λ qs u. Then question (λ q. Give (qs ++ q ∷ []))) (λ p qs. AreSmall p → Every QuestionHasSmallNumbers qs)
     (λ p qs h l e u. always_weaker question _ _ (λ q b k small. every_more QuestionHasSmallNumbers qs b (h (front_small p _ small)) (k (front_small q _ (rest_small (l ∷ []) _ (rest_small p _ small))))) question_small) [] [] (λ small. tt))
 
 -- ---- the letters of lines

@@ -6,7 +6,7 @@ use Rattle.it_forms.specs.FirstFault.{head}
 use Rattle.it_forms.specs.Reads.{Reads, ◌>>=◌}
 use Rattle.it_forms.specs.Forms.{Form, Spells}
 use Rattle.it_forms.specs.FormReading.{read}
-use Rattle.it_forms.specs.Words.{line_end, to_end, marked, but}
+use Rattle.it_forms.specs.Words.{line_end, to_end, flagged, but}
 use Rattle.it_forms.proofs.FormFound.{reading_tells}
 use Rattle.it_forms.proofs.FormTraces.{Went, Stuck, By}
 use Rattle.it_forms.proofs.Outlines.{Outline, Has}
@@ -88,11 +88,11 @@ whole_ok {A} f o h ls more x e = by_result (read f ls) refl e
 -- ---- where nothing is left
 
 pub no_relation : (v : NamesView) (rates : Bool) → read (relation_line v rates) [] ≡ Err (codes.Word, [])
-unfolding read relation sum terms marked term atom measure_or
+unfolding read relation sum terms flagged term atom measure_or
 no_relation v rates = refl
 
 pub no_given : (v : NamesView) → read (given_line v) [] ≡ Err (codes.Word, [])
-unfolding read given but relation sum terms marked term atom measure_or
+unfolding read given but relation sum terms flagged term atom measure_or
 no_given v = refl
 
 pub no_list : (env : Environment) → read (names env) [] ≡ Err (codes.Word, [])

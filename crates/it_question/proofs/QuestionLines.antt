@@ -2,10 +2,10 @@
 use Rattle.std.proofs.Common.{◌≡◌, ℕ, zero, suc, ◌+◌, ◌-◌, ◌≤◌, ◌==◌, Bool, true, false, cond, List, [], ◌∷◌, ◌++◌, length, None, refl, sym, ap, ◌∙◌, subst, inl, inr, ◌⊎◌, append_assoc, length-append, arith}
 use Rattle.std.proofs.lemmas.List.{append-nil}
 use Rattle.std.proofs.lemmas.Bool.Decides.{eqb_tells}
-use Rattle.it_forms.specs.Letters.{MarkedLetters}
+use Rattle.it_forms.specs.Letters.{FlaggedLetters}
 use Rattle.it_forms.specs.declared.types.Symbol.TheVariants.{Comma}
 use Rattle.it_forms.specs.Forms.{Keyword, Punctuation, Terminal, AreTurns, Then, Give, Spells}
-use Rattle.it_forms.specs.Words.{word, marked_word, limit_mark}
+use Rattle.it_forms.specs.Words.{word, flagged_word, limit_flag}
 use Rattle.it_forms.proofs.LineEnds.{NoEndAmong, HasNoEnd}
 use Rattle.it_syntax.proofs.OneLine.{names_has_no_end, relation_has_no_end, given_has_no_end}
 use Rattle.it_syntax.specs.NamesViews.{NamesView}
@@ -17,8 +17,8 @@ use Rattle.it_question.specs.QuestionForms.{own_words, own_keyword, new_name, mo
 use Rattle.it_question.specs.Questions.{OwnLinesView, RegionView, VerbView, Prove, Eliminate, Contain, BodyView}
 use Rattle.it_question.specs.RateNames.{rates_env}
 use Rattle.it_question.specs.Texts.{one_if_some, own_line_count, one_unless_zero, region_line_count, verb_line_count, question_line_count}
-use Rattle.it_question.specs.TrySets.{Sets, is_whole, try_mark}
-use Rattle.it_question.specs.Tables.{givens_alone, size_mark, contain_mark}
+use Rattle.it_question.specs.TrySets.{Sets, is_whole, try_flag}
+use Rattle.it_question.specs.Tables.{givens_alone, size_flag, contain_flag}
 use Rattle.it_question.specs.QuestionLimits.{most_questions, most_lines}
 use Rattle.it_question.proofs.Puts.{AreTokens, HasLines, Puts, puts_at, no_lines, tokens_then, taken_token, in_line, end_puts, tokens_lines, lines_then, lines_as, line_puts}
 
@@ -57,19 +57,19 @@ more_new_has_no_end : (sort : NameSortView) (most : ℕ) (v : NamesView) → Has
 unfolding HasNoEnd more_new
 more_new_has_no_end sort most v = (refl, λ v u. (new_name_has_no_end sort most v, λ w. tt))
 
-one_more_name : (sort : NameSortView) (least most : ℕ) (v w y : NamesView) (m k : MarkedLetters) → IsGrown sort least v w → Spells (new_name sort most w) y m k → IsGrown sort 1 v y
+one_more_name : (sort : NameSortView) (least most : ℕ) (v w y : NamesView) (m k : FlaggedLetters) → IsGrown sort least v w → Spells (new_name sort most w) y m k → IsGrown sort 1 v y
 unfolding new_name Spells
 one_more_name sort least most v w y m k g s = subst (IsGrown sort 1 v) s.2 (grown_more sort least v w _ g)
 
-more_names_grow : (sort : NameSortView) (most : ℕ) (v w y : NamesView) (m k : MarkedLetters) → IsGrown sort 1 v w → Spells (more_new sort most w) y m k → IsGrown sort 1 v y
+more_names_grow : (sort : NameSortView) (most : ℕ) (v w y : NamesView) (m k : FlaggedLetters) → IsGrown sort 1 v w → Spells (more_new sort most w) y m k → IsGrown sort 1 v y
 unfolding more_new Spells
 more_names_grow sort most v w y m k g s = turns s.0 w m g s.1
   where
-    turns : (n : ℕ) (w : NamesView) (m : MarkedLetters) → IsGrown sort 1 v w → AreTurns (λ (w : NamesView). record { kinds = Punctuation Comma ∷ []; says = λ l. (None, tt {0}) }) (λ w u. Spells (Then (new_name sort most w) (λ more. Give more))) n w y m k → IsGrown sort 1 v y
+    turns : (n : ℕ) (w : NamesView) (m : FlaggedLetters) → IsGrown sort 1 v w → AreTurns (λ (w : NamesView). record { kinds = Punctuation Comma ∷ []; says = λ l. (None, tt {0}) }) (λ w u. Spells (Then (new_name sort most w) (λ more. Give more))) n w y m k → IsGrown sort 1 v y
     turns zero w m g t = subst (IsGrown sort 1 v) t.0 g
     turns (suc n) w m g t = turns n t.2 t.3 (subst (IsGrown sort 1 v) t.5.3.0 (one_more_name sort 1 most v w t.5.0 t.1 t.5.1 g t.5.2)) t.6
 
-pub new_names_lines : (sort : NameSortView) (most : ℕ) (v y : NamesView) (m k : MarkedLetters) → Spells (new_names sort most v) y m k → Puts (HasLines 1) m k × IsGrown sort 1 v y
+pub new_names_lines : (sort : NameSortView) (most : ℕ) (v y : NamesView) (m k : FlaggedLetters) → Spells (new_names sort most v) y m k → Puts (HasLines 1) m k × IsGrown sort 1 v y
 unfolding new_names Spells
 new_names_lines sort most v y m k s =
     let grown = more_names_grow sort most v s.0 s.3.0 s.1 s.3.1 (one_more_name sort 0 most v v s.0 m s.1 (not_grown sort v) s.2) s.3.2 in
@@ -80,20 +80,20 @@ new_names_lines sort most v y m k s =
 abbrev OneOrNone : ℕ → NameSortView → NamesView → NamesView → Type 0
 OneOrNone i sort v y = ((i ≡ 1) × IsGrown sort 1 v y) ⊎ ((i ≡ 0) × (v ≡ y))
 
-names_line_lines : (sort : NameSortView) (most : ℕ) (w : List ℕ) (v y : NamesView) (m k : MarkedLetters) → Spells (names_line sort most w v) y m k → (i : ℕ) × Puts (HasLines i) m k × OneOrNone i sort v y
+names_line_lines : (sort : NameSortView) (most : ℕ) (w : List ℕ) (v y : NamesView) (m k : FlaggedLetters) → Spells (names_line sort most w v) y m k → (i : ℕ) × Puts (HasLines i) m k × OneOrNone i sort v y
 unfolding names_line Spells
 names_line_lines sort most w v y m k (inl s) = let l = new_names_lines sort most v y s.1 k s.3 in (1, tokens_lines 0 (taken_token (word w) s.0 m s.1 refl s.2) l.0, inl (refl, l.1))
 names_line_lines sort most w v y m k (inr s) = (0, no_lines s.1, inr (refl, s.0))
 
 -- ---- lines that make a count grow by as many as they are
 
-pub record Grows {A : Type 0} (count : A → ℕ) (a y : A) (m k : MarkedLetters) : Type 0 where
+pub record Grows {A : Type 0} (count : A → ℕ) (a y : A) (m k : FlaggedLetters) : Type 0 where
   pub lines : ℕ
   pub puts : Puts (HasLines lines) m k
   pub grows : count y ≡ count a + lines
 
-pub turns_grow : {A B : Type 0} (t : A → Terminal B) (Step : A → B → A → MarkedLetters → MarkedLetters → Type 0) (count : A → ℕ) → ((a : A) → NoEndAmong (t a).kinds)
-    → ((a : A) (b : B) (c : A) (m k : MarkedLetters) → Step a b c m k → (i : ℕ) × Puts (HasLines (suc i)) m k × (count c ≡ count a + suc i)) → (n : ℕ) (a y : A) (m k : MarkedLetters) → AreTurns t Step n a y m k → Grows count a y m k
+pub turns_grow : {A B : Type 0} (t : A → Terminal B) (Step : A → B → A → FlaggedLetters → FlaggedLetters → Type 0) (count : A → ℕ) → ((a : A) → NoEndAmong (t a).kinds)
+    → ((a : A) (b : B) (c : A) (m k : FlaggedLetters) → Step a b c m k → (i : ℕ) × Puts (HasLines (suc i)) m k × (count c ≡ count a + suc i)) → (n : ℕ) (a y : A) (m k : FlaggedLetters) → AreTurns t Step n a y m k → Grows count a y m k
 turns_grow t Step count i h zero a y m k s = record { lines = 0; puts = no_lines s.1; grows = let e = ap count s.0 in omega (arith, e) }
 turns_grow t Step count i h (suc n) a y m k s =
     let first = h a s.0 s.2 s.1 s.3 s.5 in
@@ -104,12 +104,12 @@ turns_grow t Step count i h (suc n) a y m k s =
       grows = omega (arith, more.grows, first.2);
     }
 
-own_line_lines : (v : NamesView) (own : OwnLinesView) (b : Bool) (y : OwnLinesView) (m k : MarkedLetters) → Spells (own_line v own b) y m k → (i : ℕ) × Puts (HasLines (suc i)) m k × (own_line_count y ≡ own_line_count own + suc i)
+own_line_lines : (v : NamesView) (own : OwnLinesView) (b : Bool) (y : OwnLinesView) (m k : FlaggedLetters) → Spells (own_line v own b) y m k → (i : ℕ) × Puts (HasLines (suc i)) m k × (own_line_count y ≡ own_line_count own + suc i)
 unfolding own_line Spells
 own_line_lines v own true y m k s = (0, puts_at (line_puts (given (scope_of v false)) (given_has_no_end _) s.0 m s.1 s.2) s.3.1, sym (ap own_line_count s.3.0) ∙ omega (arith, length-append own.givens (s.0 ∷ [])))
 own_line_lines v own false y m k s = (0, puts_at (line_puts (relation (scope_of v true)) (relation_has_no_end _) s.0 m s.1 s.2) s.3.1, sym (ap own_line_count s.3.0) ∙ omega (arith, length-append own.rows (s.0 ∷ [])))
 
-own_lines_lines : (g r : ℕ) (v : NamesView) (own y : OwnLinesView) (m k : MarkedLetters) → Spells (more_own_lines g r v own) y m k → Grows own_line_count own y m k
+own_lines_lines : (g r : ℕ) (v : NamesView) (own y : OwnLinesView) (m k : FlaggedLetters) → Spells (more_own_lines g r v own) y m k → Grows own_line_count own y m k
 unfolding more_own_lines Spells
 own_lines_lines g r v own y m k s = turns_grow (λ (own : OwnLinesView). record { kinds = own_words; says = own_keyword g r own }) (λ own b. Spells (own_line v own b)) own_line_count (λ own. refl) (λ own b c m k t. own_line_lines v own b c m k t) s.0 own y m k s.1
 
@@ -123,15 +123,15 @@ parts_has_no_end : (aux env : Environment) (sets : Sets) → HasNoEnd (more_part
 unfolding HasNoEnd more_parts
 parts_has_no_end aux env sets = (refl, λ sets u. (part_has_no_end aux env sets, λ more. tt))
 
-try_line_lines : (aux env : Environment) (sets : Sets) (y : List ℕ) (m k : MarkedLetters) → Spells (try_line aux env sets) y m k → Puts (HasLines 1) m k
+try_line_lines : (aux env : Environment) (sets : Sets) (y : List ℕ) (m k : FlaggedLetters) → Spells (try_line aux env sets) y m k → Puts (HasLines 1) m k
 unfolding try_line Spells
 try_line_lines aux env sets y m k s =
     let tokens = tokens_then (in_line (part aux env sets) (part_has_no_end aux env sets) s.0 m s.1 s.2) (in_line (more_parts aux env s.0) (parts_has_no_end aux env s.0) s.3.0 s.1 s.3.1 s.3.2) in
     puts_at (tokens_lines 0 tokens (end_puts _ s.3.3.0 s.3.1 s.3.3.1 refl s.3.3.2)) s.3.3.3.1
 
-tries_lines : (aux env : Environment) (sets : Sets) (ts y : List (List ℕ)) (m k : MarkedLetters) → Spells (more_tries aux env sets ts) y m k → Grows length ts y m k
+tries_lines : (aux env : Environment) (sets : Sets) (ts y : List (List ℕ)) (m k : FlaggedLetters) → Spells (more_tries aux env sets ts) y m k → Grows length ts y m k
 unfolding more_tries Spells
-tries_lines aux env sets ts y m k s = turns_grow (λ (ts : List (List ℕ)). record { kinds = Keyword try_keyword ∷ []; says = λ l. (try_mark (is_whole sets) (most_lines - length ts), tt {0}) }) (λ ts u. Spells (Then (try_line aux env sets) (λ t. Give (ts ++ t ∷ [])))) length (λ ts. refl) (λ ts u c m k t. (0, puts_at (try_line_lines aux env sets t.0 m t.1 t.2) t.3.1, sym (ap length t.3.0) ∙ omega (arith, length-append ts (t.0 ∷ [])))) s.0 ts y m k s.1
+tries_lines aux env sets ts y m k s = turns_grow (λ (ts : List (List ℕ)). record { kinds = Keyword try_keyword ∷ []; says = λ l. (try_flag (is_whole sets) (most_lines - length ts), tt {0}) }) (λ ts u. Spells (Then (try_line aux env sets) (λ t. Give (ts ++ t ∷ [])))) length (λ ts. refl) (λ ts u c m k t. (0, puts_at (try_line_lines aux env sets t.0 m t.1 t.2) t.3.1, sym (ap length t.3.0) ∙ omega (arith, length-append ts (t.0 ∷ [])))) s.0 ts y m k s.1
 
 -- ---- regions
 
@@ -155,7 +155,7 @@ aux_lines i v y (inl h) =
     by_count (suc n) le = h.0 ∙ sym (one_unless_suc n)
 aux_lines i v y (inr h) = let e : length y.variables - length v.variables ≡ 0 = let l = ap (λ (u : NamesView). length u.variables) h.1 in omega (arith, l) in h.0 ∙ sym (ap one_unless_zero e)
 
-region_lines : (g r : ℕ) (v : NamesView) (y : RegionView) (m k : MarkedLetters) → Spells (region g r v) y m k → Puts (HasLines (region_line_count y)) m k
+region_lines : (g r : ℕ) (v : NamesView) (y : RegionView) (m k : FlaggedLetters) → Spells (region g r v) y m k → Puts (HasLines (region_line_count y)) m k
 unfolding region Spells
 region_lines g r v y m k s =
     let names = names_line_lines Variable _ aux_keyword v s.3.0 s.1 s.3.1 s.3.2 in
@@ -169,17 +169,17 @@ distinct_has_no_end : (env : Environment) → HasNoEnd (distinct env)
 unfolding HasNoEnd distinct once more_once
 distinct_has_no_end env = (refl, λ first. (refl, λ seen u. (refl, λ i. tt)))
 
-some_lines : {m n k : MarkedLetters} (i : ℕ) → 1 ≤ i → Puts AreTokens m n → Puts (HasLines i) n k → Puts (HasLines i) m k
+some_lines : {m n k : FlaggedLetters} (i : ℕ) → 1 ≤ i → Puts AreTokens m n → Puts (HasLines i) n k → Puts (HasLines i) m k
 some_lines zero le p q = absurd (omega (arith, le))
 some_lines (suc i) le p q = tokens_lines i p q
 
-containment_lines : (own : OwnLinesView) (v : NamesView) (y : VerbView) (m k : MarkedLetters) → Spells (containment own v) y m k → Puts (HasLines (verb_line_count y)) m k
+containment_lines : (own : OwnLinesView) (v : NamesView) (y : VerbView) (m k : FlaggedLetters) → Spells (containment own v) y m k → Puts (HasLines (verb_line_count y)) m k
 unfolding containment Spells
 containment_lines own v y m k s =
     let first = region_lines _ _ v s.0 m s.1 s.2 in
     let second = region_lines _ _ v s.3.3.0 s.3.1 s.3.3.1 s.3.3.2 in
     let tries = tries_lines _ _ _ [] s.3.3.3.0 s.3.3.1 s.3.3.3.1 s.3.3.3.2 in
-    let contain = tokens_lines 0 (taken_token (marked_word contain_keyword (contain_mark own s.0)) s.3.3.3.3.0 s.3.3.3.1 s.3.3.3.3.1 refl s.3.3.3.3.2) (end_puts _ s.3.3.3.3.3.0 s.3.3.3.3.1 s.3.3.3.3.3.1 refl s.3.3.3.3.3.2) in
+    let contain = tokens_lines 0 (taken_token (flagged_word contain_keyword (contain_flag own s.0)) s.3.3.3.3.0 s.3.3.3.1 s.3.3.3.3.1 refl s.3.3.3.3.2) (end_puts _ s.3.3.3.3.3.0 s.3.3.3.3.1 s.3.3.3.3.3.1 refl s.3.3.3.3.3.2) in
     let i = region_line_count s.0 in
     let j = region_line_count s.3.3.0 in
     let after = some_lines (j + (tries.lines + 1)) (omega arith) (taken_token (word region_keyword) s.3.0 s.1 s.3.1 refl s.3.2) (lines_then j (tries.lines + 1) second (lines_then tries.lines 1 tries.puts contain)) in
@@ -190,10 +190,10 @@ verb_has_lines (Prove r) = omega arith
 verb_has_lines (Eliminate rates) = omega arith
 verb_has_lines (Contain first second tries) = omega arith
 
-verb_lines : (own : OwnLinesView) (v : NamesView) (y : VerbView) (m k : MarkedLetters) → Spells (verb own v) y m k → Puts (HasLines (verb_line_count y)) m k
+verb_lines : (own : OwnLinesView) (v : NamesView) (y : VerbView) (m k : FlaggedLetters) → Spells (verb own v) y m k → Puts (HasLines (verb_line_count y)) m k
 unfolding verb Spells
-verb_lines own v y m k (inl s) = subst (λ (x : VerbView). Puts (HasLines (verb_line_count x)) m k) s.3.3.0 (puts_at (tokens_lines 0 (taken_token (marked_word prove_keyword (size_mark v own)) s.0 m s.1 refl s.2) (line_puts (relation (scope_of v true)) (relation_has_no_end _) s.3.0 s.1 s.3.1 s.3.2)) s.3.3.1)
-verb_lines own v y m k (inr (inl s)) = subst (λ (x : VerbView). Puts (HasLines (verb_line_count x)) m k) s.3.3.0 (puts_at (tokens_lines 0 (taken_token (marked_word eliminate_keyword (size_mark v (givens_alone own))) s.0 m s.1 refl s.2) (line_puts (distinct (rates_env v)) (distinct_has_no_end _) s.3.0 s.1 s.3.1 s.3.2)) s.3.3.1)
+verb_lines own v y m k (inl s) = subst (λ (x : VerbView). Puts (HasLines (verb_line_count x)) m k) s.3.3.0 (puts_at (tokens_lines 0 (taken_token (flagged_word prove_keyword (size_flag v own)) s.0 m s.1 refl s.2) (line_puts (relation (scope_of v true)) (relation_has_no_end _) s.3.0 s.1 s.3.1 s.3.2)) s.3.3.1)
+verb_lines own v y m k (inr (inl s)) = subst (λ (x : VerbView). Puts (HasLines (verb_line_count x)) m k) s.3.3.0 (puts_at (tokens_lines 0 (taken_token (flagged_word eliminate_keyword (size_flag v (givens_alone own))) s.0 m s.1 refl s.2) (line_puts (distinct (rates_env v)) (distinct_has_no_end _) s.3.0 s.1 s.3.1 s.3.2)) s.3.3.1)
 verb_lines own v y m k (inr (inr s)) = some_lines (verb_line_count y) (verb_has_lines y) (taken_token (word region_keyword) s.0 m s.1 refl s.2) (containment_lines own v y s.1 k s.3)
 
 some_rates : (v : NamesView) (own : List (List ℕ)) → v.rates ≡ [] → 1 ≤ length own → one_if_some (v.rates ++ own) ≡ 1
@@ -206,7 +206,7 @@ rates_lines i v y e (inl h) = h.0 ∙ sym (ap (λ (u : NamesView). one_if_some u
 rates_lines i v y e (inr h) = h.0 ∙ sym (ap (λ (u : NamesView). one_if_some u.rates) (sym h.1) ∙ ap one_if_some e)
 
 -- A question, after its word `vars`, is as many lines as are counted of it.
-pub question_lines : (q : BodyView) (m k : MarkedLetters) → Spells question q m k → Puts (HasLines (question_line_count q)) m k
+pub question_lines : (q : BodyView) (m k : FlaggedLetters) → Spells question q m k → Puts (HasLines (question_line_count q)) m k
 unfolding question Spells
 question_lines q m k s =
     let variables = new_names_lines Variable _ no_names s.0 m s.1 s.2 in
@@ -227,10 +227,10 @@ lines_append : (qs : List BodyView) (q : BodyView) → all_lines (qs ++ q ∷ []
 lines_append [] q = omega arith
 lines_append (p ∷ qs) q = let e = lines_append qs q in omega (arith, e)
 
-pub questions_lines : (qs ys : List BodyView) (m k : MarkedLetters) → Spells (more_questions qs) ys m k → Grows all_lines qs ys m k
+pub questions_lines : (qs ys : List BodyView) (m k : FlaggedLetters) → Spells (more_questions qs) ys m k → Grows all_lines qs ys m k
 unfolding more_questions Spells
 questions_lines qs ys m k s =
-    turns_grow (λ (qs : List BodyView). record { kinds = Keyword vars_keyword ∷ []; says = λ l. (limit_mark (most_questions - length qs), tt {0}) }) (λ qs u. Spells (Then question (λ q. Give (qs ++ q ∷ [])))) all_lines (λ qs. refl)
+    turns_grow (λ (qs : List BodyView). record { kinds = Keyword vars_keyword ∷ []; says = λ l. (limit_flag (most_questions - length qs), tt {0}) }) (λ qs u. Spells (Then question (λ q. Give (qs ++ q ∷ [])))) all_lines (λ qs. refl)
     (λ qs u c m k t. let q = t.0 in let i = one_if_some q.names.rates + own_line_count q.lines + verb_line_count q.verb in
     (i, lines_as (question_line_count q) (suc i) (puts_at (question_lines q m t.1 t.2) t.3.1) (omega arith), sym (ap all_lines t.3.0) ∙ lines_append qs q ∙ omega arith))
     s.0 qs ys m k s.1

@@ -14,7 +14,7 @@ use Rattle.it_question.specs.Keywords.{vars_keyword, rates_keyword, region_keywo
 use Rattle.it_question.specs.Questions.{OwnLinesView, BodyView}
 use Rattle.it_question.specs.NewNames.{NameSortView}
 use Rattle.it_forms.specs.Forms.{Keyword, Punctuation, WordBut, Zero, LineEnd, FileEnd, Take}
-use Rattle.it_forms.specs.Words.{word, marked_word}
+use Rattle.it_forms.specs.Words.{word, flagged_word}
 use Rattle.it_forms.proofs.Outlines.{Outline, nothing, one_of, one_then, repeated, either, Fits, Has, has_give, has_take, has_then, has_if, has_while, has_symbol, has_more, a_line, end_has}
 use Rattle.it_forms.proofs.KindLemmas.{among_first, among_second}
 
@@ -28,8 +28,8 @@ right_fits i j = record { begins = among_second i.begins j.begins; skips = or_tr
     or_true true b e = refl
     or_true false b e = e
 
-pub marked_word_has : (w : List ℕ) (mark : Option Code) → bytes_eq w w ≡ true → Has (Take (marked_word w mark)) (one_of (Keyword w ∷ []))
-marked_word_has w mark e = has_take _ (Word w) (rw e refl)
+pub flagged_word_has : (w : List ℕ) (flag : Option Code) → bytes_eq w w ≡ true → Has (Take (flagged_word w flag)) (one_of (Keyword w ∷ []))
+flagged_word_has w flag e = has_take _ (Word w) (rw e refl)
 
 pub word_has : (w : List ℕ) → bytes_eq w w ≡ true → Has (Take (word w)) (one_of (Keyword w ∷ []))
 word_has w e = has_take _ (Word w) (rw e refl)
@@ -87,7 +87,7 @@ containment_has : (own : OwnLinesView) (v : NamesView) → Has (containment own 
 unfolding containment
 containment_has own v =
     has_then _ _ _ _ (region_has _ _ v) (λ first. has_then _ _ _ _ (word_has region_keyword refl) (λ u. has_then _ _ _ _ (region_has _ _ v) (λ second. has_then _ _ _ _ (tries_has _ _ _ _) (λ ts.
-    has_then _ _ _ _ (marked_word_has contain_keyword _ refl) (λ u. has_then _ _ _ _ end_has (λ u. has_give _) refl) refl) refl) refl) refl) refl
+    has_then _ _ _ _ (flagged_word_has contain_keyword _ refl) (λ u. has_then _ _ _ _ end_has (λ u. has_give _) refl) refl) refl) refl) refl) refl
 
 distinct_has : (env : Environment) → Has (distinct env) (record { begins = WordBut [] ∷ []; skips = false; goes = Punctuation Comma ∷ [] })
 unfolding distinct more_once once

@@ -3,10 +3,10 @@ use Rattle.std.proofs.Common.{◌≡◌, ℕ, zero, suc, ◌-◌, ◌≤◌, Boo
 use Rattle.std.specs.Prelude.{bytes_eq, ◌||◌}
 use Rattle.std.proofs.lemmas.Slice.Eq.{bytes_eq-Decides}
 use Rattle.it_forms.specs.declared.types.Code.{Code}
-use Rattle.it_forms.specs.Letters.{Letter, Word, MarkedLetters, letters, without_marks}
+use Rattle.it_forms.specs.Letters.{Letter, Word, FlaggedLetters, letters, without_flags}
 use Rattle.it_forms.specs.Forms.{Keyword, is_among, AreTurns, Then, Give, Spells}
 use Rattle.it_forms.specs.FormTexts.{Says}
-use Rattle.it_forms.specs.Words.{marked_word, limit_mark}
+use Rattle.it_forms.specs.Words.{flagged_word, limit_flag}
 use Rattle.it_forms.proofs.FormLanguage.{prefix_moves}
 use Rattle.it_question.specs.Keywords.{vars_keyword}
 use Rattle.it_question.specs.Lines.{LineView, letters_of_lines}
@@ -24,7 +24,7 @@ use Rattle.it_question.proofs.WholeFileLemmas.{the_end}
 pub record QuestionAt (lines : List LineView) (q : BodyView) : Type 0 where
   pub said : List Letter
   pub first : letters_of_lines (take (question_line_count q) lines) ≡ Word vars_keyword ∷ said
-  pub says : Spells question q (without_marks said ++ the_end) the_end
+  pub says : Spells question q (without_flags said ++ the_end) the_end
   pub long : length (take (question_line_count q) lines) ≡ question_line_count q
   pub whole : AreWhole (take (question_line_count q) lines)
 
@@ -33,14 +33,14 @@ abbrev pub AreAt : List LineView → List BodyView → Type 0
 AreAt lines [] = Unit {0}
 AreAt lines (q ∷ qs) = QuestionAt lines q × AreAt (drop (question_line_count q) lines) qs
 
-same_prefix : (a b k : MarkedLetters) → a ++ k ≡ b ++ k → a ≡ b
+same_prefix : (a b k : FlaggedLetters) → a ++ k ≡ b ++ k → a ≡ b
 same_prefix [] [] k e = refl
-same_prefix [] (x ∷ b) k e = let l = ap (λ (t : MarkedLetters). length t) e in absurd (omega (arith, l, length-append (x ∷ b) k))
-same_prefix (x ∷ a) [] k e = let l = ap (λ (t : MarkedLetters). length t) e in absurd (omega (arith, l, length-append (x ∷ a) k))
+same_prefix [] (x ∷ b) k e = let l = ap (λ (t : FlaggedLetters). length t) e in absurd (omega (arith, l, length-append (x ∷ b) k))
+same_prefix (x ∷ a) [] k e = let l = ap (λ (t : FlaggedLetters). length t) e in absurd (omega (arith, l, length-append (x ∷ a) k))
 same_prefix (x ∷ a) (y ∷ b) k e =
     let first : x ≡ y = cc in
     let tails : a ++ k ≡ b ++ k = cc in
-    ap (λ (z : Letter × Option Code). z ∷ a) first ∙ ap (λ (t : MarkedLetters). y ∷ t) (same_prefix a b k tails)
+    ap (λ (z : Letter × Option Code). z ∷ a) first ∙ ap (λ (t : FlaggedLetters). y ∷ t) (same_prefix a b k tails)
 
 the_word : (w : List ℕ) (l : Letter) → is_among (Keyword w ∷ []) l ≡ true → l ≡ Word w
 the_word w (Word v) e = by_test (bytes_eq v w) ((bytes_eq-Decides v w).0) e
@@ -56,34 +56,34 @@ word_before zero w ls le h = absurd (omega (arith, le))
 word_before (suc i) w ls le h = h
 
 -- one question, with its word, and the letters after it
-record FirstQuestion (lines : List LineView) (q : BodyView) (n : MarkedLetters) : Type 0 where
+record FirstQuestion (lines : List LineView) (q : BodyView) (n : FlaggedLetters) : Type 0 where
   at : QuestionAt lines q
-  after : n ≡ without_marks (letters_of_lines (drop (question_line_count q) lines))
+  after : n ≡ without_flags (letters_of_lines (drop (question_line_count q) lines))
   sound : AreSound (drop (question_line_count q) lines)
 
-first_question : (q : BodyView) (l : Letter) (mark : Option Code) (p n : MarkedLetters) (lines : List LineView) → l ≡ Word vars_keyword → Spells question q p n → (l, mark) ∷ p ≡ without_marks (letters_of_lines lines) → AreSound lines → FirstQuestion lines q n
-first_question q l mark p n lines word s e sound =
+first_question : (q : BodyView) (l : Letter) (flag : Option Code) (p n : FlaggedLetters) (lines : List LineView) → l ≡ Word vars_keyword → Spells question q p n → (l, flag) ∷ p ≡ without_flags (letters_of_lines lines) → AreSound lines → FirstQuestion lines q n
+first_question q l flag p n lines word s e sound =
     let i = question_line_count q in
     let lines_of = question_lines q p n s in
     let moves = prefix_moves question q p n s in
     let prefix : moves.prefix ≡ lines_of.prefix = same_prefix moves.prefix lines_of.prefix n (sym moves.is ∙ lines_of.is) in
-    let c = clean_parts ((Word vars_keyword, mark) ∷ lines_of.prefix) n (letters_of_lines lines) (ap (λ (t : MarkedLetters). (Word vars_keyword, mark) ∷ t) (sym lines_of.is) ∙ ap (λ (x : Letter). (x, mark) ∷ p) (sym word) ∙ e) in
+    let c = clean_parts ((Word vars_keyword, flag) ∷ lines_of.prefix) n (letters_of_lines lines) (ap (λ (t : FlaggedLetters). (Word vars_keyword, flag) ∷ t) (sym lines_of.is) ∙ ap (λ (x : Letter). (x, flag) ∷ p) (sym word) ∙ e) in
     let d = letters_of_first_lines i lines (Word vars_keyword ∷ letters lines_of.prefix) (letters n) (word_before i vars_keyword (letters lines_of.prefix) (omega arith) lines_of.kind) c.all sound in
-    let clean : lines_of.prefix ≡ without_marks (letters lines_of.prefix) = cc in
+    let clean : lines_of.prefix ≡ without_flags (letters lines_of.prefix) = cc in
     record {
       at = record {
         said = letters lines_of.prefix;
         first = d.prefix;
-        says = subst (λ (m : MarkedLetters). Spells question q (m ++ the_end) the_end) (prefix ∙ clean) (moves.moves the_end);
+        says = subst (λ (m : FlaggedLetters). Spells question q (m ++ the_end) the_end) (prefix ∙ clean) (moves.moves the_end);
         long = d.long;
         whole = d.whole;
       };
-      after = c.after ∙ ap without_marks (sym d.after);
+      after = c.after ∙ ap without_flags (sym d.after);
       sound = d.sound;
     }
 
 -- the questions that turns add
-turns_at : (n : ℕ) (qs ys : List BodyView) (m k : MarkedLetters) (lines : List LineView) → AreTurns (λ (qs : List BodyView). marked_word vars_keyword (limit_mark (most_questions - length qs))) (λ qs u. Spells (Then question (λ q. Give (qs ++ q ∷ [])))) n qs ys m k → m ≡ without_marks (letters_of_lines lines) → AreSound lines
+turns_at : (n : ℕ) (qs ys : List BodyView) (m k : FlaggedLetters) (lines : List LineView) → AreTurns (λ (qs : List BodyView). flagged_word vars_keyword (limit_flag (most_questions - length qs))) (λ qs u. Spells (Then question (λ q. Give (qs ++ q ∷ [])))) n qs ys m k → m ≡ without_flags (letters_of_lines lines) → AreSound lines
     → (new : List BodyView) × (ys ≡ qs ++ new) × AreAt lines new
 unfolding Spells
 turns_at zero qs ys m k lines s e sound = ([], sym s.0 ∙ sym (append-nil qs), tt)
@@ -95,5 +95,5 @@ turns_at (suc n) qs ys m k lines s e sound =
 pub questions_at : (lines : List LineView) (qs : List BodyView) → AreSound lines → Says file (letters_of_lines lines) qs → AreAt lines qs
 unfolding file more_questions Spells
 questions_at lines qs sound s =
-    let t = turns_at s.2.0 [] s.0 (without_marks (letters_of_lines lines)) s.1 lines s.2.1 refl sound in
+    let t = turns_at s.2.0 [] s.0 (without_flags (letters_of_lines lines)) s.1 lines s.2.1 refl sound in
     subst (AreAt lines) (sym t.1 ∙ s.3.3.0) t.2

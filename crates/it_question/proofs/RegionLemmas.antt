@@ -4,7 +4,7 @@ use Rattle.it_forms.specs.Letters.{Letter}
 use Rattle.it_forms.specs.Forms.{Form, Give, Take, Then}
 use Rattle.it_forms.specs.FormReading.{read}
 use Rattle.it_forms.specs.Reads.{Reads, ◌>>=◌}
-use Rattle.it_forms.specs.Words.{word, marked_word, line_end}
+use Rattle.it_forms.specs.Words.{word, flagged_word, line_end}
 use Rattle.it_syntax.specs.declared.rest.Stop.{Stop}
 use Rattle.it_syntax.specs.declared.rest.Stop.TheVariants as stops
 use Rattle.it_syntax.specs.Gives.{StopsAs}
@@ -14,7 +14,7 @@ use Rattle.it_question.specs.Keywords.{region_keyword, contain_keyword}
 use Rattle.it_question.specs.QuestionForms.{region, more_tries, containment}
 use Rattle.it_question.specs.QuestionLimits.{givens_left, rows_left, most_lines}
 use Rattle.it_question.specs.Questions.{OwnLinesView, RegionView, VerbView, Contain}
-use Rattle.it_question.specs.Tables.{contain_mark}
+use Rattle.it_question.specs.Tables.{contain_flag}
 use Rattle.it_question.specs.TrySets.{auxiliary_env, unnamed_sets}
 
 -- ---- one form after the other
@@ -57,10 +57,10 @@ tries_of v first second = more_tries (auxiliary_env v second.names) (env_of firs
 
 -- the line of `contain`
 abbrev pub contain_line : OwnLinesView → RegionView → Form (Unit {0})
-contain_line own first = Then (Take (marked_word contain_keyword (contain_mark own first))) (λ u. line_end)
+contain_line own first = Then (Take (flagged_word contain_keyword (contain_flag own first))) (λ u. line_end)
 
 abbrev end_of : OwnLinesView → RegionView → RegionView → List (List ℕ) → Form VerbView
-end_of own first second tries = Then (Take (marked_word contain_keyword (contain_mark own first))) (λ u. Then line_end (λ u. Give (Contain first second tries)))
+end_of own first second tries = Then (Take (flagged_word contain_keyword (contain_flag own first))) (λ u. Then line_end (λ u. Give (Contain first second tries)))
 
 module _ (own : OwnLinesView) (v : NamesView) (ls a b d : List Letter) (first second : RegionView) (i j m n : ℕ) (h : ReadRegions own v ls a b d first second i j m n) where
   up_to_tries : read (containment own v) ls ≡ read (Then (tries_of v first second) (λ ts. end_of own first second ts)) d
@@ -78,7 +78,7 @@ module _ (own : OwnLinesView) (v : NamesView) (ls a b d : List Letter) (first se
 
   module _ (tries : List (List ℕ)) (after : List Letter) (t : read (tries_of v first second) d ≡ Ok (tries, after)) where
     up_to_contain : read (containment own v) ls ≡ read (Then (contain_line own first) (λ u. Give (Contain first second tries))) after
-    up_to_contain = up_to_tries ∙ then_gives (tries_of v first second) _ d after tries t ∙ then_again (Take (marked_word contain_keyword (contain_mark own first))) (λ u. line_end) (λ u. Give (Contain first second tries)) after
+    up_to_contain = up_to_tries ∙ then_gives (tries_of v first second) _ d after tries t ∙ then_again (Take (flagged_word contain_keyword (contain_flag own first))) (λ u. line_end) (λ u. Give (Contain first second tries)) after
 
     -- at a fault after them
     pub contain_stops : (e : Stop) (rest : List Letter) → StopsAs e rest (read (contain_line own first) after) → StopsAs e rest (read (containment own v) ls)

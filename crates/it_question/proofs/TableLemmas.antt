@@ -1,4 +1,4 @@
--- The problem of lines, and the mark that its table's size gives.
+-- The problem of lines, and the flag that its table's size gives.
 use Rattle.std.proofs.Common.{◌≡◌, ℕ, ◌+◌, ◌-◌, ◌*◌, ◌/◌, ◌≤◌, ◌^◌, Bool, false, nat_lt, List, [], ◌∷◌, length, map, None, refl, sym, ap, ap₂, subst, ◌∙◌, arith, lit<, length-append}
 use Rattle.std.specs.Prelude.{All}
 use Rattle.std.proofs.lemmas.List.Elements.{All-weaker}
@@ -31,8 +31,8 @@ use Rattle.it_demand.proofs.LimitLemmas.{wider_relation, wider_given, givens-few
 use Rattle.it_demand.proofs.ZipLemmas.{zip-length, zip-right}
 use Rattle.it_question.specs.Questions.{OwnLinesView, RegionView}
 use Rattle.it_question.specs.Limits.{IsRegionOf}
-use Rattle.it_question.specs.ReaderSteps.{mark_if_large}
-use Rattle.it_question.specs.Tables.{line_demands, constraint_of, problem_of_lines, most_entries, size_mark}
+use Rattle.it_question.specs.ReaderSteps.{flag_if_large}
+use Rattle.it_question.specs.Tables.{line_demands, constraint_of, problem_of_lines, most_entries, size_flag}
 
 abbrev constraint : Terms → Kind → Origin → Constraint
 constraint row kind origin = record { row = row; kind = kind; origin = origin }
@@ -59,13 +59,13 @@ stated_problem s ds cs k few h = record {
 pub lines-few : (n : ℕ) (own : OwnLinesView) → All (IsGivenOf n) own.givens → length (line_demands n own) ≤ 14 * length own.givens + length own.rows
 lines-few n own a = omega (arith, length-append (given_demands n 1 own.givens) (row_demands n 1 own.rows), givens-few n 1 own.givens a, rows-length n 1 own.rows)
 
--- the mark by the size of the problem with the constraints that were made
-pub mark_by_size : (v : NamesView) (own : OwnLinesView) (cs : List Constraint) (large : Bool) → AreStated (space_of v) (line_demands (length v.variables) own) cs
-    → large ≡ nat_lt most_entries (table_size (record { space = space_of v; constraints = cs })) → size_mark v own ≡ mark_if_large large
-unfolding size_mark
-mark_by_size v own cs large h e =
+-- the flag by the size of the problem with the constraints that were made
+pub flag_by_size : (v : NamesView) (own : OwnLinesView) (cs : List Constraint) (large : Bool) → AreStated (space_of v) (line_demands (length v.variables) own) cs
+    → large ≡ nat_lt most_entries (table_size (record { space = space_of v; constraints = cs })) → size_flag v own ≡ flag_if_large large
+unfolding size_flag
+flag_by_size v own cs large h e =
     let same = stated_are (space_of v) (line_demands (length v.variables) own) cs h in
-    ap (λ (ds : List Constraint). mark_if_large (nat_lt most_entries (table_size (record { space = space_of v; constraints = ds })))) (sym same) ∙ ap mark_if_large (sym e)
+    ap (λ (ds : List Constraint). flag_if_large (nat_lt most_entries (table_size (record { space = space_of v; constraints = ds })))) (sym same) ∙ ap flag_if_large (sym e)
 
 -- ---- a question's lines under the names of its region
 
@@ -86,10 +86,10 @@ region_rows v r rs a h = All-weaker (IsRelationOf (length v.variables) (length v
 pub lines_problem : (s : Space) (own : OwnLinesView) (cs : List Constraint) → IsSpace s → All (IsGivenOf s.variables) own.givens → length own.givens ≤ 128 → length own.rows ≤ 128 → AreStated s (line_demands s.variables own) cs → IsProblem (record { space = s; constraints = cs })
 lines_problem s own cs k givens g r h = stated_problem s (line_demands s.variables own) cs k (omega (arith, lines-few s.variables own givens, g, r)) h
 
--- and give the mark
-pub space_mark : (s : Space) (v : NamesView) (own : OwnLinesView) (cs : List Constraint) (large : Bool) → s ≡ space_of v → AreStated s (line_demands s.variables own) cs
-    → large ≡ nat_lt most_entries (table_size (record { space = s; constraints = cs })) → size_mark v own ≡ mark_if_large large
-space_mark s v own cs large e h k = mark_by_size v own cs large (subst (λ (t : Space). AreStated t (line_demands t.variables own) cs) e h) (subst (λ (t : Space). large ≡ nat_lt most_entries (table_size (record { space = t; constraints = cs }))) e k)
+-- and give the flag
+pub space_flag : (s : Space) (v : NamesView) (own : OwnLinesView) (cs : List Constraint) (large : Bool) → s ≡ space_of v → AreStated s (line_demands s.variables own) cs
+    → large ≡ nat_lt most_entries (table_size (record { space = s; constraints = cs })) → size_flag v own ≡ flag_if_large large
+space_flag s v own cs large e h k = flag_by_size v own cs large (subst (λ (t : Space). AreStated t (line_demands t.variables own) cs) e h) (subst (λ (t : Space). large ≡ nat_lt most_entries (table_size (record { space = t; constraints = cs }))) e k)
 
 -- the constraints of the givens alone
 pub givens_stated : (s : Space) (slice items : List Given) (cs : List Constraint) → slice ≡ items → AreStated s (given_demands s.variables 1 (map given_view slice)) cs
@@ -110,8 +110,8 @@ elementals-few n h =
     omega (arith, length-elementals n, both, h)
 
 -- at most nine variables, with lines within the limits, have a table that isn't too large
-pub few_variables : (v : NamesView) (own : OwnLinesView) → length v.variables ≤ 9 → length v.rates ≤ 16 → All (IsGivenOf (length v.variables)) own.givens → length own.givens ≤ 64 → length own.rows ≤ 64 → size_mark v own ≡ None
-unfolding size_mark table_size
+pub few_variables : (v : NamesView) (own : OwnLinesView) → length v.variables ≤ 9 → length v.rates ≤ 16 → All (IsGivenOf (length v.variables)) own.givens → length own.givens ≤ 64 → length own.rows ≤ 64 → size_flag v own ≡ None
+unfolding size_flag table_size
 few_variables v own few rates a givens lines =
     let n = length v.variables in
     let q = problem_of_lines v own in

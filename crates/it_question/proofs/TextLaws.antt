@@ -1,6 +1,6 @@
 -- The text of a question reads as that question alone.
 use Rattle.std.proofs.Common.{◌≡◌, ℕ, List, [], ◌∷◌, ◌++◌, take, drop, sym, ap, ◌∙◌, subst}
-use Rattle.it_forms.specs.Letters.{Letter, Word, MarkedLetters, without_mark, without_marks}
+use Rattle.it_forms.specs.Letters.{Letter, Word, FlaggedLetters, without_flag, without_flags}
 use Rattle.it_forms.specs.Forms.{Spells}
 use Rattle.it_forms.proofs.LetterLemmas.{cleaned_append}
 use Rattle.it_question.specs.Files.{IsFile, TextReadsBack}
@@ -23,9 +23,9 @@ first_alone : (q : BodyView) (lines : List LineView) → QuestionAt lines q → 
 unfolding first_of
 first_alone q lines h =
     let t = read_again 1 (take (question_line_count q) lines) h.whole in
-    let spelled : without_mark (Word vars_keyword) ∷ (without_marks h.said ++ the_end) ≡ without_marks (letters_of_lines t.again) =
-    sym (cleaned_append (Word vars_keyword ∷ h.said) (file_end ∷ [])) ∙ ap without_marks (ap (λ (ls : List Letter). ls ++ file_end ∷ []) (sym h.first) ∙ sym t.same) in
-    let says = subst (λ (m : MarkedLetters). Spells file (q ∷ []) m []) spelled (alone q (without_marks h.said) h.says) in
+    let spelled : without_flag (Word vars_keyword) ∷ (without_flags h.said ++ the_end) ≡ without_flags (letters_of_lines t.again) =
+    sym (cleaned_append (Word vars_keyword ∷ h.said) (file_end ∷ [])) ∙ ap without_flags (ap (λ (ls : List Letter). ls ++ file_end ∷ []) (sym h.first) ∙ sym t.same) in
+    let says = subst (λ (m : FlaggedLetters). Spells file (q ∷ []) m []) spelled (alone q (without_flags h.said) h.says) in
     subst (λ (text : List ℕ). IsFile (first_of q lines).text (record { body = q; text = text } ∷ [])) (ap (λ (i : ℕ). text_of_lines (take i t.again)) (sym h.long) ∙ t.text) (says_file file with_texts (first_of q lines).text t.again (q ∷ []) t.cut says)
 
 one_question_file : (qs : List BodyView) (lines : List LineView) (prefix rs : List QuestionView) (q : QuestionView) → AreAt lines qs → with_texts lines qs ≡ prefix ++ q ∷ rs → IsFile q.text (q ∷ [])

@@ -3,7 +3,7 @@ use Rattle.std.proofs.Common.{◌≡◌, ℕ, zero, suc, ◌-◌, ◌<◌, ◌�
 use Rattle.std.proofs.lemmas.List.{append-nil}
 use Rattle.std.proofs.lemmas.Option.{slice_get-get_or}
 use Rattle.it_forms.specs.declared.types.Code.{Code}
-use Rattle.it_forms.specs.Letters.{Letter, End, Bad, MarkedLetters, without_mark, letters, without_marks}
+use Rattle.it_forms.specs.Letters.{Letter, End, Bad, FlaggedLetters, without_flag, letters, without_flags}
 use Rattle.it_forms.specs.FirstFault.{FirstFault}
 use Rattle.it_forms.specs.Forms.{Form, Spells}
 use Rattle.it_forms.specs.FormReading.{read}
@@ -32,11 +32,11 @@ use Rattle.it_question.proofs.Puts.{HasLines, Puts}
 -- ---- what is written in the form is whole lines and the file's end
 
 -- the file's end, as the last letter
-abbrev pub the_end : MarkedLetters
-the_end = without_mark file_end ∷ []
+abbrev pub the_end : FlaggedLetters
+the_end = without_flag file_end ∷ []
 
 abbrev pub EndsFile : {A : Type 0} → Form A → Type 0
-EndsFile {A} f = (y : A) (m : MarkedLetters) → Spells f y m [] → (n : ℕ) × Puts (HasLines n) m the_end
+EndsFile {A} f = (y : A) (m : FlaggedLetters) → Spells f y m [] → (n : ℕ) × Puts (HasLines n) m the_end
 
 lines_then_end : (n : ℕ) (ls : List Letter) → HasLines n ls → EndsOnce (ls ++ file_end ∷ [])
 lines_then_end zero [] h = once_alone
@@ -46,7 +46,7 @@ lines_then_end (suc n) (End ∷ ls) h = once_more End (ls ++ file_end ∷ []) (�
 lines_then_end (suc n) (Bad c ∷ ls) h = absurd h
 lines_then_end (suc n) (l ∷ ls) h = once_more l (ls ++ file_end ∷ []) (λ e. absurd cc) (lines_then_end (suc n) ls h)
 
-no_letters : (m : MarkedLetters) → letters m ≡ [] → m ≡ []
+no_letters : (m : FlaggedLetters) → letters m ≡ [] → m ≡ []
 no_letters [] e = refl
 no_letters (x ∷ m) e = absurd cc
 
@@ -54,11 +54,11 @@ no_letters (x ∷ m) e = absurd cc
 
 -- what the file says its letters say
 pub said : {A Y : Type 0} (f : Form A) (value : List LineView → A → Y) (bytes : List ℕ) (y : Y) (s : SaysInForm f value bytes y) → Says f (letters_of_lines s.lines) s.tree.0
-said f value bytes y s = subst (λ (m : MarkedLetters). Spells f s.tree.0 m []) s.spelled s.tree.2
+said f value bytes y s = subst (λ (m : FlaggedLetters). Spells f s.tree.0 m []) s.spelled s.tree.2
 
 -- and the other way
 pub says_file : {A Y : Type 0} (f : Form A) (value : List LineView → A → Y) (bytes : List ℕ) (lines : List LineView) (a : A) → AreLinesOf bytes lines → Says f (letters_of_lines lines) a → SaysInForm f value bytes (value lines a)
-says_file f value bytes lines a cut s = record { lines = lines; cut = cut; tree = (a, without_marks (letters_of_lines lines), s); spelled = refl; says = refl }
+says_file f value bytes lines a cut s = record { lines = lines; cut = cut; tree = (a, without_flags (letters_of_lines lines), s); spelled = refl; says = refl }
 
 -- ---- the next letter tells what goes on
 
@@ -81,7 +81,7 @@ module _ {A : Type 0} (f : Form A) (o : Outline) (h : Has f o) (ends : EndsFile 
   nothing_left bytes lines y r cut e =
       let ls = letters_of_lines lines in
       let w : Went (read f) (Spells f) ls y r = subst (λ (t : Reads A). By (read f) (Spells f) ls t) e (reading_tells f o h ls) in
-      let p = (ends y (without_marks w.prefix ++ []) (w.spells [])).1 in
+      let p = (ends y (without_flags w.prefix ++ []) (w.spells [])).1 in
       let prefix : w.prefix ≡ letters p.prefix ++ file_end ∷ [] = sym (append-nil w.prefix) ∙ sym (letters_after w.prefix []) ∙ ap letters p.is ∙ letters_append p.prefix the_end in
       lines_once 1 (split_lines bytes) lines cut (letters p.prefix) r (w.parts ∙ ap (λ (t : List Letter). t ++ r) prefix ∙ append_assoc (letters p.prefix) (file_end ∷ []) r)
 
@@ -96,8 +96,8 @@ module _ {A : Type 0} (f : Form A) (o : Outline) (h : Has f o) (ends : EndsFile 
       let spelled : letters q.1.prefix ++ file_end ∷ [] ≡ end.0 ++ file_end ∷ letters w.more =
       sym (letters_append q.1.prefix the_end) ∙ ap letters (sym q.1.is ∙ w.viable) ∙ letters_after w.prefix w.more ∙ ap (λ (t : List Letter). t ++ letters w.more) prefix ∙ append_assoc end.0 (file_end ∷ []) (letters w.more) in
       let none : w.more ≡ [] = no_letters w.more (lines_then_end q.0 (letters q.1.prefix) q.1.kind end.0 (letters w.more) spelled) in
-      let whole : w.tree.1 ≡ without_marks ls = w.viable ∙ ap (λ (m : MarkedLetters). without_marks w.prefix ++ m) none ∙ append-nil (without_marks w.prefix) ∙ ap without_marks (sym (append-nil w.prefix) ∙ sym w.parts) in
-      let read : read f ls ≡ Ok (w.tree.0, []) = said_is_read f o h ls w.tree.0 (subst (λ (m : MarkedLetters). Spells f w.tree.0 m []) whole w.tree.2) in
+      let whole : w.tree.1 ≡ without_flags ls = w.viable ∙ ap (λ (m : FlaggedLetters). without_flags w.prefix ++ m) none ∙ append-nil (without_flags w.prefix) ∙ ap without_flags (sym (append-nil w.prefix) ∙ sym w.parts) in
+      let read : read f ls ≡ Ok (w.tree.0, []) = said_is_read f o h ls w.tree.0 (subst (λ (m : FlaggedLetters). Spells f w.tree.0 m []) whole w.tree.2) in
       absurd cc
 
   -- ---- what the code hands on at a fault
@@ -141,7 +141,7 @@ module _ {A : Type 0} (f : Form A) (o : Outline) (h : Has f o) (ends : EndsFile 
 
 -- ---- one fault, and not both: how the trees are spelled is enough
 
-pub whole_fault_is_one : {X : Type 0} (spell : X → MarkedLetters) (bytes : List ℕ) (line column row place : ℕ) (c d : Code) → WholeFaultAt spell bytes line column c → WholeFaultAt spell bytes row place d → (line ≡ row) × (column ≡ place) × (c ≡ d)
+pub whole_fault_is_one : {X : Type 0} (spell : X → FlaggedLetters) (bytes : List ℕ) (line column row place : ℕ) (c d : Code) → WholeFaultAt spell bytes line column c → WholeFaultAt spell bytes row place d → (line ≡ row) × (column ≡ place) × (c ≡ d)
 whole_fault_is_one spell bytes line column row place c d f g =
     let lines : f.lines ≡ g.lines = lines_are_one 1 (split_lines bytes) f.lines g.lines f.cut g.cut in
     let first : FirstFault spell (letters_of_lines g.lines) c f.left = subst (λ (ls : List LineView). FirstFault spell (letters_of_lines ls) c f.left) lines f.first in
@@ -150,11 +150,11 @@ whole_fault_is_one spell bytes line column row place c d f g =
     let pair : (line, column) ≡ (row, place) = cc in
     (ap (λ (p : ℕ × ℕ). p.0) pair, ap (λ (p : ℕ × ℕ). p.1) pair, one.0)
 
-pub whole_or_fault : {X Y : Type 0} (spell : X → MarkedLetters) (value : List LineView → X → Y) (bytes : List ℕ) (y : Y) (line column : ℕ) (c : Code) → SaysWhole spell value bytes y → WholeFaultAt spell bytes line column c → ⊥
+pub whole_or_fault : {X Y : Type 0} (spell : X → FlaggedLetters) (value : List LineView → X → Y) (bytes : List ℕ) (y : Y) (line column : ℕ) (c : Code) → SaysWhole spell value bytes y → WholeFaultAt spell bytes line column c → ⊥
 whole_or_fault spell value bytes y line column c f g =
     let lines : f.lines ≡ g.lines = lines_are_one 1 (split_lines bytes) f.lines g.lines f.cut g.cut in
     let ls = letters_of_lines g.lines in
-    let spelled : spell f.tree ≡ without_marks ls = f.spelled ∙ ap (λ (ls : List LineView). without_marks (letters_of_lines ls)) lines in
+    let spelled : spell f.tree ≡ without_flags ls = f.spelled ∙ ap (λ (ls : List LineView). without_flags (letters_of_lines ls)) lines in
     let k = g.first.each f.tree g.left refl (ap letters spelled ∙ letters_cleaned ls ∙ g.first.parts) in
     clean_is_clean ls g.first.prefix c (k.0, k.1, sym spelled ∙ k.2)
 

@@ -2,7 +2,7 @@
 use Rattle.std.specs.Prelude.{◌≡◌, ℕ, List, [], ◌∷◌, ◌++◌, ◌⊎◌}
 use Rattle.it_forms.specs.declared.types.Code.{Code}
 use Rattle.it_forms.specs.Forms.{Spells}
-use Rattle.it_forms.specs.Letters.{Word, MarkedLetters, without_mark}
+use Rattle.it_forms.specs.Letters.{Word, FlaggedLetters, without_flag}
 use Rattle.it_question.specs.declared.types.FileFault.{FileFault}
 use Rattle.it_question.specs.Keywords.{vars_keyword}
 use Rattle.it_question.specs.Lines.{file_end}
@@ -45,5 +45,5 @@ TextReadsBack = (bytes : List ℕ) (qs rs : List QuestionView) (q : QuestionView
 
 -- What says a question says that question alone, between `vars` and the file's end.
 abbrev pub QuestionStandsAlone : Type 0
-QuestionStandsAlone = (q : BodyView) (m k : MarkedLetters) → Spells question q m k
-    → (prefix : MarkedLetters) × ((m ≡ prefix ++ k) × Spells file (q ∷ []) (without_mark (Word vars_keyword) ∷ (prefix ++ without_mark file_end ∷ [])) [])
+QuestionStandsAlone = (q : BodyView) (m k : FlaggedLetters) → Spells question q m k
+    → (prefix : FlaggedLetters) × ((m ≡ prefix ++ k) × Spells file (q ∷ []) (without_flag (Word vars_keyword) ∷ (prefix ++ without_flag file_end ∷ [])) [])

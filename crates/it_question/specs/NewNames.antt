@@ -24,8 +24,8 @@ unfoldable pub is_taken : NamesView → List ℕ → Bool
 is_taken v w = is_some (index_of v.variables w) || is_some (index_of v.rates w)
 
 -- against a new name that may be no name, may be taken, and of which n are allowed
-abbrev pub new_mark : Bool → Bool → ℕ → Option Code
-new_mark true taken n = Some codes.Word
-new_mark false true n = Some codes.Twice
-new_mark false false zero = Some codes.Many
-new_mark false false (suc n) = None
+abbrev pub new_flag : Bool → Bool → ℕ → Option Code
+new_flag true taken n = Some codes.Word
+new_flag false true n = Some codes.Twice
+new_flag false false zero = Some codes.Many
+new_flag false false (suc n) = None

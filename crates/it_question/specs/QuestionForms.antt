@@ -5,9 +5,9 @@ use Rattle.std.specs.Prelude.{ℕ, ◌+◌, ◌-◌, Bool, true, false, List, []
 use Rattle.it_forms.specs.declared.types.Symbol.TheVariants.{Comma, Semicolon, Assign}
 use Rattle.it_forms.specs.declared.types.Code.{Code}
 use Rattle.it_forms.specs.Letters.{Letter}
-use Rattle.it_syntax.specs.NameMarks.{is_measure, index_or}
-use Rattle.it_question.specs.RateNames.{once_mark, rates_env}
-use Rattle.it_question.specs.TrySets.{Sets, unnamed_sets, with_set, is_whole, sets_view, part_mark, try_end_mark, try_mark, auxiliary_env}
+use Rattle.it_syntax.specs.NameFlags.{is_measure, index_or}
+use Rattle.it_question.specs.RateNames.{once_flag, rates_env}
+use Rattle.it_question.specs.TrySets.{Sets, unnamed_sets, with_set, is_whole, sets_view, part_flag, try_end_flag, try_flag, auxiliary_env}
 use Rattle.it_question.specs.QuestionLimits.{auxiliaries_left, givens_left, rows_left, most_questions, most_variables, most_rates, most_lines}
 use Rattle.it_syntax.specs.LineForms.{names, relation, given}
 use Rattle.it_syntax.specs.NamesViews.{NamesView}
@@ -15,10 +15,10 @@ use Rattle.it_syntax.specs.Scopes.{env_of, scope_of, Environment}
 use Rattle.it_question.specs.Keywords.{vars_keyword, rates_keyword, given_keyword, row_keyword, region_keyword, aux_keyword, try_keyword, prove_keyword, eliminate_keyword, contain_keyword}
 use Rattle.it_question.specs.Questions.{OwnLinesView, RegionView, VerbView, BodyView, Prove, Eliminate, Contain, no_lines}
 use Rattle.it_question.specs.Bodies.{with_given_line, with_row_line}
-use Rattle.it_question.specs.NewNames.{NameSortView, Variable, Rate, with_name, no_names, is_taken, new_mark}
-use Rattle.it_question.specs.Tables.{givens_alone, size_mark, contain_mark}
+use Rattle.it_question.specs.NewNames.{NameSortView, Variable, Rate, with_name, no_names, is_taken, new_flag}
+use Rattle.it_question.specs.Tables.{givens_alone, size_flag, contain_flag}
 use Rattle.it_forms.specs.Forms.{Kind, Keyword, LineEnd, is_of, Terminal, Form, Give, Take, If, While}
-use Rattle.it_forms.specs.Words.{◌>>=◌, ◌>>◌, word, marked_word, any_word, symbol, each_after, each_marked, zero_alone, line_end, to_end, file_end, limit_mark}
+use Rattle.it_forms.specs.Words.{◌>>=◌, ◌>>◌, word, flagged_word, any_word, symbol, each_after, each_flagged, zero_alone, line_end, to_end, file_end, limit_flag}
 
 -- ---- names that are declared
 
@@ -29,7 +29,7 @@ count Rate v = length v.rates
 
 -- a new name, of which there may be so many in all
 unfoldable pub new_name : NameSortView → ℕ → NamesView → Form NamesView
-new_name sort most v = Take (any_word (λ w. (new_mark (is_measure w) (is_taken v w) (most - count sort v), with_name sort v w)))
+new_name sort most v = Take (any_word (λ w. (new_flag (is_measure w) (is_taken v w) (most - count sort v), with_name sort v w)))
 
 -- further new names, each after a comma
 unfoldable pub more_new : NameSortView → ℕ → NamesView → Form NamesView
@@ -68,7 +68,7 @@ lines_left g r own is_given = if is_given then givens_left g own else rows_left 
 
 -- `given` or `row`, where g and r of them are allowed
 abbrev pub own_keyword : ℕ → ℕ → OwnLinesView → Letter → Option Code × Bool
-own_keyword g r own l = let is_given = is_of (Keyword given_keyword) l in (limit_mark (lines_left g r own is_given), is_given)
+own_keyword g r own l = let is_given = is_of (Keyword given_keyword) l in (limit_flag (lines_left g r own is_given), is_given)
 
 -- own lines in any order, after others
 unfoldable pub more_own_lines : ℕ → ℕ → NamesView → OwnLinesView → Form OwnLinesView
@@ -82,7 +82,7 @@ own_lines g r v = more_own_lines g r v no_lines
 
 -- a rate that isn't among these
 unfoldable pub once : Environment → List ℕ → Form ℕ
-once env seen = Take (any_word (λ w. (once_mark (is_measure w) seen (env w), index_or (env w))))
+once env seen = Take (any_word (λ w. (once_flag (is_measure w) seen (env w), index_or (env w))))
 
 -- further rates, each after a comma
 unfoldable pub more_once : Environment → List ℕ → Form (List ℕ)
@@ -98,7 +98,7 @@ distinct env = do
 
 -- an auxiliary that has no set yet
 unfoldable pub auxiliary : Environment → Sets → Form ℕ
-auxiliary aux sets = Take (any_word (λ w. (part_mark (is_measure w) sets (aux w), index_or (aux w))))
+auxiliary aux sets = Take (any_word (λ w. (part_flag (is_measure w) sets (aux w), index_or (aux w))))
 
 -- `0`, or names
 unfoldable pub set : Environment → Form ℕ
@@ -118,7 +118,7 @@ more_parts aux env sets = each_after Semicolon (part aux env) (λ sets more. mor
 
 -- the line's end, where each auxiliary must have its set
 abbrev pub try_end : Sets → Terminal (Unit {0})
-try_end sets = record { kinds = LineEnd ∷ []; says = λ l. (try_end_mark (is_whole sets), tt) }
+try_end sets = record { kinds = LineEnd ∷ []; says = λ l. (try_end_flag (is_whole sets), tt) }
 
 -- after `try`
 unfoldable pub try_line : Environment → Environment → Sets → Form (List ℕ)
@@ -130,7 +130,7 @@ try_line aux env sets = do
 
 -- `try` lines, after others, of which a region without auxiliaries has none
 unfoldable pub more_tries : Environment → Environment → Sets → List (List ℕ) → Form (List (List ℕ))
-more_tries aux env sets ts = each_marked try_keyword (λ ts. try_mark (is_whole sets) (most_lines - length ts)) (λ ts. try_line aux env sets) (λ ts t. ts ++ t ∷ []) ts
+more_tries aux env sets ts = each_flagged try_keyword (λ ts. try_flag (is_whole sets) (most_lines - length ts)) (λ ts. try_line aux env sets) (λ ts t. ts ++ t ∷ []) ts
 
 -- ---- regions
 
@@ -149,7 +149,7 @@ containment own v = do
   Take (word region_keyword)
   second ← region (givens_left (givens_left most_lines own) first.lines) (rows_left (rows_left most_lines own) first.lines) v
   tries ← more_tries (auxiliary_env v second.names) (env_of first.names) (unnamed_sets second.auxiliaries) []
-  Take (marked_word contain_keyword (contain_mark own first))
+  Take (flagged_word contain_keyword (contain_flag own first))
   line_end
   Give (Contain first second tries)
 
@@ -158,10 +158,10 @@ containment own v = do
 -- `prove`, `eliminate` or regions, in a question with these own lines
 unfoldable pub verb : OwnLinesView → NamesView → Form VerbView
 verb own v =
-    If (marked_word prove_keyword (size_mark v own)) (λ u. do
+    If (flagged_word prove_keyword (size_flag v own)) (λ u. do
       x ← to_end (relation (scope_of v true))
       Give (Prove x))
-    (If (marked_word eliminate_keyword (size_mark v (givens_alone own))) (λ u. do
+    (If (flagged_word eliminate_keyword (size_flag v (givens_alone own))) (λ u. do
       rates ← to_end (distinct (rates_env v))
       Give (Eliminate rates))
     (Take (word region_keyword) >> containment own v))
@@ -177,7 +177,7 @@ question = do
 
 -- questions, after others
 unfoldable pub more_questions : List BodyView → Form (List BodyView)
-more_questions qs = each_marked vars_keyword (λ qs. limit_mark (most_questions - length qs)) (λ qs. question) (λ qs q. qs ++ q ∷ []) qs
+more_questions qs = each_flagged vars_keyword (λ qs. limit_flag (most_questions - length qs)) (λ qs. question) (λ qs q. qs ++ q ∷ []) qs
 
 -- questions up to the file's end
 unfoldable pub file : Form (List BodyView)

@@ -11,10 +11,10 @@ abbrev pub is_among : List ℕ → ℕ → Bool
 is_among seen i = list_any (λ j. j == i) seen
 
 -- against the name of a rate: it may be no name, be unknown or have been named
-abbrev pub once_mark : Bool → List ℕ → Option ℕ → Option Code
-once_mark true seen o = Some codes.Word
-once_mark false seen None = Some codes.Name
-once_mark false seen (Some i) = if is_among seen i then Some codes.Twice else None
+abbrev pub once_flag : Bool → List ℕ → Option ℕ → Option Code
+once_flag true seen o = Some codes.Word
+once_flag false seen None = Some codes.Name
+once_flag false seen (Some i) = if is_among seen i then Some codes.Twice else None
 
 -- which rate a name is
 unfoldable pub rates_env : NamesView → Environment

@@ -30,8 +30,8 @@ IsLineAdded n bytes old new =
     ⊎ ((l : LineView) × (new ≡ old ++ l ∷ []) × IsLine n bytes l × HasTokens l)
 
 -- against the word of a verb whose question's table is too large
-abbrev pub mark_if_large : Bool → Option Code
-mark_if_large large = if large then Some codes.Large else None
+abbrev pub flag_if_large : Bool → Option Code
+flag_if_large large = if large then Some codes.Large else None
 
 -- the word of an own line, and whether it is `given`
 abbrev pub own_word : Terminal Bool

@@ -59,12 +59,12 @@ abbrev pub most_entries : ℕ
 most_entries = 4000000
 
 -- against the word of a verb, where the question's table is the one of these lines
-unfoldable pub size_mark : NamesView → OwnLinesView → Option Code
-size_mark v own = if nat_lt most_entries (table_size (problem_of_lines v own)) then Some codes.Large else None
+unfoldable pub size_flag : NamesView → OwnLinesView → Option Code
+size_flag v own = if nat_lt most_entries (table_size (problem_of_lines v own)) then Some codes.Large else None
 
 -- the same against `contain`, in a question with these own lines about this first region
-abbrev pub contain_mark : OwnLinesView → RegionView → Option Code
-contain_mark own first = size_mark first.names (lines_with own first)
+abbrev pub contain_flag : OwnLinesView → RegionView → Option Code
+contain_flag own first = size_flag first.names (lines_with own first)
 
 -- the table of the problem that a question poses isn't too large
 abbrev pub HasSmallTable : BodyView → Type 0

@@ -1,7 +1,7 @@
 -- The sets of a `try` line: one for each auxiliary of the second region, by number; none where it isn't named yet.
 use Rattle.std.specs.Prelude.{ℕ, zero, suc, ◌-◌, Bool, true, false, List, [], ◌∷◌, map, is_some, Option, Some, None, if◌then◌else◌}
 use Rattle.it_forms.specs.declared.types.Code.{Code}
-use Rattle.it_forms.specs.Words.{limit_mark}
+use Rattle.it_forms.specs.Words.{limit_flag}
 use Rattle.it_forms.specs.declared.types.Code.TheVariants as codes
 use Rattle.std.specs.Prelude.{nat_lt, length}
 use Rattle.it_syntax.specs.NamesViews.{NamesView, index_of}
@@ -47,20 +47,20 @@ abbrev pub sets_view : Sets → List ℕ
 sets_view sets = map set_or sets
 
 -- against the name of an auxiliary: it may be no name, be none of them, or have been named
-abbrev pub part_mark : Bool → Sets → Option ℕ → Option Code
-part_mark true sets o = Some codes.Word
-part_mark false sets None = Some codes.Name
-part_mark false sets (Some i) = if is_named sets i then Some codes.Twice else None
+abbrev pub part_flag : Bool → Sets → Option ℕ → Option Code
+part_flag true sets o = Some codes.Word
+part_flag false sets None = Some codes.Name
+part_flag false sets (Some i) = if is_named sets i then Some codes.Twice else None
 
 -- a line that leaves out an auxiliary is wrong at its end
-abbrev pub try_end_mark : Bool → Option Code
-try_end_mark true = None
-try_end_mark false = Some codes.Word
+abbrev pub try_end_flag : Bool → Option Code
+try_end_flag true = None
+try_end_flag false = Some codes.Word
 
 -- A `try` line may not stand where the second region has no auxiliaries; n are allowed.
-abbrev pub try_mark : Bool → ℕ → Option Code
-try_mark true n = Some codes.Word
-try_mark false n = limit_mark n
+abbrev pub try_flag : Bool → ℕ → Option Code
+try_flag true n = Some codes.Word
+try_flag false n = limit_flag n
 
 -- a number after the first n, counted from there
 abbrev pub after_first : ℕ → Option ℕ → Option ℕ

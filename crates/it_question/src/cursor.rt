@@ -7,13 +7,23 @@ use it_syntax::types::LineTokens;
 
 /// A line that has tokens or a misspelling, by its number, counted from 1; its text has neither a comment nor tabs. The last
 /// line of a file is its end: no text and no tokens, with `Unfinished` in the place of a misspelling.
-#[derive(Drop)]
 pub struct Line {
     pub number: u32,
     pub text: Vec<u8>,
     pub tokens: LineTokens,
     pub ghost short: { length text.items ≤ 1048577 },
     pub ghost inside: { InLine text.items tokens.tokens.items } by { InLine-prop text.items tokens.tokens.items },
+}
+
+// written out, so that letting a line go is one call
+impl Drop for Line {
+    fn drop(self) {
+        let Line {
+            number: _,
+            text: _,
+            tokens: _,
+        } = self;
+    }
 }
 
 /// What is left of a line, if anything is left, and the lines after it. A reader takes from the front what it reads, and at

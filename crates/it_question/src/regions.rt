@@ -2,7 +2,7 @@
 ghost use Rattle.std.specs.Prelude.{◌≡◌, ◌≤◌, ◌+◌, ◌-◌, length, IfOk, IfErr};
 ghost use Rattle.it_forms.specs.Forms.{Take, Then};
 ghost use Rattle.it_forms.specs.FormReading.{read};
-ghost use Rattle.it_forms.specs.Words.{marked_word, line_end};
+ghost use Rattle.it_forms.specs.Words.{flagged_word, line_end};
 ghost use Rattle.it_syntax.specs.declared.rest.Stop.TheVariants.{Memory};
 ghost use Rattle.it_syntax.specs.Gives.{Gives, GivesBy};
 ghost use Rattle.it_question.specs.Keywords.{aux_keyword, contain_keyword};
@@ -11,7 +11,7 @@ ghost use Rattle.it_question.specs.Questions.{own_lines_view, verb_view, region_
 ghost use Rattle.it_space.specs.Spaces.{IsSpace};
 ghost use Rattle.it_demand.specs.LineDemands.{space_of};
 ghost use Rattle.it_question.specs.Limits.{AreLinesOver, IsRegionOf};
-ghost use Rattle.it_question.specs.Tables.{contain_mark};
+ghost use Rattle.it_question.specs.Tables.{contain_flag};
 ghost use Rattle.it_question.specs.QuestionForms as forms;
 ghost use Rattle.it_question.specs.NewNames.{Variable};
 ghost use Rattle.it_question.specs.QuestionLimits.{auxiliaries_left};
@@ -120,7 +120,7 @@ fn contain(
     requires region { IsRegionOf names.now (region_view first.now) }
     requires few_givens { length lines.now.givens.items + length first.now.lines.givens.items ≤ 64 }
     requires few_rows { length lines.now.rows.items + length first.now.lines.rows.items ≤ 64 }
-    ensures { Gives result (letters_left cursor.new) (read (Then (Take (marked_word contain_keyword (contain_mark (own_lines_view lines.now) (region_view first.now)))) (λ u. line_end)) (letters_left cursor.old)) }
+    ensures { Gives result (letters_left cursor.new) (read (Then (Take (flagged_word contain_keyword (contain_flag (own_lines_view lines.now) (region_view first.now)))) (λ u. line_end)) (letters_left cursor.old)) }
 {
     match after_word(*cursor, CONTAIN) {
         Some(after) => {

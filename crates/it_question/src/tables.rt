@@ -9,8 +9,8 @@ ghost use Rattle.it_demand.specs.Demands.{AreStated};
 ghost use Rattle.it_demand.specs.LineDemands.{space_of};
 ghost use Rattle.it_question.specs.Limits.{AreLinesOver, IsRegionOf};
 ghost use Rattle.it_question.specs.Questions.{own_lines_view, region_view};
-ghost use Rattle.it_question.specs.ReaderSteps.{mark_if_large};
-ghost use Rattle.it_question.specs.Tables.{line_demands, givens_alone, lines_with, most_entries, size_mark, contain_mark};
+ghost use Rattle.it_question.specs.ReaderSteps.{flag_if_large};
+ghost use Rattle.it_question.specs.Tables.{line_demands, givens_alone, lines_with, most_entries, size_flag, contain_flag};
 
 use crate::types::{OwnLines, Region};
 use it_closure::size;
@@ -90,7 +90,7 @@ fn is_large(alloc: Global, space: Space, constraints: Vec<Constraint>) -> Result
 pub fn proof_is_large(alloc: Global, names: &Names, lines: &OwnLines) -> Result<bool, Stop>
     requires space { IsSpace (space_of names.now) }
     requires lines { AreLinesOver names.now (own_lines_view lines.now) }
-    ensures large { IfOk result (λ large. size_mark names.now (own_lines_view lines.now) ≡ mark_if_large large) }
+    ensures large { IfOk result (λ large. size_flag names.now (own_lines_view lines.now) ≡ flag_if_large large) }
     ensures memory { IfErr result (λ e. e ≡ Memory) }
 {
     let space = names.space();
@@ -110,7 +110,7 @@ pub fn proof_is_large(alloc: Global, names: &Names, lines: &OwnLines) -> Result<
 pub fn elimination_is_large(alloc: Global, names: &Names, lines: &OwnLines) -> Result<bool, Stop>
     requires space { IsSpace (space_of names.now) }
     requires lines { AreLinesOver names.now (own_lines_view lines.now) }
-    ensures large { IfOk result (λ large. size_mark names.now (givens_alone (own_lines_view lines.now)) ≡ mark_if_large large) }
+    ensures large { IfOk result (λ large. size_flag names.now (givens_alone (own_lines_view lines.now)) ≡ flag_if_large large) }
     ensures memory { IfErr result (λ e. e ≡ Memory) }
 {
     let space = names.space();
@@ -138,7 +138,7 @@ pub fn containment_is_large(
     requires region { IsRegionOf names.now (region_view first.now) }
     requires few_givens { length lines.now.givens.items + length first.now.lines.givens.items ≤ 64 }
     requires few_rows { length lines.now.rows.items + length first.now.lines.rows.items ≤ 64 }
-    ensures large { IfOk result (λ large. contain_mark (own_lines_view lines.now) (region_view first.now) ≡ mark_if_large large) }
+    ensures large { IfOk result (λ large. contain_flag (own_lines_view lines.now) (region_view first.now) ≡ flag_if_large large) }
     ensures memory { IfErr result (λ e. e ≡ Memory) }
 {
     let space = first.names.space();

@@ -118,19 +118,8 @@ fn cut(lines: &[Line], n: usize) -> (&[Line], &[Line])
 fn with_text(alloc: Global, lines: &[Line], body: Body) -> Result<Question, AllocError>
     ensures { IfOk result (λ q. question_view q ≡ record { body = body_view body; text = text_of_lines (map line_view lines.now) }) }
 {
-    // `?` would do; with the match a call lets the body go, not a step for each of its fields
-    match text_of(alloc, lines) {
-        Ok(text) => Ok(Question {
-            names: body.names,
-            text,
-            lines: body.lines,
-            verb: body.verb,
-        }),
-        Err(fault) => {
-            drop(body);
-            Err(fault)
-        }
-    }
+    let text = text_of(alloc, lines)?;
+    Ok(body.with_text(text))
 }
 
 /// The questions of these lines, one after the other, with their texts.

@@ -7,19 +7,35 @@ use std::alloc::AllocError;
 use thiserror::Error;
 
 /// The constraints of `given` lines and of `row` lines, in order.
-#[derive(Drop)]
 pub struct OwnLines {
     pub givens: Vec<Given>,
     pub rows: Vec<Relation>,
 }
 
+// written out, so that letting an own lines go is one call
+impl Drop for OwnLines {
+    fn drop(self) {
+        let OwnLines { givens: _, rows: _ } = self;
+    }
+}
+
 /// A region of a containment question: the question's names followed by the region's auxiliary variables, how many these
 /// are, and the region's own lines.
-#[derive(Drop)]
 pub struct Region {
     pub names: Names,
     pub auxiliaries: u8,
     pub lines: OwnLines,
+}
+
+// written out, so that letting a region go is one call
+impl Drop for Region {
+    fn drop(self) {
+        let Region {
+            names: _,
+            auxiliaries: _,
+            lines: _,
+        } = self;
+    }
 }
 
 /// What a question wants: that a relation is proved; that rates are eliminated, by number and in the order in which they

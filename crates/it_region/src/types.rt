@@ -11,11 +11,24 @@ pub struct Candidate {
 /// The first region's problem with the question's own lines in it; the second region's space, whose variables are the
 /// first `common` ones of the first region and after them its `parts` auxiliaries; and the second region's own
 /// constraints, those of its `given` lines before those of its `row` lines.
-#[derive(Debug, Drop)]
+#[derive(Debug)]
 pub struct Pair {
     pub first: Problem,
     pub space: Space,
     pub common: u8,
     pub parts: u8,
     pub own: Vec<Constraint>,
+}
+
+// written out, so that letting a pair go is one call
+impl Drop for Pair {
+    fn drop(self) {
+        let Pair {
+            first: _,
+            space: _,
+            common: _,
+            parts: _,
+            own: _,
+        } = self;
+    }
 }

@@ -12,17 +12,17 @@ use Rattle.it_forms.specs.declared.types.Code.TheVariants as codes
 use Rattle.it_forms.specs.Letters.{Letter}
 use Rattle.it_forms.specs.Forms.{Keyword, Punctuation, Form, Give, Take}
 use Rattle.it_forms.specs.FormReading.{read}
-use Rattle.it_forms.specs.Words.{◌>>=◌, ◌>>◌, word, text_of, limit_mark, to_end, file_end}
+use Rattle.it_forms.specs.Words.{◌>>=◌, ◌>>◌, word, text_of, limit_flag, to_end, file_end}
 use Rattle.it_forms.proofs.FormParts.{Always, always_weaker, each_keeps, line_keeps, value_read}
 use Rattle.it_syntax.specs.declared.types.Sign.TheVariants.{AtLeast}
 use Rattle.it_syntax.specs.Givens.{IsRelationOf}
 use Rattle.it_syntax.specs.LineForms.{variable, more_names, names, sum, relation}
 use Rattle.it_syntax.specs.Meaning.{RelationView, multiple_from}
 use Rattle.it_syntax.specs.Multiples.{most_terms}
-use Rattle.it_syntax.specs.NameMarks.{is_measure, unknown_mark, index_or}
+use Rattle.it_syntax.specs.NameFlags.{is_measure, unknown_flag, index_or}
 use Rattle.it_syntax.specs.NamesViews.{NamesView, index_of}
 use Rattle.it_syntax.specs.Scopes.{scope_of}
-use Rattle.it_question.specs.NewNames.{Variable, no_names, is_taken, new_mark}
+use Rattle.it_question.specs.NewNames.{Variable, no_names, is_taken, new_flag}
 use Rattle.it_question.specs.QuestionForms.{new_name, more_new, new_names}
 use Rattle.it_syntax.proofs.FormLimits.{sum_keeps, relation_keeps, scope_covers}
 use Rattle.it_syntax.proofs.MultipleLemmas.{one_is_multiple}
@@ -49,7 +49,7 @@ one_secret ls r v e = (value_read (new_name Variable 1 no_names) IsOne ls r v se
 abbrev HasGrown : ℕ → NamesView → NamesView → Type 0
 HasGrown most v w = (length v.variables < length w.variables) × (length w.variables ≤ most) × (w.rates ≡ v.rates)
 
-one_allowed : (measure taken : Bool) (n : ℕ) → new_mark measure taken n ≡ None → 1 ≤ n
+one_allowed : (measure taken : Bool) (n : ℕ) → new_flag measure taken n ≡ None → 1 ≤ n
 one_allowed true taken n e = absurd cc
 one_allowed false true n e = absurd cc
 one_allowed false false zero e = absurd cc
@@ -89,7 +89,7 @@ knows_parties v w i e = by_option (index_of v.variables w) refl e
     by_option (Some zero) h e = absurd cc
     by_option (Some (suc j)) h e = let same : suc j ≡ i = cc in (omega (arith, same), omega (arith, same, (position-Some (bytes_eq w) v.variables (suc j) [] h).0))
 
-named : (n : ℕ) (measure : Bool) (o : Option ℕ) → cond measure (Some codes.Word) (unknown_mark o) ≡ None → ((i : ℕ) → o ≡ Some i → IsParty n i) → IsParty n (index_or o)
+named : (n : ℕ) (measure : Bool) (o : Option ℕ) → cond measure (Some codes.Word) (unknown_flag o) ≡ None → ((i : ℕ) → o ≡ Some i → IsParty n i) → IsParty n (index_or o)
 named n true o e k = absurd cc
 named n false None e k = absurd cc
 named n false (Some i) e k = k i refl
@@ -128,10 +128,10 @@ parties_keep v = always_weaker (variable (party_env v)) (λ q i. IsParty (length
 abbrev AreListed : ℕ → List ℕ → Type 0
 AreListed n sets = (1 ≤ length sets) × (length sets ≤ most_qualified) × All (IsListed n) sets
 
-few_lists : (i : ℕ) → limit_mark (most_qualified - i) ≡ None → i < most_qualified
+few_lists : (i : ℕ) → limit_flag (most_qualified - i) ≡ None → i < most_qualified
 few_lists i e = by_number (most_qualified - i) refl e
   where
-    by_number : (k : ℕ) → most_qualified - i ≡ k → limit_mark k ≡ None → i < most_qualified
+    by_number : (k : ℕ) → most_qualified - i ≡ k → limit_flag k ≡ None → i < most_qualified
     by_number zero h e = absurd cc
     by_number (suc k) h e = omega (arith, h)
 
@@ -139,7 +139,7 @@ more_lists_keep : (v : NamesView) (sets : List ℕ) → AreListed (length v.vari
 unfolding more_lists
 more_lists_keep v =
     let n = length v.variables in
-    each_keeps (Keyword qualified_keyword ∷ []) (λ s l. (limit_mark (most_qualified - length s), tt {0})) (λ s u. to_end (names (party_env v))) (λ s set. s ++ set ∷ []) (AreListed n)
+    each_keeps (Keyword qualified_keyword ∷ []) (λ s l. (limit_flag (most_qualified - length s), tt {0})) (λ s u. to_end (names (party_env v))) (λ s set. s ++ set ∷ []) (AreListed n)
     (λ s h l e m. always_weaker (to_end (names (party_env v))) (λ q set. IsListed n set) _
     (λ q set k. let long = length-append s (set ∷ []) in (omega (arith, long), omega (arith, long, few_lists (length s) m), All-append (IsListed n) s (set ∷ []) h.2 (All-cons (IsListed n) set [] k (All-nil (IsListed n)))))
     (line_keeps (names (party_env v)) (IsListed n) (parties_keep v)))

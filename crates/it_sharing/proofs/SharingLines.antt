@@ -1,9 +1,9 @@
 -- A sharing file is written as whole lines before the file's end.
 use Rattle.std.proofs.Common.{ℕ, ◌+◌, ◌-◌, true, List, [], ◌∷◌, ◌++◌, length, length-append, refl, sym, ap, ◌∙◌, inl, inr, arith}
 use Rattle.it_forms.specs.Forms.{Keyword, Give, Then, Spells}
-use Rattle.it_forms.specs.Letters.{MarkedLetters}
+use Rattle.it_forms.specs.Letters.{FlaggedLetters}
 use Rattle.it_forms.proofs.LineEnds.{HasNoEnd}
-use Rattle.it_forms.specs.Words.{word, limit_mark, to_end}
+use Rattle.it_forms.specs.Words.{word, limit_flag, to_end}
 use Rattle.it_syntax.specs.LineForms.{names, relation}
 use Rattle.it_syntax.specs.NamesViews.{NamesView}
 use Rattle.it_syntax.specs.Scopes.{Environment, Scope, scope_of}
@@ -18,16 +18,16 @@ use Rattle.it_question.proofs.WholeFileLemmas.{EndsFile}
 use Rattle.it_sharing.specs.SharingForms.{Aim, more_lists, bound, aim, sharing}
 use Rattle.it_sharing.specs.SharingWords.{secret_keyword, parties_keyword, qualified_keyword, best_keyword, most_qualified, party_env}
 
-lists_lines : (env : Environment) (sets all : List ℕ) (m k : MarkedLetters) → Spells (more_lists env sets) all m k → Grows length sets all m k
+lists_lines : (env : Environment) (sets all : List ℕ) (m k : FlaggedLetters) → Spells (more_lists env sets) all m k → Grows length sets all m k
 unfolding more_lists Spells
 lists_lines env sets all m k s =
-    turns_grow (λ (sets : List ℕ). record { kinds = Keyword qualified_keyword ∷ []; says = λ l. (limit_mark (most_qualified - length sets), tt {0}) }) (λ sets u. Spells (Then (to_end (names env)) (λ set. Give (sets ++ set ∷ [])))) length (λ sets. refl) (λ sets u c m k t. (0, puts_at (line_puts (names env) (names_has_no_end env) t.0 m t.1 t.2) t.3.1, sym (ap length t.3.0) ∙ omega (arith, length-append sets (t.0 ∷ [])))) s.0 sets all m k s.1
+    turns_grow (λ (sets : List ℕ). record { kinds = Keyword qualified_keyword ∷ []; says = λ l. (limit_flag (most_qualified - length sets), tt {0}) }) (λ sets u. Spells (Then (to_end (names env)) (λ set. Give (sets ++ set ∷ [])))) length (λ sets. refl) (λ sets u c m k t. (0, puts_at (line_puts (names env) (names_has_no_end env) t.0 m t.1 t.2) t.3.1, sym (ap length t.3.0) ∙ omega (arith, length-append sets (t.0 ∷ [])))) s.0 sets all m k s.1
 
 bound_has_no_end : (s : Scope) → HasNoEnd (bound s)
 unfolding HasNoEnd bound
 bound_has_no_end s = (sum_has_no_end _ _ s, λ left. (refl, λ u. (sum_has_no_end _ _ s, λ right. tt)))
 
-aim_lines : (v : NamesView) (y : Aim) (m k : MarkedLetters) → Spells (aim v) y m k → Puts (HasLines 1) m k
+aim_lines : (v : NamesView) (y : Aim) (m k : FlaggedLetters) → Spells (aim v) y m k → Puts (HasLines 1) m k
 unfolding aim Spells
 aim_lines v y m k (inl s) = puts_at (tokens_lines 0 (taken_token (word prove_keyword) s.0 m s.1 refl s.2) (line_puts (relation (scope_of v true)) (relation_has_no_end _) s.3.0 s.1 s.3.1 s.3.2)) s.3.3.1
 aim_lines v y m k (inr s) = puts_at (tokens_lines 0 (taken_token (word best_keyword) s.0 m s.1 refl s.2) (line_puts (bound (scope_of v true)) (bound_has_no_end _) s.3.0 s.1 s.3.1 s.3.2)) s.3.3.1

@@ -15,11 +15,11 @@ use Rattle.it_question.specs.Keywords.{prove_keyword}
 use Rattle.it_question.specs.NewNames.{Variable, no_names}
 use Rattle.it_sharing.specs.Sharings.{SharingView}
 use Rattle.it_forms.specs.Forms.{Form, Give, Take, If}
-use Rattle.it_forms.specs.Words.{◌>>=◌, ◌>>◌, symbol, word, each_marked, to_end, file_end, limit_mark}
+use Rattle.it_forms.specs.Words.{◌>>=◌, ◌>>◌, symbol, word, each_flagged, to_end, file_end, limit_flag}
 
 -- further lists, each after `qualified`, up to so many in all
 unfoldable pub more_lists : Environment → List ℕ → Form (List ℕ)
-more_lists env sets = each_marked qualified_keyword (λ sets. limit_mark (most_qualified - length sets)) (λ sets. to_end (names env)) (λ sets set. sets ++ set ∷ []) sets
+more_lists env sets = each_flagged qualified_keyword (λ sets. limit_flag (most_qualified - length sets)) (λ sets. to_end (names env)) (λ sets set. sets ++ set ∷ []) sets
 
 -- two sums with `>=` between them, of at most 256 terms together
 unfoldable pub bound : Scope → Form RelationView

@@ -8,10 +8,20 @@ use crate::sets::VarSet;
 use std::alloc::{AllocError, Global};
 
 /// Weights of generators over one positive scale, each weight after its generator's number.
-#[derive(Debug, Drop)]
+#[derive(Debug)]
 pub struct Certificate {
     pub scale: i128,
     pub weights: Vec<(u32, i128)>,
+}
+
+// written out, so that letting a certificate go is one call
+impl Drop for Certificate {
+    fn drop(self) {
+        let Certificate {
+            scale: _,
+            weights: _,
+        } = self;
+    }
 }
 
 impl Certificate {
@@ -36,7 +46,7 @@ pub fn is_nonzero_weight(weight: &(u32, i128)) -> bool
 }
 
 /// The answer to a question.
-#[derive(Debug, Drop)]
+#[derive(Debug)]
 pub enum Answer {
     /// A proof of each target of the question.
     Yes(Vec<Certificate>),
@@ -58,6 +68,23 @@ pub enum Answer {
     Open {
         tried: u32,
     },
+}
+
+// written out, so that letting an answer go is one call
+impl Drop for Answer {
+    fn drop(self) {
+        match self {
+            Answer::Yes(_) => {}
+            Answer::No { back: _, point: _ } => {}
+            Answer::Undecided(_) => {}
+            Answer::Region(_) => {}
+            Answer::Contained {
+                parts: _,
+                proofs: _,
+            } => {}
+            Answer::Open { tried: _ } => {}
+        }
+    }
 }
 
 /// What is known of a region's row: nothing; that the other rows don't give it; or that this stayed undecided.

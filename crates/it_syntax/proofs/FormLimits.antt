@@ -16,7 +16,7 @@ use Rattle.it_forms.specs.Forms.{Punctuation, Form}
 use Rattle.it_forms.specs.FormReading.{read}
 use Rattle.it_forms.specs.Words.{text_of, number_of, allowed, but}
 use Rattle.it_forms.proofs.FormParts.{Always, always_weaker, each_keeps, line_keeps, value_read}
-use Rattle.it_forms.proofs.MarkedParts.{Takes, always_allowed, always_but}
+use Rattle.it_forms.proofs.FlaggedParts.{Takes, always_allowed, always_but}
 use Rattle.it_syntax.specs.declared.types.Atom.{Atom}
 use Rattle.it_syntax.specs.declared.types.Term.{Term}
 use Rattle.it_syntax.specs.declared.types.Sign.{Sign}
@@ -25,8 +25,8 @@ use Rattle.it_syntax.specs.GivenWords.{markov_text, indep_text, func_text}
 use Rattle.it_syntax.specs.Givens.{GivenView, AreSetsOf, IsRelationOf, IsGivenOf}
 use Rattle.it_syntax.specs.LineForms.{is_minus, variable, more_names, names, given_set, entropy, mutual_information, measure_or, atom, atom_or_nothing, counted, over_or, term, signs, more_terms, terms, sum, compare, relation, more_members, chain, after_bar, independence, function, given}
 use Rattle.it_syntax.specs.Meaning.{RelationView, IsAtomOf, multiple_from}
-use Rattle.it_syntax.specs.Multiples.{most_terms, multiple_with, multiple_mark}
-use Rattle.it_syntax.specs.NameMarks.{is_measure, unknown_mark, index_or}
+use Rattle.it_syntax.specs.Multiples.{most_terms, multiple_with, multiple_flag}
+use Rattle.it_syntax.specs.NameFlags.{is_measure, unknown_flag, index_or}
 use Rattle.it_syntax.specs.NamesViews.{NamesView, index_of}
 use Rattle.it_syntax.specs.RelationLines.{relation_line}
 use Rattle.it_syntax.specs.Scopes.{Environment, Scope, env_of, scope_of}
@@ -45,11 +45,11 @@ IsSet n s = s < 2 ^ n
 pub empty_is_set : (n : ℕ) → IsSet n 0
 empty_is_set n = omega (arith, ones_lt n)
 
-known_below : (n : ℕ) (o : Option ℕ) → unknown_mark o ≡ None → ((i : ℕ) → o ≡ Some i → i < n) → index_or o < n
+known_below : (n : ℕ) (o : Option ℕ) → unknown_flag o ≡ None → ((i : ℕ) → o ≡ Some i → i < n) → index_or o < n
 known_below n (Some i) e h = h i refl
 known_below n None e h = absurd cc
 
-named_below : (n : ℕ) (b : Bool) (o : Option ℕ) → cond b (Some codes.Word) (unknown_mark o) ≡ None → ((i : ℕ) → o ≡ Some i → i < n) → index_or o < n
+named_below : (n : ℕ) (b : Bool) (o : Option ℕ) → cond b (Some codes.Word) (unknown_flag o) ≡ None → ((i : ℕ) → o ≡ Some i → i < n) → index_or o < n
 named_below n true o e h = absurd cc
 named_below n false o e h = known_below n o e h
 
@@ -109,7 +109,7 @@ counted_keeps n m k d minus number f small h = always_weaker f _ _ (λ p a ha. (
 whole_keeps : (n m k : ℕ) (minus : Bool) (number : ℕ) (f : Form Atom) → IsMultiple k → Always f (λ p a. IsAtomOf n m a) → Always (counted minus number 1 f) (λ p t. IsTermOf n m k t)
 whole_keeps n m k minus number f small h = counted_keeps n m k 1 minus number f (subst IsMultiple (sym (lcm_one k)) small) h
 
-multiple_keeps : (k d : ℕ) (o : Option ℕ) → 1 ≤ k → multiple_with k d ≡ o → multiple_mark o ≡ None → IsMultiple (lcm k d)
+multiple_keeps : (k d : ℕ) (o : Option ℕ) → 1 ≤ k → multiple_with k d ≡ o → multiple_flag o ≡ None → IsMultiple (lcm k d)
 multiple_keeps k d (Some x) h e m = multiple_limited k d x h e
 multiple_keeps k d None h e m = absurd cc
 

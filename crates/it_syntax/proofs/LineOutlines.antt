@@ -5,13 +5,13 @@ use Rattle.it_syntax.specs.declared.types.Term.{Term}
 use Rattle.it_syntax.specs.GivenWords.{markov_text, indep_text, func_text, of_text}
 use Rattle.it_forms.specs.Letters.{Word, Number}
 use Rattle.it_syntax.specs.Scopes.{Environment, Scope}
-use Rattle.it_syntax.specs.NameMarks.{entropy_text, mutual_text}
+use Rattle.it_syntax.specs.NameFlags.{entropy_text, mutual_text}
 use Rattle.it_syntax.specs.LineForms.{signs, counted, denominator, over_or, variable, more_names, names, given_set, entropy, mutual_information, measure_or, atom, atom_or_nothing, term, more_terms, terms, sum, compare, relation, more_members, chain, after_bar, independence, function, given}
 use Rattle.it_forms.specs.declared.types.Symbol.TheVariants.{LeftParen, RightParen, Comma, Semicolon, Bar, Plus, Minus, Slash, Arrow, AtLeast, AtMost, Equal}
 use Rattle.it_forms.specs.declared.types.Code.{Code}
 use Rattle.it_forms.specs.Forms.{Kind, WordBut, Punctuation, Keyword, Zero, Positive, Form, Give, Take, Then, If, While}
-use Rattle.it_forms.specs.Words.{marked_terminal, marked, terminal_but, but}
-use Rattle.it_forms.proofs.Outlines.{Outline, all_apart, nothing, one_of, one_then, one_or, repeated, Has, has_give, has_take, has_then, has_if, has_while, has_symbol, has_marked}
+use Rattle.it_forms.specs.Words.{flagged_terminal, flagged, terminal_but, but}
+use Rattle.it_forms.proofs.Outlines.{Outline, all_apart, nothing, one_of, one_then, one_or, repeated, Has, has_give, has_take, has_then, has_if, has_while, has_symbol, has_flagged}
 
 abbrev pub a_name : Outline
 a_name = one_of (WordBut [] ∷ [])
@@ -89,14 +89,14 @@ further_terms = repeated signs (one_then (a_term []) nothing)
 
 more_terms_has : (most m : ℕ) (s : Scope) (ts : List Term) → Has (more_terms most m s ts) further_terms
 unfolding more_terms
-more_terms_has most m s ts = has_while _ _ _ _ _ (λ ts minus. has_then _ _ _ _ (has_marked _ _ _ (term_has _ s minus)) (λ t. has_give _) refl) refl
+more_terms_has most m s ts = has_while _ _ _ _ _ (λ ts minus. has_then _ _ _ _ (has_flagged _ _ _ (term_has _ s minus)) (λ t. has_give _) refl) refl
 
 abbrev some_terms : List (List ℕ) → Outline
 some_terms ts = one_then (a_term ts) further_terms
 
 terms_has : (most m : ℕ) (s : Scope) (minus : Bool) → Has (terms most m s minus) (some_terms [])
 unfolding terms
-terms_has most m s minus = has_then _ _ _ _ (has_marked _ _ _ (term_has m s minus)) (λ t. more_terms_has most m s _) refl
+terms_has most m s minus = has_then _ _ _ _ (has_flagged _ _ _ (term_has m s minus)) (λ t. more_terms_has most m s _) refl
 
 abbrev pub a_sum : List (List ℕ) → Outline
 a_sum ts = one_or (Punctuation Plus ∷ []) (some_terms []) (one_or (Punctuation Minus ∷ []) (some_terms []) (some_terms ts))
@@ -123,7 +123,7 @@ relation_has s = has_then _ _ _ _ (sum_has _ _ s) (λ left. has_then _ _ _ _ com
 
 members_has : (d : Symbol) (env : Environment) (sets : List ℕ) → all_apart (Punctuation Comma ∷ []) (Punctuation d ∷ []) ≡ true → Has (more_members d env sets) (repeated (Punctuation d ∷ []) (one_then some_names nothing))
 unfolding more_members
-members_has d env sets e = has_while _ _ _ _ _ (λ sets u. has_then _ _ _ _ (has_marked _ _ _ (names_has env)) (λ set. has_give _) refl) e
+members_has d env sets e = has_while _ _ _ _ _ (λ sets u. has_then _ _ _ _ (has_flagged _ _ _ (names_has env)) (λ set. has_give _) refl) e
 
 abbrev a_constraint : List Kind → Outline
 a_constraint goes = record { begins = WordBut [] ∷ []; skips = false; goes = goes }
@@ -161,18 +161,18 @@ term_but : (m : ℕ) (s : Scope) (minus : Bool) → Has (but forms (term m s min
 unfolding term but
 term_but m s minus = has_if _ _ _ _ _ (λ u. over_zero m s minus) (has_if _ _ _ _ _ (λ n. over_atom m s minus n) (has_then _ _ _ _ (atom_but s) (λ a. has_give _) refl) refl) refl
 
--- the marks of a first letter and its words don't meet
-but_marked : {A : Type 0} (ts : List (List ℕ)) (m : Option Code) (f : Form A) → but ts (marked m f) ≡ marked m (but ts f)
-unfolding but marked
-but_marked ts m (Give a) = refl
-but_marked ts m (Take t) = refl
-but_marked ts m (Then f g) = ap (λ (h : Form _). Then h g) (but_marked ts m f)
-but_marked ts m (If t g h) = ap (λ (h : Form _). If (marked_terminal m (terminal_but ts t)) g h) (but_marked ts m h)
-but_marked ts m (While ks says step a) = refl
+-- the flags of a first letter and its words don't meet
+but_flagged : {A : Type 0} (ts : List (List ℕ)) (m : Option Code) (f : Form A) → but ts (flagged m f) ≡ flagged m (but ts f)
+unfolding but flagged
+but_flagged ts m (Give a) = refl
+but_flagged ts m (Take t) = refl
+but_flagged ts m (Then f g) = ap (λ (h : Form _). Then h g) (but_flagged ts m f)
+but_flagged ts m (If t g h) = ap (λ (h : Form _). If (flagged_terminal m (terminal_but ts t)) g h) (but_flagged ts m h)
+but_flagged ts m (While ks says step a) = refl
 
 terms_but : (most m : ℕ) (s : Scope) (minus : Bool) → Has (but forms (terms most m s minus)) (some_terms forms)
 unfolding terms but
-terms_but most m s minus = has_then _ _ _ _ (subst (λ (f : Form Term). Has f (a_term forms)) (sym (but_marked forms _ (term m s minus))) (has_marked _ _ _ (term_but m s minus))) (λ t. more_terms_has most m s _) refl
+terms_but most m s minus = has_then _ _ _ _ (subst (λ (f : Form Term). Has f (a_term forms)) (sym (but_flagged forms _ (term m s minus))) (has_flagged _ _ _ (term_but m s minus))) (λ t. more_terms_has most m s _) refl
 
 sum_but : (most m : ℕ) (s : Scope) → Has (but forms (sum most m s)) (a_sum forms)
 unfolding sum but

@@ -7,9 +7,9 @@ use Rattle.it_forms.specs.Letters.{Letter}
 use Rattle.it_syntax.specs.Gives.{StopsAs}
 use Rattle.it_forms.specs.Reads.{Reads, ◌>>=◌}
 use Rattle.it_forms.specs.Forms.{Kind, Punctuation, Terminal, is_among, Form, Give, Then, While}
-use Rattle.it_forms.specs.Words.{symbol, each, each_after, limit_mark}
+use Rattle.it_forms.specs.Words.{symbol, each, each_after, limit_flag}
 use Rattle.it_forms.specs.declared.types.Symbol.{Symbol}
-use Rattle.it_forms.specs.FormReading.{if_unmarked, if_taken, read, after}
+use Rattle.it_forms.specs.FormReading.{if_unflagged, if_taken, read, after}
 use Rattle.it_forms.proofs.FormTraces.{Reader}
 use Rattle.it_forms.proofs.FormLaws.{NoLonger, rest_no_longer, while_turn}
 
@@ -24,16 +24,16 @@ pub taken_after : {A B : Type 0} (t : Terminal A) (ls tail : List Letter) (a : A
 taken_after t [] tail a g other e = absurd cc
 taken_after {A} t (l ∷ ls) tail a g other e = by_test (is_among t.kinds l) (t.says l) e
   where
-    by_test : (b : Bool) (p : Option Code × A) → cond {A = Option (Standing A)} b (Some (p, ls)) None ≡ Some ((None, a), tail) → cond b (if_unmarked p l ls (λ a. g a ls)) other ≡ g a tail
+    by_test : (b : Bool) (p : Option Code × A) → cond {A = Option (Standing A)} b (Some (p, ls)) None ≡ Some ((None, a), tail) → cond b (if_unflagged p l ls (λ a. g a ls)) other ≡ g a tail
     by_test true (None, c) e = let h = same_standing ((None, c), ls) ((None, a), tail) e in rw (ap (λ (q : Standing A). q.0.1) h, ap (λ (q : Standing A). q.1) h) refl
     by_test true (Some d, c) e = let h : Some d ≡ None = ap (λ (q : Standing A). q.0.0) (same_standing ((Some d, c), ls) ((None, a), tail) e) in absurd cc
     by_test false p e = absurd cc
 
-pub marked_after : {A B : Type 0} (t : Terminal A) (ls tail : List Letter) (c : Code) (a : A) (g : A → Reader B) (other : Reads B) → after t ls ≡ Some ((Some c, a), tail) → if_taken t ls g other ≡ Err (c, ls)
-marked_after t [] tail c a g other e = absurd cc
-marked_after {A} t (l ∷ ls) tail c a g other e = by_test (is_among t.kinds l) (t.says l) e
+pub flagged_after : {A B : Type 0} (t : Terminal A) (ls tail : List Letter) (c : Code) (a : A) (g : A → Reader B) (other : Reads B) → after t ls ≡ Some ((Some c, a), tail) → if_taken t ls g other ≡ Err (c, ls)
+flagged_after t [] tail c a g other e = absurd cc
+flagged_after {A} t (l ∷ ls) tail c a g other e = by_test (is_among t.kinds l) (t.says l) e
   where
-    by_test : (b : Bool) (p : Option Code × A) → cond {A = Option (Standing A)} b (Some (p, ls)) None ≡ Some ((Some c, a), tail) → cond b (if_unmarked p l ls (λ a. g a ls)) other ≡ Err (c, l ∷ ls)
+    by_test : (b : Bool) (p : Option Code × A) → cond {A = Option (Standing A)} b (Some (p, ls)) None ≡ Some ((Some c, a), tail) → cond b (if_unflagged p l ls (λ a. g a ls)) other ≡ Err (c, l ∷ ls)
     by_test true (None, b) e = let h : None ≡ Some c = ap (λ (q : Standing A). q.0.0) (same_standing ((None, b), ls) ((Some c, a), tail) e) in absurd cc
     by_test true (Some d, b) e = let h : Some d ≡ Some c = ap (λ (q : Standing A). q.0.0) (same_standing ((Some d, b), ls) ((Some c, a), tail) e) in let x : d ≡ c = cc in rw x refl
     by_test false p e = absurd cc
@@ -42,7 +42,7 @@ pub other_after : {A B : Type 0} (t : Terminal A) (ls : List Letter) (g : A → 
 other_after t [] g other e = refl
 other_after {A} t (l ∷ ls) g other e = by_test (is_among t.kinds l) (t.says l) e
   where
-    by_test : (b : Bool) (p : Option Code × A) → cond {A = Option (Standing A)} b (Some (p, ls)) None ≡ None → cond b (if_unmarked p l ls (λ a. g a ls)) other ≡ other
+    by_test : (b : Bool) (p : Option Code × A) → cond {A = Option (Standing A)} b (Some (p, ls)) None ≡ None → cond b (if_unflagged p l ls (λ a. g a ls)) other ≡ other
     by_test true p e = absurd cc
     by_test false p e = refl
 
@@ -57,9 +57,9 @@ pub loop_stops : {A B : Type 0} (ks : List Kind) (says : A → Letter → Option
 loop_stops ks says step a b ls tail rest stops.Memory e h = tt
 loop_stops ks says step a b ls tail rest (stops.Fault c) e h = while_turn ks says step a ls ∙ taken_after (record { kinds = ks; says = says a }) ls tail b (λ b rest. read (step a b) rest >>= λ x. read (While ks says step x.0) x.1) (Ok (a, ls)) e ∙ ap (λ (r : Reads _). r >>= λ x. read (While ks says step x.0) x.1) h
 
--- the terminal is marked
-pub loop_marked : {A B : Type 0} (ks : List Kind) (says : A → Letter → Option Code × B) (step : A → B → Form A) (a : A) (b : B) (c : Code) (ls tail : List Letter) → after (record { kinds = ks; says = says a }) ls ≡ Some ((Some c, b), tail) → read (While ks says step a) ls ≡ Err (c, ls)
-loop_marked ks says step a b c ls tail e = while_turn ks says step a ls ∙ marked_after (record { kinds = ks; says = says a }) ls tail c b (λ b rest. read (step a b) rest >>= λ x. read (While ks says step x.0) x.1) (Ok (a, ls)) e
+-- the terminal is flagged
+pub loop_flagged : {A B : Type 0} (ks : List Kind) (says : A → Letter → Option Code × B) (step : A → B → Form A) (a : A) (b : B) (c : Code) (ls tail : List Letter) → after (record { kinds = ks; says = says a }) ls ≡ Some ((Some c, b), tail) → read (While ks says step a) ls ≡ Err (c, ls)
+loop_flagged ks says step a b c ls tail e = while_turn ks says step a ls ∙ flagged_after (record { kinds = ks; says = says a }) ls tail c b (λ b rest. read (step a b) rest >>= λ x. read (While ks says step x.0) x.1) (Ok (a, ls)) e
 
 -- the loop is over
 pub loop_ends : {A B : Type 0} (ks : List Kind) (says : A → Letter → Option Code × B) (step : A → B → Form A) (a : A) (ls : List Letter) → after (record { kinds = ks; says = says a }) ls ≡ None → read (While ks says step a) ls ≡ Ok (a, ls)
@@ -106,15 +106,15 @@ symbol_stops s item put a ls tail rest stop total e h so_far = each_stops (Punct
 pub symbol_ends : {A C : Type 0} (s : Symbol) (item : A → Form C) (put : A → C → A) (a : A) (ls : List Letter) (total : Reads A) → after (symbol s) ls ≡ None → read (each_after s item put a) ls ≡ total → total ≡ Ok (a, ls)
 symbol_ends s item put a ls total e so_far = each_ends (Punctuation s ∷ []) (λ a l. (None, tt)) (λ a u. item a) put a ls total e so_far
 
--- the same terminal under marks that hang on what it says
-pub after_with_marks : {B : Type 0} (ks : List Kind) (f : Letter → B) (m : B → Option Code) (b : B) (ls tail : List Letter) → after (record { kinds = ks; says = λ l. (None, f l) }) ls ≡ Some ((None, b), tail) → after (record { kinds = ks; says = λ l. (m (f l), f l) }) ls ≡ Some ((m b, b), tail)
-after_with_marks ks f m b [] tail e = absurd cc
-after_with_marks {B} ks f m b (l ∷ ls) tail e = by_test (is_among ks l) e
+-- the same terminal under flags that hang on what it says
+pub after_with_flags : {B : Type 0} (ks : List Kind) (f : Letter → B) (m : B → Option Code) (b : B) (ls tail : List Letter) → after (record { kinds = ks; says = λ l. (None, f l) }) ls ≡ Some ((None, b), tail) → after (record { kinds = ks; says = λ l. (m (f l), f l) }) ls ≡ Some ((m b, b), tail)
+after_with_flags ks f m b [] tail e = absurd cc
+after_with_flags {B} ks f m b (l ∷ ls) tail e = by_test (is_among ks l) e
   where
     by_test : (x : Bool) → cond {A = Option (Standing B)} x (Some ((None, f l), ls)) None ≡ Some ((None, b), tail) → cond {A = Option (Standing B)} x (Some ((m (f l), f l), ls)) None ≡ Some ((m b, b), tail)
     by_test true e = let h = same_standing ((None, f l), ls) ((None, b), tail) e in ap (λ (q : Standing B). Some ((m q.0.1, q.0.1), q.1)) h
     by_test false e = absurd cc
 
-pub no_limit : (n : ℕ) → ¬ (n ≡ 0) → limit_mark n ≡ None
+pub no_limit : (n : ℕ) → ¬ (n ≡ 0) → limit_flag n ≡ None
 no_limit zero h = absurd (h refl)
 no_limit (suc n) h = refl

@@ -2,7 +2,7 @@
 use Rattle.std.proofs.Common.{ℕ, Bool, List, refl}
 use Rattle.it_forms.specs.declared.types.Symbol.{Symbol}
 use Rattle.it_forms.specs.Forms.{Form}
-use Rattle.it_forms.proofs.LineEnds.{HasNoEnd, no_end_marked, no_end_but}
+use Rattle.it_forms.proofs.LineEnds.{HasNoEnd, no_end_flagged, no_end_but}
 use Rattle.it_syntax.specs.declared.types.Atom.{Atom}
 use Rattle.it_syntax.specs.LineForms.{variable, more_names, names, given_set, entropy, mutual_information, measure_or, atom, atom_or_nothing, over_or, term, more_terms, terms, sum, compare, relation, more_members, chain, after_bar, independence, function, given}
 use Rattle.it_syntax.specs.Scopes.{Environment, Scope}
@@ -49,7 +49,7 @@ term_has_no_end m s minus = (refl, λ u. over_or_has_no_end m s minus 0 (atom_or
 
 terms_has_no_end : (most m : ℕ) (s : Scope) (minus : Bool) → HasNoEnd (terms most m s minus)
 unfolding terms more_terms HasNoEnd
-terms_has_no_end most m s minus = (no_end_marked _ (term m s minus) (term_has_no_end m s minus), λ t. (refl, λ ts minus. (no_end_marked _ (term _ s minus) (term_has_no_end _ s minus), λ t. tt)))
+terms_has_no_end most m s minus = (no_end_flagged _ (term m s minus) (term_has_no_end m s minus), λ t. (refl, λ ts minus. (no_end_flagged _ (term _ s minus) (term_has_no_end _ s minus), λ t. tt)))
 
 pub sum_has_no_end : (most m : ℕ) (s : Scope) → HasNoEnd (sum most m s)
 unfolding sum HasNoEnd
@@ -61,7 +61,7 @@ relation_has_no_end s = (sum_has_no_end _ _ s, λ left. ((refl, λ u. tt, (refl,
 
 members_has_no_end : (d : Symbol) (env : Environment) (sets : List ℕ) → HasNoEnd (more_members d env sets)
 unfolding more_members HasNoEnd
-members_has_no_end d env sets = (refl, λ sets u. (no_end_marked _ (names env) (names_has_no_end env), λ set. tt))
+members_has_no_end d env sets = (refl, λ sets u. (no_end_flagged _ (names env) (names_has_no_end env), λ set. tt))
 
 chain_has_no_end : (env : Environment) → HasNoEnd (chain env)
 unfolding chain HasNoEnd

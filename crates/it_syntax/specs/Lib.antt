@@ -3,7 +3,7 @@ pub mod Meaning
 pub mod Spelling
 pub mod Prefixes
 pub mod Spans
-pub mod NameMarks
+pub mod NameFlags
 pub mod Gives
 pub mod Multiples
 pub mod Lines

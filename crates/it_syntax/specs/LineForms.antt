@@ -11,8 +11,8 @@ use Rattle.it_syntax.specs.declared.types.Sign.{Sign}
 use Rattle.it_syntax.specs.declared.types.Sign.TheVariants as comparisons
 use Rattle.it_forms.specs.Letters.{Letter, Sym}
 use Rattle.it_syntax.specs.Scopes.{Environment, Scope}
-use Rattle.it_syntax.specs.NameMarks.{entropy_text, mutual_text, unknown_mark, name_mark, index_or}
-use Rattle.it_syntax.specs.Multiples.{most_terms, multiple_with, multiple_mark}
+use Rattle.it_syntax.specs.NameFlags.{entropy_text, mutual_text, unknown_flag, name_flag, index_or}
+use Rattle.it_syntax.specs.Multiples.{most_terms, multiple_with, multiple_flag}
 use Rattle.it_syntax.specs.GivenWords.{markov_text, indep_text, func_text, of_text}
 use Rattle.it_syntax.specs.Meaning.{RelationView, multiple_from}
 use Rattle.it_syntax.specs.Givens.{GivenView, Relation, Markov, Independent, Function}
@@ -23,7 +23,7 @@ use Rattle.it_forms.specs.Words.{◌>>=◌, ◌>>◌, symbol, word, any_word, wo
 
 -- the name of a variable
 unfoldable pub variable : Environment → Form ℕ
-variable env = Take (any_word (λ w. (name_mark env w, index_or (env w))))
+variable env = Take (any_word (λ w. (name_flag env w, index_or (env w))))
 
 -- further names, each after a comma, added to a set
 unfoldable pub more_names : Environment → ℕ → Form ℕ
@@ -67,7 +67,7 @@ measure_or env other = If (word entropy_text) (λ u. entropy env) (If (word mutu
 
 -- the name of a rate: any word but `H` and `I`
 abbrev pub rate : Environment → Terminal Atom
-rate rates = word_but (entropy_text ∷ mutual_text ∷ []) (λ w. (unknown_mark (rates w), Rate (index_or (rates w))))
+rate rates = word_but (entropy_text ∷ mutual_text ∷ []) (λ w. (unknown_flag (rates w), Rate (index_or (rates w))))
 
 -- an entropy, a mutual information or a rate
 unfoldable pub atom : Scope → Form Atom
@@ -87,7 +87,7 @@ counted minus n d f = do
 
 -- a denominator
 abbrev pub denominator : ℕ → Terminal ℕ
-denominator m = number (λ d. multiple_mark (multiple_with m d))
+denominator m = number (λ d. multiple_flag (multiple_with m d))
 
 -- after a number n: `/` with a denominator and an atom, or what counts n
 abbrev pub over_or : ℕ → Scope → Bool → ℕ → Form Atom → Form Term

@@ -17,6 +17,6 @@ unfoldable pub multiple_with : ℕ → ℕ → Option ℕ
 multiple_with m d = if nat_eq d 0 || nat_lt most_multiple (lcm m d) then None else Some (lcm m d)
 
 -- against a denominator with which there is no such multiple
-abbrev pub multiple_mark : Option ℕ → Option Code
-multiple_mark (Some m) = None
-multiple_mark None = Some codes.Number
+abbrev pub multiple_flag : Option ℕ → Option Code
+multiple_flag (Some m) = None
+multiple_flag None = Some codes.Number

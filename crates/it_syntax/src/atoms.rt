@@ -171,7 +171,7 @@ fn term(
 }
 
 /// The fault of a term too many.
-#[tactic(auto, unfolding(it_forms::specs::Words::marked, crate::specs::LineForms::term, crate::specs::LineForms::atom, crate::specs::LineForms::measure_or, it_forms::specs::FormReading::read))]
+#[tactic(auto, unfolding(it_forms::specs::Words::flagged, crate::specs::LineForms::term, crate::specs::LineForms::atom, crate::specs::LineForms::measure_or, it_forms::specs::FormReading::read))]
 fn surplus_term_fault(rest: &Rest<'_>, names: &Names, rates: bool) -> Stop
     ensures { (m : ℕ) (minus : Bool) → StopsAs result (letters_left rest.now) (read (allowed 0 (forms.term m (scope_of names.now rates) minus)) (letters_left rest.now)) }
 {
@@ -191,7 +191,7 @@ fn surplus_term_fault(rest: &Rest<'_>, names: &Names, rates: bool) -> Stop
 }
 
 /// A term, where `left` more terms are allowed, with the least common multiple of all denominators up to it.
-#[tactic(auto, using(it_forms::proofs::MarkLemmas::read_allowed))]
+#[tactic(auto, using(it_forms::proofs::FlagLemmas::read_allowed))]
 pub fn allowed_term(
     left: usize,
     negative: bool,

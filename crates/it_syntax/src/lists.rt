@@ -4,7 +4,7 @@ ghost use Rattle.it_forms.specs.FormReading.{read};
 ghost use Rattle.it_forms.specs.Words.{allowed};
 ghost use Rattle.it_syntax.specs.Gives.{Gives, StopsAs, letters_left};
 ghost use Rattle.it_syntax.specs.LineForms as forms;
-ghost use Rattle.it_syntax.specs.NameMarks.{is_measure};
+ghost use Rattle.it_syntax.specs.NameFlags.{is_measure};
 ghost use Rattle.it_syntax.specs.Scopes.{env_of};
 
 use crate::names::Names;
@@ -84,7 +84,7 @@ pub fn list(rest: &mut Rest<'_>, names: &Names) -> Result<VarSet, Stop>
 }
 
 /// The fault of a list too many.
-#[tactic(auto, unfolding(it_forms::specs::Words::marked, crate::specs::LineForms::names, crate::specs::LineForms::variable, it_forms::specs::FormReading::read))]
+#[tactic(auto, unfolding(it_forms::specs::Words::flagged, crate::specs::LineForms::names, crate::specs::LineForms::variable, it_forms::specs::FormReading::read))]
 fn surplus_list_fault(rest: &Rest<'_>, names: &Names) -> Stop
     ensures { StopsAs result (letters_left rest.now) (read (allowed 0 (forms.names (env_of names.now))) (letters_left rest.now)) }
 {
@@ -103,7 +103,7 @@ fn surplus_list_fault(rest: &Rest<'_>, names: &Names) -> Stop
 }
 
 /// The set of a list of names, where `left` more lists are allowed.
-#[tactic(auto, using(it_forms::proofs::MarkLemmas::read_allowed))]
+#[tactic(auto, using(it_forms::proofs::FlagLemmas::read_allowed))]
 pub fn allowed_list(left: usize, rest: &mut Rest<'_>, names: &Names) -> Result<VarSet, Stop>
     ensures { Gives result (letters_left rest.new) (read (allowed left (forms.names (env_of names.now))) (letters_left rest.old)) }
 {

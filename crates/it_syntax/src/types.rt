@@ -105,11 +105,21 @@ pub struct Expr {
 }
 
 /// Two sums and the sign between them.
-#[derive(Drop)]
 pub struct Relation {
     pub left: Expr,
     pub sign: Sign,
     pub right: Expr,
+}
+
+// written out, so that letting a relation go is one call
+impl Drop for Relation {
+    fn drop(self) {
+        let Relation {
+            left: _,
+            sign: _,
+            right: _,
+        } = self;
+    }
 }
 
 /// A constraint as it was written: a relation; a chain of sets, each of which is all that the next depends on; sets that

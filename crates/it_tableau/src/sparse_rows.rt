@@ -14,11 +14,21 @@ use std::marker::Model;
 
 /// A row of the table: each entry other than 0 after its column, by ascending column, and the right side. Contracts see the
 /// list of all entries with the right side after them.
-#[derive(Drop)]
 pub struct SparseRow {
     width: usize,
     terms: Vec<(usize, Fraction)>,
     right: Fraction,
+}
+
+// written out, so that letting a sparse row go is one call
+impl Drop for SparseRow {
+    fn drop(self) {
+        let SparseRow {
+            width: _,
+            terms: _,
+            right: _,
+        } = self;
+    }
 }
 
 impl Model for SparseRow {

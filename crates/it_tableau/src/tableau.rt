@@ -17,7 +17,6 @@ use std::alloc::Global;
 use std::marker::Model;
 
 /// A table of the first phase of the simplex method, in exact fractions.
-#[derive(Drop)]
 pub struct Tableau {
     alloc: Global,
     generator_columns: usize,
@@ -26,6 +25,21 @@ pub struct Tableau {
     basis: Vec<usize>,
     negated: Vec<bool>,
     spent: bool,
+}
+
+// written out, so that letting a tableau go is one call
+impl Drop for Tableau {
+    fn drop(self) {
+        let Tableau {
+            alloc: _,
+            generator_columns: _,
+            width: _,
+            rows: _,
+            basis: _,
+            negated: _,
+            spent: _,
+        } = self;
+    }
 }
 
 impl Model for Tableau {

@@ -1,21 +1,21 @@
 use Rattle.std.proofs.Common.{◌≡◌, ◌-◌, ◌++◌, [], ◌∷◌, length, map, arith, ap}
 use Rattle.std.proofs.lemmas.List.{length-map}
 use Rattle.it_forms.specs.declared.types.Code.TheVariants.{Many}
-use Rattle.it_forms.specs.Words.{word, limit_mark}
+use Rattle.it_forms.specs.Words.{word, limit_flag}
 use Rattle.it_question.specs.Bodies.{body_view}
 use Rattle.it_question.specs.Cursors.{letters_left}
 use Rattle.it_question.specs.Keywords.{vars_keyword}
 use Rattle.it_question.specs.QuestionForms.{question, more_questions}
 use Rattle.it_question.specs.QuestionLimits.{most_questions}
 use Rattle.it_syntax.proofs.Loops.{no_limit, rest_is_shorter}
-use Rattle.it_question.proofs.WordLoops.{word_goes, word_stops, word_marked, word_ends}
+use Rattle.it_question.proofs.WordLoops.{word_goes, word_stops, word_flagged, word_ends}
 use Rattle.it_question.proofs.asking.questions.Goals as goal
 
 pub returns-then-len-ge-MOST_QUESTIONS : goal.returns-then-len-ge-MOST_QUESTIONS
 unfolding more_questions
 returns-then-len-ge-MOST_QUESTIONS c =
     let none : most_questions - length (map body_view c.loop-after.found.items) ≡ 0 = omega (arith, length-map c.loop-after.found.items body_view, c.len.ensures, c.if-len-ge-MOST_QUESTIONS.true) in
-    word_marked vars_keyword _ (λ qs. question) (λ qs q. qs ++ q ∷ []) (map body_view c.loop-after.found.items) (letters_left c.loop-after.cursor) _ c.loop-after.invariant Many _ (ap limit_mark none) c.in-Some.ensures.found
+    word_flagged vars_keyword _ (λ qs. question) (λ qs q. qs ++ q ∷ []) (map body_view c.loop-after.found.items) (letters_left c.loop-after.cursor) _ c.loop-after.invariant Many _ (ap limit_flag none) c.in-Some.ensures.found
 
 pub loop-after-smaller : goal.loop-after-smaller
 loop-after-smaller c = rest_is_shorter (word vars_keyword) _ _ _ _ _ _ c.in-Some.ensures.found c.in-Ok.ensures

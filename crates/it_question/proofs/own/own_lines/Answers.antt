@@ -4,19 +4,19 @@ use Rattle.it_forms.specs.declared.types.Code.TheVariants.{Many}
 use Rattle.it_forms.specs.Letters.{Letter}
 use Rattle.it_forms.specs.Forms.{Keyword, is_of, is_among}
 use Rattle.it_forms.specs.FormReading.{after}
-use Rattle.it_forms.specs.Words.{limit_mark}
+use Rattle.it_forms.specs.Words.{limit_flag}
 use Rattle.it_syntax.specs.Gives.{StopsAs}
 use Rattle.it_question.specs.Cursors.{letters_left}
 use Rattle.it_question.specs.Keywords.{given_keyword}
 use Rattle.it_question.specs.QuestionForms.{own_words, own_keyword, own_line, lines_left, more_own_lines}
 use Rattle.it_question.specs.Questions.{OwnLinesView, own_lines_view}
 use Rattle.it_question.specs.ReaderSteps.{own_word}
-use Rattle.it_syntax.proofs.Loops.{after_with_marks, no_limit, loop_goes, loop_stops, loop_marked, loop_ends, rest_is_shorter}
+use Rattle.it_syntax.proofs.Loops.{after_with_flags, no_limit, loop_goes, loop_stops, loop_flagged, loop_ends, rest_is_shorter}
 use Rattle.it_question.proofs.own.own_lines.Goals as goal
 
--- what stands there under the marks of the limits
-stands : (g r : ℕ) (own : OwnLinesView) (b : Bool) (m : Option Code) (ls tail : List Letter) → after own_word ls ≡ Some ((None, b), tail) → limit_mark (lines_left g r own b) ≡ m → after (record { kinds = own_words; says = own_keyword g r own }) ls ≡ Some ((m, b), tail)
-stands g r own b m ls tail e h = after_with_marks own_words (is_of (Keyword given_keyword)) (λ b. limit_mark (lines_left g r own b)) b ls tail e ∙ ap (λ (k : Option Code). Some ((k, b), tail)) h
+-- what stands there under the flags of the limits
+stands : (g r : ℕ) (own : OwnLinesView) (b : Bool) (m : Option Code) (ls tail : List Letter) → after own_word ls ≡ Some ((None, b), tail) → limit_flag (lines_left g r own b) ≡ m → after (record { kinds = own_words; says = own_keyword g r own }) ls ≡ Some ((m, b), tail)
+stands g r own b m ls tail e h = after_with_flags own_words (is_of (Keyword given_keyword)) (λ b. limit_flag (lines_left g r own b)) b ls tail e ∙ ap (λ (k : Option Code). Some ((k, b), tail)) h
 
 none_stands : (g r : ℕ) (own : OwnLinesView) (ls : List Letter) → after own_word ls ≡ None → after (record { kinds = own_words; says = own_keyword g r own }) ls ≡ None
 none_stands g r own [] e = refl
@@ -33,7 +33,7 @@ returns-then-lines_left-eq0 c =
     let r = c.args.most_rows in
     let own = own_lines_view c.loop-is_given.own in
     let n = sym c.lines_left.ensures ∙ c.if-lines_left-eq0.true in
-    sym c.loop-is_given.invariant ∙ loop_marked own_words (own_keyword g r) (own_line c.args.names.now) own c.in-Some.is_given Many _ _ (stands g r own c.in-Some.is_given (Some Many) (letters_left c.loop-is_given.cursor) _ c.in-Some.ensures.found (ap limit_mark n))
+    sym c.loop-is_given.invariant ∙ loop_flagged own_words (own_keyword g r) (own_line c.args.names.now) own c.in-Some.is_given Many _ _ (stands g r own c.in-Some.is_given (Some Many) (letters_left c.loop-is_given.cursor) _ c.in-Some.ensures.found (ap limit_flag n))
 
 pub loop-is_given-smaller : goal.loop-is_given-smaller
 loop-is_given-smaller c = rest_is_shorter own_word (own_line c.args.names.now (own_lines_view c.loop-is_given.own) c.in-Some.is_given) _ _ _ _ _ c.in-Some.ensures.found c.in-Ok.ensures

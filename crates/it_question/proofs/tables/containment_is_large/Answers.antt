@@ -8,7 +8,7 @@ use Rattle.it_syntax.specs.Meaning.{relation_view}
 use Rattle.it_question.specs.Questions.{own_lines_view, region_view}
 use Rattle.it_question.specs.Tables.{lines_with}
 use Rattle.std.proofs.lemmas.List.Elements.{All-append}
-use Rattle.it_question.proofs.TableLemmas.{region_space, region_givens, region_rows, few_variables, lines_problem, space_mark}
+use Rattle.it_question.proofs.TableLemmas.{region_space, region_givens, region_rows, few_variables, lines_problem, space_flag}
 use Rattle.it_question.proofs.tables.containment_is_large.Goals as goal
 
 pub region_constraints-requires-clause-givens : goal.region_constraints-requires-clause-givens
@@ -31,7 +31,7 @@ is_large-requires c =
     (omega (arith, length-append own.givens first.lines.givens, c.requires.lines.few_givens, c.requires.region.lines.few_givens)) (omega (arith, length-append own.rows first.lines.rows, c.requires.lines.few_rows, c.requires.region.lines.few_rows)) c.in-Ok.ensures
 
 pub returns-in_ok-large-in-Ok-clause-large : goal.returns-in_ok-large-in-Ok-clause-large
-returns-in_ok-large-in-Ok-clause-large c = space_mark c.space-space.result c.args.first.now.names (lines_with (own_lines_view c.args.lines.now) (region_view c.args.first.now)) c.in-Ok.constraints.items c.in_ok-large-in-Ok.large c.space-space.ensures.counts c.in-Ok.ensures c.in_ok-large-in-Ok.ensures.large
+returns-in_ok-large-in-Ok-clause-large c = space_flag c.space-space.result c.args.first.now.names (lines_with (own_lines_view c.args.lines.now) (region_view c.args.first.now)) c.in-Ok.constraints.items c.in_ok-large-in-Ok.large c.space-space.ensures.counts c.in-Ok.ensures c.in_ok-large-in-Ok.ensures.large
 
 pub returns-then-space-le-MOST_SMALL-clause-large : goal.returns-then-space-le-MOST_SMALL-clause-large
 returns-then-space-le-MOST_SMALL-clause-large c =

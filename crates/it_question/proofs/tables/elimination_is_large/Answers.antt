@@ -5,7 +5,7 @@ use Rattle.it_space.specs.Spaces.{IsSpace}
 use Rattle.it_syntax.specs.Givens.{IsGivenOf}
 use Rattle.it_question.specs.Questions.{own_lines_view}
 use Rattle.it_question.specs.Tables.{givens_alone}
-use Rattle.it_question.proofs.TableLemmas.{few_variables, givens_stated, lines_problem, space_mark}
+use Rattle.it_question.proofs.TableLemmas.{few_variables, givens_stated, lines_problem, space_flag}
 use Rattle.it_question.proofs.tables.elimination_is_large.Goals as goal
 
 pub is_large-requires : goal.is_large-requires
@@ -16,7 +16,7 @@ is_large-requires c =
     (omega (arith, c.requires.lines.few_givens)) (omega arith) (givens_stated c.space-space.result c.as_slice.result.now c.args.lines.now.givens.items c.in-Ok.constraints.items c.as_slice.ensures.value c.in-Ok.ensures)
 
 pub returns-in_ok-large-in-Ok-clause-large : goal.returns-in_ok-large-in-Ok-clause-large
-returns-in_ok-large-in-Ok-clause-large c = space_mark c.space-space.result c.args.names.now (givens_alone (own_lines_view c.args.lines.now)) c.in-Ok.constraints.items c.in_ok-large-in-Ok.large c.space-space.ensures.counts (givens_stated c.space-space.result c.as_slice.result.now c.args.lines.now.givens.items c.in-Ok.constraints.items c.as_slice.ensures.value c.in-Ok.ensures) c.in_ok-large-in-Ok.ensures.large
+returns-in_ok-large-in-Ok-clause-large c = space_flag c.space-space.result c.args.names.now (givens_alone (own_lines_view c.args.lines.now)) c.in-Ok.constraints.items c.in_ok-large-in-Ok.large c.space-space.ensures.counts (givens_stated c.space-space.result c.as_slice.result.now c.args.lines.now.givens.items c.in-Ok.constraints.items c.as_slice.ensures.value c.in-Ok.ensures) c.in_ok-large-in-Ok.ensures.large
 
 pub returns-then-space-le-MOST_SMALL-clause-large : goal.returns-then-space-le-MOST_SMALL-clause-large
 returns-then-space-le-MOST_SMALL-clause-large c =

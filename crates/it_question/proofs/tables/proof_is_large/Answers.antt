@@ -4,7 +4,7 @@ use Rattle.it_space.specs.declared.spaces.Space.{Space}
 use Rattle.it_space.specs.Spaces.{IsSpace}
 use Rattle.it_syntax.specs.Givens.{IsGivenOf}
 use Rattle.it_question.specs.Questions.{own_lines_view}
-use Rattle.it_question.proofs.TableLemmas.{few_variables, lines_problem, space_mark}
+use Rattle.it_question.proofs.TableLemmas.{few_variables, lines_problem, space_flag}
 use Rattle.it_question.proofs.tables.proof_is_large.Goals as goal
 
 pub is_large-requires : goal.is_large-requires
@@ -15,7 +15,7 @@ is_large-requires c =
     (omega (arith, c.requires.lines.few_givens)) (omega (arith, c.requires.lines.few_rows)) c.in-Ok.ensures
 
 pub returns-in_ok-large-in-Ok-clause-large : goal.returns-in_ok-large-in-Ok-clause-large
-returns-in_ok-large-in-Ok-clause-large c = space_mark c.space-space.result c.args.names.now (own_lines_view c.args.lines.now) c.in-Ok.constraints.items c.in_ok-large-in-Ok.large c.space-space.ensures.counts c.in-Ok.ensures c.in_ok-large-in-Ok.ensures.large
+returns-in_ok-large-in-Ok-clause-large c = space_flag c.space-space.result c.args.names.now (own_lines_view c.args.lines.now) c.in-Ok.constraints.items c.in_ok-large-in-Ok.large c.space-space.ensures.counts c.in-Ok.ensures c.in_ok-large-in-Ok.ensures.large
 
 pub returns-then-space-le-MOST_SMALL-clause-large : goal.returns-then-space-le-MOST_SMALL-clause-large
 returns-then-space-le-MOST_SMALL-clause-large c =

@@ -5,17 +5,17 @@ use Rattle.it_question.specs.Cursors.{letters_left}
 use Rattle.it_question.specs.Keywords.{try_keyword}
 use Rattle.it_question.specs.QuestionForms.{try_line, more_tries}
 use Rattle.it_syntax.proofs.Loops.{rest_is_shorter}
-use Rattle.it_question.proofs.TryMarks.{no_auxiliary, no_more_tries, try_allowed}
-use Rattle.it_question.proofs.WordLoops.{word_goes, word_stops, word_marked, word_ends}
+use Rattle.it_question.proofs.TryFlags.{no_auxiliary, no_more_tries, try_allowed}
+use Rattle.it_question.proofs.WordLoops.{word_goes, word_stops, word_flagged, word_ends}
 use Rattle.it_question.proofs.tries.tries.Goals as goal
 
 pub returns-then-auxiliaries-eq0 : goal.returns-then-auxiliaries-eq0
 unfolding more_tries
-returns-then-auxiliaries-eq0 c = word_marked try_keyword _ (λ ts. try_line _ _ _) (λ ts t. ts ++ t ∷ []) c.loop-after.found.items (letters_left c.loop-after.cursor) _ c.loop-after.invariant Word _ (no_auxiliary c.args.auxiliaries c.loop-after.found.items c.if-auxiliaries-eq0.true) c.in-Some.ensures.found
+returns-then-auxiliaries-eq0 c = word_flagged try_keyword _ (λ ts. try_line _ _ _) (λ ts t. ts ++ t ∷ []) c.loop-after.found.items (letters_left c.loop-after.cursor) _ c.loop-after.invariant Word _ (no_auxiliary c.args.auxiliaries c.loop-after.found.items c.if-auxiliaries-eq0.true) c.in-Some.ensures.found
 
 pub returns-then-len-ge-MOST_TRIES : goal.returns-then-len-ge-MOST_TRIES
 unfolding more_tries
-returns-then-len-ge-MOST_TRIES c = word_marked try_keyword _ (λ ts. try_line _ _ _) (λ ts t. ts ++ t ∷ []) c.loop-after.found.items (letters_left c.loop-after.cursor) _ c.loop-after.invariant Many _ (no_more_tries c.args.auxiliaries c.loop-after.found.items c.if-auxiliaries-eq0.false (omega (arith, c.len.ensures, c.if-len-ge-MOST_TRIES.true))) c.in-Some.ensures.found
+returns-then-len-ge-MOST_TRIES c = word_flagged try_keyword _ (λ ts. try_line _ _ _) (λ ts t. ts ++ t ∷ []) c.loop-after.found.items (letters_left c.loop-after.cursor) _ c.loop-after.invariant Many _ (no_more_tries c.args.auxiliaries c.loop-after.found.items c.if-auxiliaries-eq0.false (omega (arith, c.len.ensures, c.if-len-ge-MOST_TRIES.true))) c.in-Some.ensures.found
 
 pub loop-after-smaller : goal.loop-after-smaller
 loop-after-smaller c = rest_is_shorter (word try_keyword) _ _ _ _ _ _ c.in-Some.ensures.found c.in-Ok.ensures

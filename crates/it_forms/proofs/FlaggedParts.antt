@@ -1,4 +1,4 @@
--- What always holds of what is read in a form holds where the first letter is marked, or may not be some words; and what is
+-- What always holds of what is read in a form holds where the first letter is flagged, or may not be some words; and what is
 -- allowed no more isn't read.
 use Rattle.std.proofs.Common.{◌≡◌, ℕ, zero, suc, Bool, true, false, ◌||◌, List, [], ◌∷◌, ◌++◌, Option, Some, None, refl}
 use Rattle.std.specs.Prelude.{bytes_eq, not}
@@ -7,23 +7,23 @@ use Rattle.it_forms.specs.declared.types.Code.{Code}
 use Rattle.it_forms.specs.declared.types.Code.TheVariants as codes
 use Rattle.it_forms.specs.Letters.{Letter, Word}
 use Rattle.it_forms.specs.Forms.{Kind, WordBut, is_of, is_among, Form, Give, Take, Then, If, While}
-use Rattle.it_forms.specs.Words.{or_mark, marked, allowed, without, all_without, but}
+use Rattle.it_forms.specs.Words.{or_flag, flagged, allowed, without, all_without, but}
 use Rattle.it_forms.proofs.FormParts.{Fact, Always}
 
--- ---- marks
+-- ---- flags
 
-unmarked_before : (o m : Option Code) → or_mark o m ≡ None → m ≡ None
-unmarked_before None m e = e
-unmarked_before (Some c) None e = refl
-unmarked_before (Some c) (Some d) e = absurd cc
+unflagged_before : (o m : Option Code) → or_flag o m ≡ None → m ≡ None
+unflagged_before None m e = e
+unflagged_before (Some c) None e = refl
+unflagged_before (Some c) (Some d) e = absurd cc
 
-pub always_marked : {A : Type 0} (o : Option Code) (f : Form A) (P : Fact A) → Always f P → Always (marked o f) P
-unfolding Always marked
-always_marked o (Give a) P h = h
-always_marked o (Take t) P h = λ l e m. h l e (unmarked_before o (t.says l).0 m)
-always_marked o (Then f g) P h = always_marked o f (λ p a. Always (g a) (λ q y. P (p ++ q) y)) h
-always_marked o (If t g other) P h = (λ l e m. h.0 l e (unmarked_before o (t.says l).0 m), always_marked o other P h.1)
-always_marked o (While ks says step a) P h = h
+pub always_flagged : {A : Type 0} (o : Option Code) (f : Form A) (P : Fact A) → Always f P → Always (flagged o f) P
+unfolding Always flagged
+always_flagged o (Give a) P h = h
+always_flagged o (Take t) P h = λ l e m. h l e (unflagged_before o (t.says l).0 m)
+always_flagged o (Then f g) P h = always_flagged o f (λ p a. Always (g a) (λ q y. P (p ++ q) y)) h
+always_flagged o (If t g other) P h = (λ l e m. h.0 l e (unflagged_before o (t.says l).0 m), always_flagged o other P h.1)
+always_flagged o (While ks says step a) P h = h
 
 -- a form that begins with a terminal
 unfoldable pub Takes : {A : Type 0} → Form A → Type 0
@@ -33,21 +33,21 @@ Takes (Then f g) = Takes f
 Takes (If t g other) = Takes other
 Takes (While ks says step a) = ⊥
 
-surely_marked : (c : Code) (m : Option Code) → or_mark (Some c) m ≡ None → ⊥
-surely_marked c None e = absurd cc
-surely_marked c (Some d) e = absurd cc
+surely_flagged : (c : Code) (m : Option Code) → or_flag (Some c) m ≡ None → ⊥
+surely_flagged c None e = absurd cc
+surely_flagged c (Some d) e = absurd cc
 
-nothing_read : {A : Type 0} (c : Code) (f : Form A) (P : Fact A) → Takes f → Always (marked (Some c) f) P
-unfolding Always marked Takes
+nothing_read : {A : Type 0} (c : Code) (f : Form A) (P : Fact A) → Takes f → Always (flagged (Some c) f) P
+unfolding Always flagged Takes
 nothing_read c (Give a) P h = absurd h
-nothing_read c (Take t) P h = λ l e m. absurd (surely_marked c (t.says l).0 m)
+nothing_read c (Take t) P h = λ l e m. absurd (surely_flagged c (t.says l).0 m)
 nothing_read c (Then f g) P h = nothing_read c f (λ p a. Always (g a) (λ q y. P (p ++ q) y)) h
-nothing_read c (If t g other) P h = (λ l e m. absurd (surely_marked c (t.says l).0 m), nothing_read c other P h)
+nothing_read c (If t g other) P h = (λ l e m. absurd (surely_flagged c (t.says l).0 m), nothing_read c other P h)
 nothing_read c (While ks says step a) P h = absurd h
 
 pub always_allowed : {A : Type 0} (n : ℕ) (f : Form A) (P : Fact A) → Takes f → (¬ (n ≡ 0) → Always f P) → Always (allowed n f) P
 always_allowed zero f P t h = nothing_read codes.Many f P t
-always_allowed (suc n) f P t h = always_marked None f P (h (λ e. absurd cc))
+always_allowed (suc n) f P t h = always_flagged None f P (h (λ e. absurd cc))
 
 -- ---- fewer words
 

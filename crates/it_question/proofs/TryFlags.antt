@@ -3,14 +3,14 @@ use Rattle.std.proofs.Common.{◌≡◌, ℕ, zero, suc, ◌-◌, ◌≤◌, Boo
 use Rattle.it_forms.specs.declared.types.Code.{Code}
 use Rattle.it_forms.specs.declared.types.Code.TheVariants.{Word, Many}
 use Rattle.it_question.specs.QuestionLimits.{most_lines}
-use Rattle.it_question.specs.TrySets.{unnamed_sets, is_whole, try_mark}
+use Rattle.it_question.specs.TrySets.{unnamed_sets, is_whole, try_flag}
 use Rattle.it_syntax.proofs.Loops.{no_limit}
 
--- the mark where these lines were read
-abbrev pub mark_of_try : ℕ → List (List ℕ) → Option Code
-mark_of_try auxiliaries ts = try_mark (is_whole (unnamed_sets auxiliaries)) (most_lines - length ts)
+-- the flag where these lines were read
+abbrev pub flag_of_try : ℕ → List (List ℕ) → Option Code
+flag_of_try auxiliaries ts = try_flag (is_whole (unnamed_sets auxiliaries)) (most_lines - length ts)
 
-pub no_auxiliary : (auxiliaries : ℕ) (ts : List (List ℕ)) → auxiliaries ≡ 0 → mark_of_try auxiliaries ts ≡ Some Word
+pub no_auxiliary : (auxiliaries : ℕ) (ts : List (List ℕ)) → auxiliaries ≡ 0 → flag_of_try auxiliaries ts ≡ Some Word
 no_auxiliary zero ts e = refl
 no_auxiliary (suc n) ts e = absurd (omega (arith, e))
 
@@ -21,8 +21,8 @@ some_auxiliary (suc (suc zero)) h = refl
 some_auxiliary (suc (suc (suc zero))) h = refl
 some_auxiliary (suc (suc (suc (suc n)))) h = refl
 
-pub no_more_tries : (auxiliaries : ℕ) (ts : List (List ℕ)) → ¬ (auxiliaries ≡ 0) → 64 ≤ length ts → mark_of_try auxiliaries ts ≡ Some Many
+pub no_more_tries : (auxiliaries : ℕ) (ts : List (List ℕ)) → ¬ (auxiliaries ≡ 0) → 64 ≤ length ts → flag_of_try auxiliaries ts ≡ Some Many
 no_more_tries auxiliaries ts h le = let e : most_lines - length ts ≡ 0 = omega (arith, le) in rw (some_auxiliary auxiliaries h, e) refl
 
-pub try_allowed : (auxiliaries : ℕ) (ts : List (List ℕ)) → ¬ (auxiliaries ≡ 0) → ¬ (64 ≤ length ts) → mark_of_try auxiliaries ts ≡ None
-try_allowed auxiliaries ts h le = ap (λ (b : Bool). try_mark b (most_lines - length ts)) (some_auxiliary auxiliaries h) ∙ no_limit (most_lines - length ts) (λ e. le (omega (arith, e)))
+pub try_allowed : (auxiliaries : ℕ) (ts : List (List ℕ)) → ¬ (auxiliaries ≡ 0) → ¬ (64 ≤ length ts) → flag_of_try auxiliaries ts ≡ None
+try_allowed auxiliaries ts h le = ap (λ (b : Bool). try_flag b (most_lines - length ts)) (some_auxiliary auxiliaries h) ∙ no_limit (most_lines - length ts) (λ e. le (omega (arith, e)))

@@ -17,13 +17,13 @@ abbrev pub is_measure : List ℕ → Bool
 is_measure w = bytes_eq w entropy_text || bytes_eq w mutual_text
 
 -- against a name that is unknown
-abbrev pub unknown_mark : Option ℕ → Option Code
-unknown_mark (Some i) = None
-unknown_mark None = Some codes.Name
+abbrev pub unknown_flag : Option ℕ → Option Code
+unknown_flag (Some i) = None
+unknown_flag None = Some codes.Name
 
 -- against a word in the place of a variable: it may be no name, or be unknown
-abbrev pub name_mark : Environment → List ℕ → Option Code
-name_mark env w = if is_measure w then Some codes.Word else unknown_mark (env w)
+abbrev pub name_flag : Environment → List ℕ → Option Code
+name_flag env w = if is_measure w then Some codes.Word else unknown_flag (env w)
 
 -- the number of a name
 abbrev pub index_or : Option ℕ → ℕ
