@@ -98,6 +98,9 @@ module _ (columns : List Terms) (limit : ℕ) (old : List WholeRowView) (basis :
         fitting = λ j l. subst (λ (x : ℕ). IsFitting x limit (slice_index_or columns j [])) (sym w.same_length) (safe.fitting j l);
         limit_is = safe.limit_is;
       } a;
+      kept = λ i l d f. (a.others i (omega (arith, l, w.same_length)) d).kept (entry_at_row i l
+          ∙ ap (λ x. cond (cond x true (has_moved moved i)) (value (slice_index_or columns c []) (number_at (whole_row_at now i).numbers)) (pos 0)) (ne_eqb i r d)
+          ∙ ap (λ x. cond x (value (slice_index_or columns c []) (number_at (whole_row_at now i).numbers)) (pos 0)) f) ∙ w.others i d;
       made = λ p b t s e g m. subst (λ (f : ℕ → Bool). ShowsBehind p b (next field_ℚ (length basis) (length columns) t) columns limit new (slice_set basis r c) f) (same_functions moved_same)
           (shows_next p b t columns limit old basis (has_moved moved) s c r enters row e g.leaves m g.still now (w.shown p b t s) (number_at (slice_set entries r z))
           (λ i l f. entry_at_row i (omega (arith, l, safe.rows_are)) ∙ ap (λ d. cond d (value (slice_index_or columns c []) (number_at (whole_row_at now i).numbers)) (pos 0)) f)

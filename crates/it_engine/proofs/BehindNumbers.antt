@@ -1,15 +1,30 @@
 -- Common multiples of denominators, and bounds, of the rows that moved.
-use Rattle.std.proofs.Common.{◌≡◌, ◌⊎◌, inl, inr, ℕ, suc, ◌+◌, ◌*◌, ◌/◌, ◌<◌, ◌≤◌, ◌^◌, ◌++◌, ◌∷◌, Bool, true, false, cond, ℤ, unsigned_abs, List, [], take, length, slice_index_or, Option, Some, None, IfSome, SomeIff, sym, ap, subst, ◌∙◌, arith}
+use Rattle.std.proofs.Common.{◌≡◌, ◌⊎◌, inl, inr, ℕ, zero, suc, ◌+◌, ◌-◌, ◌*◌, ◌/◌, ◌<◌, ◌≤◌, ◌^◌, ◌++◌, ◌∷◌, Bool, true, false, cond, ℤ, unsigned_abs, List, [], take, length, slice_index_or, Option, Some, None, IfSome, SomeIff, sym, ap, subst, ◌∙◌, arith}
 use Rattle.std.proofs.lemmas.Bool.{true≢false, cases_eq}
-use Rattle.std.proofs.lemmas.List.{take_more, map-append}
+use Rattle.std.proofs.lemmas.List.{append-nil, take_more, map-append}
 use Rattle.std.proofs.lemmas.Nat.{mul-le}
 use Rattle.std.proofs.lemmas.Nat.Gcd.{dvd_trans}
 use Rattle.it_number.specs.Gcd.{gcd, lcm}
 use Rattle.it_number.proofs.Divisors.{lcm_is, lcm-over, lcm-pos}
 use Rattle.it_space.specs.Rows.{Terms}
-use Rattle.it_engine.specs.Behind.{BoundsShares, has_moved, IsCommonMultiple, multiple_of_term, multiple_of_terms, share_sum}
+use Rattle.it_engine.specs.Behind.{BoundsShares, column_less_moved, has_moved, IsCommonMultiple, IsNextMoved, multiple_of_term, multiple_of_terms, share_of, share_sum, taken_terms}
+use Rattle.it_space.specs.Sums.{number_at}
 use Rattle.it_engine.specs.Whole.{AreAtMost, whole_row_at, WholeRowView}
 use Prim.Native.Nat.{◌∣◌}
+
+-- what holds of the first rows still holds after more of them, none of which moved
+pub past_still : (moved : List Bool) (height : ℕ) (P : ℕ → Type 0) → ((q : ℕ) → has_moved moved q ≡ false → P q → P (q + 1)) → (from to : ℕ) → IsNextMoved moved height from to → P from → P to
+past_still moved height P step from to n h =
+    let d : from + (to - from) ≡ to = omega (arith, n.after) in
+    subst P d (so_many (to - from) (λ q l g. n.still q l (omega (arith, g, d))))
+  where
+    so_many : (k : ℕ) → ((q : ℕ) → from ≤ q → q < from + k → has_moved moved q ≡ false) → P (from + k)
+    so_many zero f =
+        let e : from ≡ from + 0 = omega arith in
+        subst P e h
+    so_many (suc k) f =
+        let e : from + k + 1 ≡ from + suc k = omega arith in
+        subst P e (step (from + k) (f (from + k) (omega arith) (omega arith)) (so_many k (λ q l g. f q l (omega (arith, g)))))
 
 -- a multiple of both
 abbrev pub IsMultipleOfBoth : ℕ → ℕ → ℕ → Type 0
@@ -41,6 +56,9 @@ still_multiple rows moved q multiple f h = record { some = h.some; low = h.low; 
     by_cases k l e (inl g) = absurd (true≢false (sym e ∙ ap (has_moved moved) g ∙ f))
     by_cases k l e (inr d) = h.each k (omega (arith, l, d)) e
 
+pub multiple_past_still : (rows : List WholeRowView) (moved : List Bool) (height multiple from to : ℕ) → IsNextMoved moved height from to → IsCommonMultiple rows moved from multiple → IsCommonMultiple rows moved to multiple
+multiple_past_still rows moved height multiple = past_still moved height (λ q. IsCommonMultiple rows moved q multiple) (λ q f h. still_multiple rows moved q multiple f h)
+
 -- what the first rows add
 pub no_shares : (norm : ℕ) (rows : List WholeRowView) (moved : ℕ → Bool) (share : ℕ → ℕ) → BoundsShares norm rows moved share 0 0
 no_shares norm rows moved share = λ y h. omega arith
@@ -52,6 +70,10 @@ still_shares norm rows moved share q bound f h = λ y k.
     (subst (λ (d : Bool). cond d (unsigned_abs (y q) * share q) 0 + share_sum moved (λ q. unsigned_abs (y q)) share q ≤ bound) (sym f)
     (let b = h y (λ j l. k j (omega (arith, l))) in omega (arith, b)))
 
+pub shares_past_still : (norm : ℕ) (rows : List WholeRowView) (moved : List Bool) (share : ℕ → ℕ) (height bound from to : ℕ) → IsNextMoved moved height from to
+    → BoundsShares norm rows (has_moved moved) share from bound → BoundsShares norm rows (has_moved moved) share to bound
+shares_past_still norm rows moved share height bound = past_still moved height (λ q. BoundsShares norm rows (has_moved moved) share q bound) (λ q f h. still_shares norm rows (has_moved moved) share q bound f h)
+
 pub moved_shares : (norm : ℕ) (rows : List WholeRowView) (moved : ℕ → Bool) (share : ℕ → ℕ) (q bound most next : ℕ) → moved q ≡ true → AreAtMost (whole_row_at rows q).numbers most
     → next ≡ bound + norm * most * share q → BoundsShares norm rows moved share q bound → BoundsShares norm rows moved share (q + 1) next
 moved_shares norm rows moved share q bound most next f m g h = λ y k.
@@ -60,6 +82,22 @@ moved_shares norm rows moved share q bound most next f m g h = λ y k.
     (subst (λ (d : Bool). cond d (unsigned_abs (y q) * share q) 0 + share_sum moved (λ q. unsigned_abs (y q)) share q ≤ next) (sym f)
     (let b = h y (λ j l. k j (omega (arith, l))) in
     let w = mul-le (unsigned_abs (y q)) (share q) (norm * most) (share q) (k q (omega arith) f most m) (omega arith) in omega (arith, b, w, g)))
+
+pub column_more : (columns : List Terms) (rows : List WholeRowView) (basis : List ℕ) (moved : List Bool) (entries : List ℤ) (multiple c q : ℕ) (now new : Terms)
+    → new ≡ now ++ cond (has_moved moved q) (taken_terms (number_at entries q) (share_of multiple rows q) (slice_index_or columns (slice_index_or basis q 0) [])) []
+    → now ≡ column_less_moved columns rows basis moved entries multiple c q → new ≡ column_less_moved columns rows basis moved entries multiple c (q + 1)
+column_more columns rows basis moved entries multiple c q now new more h =
+    let e : suc q ≡ q + 1 = omega arith in
+    subst (λ (x : ℕ). new ≡ column_less_moved columns rows basis moved entries multiple c x) e
+    (more ∙ ap (λ (ts : Terms). ts ++ cond (has_moved moved q) (taken_terms (number_at entries q) (share_of multiple rows q) (slice_index_or columns (slice_index_or basis q 0) [])) []) h)
+
+pub column_past_still : (columns : List Terms) (rows : List WholeRowView) (basis : List ℕ) (moved : List Bool) (entries : List ℤ) (multiple c height : ℕ) (combined : Terms) (from to : ℕ) → IsNextMoved moved height from to
+    → combined ≡ column_less_moved columns rows basis moved entries multiple c from → combined ≡ column_less_moved columns rows basis moved entries multiple c to
+column_past_still columns rows basis moved entries multiple c height combined = past_still moved height (λ q. combined ≡ column_less_moved columns rows basis moved entries multiple c q) (λ q f h.
+    let e : suc q ≡ q + 1 = omega arith in
+    subst (λ (x : ℕ). combined ≡ column_less_moved columns rows basis moved entries multiple c x) e
+    (h ∙ sym (append-nil (column_less_moved columns rows basis moved entries multiple c q))
+    ∙ ap (λ d. column_less_moved columns rows basis moved entries multiple c q ++ cond d (taken_terms (number_at entries q) (share_of multiple rows q) (slice_index_or columns (slice_index_or basis q 0) [])) []) (sym f)))
 
 pub multiples_more : (factor : ℤ) (terms : Terms) (i : ℕ) (d : ℕ × ℤ) → i < length terms
     → multiple_of_terms factor (take i terms) ++ multiple_of_term factor (slice_index_or terms i d) ∷ [] ≡ multiple_of_terms factor (take (i + 1) terms)

@@ -10,6 +10,7 @@ use Rattle.it_tableau.specs.SimplexTables.{SimplexTable, FeasibilityProblem}
 use Rattle.it_engine.specs.Behind.{AgreeOnMoved, AreBrought, has_moved, IsBrought, IsLessMoved, IsNextMoved, IsRowBrought, IsUpToDate, ShowsBehind}
 use Rattle.it_engine.specs.Updates.{AreUsable, IsUpdated, IsUsable, IsWholeRowReduced}
 use Rattle.it_engine.specs.Whole.{whole_row_at, WholeRowView}
+use Rattle.it_engine.proofs.BehindNumbers.{past_still}
 use Rattle.it_engine.proofs.BehindRows as R
 
 -- the row with right side r after the first q rows
@@ -33,21 +34,10 @@ module _ (columns : List Terms) (limit : ℕ) (rows : List WholeRowView) (basis 
 
   -- rows that didn't move take nothing off
   pub none_moved_off : (old now : WholeRowView) (from to : ℕ) → IsNextMoved moved (length basis) from to → IsTakenOff columns limit rows basis moved old from now → IsTakenOff columns limit rows basis moved old to now
-  none_moved_off old now from to n h =
-      let d : from + (to - from) ≡ to = omega (arith, n.after) in
-      subst (λ (x : ℕ). IsTakenOff columns limit rows basis moved old x now) d (so_many (to - from) (λ q l g. n.still q l (omega (arith, g, d))))
-    where
-      so_many : (k : ℕ) → ((q : ℕ) → from ≤ q → q < from + k → has_moved moved q ≡ false) → IsTakenOff columns limit rows basis moved old (from + k) now
-      so_many zero f =
-          let e : from ≡ from + 0 = omega arith in
-          subst (λ (x : ℕ). IsTakenOff columns limit rows basis moved old x now) e h
-      so_many (suc k) f = more (so_many k (λ q l g. f q l (omega (arith, g))))
-        where
-          more : IsTakenOff columns limit rows basis moved old (from + k) now → IsTakenOff columns limit rows basis moved old (from + suc k) now
-          more u whole r a l e w p b t s =
-              let j : suc (from + k) ≡ from + suc k = omega arith in
-              subst (λ (x : ℕ). R.ShowsAfter p b t columns limit whole basis (has_moved moved) s r l e x now) j
-              (R.still_taken p b t columns limit whole basis (has_moved moved) s r l e (from + k) now (f (from + k) (omega arith) (omega arith)) (u whole r a l e w p b t s))
+  none_moved_off old now = past_still moved (length basis) (λ q. IsTakenOff columns limit rows basis moved old q now) (λ q f u whole r a l e w p b t s.
+      let j : suc q ≡ q + 1 = omega arith in
+      subst (λ (x : ℕ). R.ShowsAfter p b t columns limit whole basis (has_moved moved) s r l e x now) j
+      (R.still_taken p b t columns limit whole basis (has_moved moved) s r l e q now f (u whole r a l e w p b t s)))
 
   pub all_off : (old now : WholeRowView) (q : ℕ) → q ≡ length basis → IsTakenOff columns limit rows basis moved old q now → IsBrought columns limit rows basis moved old now
   all_off old now q k h whole r a l e f p b t s = R.all_taken p b t columns limit whole basis (has_moved moved) s r l e now

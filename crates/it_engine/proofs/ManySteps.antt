@@ -1,6 +1,6 @@
 -- Several steps of the engine at once.
-use Rattle.std.proofs.Common.{◌≡◌, ℕ, zero, suc, ◌+◌, ◌-◌, ◌<◌, ◌≤◌, Bool, true, false, cond, List, [], length, slice_index_or, slice_set, refl, sym, ap, subst, ◌∙◌, arith}
-use Rattle.std.proofs.lemmas.List.{length-set}
+use Rattle.std.proofs.Common.{◌≡◌, ◌≢◌, ℕ, zero, suc, ◌+◌, ◌-◌, ◌<◌, ◌≤◌, Bool, true, false, cond, List, [], length, slice_index_or, slice_set, refl, sym, ap, subst, ◌∙◌, arith}
+use Rattle.std.proofs.lemmas.List.{length-set, get_or-set_same, get_or-set_other}
 use Rattle.std.proofs.lemmas.Bool.{true≢false}
 use Rattle.it_fraction.proofs.ZeroLemmas.{zero_parts}
 use Rattle.it_rational.specs.Rational.{Rational, IsRatio}
@@ -16,11 +16,11 @@ use Rattle.it_run.proofs.DegenerateSteps.{none_moved}
 use Rattle.it_run.proofs.RunLemmas.{next_holds}
 use Rattle.it_run.proofs.RunSteps.{run_more}
 use Rattle.it_run.proofs.StepsLeft.{steps_left, steps_fall}
-use Rattle.it_engine.specs.Behind.{AreBrought, AreEngineSteps, AreStillSteps, has_moved, IsBehindStep, IsStillChoice, ShowsBehind, StepsLead}
+use Rattle.it_engine.specs.Behind.{AreBaseBounds, AreBrought, AreEngineSteps, AreStillSteps, has_moved, IsBehindStep, IsStillChoice, ShowsBehind, StepsLead}
 use Rattle.it_engine.specs.Choosing.{right_side_of}
 use Rattle.it_engine.specs.Engine.{IsSafe, Represents}
 use Rattle.it_engine.specs.Updates.{IsFitting, IsUsable}
-use Rattle.it_engine.specs.Whole.{IsRow, whole_row_at, WholeRowView}
+use Rattle.it_engine.specs.Whole.{AreAtMost, IsRow, whole_row_at, WholeRowView}
 use Rattle.it_engine.proofs.BehindTables as T
 use Rattle.it_engine.proofs.Names.{number_null}
 
@@ -132,3 +132,11 @@ steps_made columns limit old basis moved k now now_basis now_moved new none cost
   made = λ p t s. let x = h.made p t t (shows_base p t columns limit old basis moved s none cost) in
       (x.0, shows_brought p t x.0 columns limit now now_basis now_moved new x.1 a, x.2);
 }
+
+-- a bound on the rows that stay behind bounds those that stay behind after one more step
+pub bounds_kept : (columns : List Terms) (limit : ℕ) (old : List WholeRowView) (basis : List ℕ) (moved : List Bool) (c r most low height : ℕ) (new : List WholeRowView) → IsBehindStep columns limit old basis moved c r new
+    → r < length moved → height ≤ length old → AreBaseBounds most low old moved height → AreBaseBounds most low new (slice_set moved r true) height
+bounds_kept columns limit old basis moved c r most low height new g here all h = λ i l f.
+    let d : i ≢ r = λ e. true≢false (sym (get_or-set_same moved r true false here) ∙ ap (has_moved (slice_set moved r true)) (sym e) ∙ f) in
+    let still : has_moved moved i ≡ false = sym (get_or-set_other moved r i true false d) ∙ f in
+    subst (λ (w : WholeRowView). AreAtMost w.numbers most × (w.bottom ≤ low)) (sym (g.kept i (omega (arith, l, all)) d still)) (h i l still)

@@ -61,6 +61,7 @@ pivot_ends old r width limit entry now i y hr usable hi hp small u q = record {
     by_own k new w = record {
       less = less_divided width limit (whole_row_at old k) (whole_row_at old r) y new (entry k) (entry r) own_row_divided w.less;
       usable = w.usable;
+      kept = w.kept;
     }
 
 -- only the entries of the rows count

@@ -1,5 +1,5 @@
 -- Rows that stay usable.
-use Rattle.std.proofs.Common.{◌≡◌, ℕ, ◌/◌, ◌<◌, ◌^◌, ℤ, pos, negsuc, ◌≤ℤ◌, unsigned_abs, sym, ap, subst, ◌∙◌, arith}
+use Rattle.std.proofs.Common.{◌≡◌, ℕ, ◌/◌, ◌<◌, ◌^◌, ℤ, pos, negsuc, ◌≤ℤ◌, unsigned_abs, refl, sym, ap, subst, ◌∙◌, arith}
 use Rattle.std.proofs.lemmas.Int.{ints, unsigned_abs-mul}
 use Rattle.it_number.specs.Gcd.{gcd}
 use Rattle.it_number.specs.Division.{int_quotient}
@@ -57,4 +57,5 @@ pub kept_updated : (width limit : ℕ) (old own : WholeRowView) (z p : ℤ) → 
 kept_updated width limit old own z p u e = record {
   less = subst (λ (z : ℤ). IsWholeRowReduced width limit old own z p old) (sym e) (kept_row width limit old own p);
   usable = u;
+  kept = λ _. refl;
 }

@@ -149,9 +149,10 @@ pub record IsStillChoice (columns : List Terms) (limit : ℕ) (rows : List Whole
   pub row : r < length basis
   pub leaves : LeavesStill columns limit rows basis moved c r
 
--- a degenerate step by column c and row r was made, whichever tables the rows show
+-- a degenerate step by column c and row r was made, whichever tables the rows show; other rows that stay behind stay as they are
 pub record IsBehindStep (columns : List Terms) (limit : ℕ) (old : List WholeRowView) (basis : List ℕ) (moved : List Bool) (c r : ℕ) (new : List WholeRowView) : Type 0 where
   pub engine : IsSafe columns limit new (slice_set basis r c)
+  pub kept : (i : ℕ) → i < length old → i ≢ r → has_moved moved i ≡ false → whole_row_at new i ≡ whole_row_at old i
   pub made : (p : FeasibilityProblem Rational) (b t : SimplexTable Rational) → ShowsBehind p b t columns limit old basis (has_moved moved) → entering_column field_ℚ (length basis) (length columns) t ≡ c
       → IsStillLeaving p b t columns basis c r → ¬ (IsStuck field_ℚ (length basis) (length columns) t)
       → ShowsBehind p b (next field_ℚ (length basis) (length columns) t) columns limit new (slice_set basis r c) (has_moved (slice_set moved r true))

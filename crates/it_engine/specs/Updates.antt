@@ -90,10 +90,11 @@ pub record IsFitting (width limit : ℕ) (terms : Terms) : Type 0 where
 abbrev pub AreUsable : ℕ → ℕ → List WholeRowView → Type 0
 AreUsable width limit rows = (i : ℕ) → i < length rows → IsUsable width limit (whole_row_at rows i)
 
--- the row is made less as above, and stays usable
+-- the row is made less as above, and stays usable; it stays as it is where its entry is 0
 pub record IsUpdated (width limit : ℕ) (old own : WholeRowView) (z p : ℤ) (new : WholeRowView) : Type 0 where
   pub less : IsWholeRowReduced width limit old own z p new
   pub usable : IsUsable width limit new
+  pub kept : z ≡ pos 0 → new ≡ old
 
 -- the rows after a pivot on row r and the column at which they have these entries
 pub record AreWholeRowsPivoted (width limit : ℕ) (old : List WholeRowView) (entry : ℕ → ℤ) (r : ℕ) (new : List WholeRowView) : Type 0 where

@@ -119,15 +119,18 @@ fn more_multiple(rows: &[WholeRow], moved: &[bool], q: usize, multiple: u64) -> 
 }
 
 /// A common multiple of the denominators of the rows that moved, but the cost row, where it is below 2^63.
-fn common_multiple(rows: &[WholeRow], moved: &[bool], height: usize) -> Option<u64>
+fn common_multiple(rows: &[WholeRow], moved: &[bool], next: &[usize], height: usize) -> Option<u64>
     requires rows { height ≤ length rows.now }
     requires moved { height ≤ length moved.now }
+    requires next { AreNextMoved moved.now height next.now }
     requires some { (i : ℕ) → i < length rows.now → 0 < (whole_row_at rows.now i).bottom }
     ensures { IfSome result (λ multiple. IsCommonMultiple rows.now moved.now height multiple) }
 {
     let mut multiple: u64 = 1;
-    for q in 0..height {
+    let mut q = next[0];
+    while q < height {
         multiple = more_multiple(rows, moved, q, multiple)?;
+        q = next[q + 1];
     }
     Some(multiple)
 }
@@ -159,18 +162,22 @@ fn more_shares(
 fn bound_of_shares(
     rows: &[WholeRow],
     moved: &[bool],
+    next: &[usize],
     height: usize,
     multiple: u64,
     norm: u64,
 ) -> Option<u64>
     requires rows { height ≤ length rows.now }
     requires moved { height ≤ length moved.now }
+    requires next { AreNextMoved moved.now height next.now }
     requires some { (i : ℕ) → i < length rows.now → 0 < (whole_row_at rows.now i).bottom }
     ensures { IfSome result (λ bound. BoundsShares norm rows.now (has_moved moved.now) (share_of multiple rows.now) height bound) }
 {
     let mut bound: u64 = 0;
-    for q in 0..height {
+    let mut q = next[0];
+    while q < height {
         bound = more_shares(rows, moved, q, multiple, norm, bound)?;
+        q = next[q + 1];
     }
     Some(bound)
 }
@@ -236,6 +243,17 @@ fn taken_times(entry: i64, share: u64) -> Option<i64>
     Some(-taken)
 }
 
+/// Puts the multiple of the column that enters in the place of the combined column; false where a number is too large, or for want of
+/// memory.
+fn begin_combined(combined: &mut Column, columns: &[Column], column: usize, multiple: u64) -> bool
+    requires column { column < length columns.now }
+    requires low { multiple < 2 ^ 63 }
+    ensures { OnTrue result (combined.new ≡ multiple_of_terms (pos multiple) (slice_index_or columns.now column [])) }
+{
+    combined.clear();
+    combined.add_multiple(&columns[column], multiple as i64)
+}
+
 /// Forms the column at which a row that stays behind has the number that it would have up to date; false where a number is too
 /// large, or for want of memory.
 fn combine_columns(
@@ -244,6 +262,7 @@ fn combine_columns(
     rows: &[WholeRow],
     basis: &[usize],
     moved: &[bool],
+    next: &[usize],
     entries: &[i64],
     column: usize,
     multiple: u64,
@@ -251,19 +270,21 @@ fn combine_columns(
     requires column { column < length columns.now }
     requires rows { length basis.now ≤ length rows.now }
     requires moved { length basis.now ≤ length moved.now }
+    requires next { AreNextMoved moved.now (length basis.now) next.now }
     requires entries { length basis.now ≤ length entries.now }
     requires some { (i : ℕ) → i < length rows.now → 0 < (whole_row_at rows.now i).bottom }
     requires low { multiple < 2 ^ 63 }
     ensures { OnTrue result (combined.new ≡ column_less_moved columns.now rows.now basis.now moved.now entries.now multiple column (length basis.now)) }
 {
-    combined.clear();
-    if !combined.add_multiple(&columns[column], multiple as i64) {
+    if !begin_combined(combined, columns, column, multiple) {
         return false;
     }
-    for q in 0..basis.len() {
+    let mut q = next[0];
+    while q < basis.len() {
         if !less_moved(combined, columns, rows, basis, moved, entries, q, multiple) {
             return false;
         }
+        q = next[q + 1];
     }
     true
 }
@@ -378,19 +399,23 @@ fn first_moved_to_leave(
     rows: &[WholeRow],
     basis: &[usize],
     moved: &[bool],
+    next: &[usize],
     entries: &[i64],
     combined: &Column,
 ) -> Option<usize>
     requires rows { length basis.now < length rows.now }
     requires moved { length basis.now ≤ length moved.now }
+    requires next { AreNextMoved moved.now (length basis.now) next.now }
     requires entries { length basis.now ≤ length entries.now }
     requires suits { SuitsAll combined.now rows.now }
     requires places { (i : ℕ) → i < length basis.now → length basis.now < length (whole_row_at rows.now i).numbers }
     ensures { IsFirstToLeave rows.now basis.now moved.now entries.now combined.now 0 result }
 {
     let mut best: Option<usize> = None;
-    for i in 0..basis.len() {
-        best = earlier_moved_row(best, rows, basis, moved, entries, combined, i);
+    let mut q = next[0];
+    while q < basis.len() {
+        best = earlier_moved_row(best, rows, basis, moved, entries, combined, q);
+        q = next[q + 1];
     }
     best
 }
@@ -400,17 +425,19 @@ fn first_to_leave(
     rows: &[WholeRow],
     basis: &[usize],
     moved: &[bool],
+    next: &[usize],
     entries: &[i64],
     combined: &Column,
 ) -> Option<usize>
     requires rows { length basis.now < length rows.now }
     requires moved { length basis.now ≤ length moved.now }
+    requires next { AreNextMoved moved.now (length basis.now) next.now }
     requires entries { length basis.now ≤ length entries.now }
     requires suits { SuitsAll combined.now rows.now }
     requires places { (i : ℕ) → i < length basis.now → length basis.now < length (whole_row_at rows.now i).numbers }
     ensures { IsFirstToLeave rows.now basis.now moved.now entries.now combined.now (length basis.now) result }
 {
-    let mut best = first_moved_to_leave(rows, basis, moved, entries, combined);
+    let mut best = first_moved_to_leave(rows, basis, moved, next, entries, combined);
     for i in 0..basis.len() {
         best = earlier_row(best, rows, basis, moved, entries, combined, i);
     }
@@ -595,38 +622,6 @@ fn note_next_moved(moved: &[bool], next: &mut [usize], height: usize)
     }
 }
 
-/// Brings row r up to date, if it stayed behind; false where a number would be too large, and then nothing is known of the rows.
-fn bring_if_behind(
-    alloc: Global,
-    rows: &mut [WholeRow],
-    columns: &[Column],
-    basis: &[usize],
-    moved: &[bool],
-    next: &mut [usize],
-    room: &mut [i64],
-    r: usize,
-    limit: u64,
-) -> bool
-    requires height { length rows.old ≡ length basis.now + 1 }
-    requires moved { length moved.now ≡ length rows.old }
-    requires r { r < length basis.now }
-    requires rows { AreUsable (length rows.old) limit rows.old }
-    requires columns { (j : ℕ) → j < length columns.now → IsFitting (length rows.old) limit (slice_index_or columns.now j []) }
-    requires next { length next.old ≡ length rows.old + 1 }
-    requires room { length room.old ≡ length rows.old }
-    requires limit { limit < 2 ^ 63 }
-    ensures next { length next.new ≡ length next.old }
-    ensures room { length room.new ≡ length room.old }
-    ensures brought { OnTrue result (has_moved moved.now r ≡ false → IsRowBrought columns.now limit rows.old basis.now moved.now r rows.new) }
-    ensures kept { OnTrue result (has_moved moved.now r ≡ true → rows.new ≡ rows.old) }
-{
-    if moved_at(moved, r) {
-        return true;
-    }
-    note_next_moved(moved, next, basis.len());
-    bring(alloc, rows, columns, basis, moved, next, room, r, limit)
-}
-
 /// Brings row r up to date, if it stayed behind, where next has the next rows that moved; false where a number would be too large, and then nothing is known of the rows.
 fn bring_noted(
     alloc: Global,
@@ -704,20 +699,21 @@ fn still_row(
     rows: &[WholeRow],
     basis: &[usize],
     moved: &[bool],
+    next: &[usize],
     entries: &mut [i64],
     combined: &mut Column,
     columns: &[Column],
     column: usize,
     limit: u64,
-    most: u64,
-    low: u64,
+    bound: u64,
     norm: u64,
 ) -> Option<usize>
     requires engine { IsSafe columns.now limit rows.now basis.now }
     requires moved { length moved.now ≡ length rows.now }
+    requires next { AreNextMoved moved.now (length basis.now) next.now }
     requires entries { length entries.old ≡ length rows.now }
     requires column { column < length columns.now }
-    requires bounds { AreBaseBounds most low rows.now moved.now (length basis.now) }
+    requires bound { AreBaseBounds bound bound rows.now moved.now (length basis.now) }
     requires norm { IsNorm columns.now norm }
     ensures entries { length entries.new ≡ length entries.old }
     ensures within { IfSome result (λ r. r < length basis.now) }
@@ -725,20 +721,20 @@ fn still_row(
     ensures noted { IfSome result (λ r. AreMovedEntries (slice_index_or columns.now column []) rows.now moved.now entries.new) }
 {
     note_moved_entries(&columns[column], rows, moved, entries);
-    let multiple = common_multiple(rows, moved, basis.len())?;
-    let shares = bound_of_shares(rows, moved, basis.len(), multiple, norm)?;
-    if !are_short(most, low, multiple, norm, shares) {
+    let multiple = common_multiple(rows, moved, next, basis.len())?;
+    let shares = bound_of_shares(rows, moved, next, basis.len(), multiple, norm)?;
+    if !are_short(bound, bound, multiple, norm, shares) {
         return None;
     }
     if !combine_columns(
-        combined, columns, rows, basis, moved, entries, column, multiple,
+        combined, columns, rows, basis, moved, next, entries, column, multiple,
     ) {
         return None;
     }
     if !is_light(combined, limit) {
         return None;
     }
-    first_to_leave(rows, basis, moved, entries, combined)
+    first_to_leave(rows, basis, moved, next, entries, combined)
 }
 
 /// The bound with the numbers and the denominator of row i, if it stays behind.
@@ -774,15 +770,19 @@ fn still_choice(
     rows: &[WholeRow],
     basis: &[usize],
     moved: &[bool],
+    next: &[usize],
     entries: &mut [i64],
     combined: &mut Column,
     columns: &[Column],
     limit: u64,
+    bound: u64,
     norm: u64,
 ) -> Option<(usize, usize)>
     requires engine { IsSafe columns.now limit rows.now basis.now }
     requires moved { length moved.now ≡ length rows.now }
+    requires next { AreNextMoved moved.now (length basis.now) next.now }
     requires entries { length entries.old ≡ length rows.now }
+    requires bound { AreBaseBounds bound bound rows.now moved.now (length basis.now) }
     requires norm { IsNorm columns.now norm }
     ensures entries { length entries.new ≡ length entries.old }
     ensures choice { IfSome result (λ x. IsStillChoice columns.now limit rows.now basis.now moved.now x.0 x.1) }
@@ -793,9 +793,8 @@ fn still_choice(
         return None;
     }
     let column = entering_column(columns, &rows[last])?;
-    let bound = bound_behind(rows, moved, last);
     let row = still_row(
-        rows, basis, moved, entries, combined, columns, column, limit, bound, bound, norm,
+        rows, basis, moved, next, entries, combined, columns, column, limit, bound, norm,
     )?;
     Some((column, row))
 }
@@ -819,6 +818,7 @@ fn make_step(
     requires moved { length moved.old ≡ length rows.old }
     requires entries { AreMovedEntries (slice_index_or columns.now column []) rows.old moved.old entries.old }
     requires next { length next.old ≡ length rows.old + 1 }
+    requires noted { AreNextMoved moved.old (length basis.old) next.old }
     requires room { length room.old ≡ length rows.old }
     requires column { column < length columns.now }
     requires row { row < length basis.old }
@@ -829,7 +829,7 @@ fn make_step(
     ensures next { length next.new ≡ length next.old }
     ensures room { length room.new ≡ length room.old }
 {
-    if !bring_if_behind(alloc, rows, columns, basis, moved, next, room, row, limit) {
+    if !bring_noted(alloc, rows, columns, basis, moved, next, room, row, limit) {
         return false;
     }
     moved[row] = true;
@@ -886,12 +886,14 @@ fn still_steps(
     ensures next { length next.new ≡ length next.old }
     ensures room { length room.new ≡ length room.old }
 {
+    let bound = bound_behind(rows, moved, basis.len());
     for k in 0..most {
         if many_moved(moved) {
             return Some(k);
         }
+        note_next_moved(moved, next, basis.len());
         let Some((column, row)) = still_choice(
-            rows, basis, moved, entries, combined, columns, limit, norm,
+            rows, basis, moved, next, entries, combined, columns, limit, bound, norm,
         ) else {
             return Some(k);
         };

@@ -257,6 +257,7 @@ impl NarrowRow {
         requires places { OnTrue noted (AreNextPlaces own.now.numbers next.now) }
         requires room { length room.old ≡ length own.now.numbers }
         requires entry { unsigned_abs entry < 2 ^ 63 }
+        requires some { ¬ (entry ≡ pos 0) }
         requires pivot { pos 1 ≤ℤ pivot }
         requires limit { limit < 2 ^ 31 }
         ensures room { length room.new ≡ length room.old }

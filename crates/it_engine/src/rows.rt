@@ -7,6 +7,7 @@ ghost use Rattle.it_engine.specs.Whole.{AreAtMost};
 ghost use Rattle.it_engine.specs.Updates.{AreNextPlaces, AreShort, IsQuotient, IsUpdated, IsUsable};
 ghost use Rattle.it_engine.specs.Widths.{row_of};
 
+use crate::arithmetic::is_zero;
 use crate::narrow::NarrowRow;
 use crate::wide::WideRow;
 use std::alloc::{AllocError, Global};
@@ -179,13 +180,13 @@ impl WholeRow {
         ensures room { length room.new ≡ length room.old }
         ensures updated { OnTrue result (IsUpdated (length own.now.numbers) limit self.old own.now entry pivot self.new) }
     {
-        if entry == 0 {
+        if is_zero(entry) {
             return true;
         }
         self.update_other(own, next, noted, room, entry, pivot, limit)
     }
 
-    /// The same, also where the entry isn't 0. Apart, so that the test of the entry is made where it is called.
+    /// The same, where the entry isn't 0. Apart, so that the test of the entry is made where it is called.
     fn update_other(
         &mut self,
         own: &WholeRow,
@@ -201,6 +202,7 @@ impl WholeRow {
         requires places { OnTrue noted (AreNextPlaces own.now.numbers next.now) }
         requires room { length room.old ≡ length own.now.numbers }
         requires entry { unsigned_abs entry < 2 ^ 63 }
+        requires some { ¬ (entry ≡ pos 0) }
         requires pivot { pos 1 ≤ℤ pivot }
         requires limit { limit < 2 ^ 63 }
         ensures room { length room.new ≡ length room.old }

@@ -175,6 +175,7 @@ impl WideRow {
         requires own { IsUsable (length own.now.numbers) limit own.now }
         requires places { AreNextPlaces own.now.numbers next.now }
         requires entry { unsigned_abs entry < 2 ^ 63 }
+        requires some { ¬ (entry ≡ pos 0) }
         requires pivot { pos 1 ≤ℤ pivot }
         requires limit { limit < 2 ^ 63 }
         ensures { OnTrue result (IsUpdated (length own.now.numbers) limit self.old own.now entry pivot self.new) }

@@ -1,6 +1,12 @@
-use Rattle.std.proofs.Common.{◌≡◌}
+use Rattle.std.proofs.Common.{◌≡◌, ◌≤◌, ◌-◌, length}
 use Rattle.it_engine.specs.Behind.{column_less_moved}
 use Rattle.it_engine.proofs.behind.combine_columns.Given as goal
 
 abbrev pub invariant-loop-q : goal.invariant-loop-q
-invariant-loop-q l = l.combined ≡ column_less_moved l.columns l.rows l.basis l.moved l.entries l.multiple l.column l.q
+invariant-loop-q l = record {
+  within : l.q ≤ length l.basis;
+  combined_is : l.combined ≡ column_less_moved l.columns l.rows l.basis l.moved l.entries l.multiple l.column l.q;
+}
+
+abbrev pub decreases-loop-q : goal.decreases-loop-q
+decreases-loop-q l = length l.basis - l.q

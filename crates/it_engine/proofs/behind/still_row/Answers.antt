@@ -22,8 +22,8 @@ first_to_leave-requires-clause-suits c = λ i l. fitting_suits (length c.args.ro
 
 pub returns-clause-leaves : goal.returns-clause-leaves
 returns-clause-leaves c = leaves_if_some c.args.columns.now c.args.rows.now c.args.basis.now c.args.moved.now c.note_moved_entries.new.entries c.in_ok-multiple.multiple c.args.column
-    c.args.limit c.args.most c.args.low c.args.norm c.in_ok-shares.shares c.requires.norm c.requires.column (entries_are (goal.at.returns-clause-leaves c).In_ok-multiple) c.in_ok-multiple.ensures c.in_ok-shares.ensures
-    c.if-not-are_short.ensures.numbers c.if-not-are_short.ensures.bottoms c.requires.bounds c.requires.engine.rows_are c.combine_columns.new.combined c.if-not-combine_columns.ensures c.first_to_leave.result c.first_to_leave.ensures
+    c.args.limit c.args.bound c.args.bound c.args.norm c.in_ok-shares.shares c.requires.norm c.requires.column (entries_are (goal.at.returns-clause-leaves c).In_ok-multiple) c.in_ok-multiple.ensures c.in_ok-shares.ensures
+    c.if-not-are_short.ensures.numbers c.if-not-are_short.ensures.bottoms c.requires.bound c.requires.engine.rows_are c.combine_columns.new.combined c.if-not-combine_columns.ensures c.first_to_leave.result c.first_to_leave.ensures
 
 pub returns-clause-noted : goal.returns-clause-noted
 returns-clause-noted c = if_some_anyway c.first_to_leave.result (entries_are (goal.at.returns-clause-noted c).In_ok-multiple)

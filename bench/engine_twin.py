@@ -1,0 +1,185 @@
+#!/usr/bin/env python3
+"""A twin of the engine in plain Rust, made of its own sources, so that an idea is measured before it is proved.
+
+`engine_twin.py build FOLDER` takes the contracts out of crates/it_engine/src of the checkout that it is called in, and compiles what is
+left to FOLDER/twin. `engine_twin.py system FAMILY N` prints a system over N variables, by the elemental inequalities in their order:
+FAMILY is parts, chain or ingleton, as in bench/simplex.txt. `FOLDER/twin BUDGET TURNS < SYSTEM` makes the run so often, and prints how it
+ends, in which width, and sums over the last basis and the last rows: two versions of the sources have to print the same. Unlike the
+product the twin tests indexes, so times are to be compared with those of another twin only."""
+import os
+import re
+import subprocess
+import sys
+
+MODULES = "arithmetic behind choice columns divisors engine narrow narrow_numbers numbers pivots rows wide".split()
+
+# what the modules take from others, and a main function
+MAIN = r"""
+#[derive(Clone, Copy)]
+pub struct Global;
+#[derive(Clone, Copy, Debug)]
+pub struct AllocError;
+mod loading {
+    pub fn norm(columns: &[crate::columns::Column]) -> Option<u64> {
+        columns.iter().try_fold(1, |norm: u64, column| Some(norm.max(column.weight()?)))
+    }
+}
+use engine::Engine;
+type Terms = Vec<(usize, i64)>;
+
+fn start(height: usize, target: &Terms, forms: &[Terms]) -> (Vec<columns::Column>, u64, Engine) {
+    let mut right = vec![0; height + 1];
+    for &(k, x) in target {
+        right[k] = x;
+    }
+    let signed = |k: usize, x: i64| if right[k] < 0 { -x } else { x };
+    let column = |terms: &Terms| {
+        let mut column = columns::Column::empty(Global);
+        for &(k, x) in terms {
+            column.push_entry(k, signed(k, x)).unwrap();
+        }
+        column
+    };
+    let columns: Vec<_> = forms.iter().map(column).collect();
+    let limit = i64::MAX as u64 / loading::norm(&columns).unwrap();
+    let mut cost = vec![-1; height];
+    cost.push(-right.iter().map(|x| x.abs()).sum::<i64>());
+    let unit = |k: usize| {
+        let mut numbers = vec![0; height + 1];
+        (numbers[k], numbers[height]) = (1, right[k].abs());
+        numbers
+    };
+    let numbers = (0..height).map(unit).chain([cost]);
+    let rows = numbers.map(rows::WholeRow::from_numbers).collect();
+    let basis = (columns.len()..columns.len() + height).collect();
+    (columns, limit, Engine::new(Global, rows, basis).unwrap())
+}
+
+fn told(engine: &Engine, end: &str, width: &str) -> String {
+    let more = |sum: u64, z: u64| sum.wrapping_mul(1000003).wrapping_add(z);
+    let basis = engine.basis().iter().fold(0, |sum, &j| more(sum, j as u64));
+    let count = engine.rows().len();
+    let of_row = |sum, row: &rows::WholeRow| {
+        let numbers = (0..count).fold(sum, |sum, k| more(sum, row.number(k) as u64));
+        more(numbers, row.bottom())
+    };
+    format!("{end} {width} {basis} {}", engine.rows().iter().fold(0, of_row))
+}
+
+fn run(height: usize, target: &Terms, forms: &[Terms], budget: u32) -> String {
+    let (columns, limit, mut engine) = start(height, target, forms);
+    if height >= 64 {
+        let lower = limit.min(i32::MAX as u64);
+        if let Some(mut narrow) = engine.narrowed(lower).unwrap() {
+            if let Some(end) = narrow.run(&columns, lower, Some(budget)) {
+                return told(&narrow, &format!("{end:?}"), "narrow");
+            }
+        }
+    }
+    match engine.run(&columns, limit, Some(budget)) {
+        Some(end) => told(&engine, &format!("{end:?}"), "wide"),
+        None => String::from("lost"),
+    }
+}
+
+fn main() {
+    let words: Vec<u32> = std::env::args().skip(1).map(|w| w.parse().unwrap()).collect();
+    let text = std::io::read_to_string(std::io::stdin()).unwrap();
+    let mut lines = text.lines();
+    let height = lines.next().unwrap().trim().parse().unwrap();
+    let terms = |line: &str| {
+        let numbers: Vec<i64> = line.split_whitespace().map(|w| w.parse().unwrap()).collect();
+        numbers.chunks(2).map(|pair| (pair[0] as usize - 1, pair[1])).collect()
+    };
+    let mut forms: Vec<Terms> = lines.map(terms).collect();
+    let target = forms.remove(0);
+    let mut end = String::new();
+    for _ in 0..words[1] {
+        end = run(height, &target, &forms, words[0]);
+    }
+    println!("{end}");
+}
+"""
+
+
+def without_items(text, head):
+    """The text without the items that begin so, each with its body in braces."""
+    while found := re.search(head, text, re.M):
+        at = text.index("{", found.start())
+        depth = 0
+        for end in range(at, len(text)):
+            depth += {"{": 1, "}": -1}.get(text[end], 0)
+            if depth == 0:
+                break
+        text = text[:found.start()] + text[end + 1:]
+    return text
+
+
+def plain(text):
+    """A module without its contracts, where memory never runs out."""
+    for line in (r"//!.*", r"\s*ghost .*", r"\s*(requires|ensures) .*", r"\s*#!?\[tactic.*", r"use std::(alloc|marker).*"):
+        text = re.sub(rf"^{line}\n", "", text, flags=re.M)
+    text = without_items(text, r"^impl (Model|Drop) for")
+    text = text.replace("#[derive(Drop)]", "").replace("Drop, ", "").replace("Vec::new(alloc)", "Vec::new()").replace(".clone()?", ".clone()")
+    text = re.sub(r"Vec::with_capacity\(alloc, (.*)\)\?", r"Vec::with_capacity(\1)", text)
+    text = re.sub(r"Vec::from_elem\(alloc, (.*), (.*)\)\?", r"vec![\1; \2]", text)
+    text = re.sub(r"\.push\((.*)\)\?;", r".push(\1);", text)
+    return re.sub(r"\b(Global|AllocError)\b", r"crate::\1", text)
+
+
+def build(folder):
+    os.makedirs(folder, exist_ok=True)
+    for name in MODULES:
+        with open(f"crates/it_engine/src/{name}.rt", encoding="utf-8") as source, open(f"{folder}/{name}.rs", "w", encoding="utf-8") as target:
+            target.write(plain(source.read()))
+    with open(f"{folder}/main.rs", "w", encoding="utf-8") as target:
+        target.write("".join(f"mod {name};\n" for name in MODULES) + MAIN)
+    flags = "--edition 2021 -A warnings -C opt-level=3 -C target-cpu=x86-64-v2 -C codegen-units=1".split()
+    subprocess.run(["rustc", *flags, f"{folder}/main.rs", "-o", f"{folder}/twin"], check=True)
+
+
+def information(a, b, given):
+    """The terms of I(a;b|given), each a set of variables with its sign."""
+    return [(a | given, 1), (b | given, 1), (a | b | given, -1), (given, -1)]
+
+
+def elemental(n):
+    """The elemental inequalities over n variables."""
+    full = (1 << n) - 1
+    for i in range(n):
+        yield [(full, 1), (full & ~(1 << i), -1)]
+    for i in range(n):
+        for j in range(i + 1, n):
+            for given in range(1 << n):
+                if not given & (1 << i | 1 << j):
+                    yield information(1 << i, 1 << j, given)
+
+
+def target_of(family, n):
+    if family == "ingleton":
+        negated = [(s, -x) for s, x in information(1, 2, 0)]
+        return information(1, 2, 4) + information(1, 2, 8) + information(4, 8, 0) + negated
+    parts = [(1 << i, 1) for i in range(n)] + [((1 << n) - 1, -1)]
+    if family == "chain":
+        for i in range(n - 1):
+            parts += [(s, -x) for s, x in information(1 << i, 2 << i, 0)]
+    return parts
+
+
+def system(family, n):
+    print((1 << n) - 1)
+    for terms in [target_of(family, n), *elemental(n)]:
+        sums = {}
+        for s, x in terms:
+            sums[s] = sums.get(s, 0) + x
+        print(" ".join(f"{s} {x}" for s, x in sorted(sums.items()) if s and x))
+
+
+if __name__ == "__main__":
+    match sys.argv[1:]:
+        case ["build", folder]:
+            build(folder)
+        case ["system", ("parts" | "chain" | "ingleton") as family, n]:
+            system(family, int(n))
+        case _:
+            sys.exit(__doc__)
