@@ -28,7 +28,7 @@ use Rattle.it_columns.proofs.Scales.{scale_pos}
 use Rattle.it_columns.proofs.Wholes.{whole_parts}
 use Rattle.it_best.specs.Factors.{HoldsFactor, IsFactor, factor_form, ground_of}
 use Rattle.it_best.specs.Numbers.{multiples, weights_certificate}
-use Rattle.it_best.specs.Parts.{counterweight}
+use Rattle.it_best.specs.Phases.{counterweight}
 use Rattle.it_best.proofs.NumberLemmas.{number_sum, AreNumbers}
 use Rattle.it_best.proofs.FactorLemmas.{certificate_sum, factor_sum}
 

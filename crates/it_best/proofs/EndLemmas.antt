@@ -1,4 +1,4 @@
--- What the parts end with is right, is one, and without a budget is never for want of steps; and the third part never ends by a point.
+-- What the phases end with is right, is one, and without a budget is never for want of steps; and the third phase never ends by a point.
 use Rattle.std.proofs.Common.{◌≡◌, inl, inr, ℕ, ◌+◌, ℤ, pos, neg_ℤ, ◌≤ℤ◌, List, [], ◌∷◌, length, Option, None, refl, sym, ap, subst, ◌∙◌, arith}
 use Rattle.std.specs.List.{AllByRecursion as Every}
 use Rattle.std.proofs.lemmas.Int.{ints}
@@ -29,15 +29,15 @@ use Rattle.it_columns.specs.Scaling.{scaled_point}
 use Rattle.it_best.specs.declared.types.BestCause.TheVariants as causes
 use Rattle.it_best.specs.declared.types.BestCause.TheVariants.{Scale, Size}
 use Rattle.it_best.specs.Numbers.{numbers, numbers_from, weights_certificate, column_weight, factor_of}
-use Rattle.it_best.specs.Parts.{third_part, third_target, right_equation}
+use Rattle.it_best.specs.Phases.{third_phase, third_target, right_equation}
 use Rattle.it_best.specs.BestViews.{BestView, Undecided, Never, Least, Unbounded}
-use Rattle.it_best.specs.Ends.{PartEnds, EndsWith, FirstFollows, SecondFollows, ThirdFollows, OrScale, LeastFits, UnboundedFits, NeverFits, least_view, unbounded_view, never_values, first, third}
+use Rattle.it_best.specs.Ends.{PhaseEnds, EndsWith, FirstFollows, SecondFollows, ThirdFollows, OrScale, LeastFits, UnboundedFits, NeverFits, least_view, unbounded_view, never_values, first, third}
 use Rattle.it_best.specs.Factors.{IsRightBest, ground_of}
 use Rattle.it_best.specs.Theorems.{BestIsRight, OneBest, BestNeverOutOfSteps}
 use Rattle.it_best.proofs.NumberLemmas.{numbers_sum_up, numbers_signed, length-numbers_from}
 use Rattle.it_best.proofs.FactorLemmas.{multiple_sum}
 use Rattle.it_best.proofs.CertificateLemmas.{certifies_form, factor_holds}
-use Rattle.it_best.proofs.PartLemmas as parts
+use Rattle.it_best.proofs.PhaseLemmas as phases
 use Rattle.it_best.proofs.AnswerLemmas.{third_right, never_right}
 use Rattle.it_best.proofs.RowLemmas.{negated_up, third_up, third_target_up}
 use Rattle.it_best.proofs.ThirdPoint.{no_third_point}
@@ -46,12 +46,12 @@ use Rattle.it_best.proofs.WholePoints.{unknowns_met, target_below}
 abbrev End : Type 0
 End = RunEndView (List (ℕ × Rational)) (List Rational)
 
--- ---- the ends of a part are right
+-- ---- the ends of a phase are right
 
 abbrev IsRightEnd : ℕ → List Generator → Terms → End → Type 0
 IsRightEnd m us target e = EndIsRight field_ℚ (length (span 1 m)) (length (columns us)) (feasibility_problem (span 1 m) (columns us) target) e
 
-pub right_end : (m : ℕ) (us : List Generator) (target : Terms) (budget : Option ℕ) (e : End) → PartEnds m us target budget e → IsRightEnd m us target e
+pub right_end : (m : ℕ) (us : List Generator) (target : Terms) (budget : Option ℕ) (e : End) → PhaseEnds m us target budget e → IsRightEnd m us target e
 right_end m us target budget e (inl a) = subst (IsRightEnd m us target) (sym a.1) tt
 right_end m us target budget e (inr a) = right_by field_ℚ (length (span 1 m)) (length (columns us)) (StepFits (length (span 1 m)) (length (columns us))) (feasibility_problem (span 1 m) (columns us) target) budget e a.1
 
@@ -65,7 +65,7 @@ module _ (q : ProblemView) (left right : Terms) (k : IsProblem q) (l : IsUpTo (s
   rows : Every (λ g. IsUpTo size g.row) gs
   rows = rows_of_space q.space.variables size q.constraints (omega arith) k.rows
 
-  -- ---- the second part
+  -- ---- the second phase
 
   -- its weights certify that the left side is at most 0
   pub second_certifies : (ws : List (ℕ × Rational)) → IsRightEnd size gs (negated_terms left) (Weights ws) → IsCertificate (size + 1) (generators_of q) (λ p. neg_ℤ (value left p)) (weights_certificate (pos 1) (numbers gs ws))
@@ -84,12 +84,12 @@ module _ (q : ProblemView) (left right : Terms) (k : IsProblem q) (l : IsUpTo (s
       above_zero : (x y : ℤ) → y ≡ neg_ℤ x → y ≤ℤ neg_ℤ (pos 1) → pos 1 ≤ℤ x
       above_zero x y e h = omega (arith, ints, e, h)
 
-  -- ---- the third part
+  -- ---- the third phase
 
   pub no_third_end : (ws : List (ℕ × Rational)) (qs ps : List Rational) → IsRightEnd size (first q left right) right (Weights ws) → IsRightEnd size gs (negated_terms left) (Point qs)
       → IsRightEnd (right_equation size gs) (third q left right) (third_target size gs right) (Point ps) → ⊥
   no_third_end ws qs ps a b c =
-      let one = parts.first_right q left right ws a in
+      let one = phases.first_right q left right ws a in
       let two = second_meets qs b in
       let up : Every (λ u. IsUpTo (right_equation size gs) u.row) (third q left right) = third_up q.space.variables size gs left right rows l in
       let t_up : IsUpTo (right_equation size gs) (third_target size gs right) = third_target_up size gs right r in
@@ -108,7 +108,7 @@ module _ (q : ProblemView) (left right : Terms) (k : IsProblem q) (l : IsUpTo (s
   or_scale_right Fits answer o h (inr a) = subst Right (sym a.1) tt
 
   third_is_right : (e : End) (o : BestView) → IsRightEnd (right_equation size gs) (third q left right) (third_target size gs right) e → ThirdFollows q left right e o → Right o
-  unfolding numbers_from third_part
+  unfolding numbers_from third_phase
   third_is_right (Weights ws) o s f = or_scale_right (LeastFits q left right ws) (least_view q left right ws) o right_view f
     where
       right_view : Right (least_view q left right ws)
@@ -119,7 +119,7 @@ module _ (q : ProblemView) (left right : Terms) (k : IsProblem q) (l : IsUpTo (s
 
   second_is_right : (budget : Option ℕ) (ws : List (ℕ × Rational)) (e : End) (o : BestView) → IsRightEnd size (first q left right) right (Weights ws) → IsRightEnd size gs (negated_terms left) e → SecondFollows q left right budget ws e o → Right o
   second_is_right budget ws (Weights below) o a s f = or_scale_right (UnboundedFits q left right ws below) (unbounded_view q left right ws below) o
-      (record { factor = parts.first_right q left right ws a; at_most_zero = second_certifies below s }) f
+      (record { factor = phases.first_right q left right ws a; at_most_zero = second_certifies below s }) f
   second_is_right budget ws (Point qs) o a s f = third_is_right f.0 o (right_end (right_equation size gs) (third q left right) (third_target size gs right) budget f.0 f.1) f.2
   second_is_right budget ws (Pivots j) o a s f = subst Right (sym f) tt
   second_is_right budget ws (Width j) o a s f = subst Right (sym f) tt
@@ -146,8 +146,8 @@ module _ (q : ProblemView) (left right : Terms) where
   or_scale_once Fits answer o p (inr a) (inl b) = absurd (a.0 b.0)
   or_scale_once Fits answer o p (inr a) (inr b) = a.1 ∙ sym b.1
 
-  part_once : (m : ℕ) (us : List Generator) (target : Terms) (budget : Option ℕ) (d e : End) → PartEnds m us target budget d → PartEnds m us target budget e → d ≡ e
-  part_once m us target budget d e a b = ends_once (span 1 m) (columns us) target budget d e a b
+  phase_once : (m : ℕ) (us : List Generator) (target : Terms) (budget : Option ℕ) (d e : End) → PhaseEnds m us target budget d → PhaseEnds m us target budget e → d ≡ e
+  phase_once m us target budget d e a b = ends_once (span 1 m) (columns us) target budget d e a b
 
   third_once : (e : End) (o p : BestView) → ThirdFollows q left right e o → ThirdFollows q left right e p → o ≡ p
   third_once (Weights ws) o p a b = or_scale_once (LeastFits q left right ws) (least_view q left right ws) o p a b
@@ -158,13 +158,13 @@ module _ (q : ProblemView) (left right : Terms) where
   second_once : (budget : Option ℕ) (ws : List (ℕ × Rational)) (e : End) (o p : BestView) → SecondFollows q left right budget ws e o → SecondFollows q left right budget ws e p → o ≡ p
   second_once budget ws (Weights below) o p a b = or_scale_once (UnboundedFits q left right ws below) (unbounded_view q left right ws below) o p a b
   second_once budget ws (Point qs) o p a b = third_once b.0 o p
-      (subst (λ (e : End). ThirdFollows q left right e o) (part_once (right_equation (size_of q.space) (generators q)) (third q left right) (third_target (size_of q.space) (generators q) right) budget a.0 b.0 a.1 b.1) a.2) b.2
+      (subst (λ (e : End). ThirdFollows q left right e o) (phase_once (right_equation (size_of q.space) (generators q)) (third q left right) (third_target (size_of q.space) (generators q) right) budget a.0 b.0 a.1 b.1) a.2) b.2
   second_once budget ws (Pivots j) o p a b = a ∙ sym b
   second_once budget ws (Width j) o p a b = a ∙ sym b
 
   first_once : (budget : Option ℕ) (e : End) (o p : BestView) → FirstFollows q left right budget e o → FirstFollows q left right budget e p → o ≡ p
   first_once budget (Weights ws) o p a b = second_once budget ws b.0 o p
-      (subst (λ (e : End). SecondFollows q left right budget ws e o) (part_once (size_of q.space) (generators q) (negated_terms left) budget a.0 b.0 a.1 b.1) a.2) b.2
+      (subst (λ (e : End). SecondFollows q left right budget ws e o) (phase_once (size_of q.space) (generators q) (negated_terms left) budget a.0 b.0 a.1 b.1) a.2) b.2
   first_once budget (Point qs) o p a b = or_scale_once (NeverFits q left right qs) (Never (never_values q left right qs)) o p a b
   first_once budget (Pivots j) o p a b = a ∙ sym b
   first_once budget (Width j) o p a b = a ∙ sym b
@@ -174,7 +174,7 @@ one_best q left right budget o p (inl a) (inl b) = a.1 ∙ sym b.1
 one_best q left right budget o p (inl a) (inr b) = absurd (b.0 a.0)
 one_best q left right budget o p (inr a) (inl b) = absurd (a.0 b.0)
 one_best q left right budget o p (inr a) (inr b) = first_once q left right budget b.1.0 o p
-    (subst (λ (e : End). FirstFollows q left right budget e o) (part_once q left right (size_of q.space) (first q left right) right budget a.1.0 b.1.0 a.1.1 b.1.1) a.1.2) b.1.2
+    (subst (λ (e : End). FirstFollows q left right budget e o) (phase_once q left right (size_of q.space) (first q left right) right budget a.1.0 b.1.0 a.1.1 b.1.1) a.1.2) b.1.2
 
 -- ---- without a budget
 
@@ -182,14 +182,14 @@ abbrev IsNotForSteps : BestView → Type 0
 IsNotForSteps (Least num den proof values) = Unit {0}
 IsNotForSteps (Never values) = Unit {0}
 IsNotForSteps (Unbounded num den proof below) = Unit {0}
-IsNotForSteps (Undecided (causes.Pivots j part)) = ⊥
-IsNotForSteps (Undecided (causes.Width j part)) = Unit {0}
+IsNotForSteps (Undecided (causes.Pivots j phase)) = ⊥
+IsNotForSteps (Undecided (causes.Width j phase)) = Unit {0}
 IsNotForSteps (Undecided Scale) = Unit {0}
 IsNotForSteps (Undecided Size) = Unit {0}
 
 module _ (q : ProblemView) (left right : Terms) where
-  part_within : (m : ℕ) (us : List Generator) (target : Terms) (e : End) → PartEnds m us target None e → IsWithinBudget e
-  part_within m us target e a = ends_within_budget (span 1 m) (columns us) target e a
+  phase_within : (m : ℕ) (us : List Generator) (target : Terms) (e : End) → PhaseEnds m us target None e → IsWithinBudget e
+  phase_within m us target e a = ends_within_budget (span 1 m) (columns us) target e a
 
   or_scale_steps : (Fits : Type 0) (answer o : BestView) → IsNotForSteps answer → OrScale q left right Fits answer o → IsNotForSteps o
   or_scale_steps Fits answer o h (inl a) = subst IsNotForSteps (sym a.1) h
@@ -203,19 +203,19 @@ module _ (q : ProblemView) (left right : Terms) where
 
   second_steps : (ws : List (ℕ × Rational)) (e : End) (o : BestView) → IsWithinBudget e → SecondFollows q left right None ws e o → IsNotForSteps o
   second_steps ws (Weights below) o w f = or_scale_steps (UnboundedFits q left right ws below) (unbounded_view q left right ws below) o tt f
-  second_steps ws (Point qs) o w f = third_steps f.0 o (part_within (right_equation (size_of q.space) (generators q)) (third q left right) (third_target (size_of q.space) (generators q) right) f.0 f.1) f.2
+  second_steps ws (Point qs) o w f = third_steps f.0 o (phase_within (right_equation (size_of q.space) (generators q)) (third q left right) (third_target (size_of q.space) (generators q) right) f.0 f.1) f.2
   second_steps ws (Pivots j) o w f = absurd w
   second_steps ws (Width j) o w f = subst IsNotForSteps (sym f) tt
 
   first_steps : (e : End) (o : BestView) → IsWithinBudget e → FirstFollows q left right None e o → IsNotForSteps o
-  first_steps (Weights ws) o w f = second_steps ws f.0 o (part_within (size_of q.space) (generators q) (negated_terms left) f.0 f.1) f.2
+  first_steps (Weights ws) o w f = second_steps ws f.0 o (phase_within (size_of q.space) (generators q) (negated_terms left) f.0 f.1) f.2
   first_steps (Point qs) o w f = or_scale_steps (NeverFits q left right qs) (Never (never_values q left right qs)) o tt f
   first_steps (Pivots j) o w f = absurd w
   first_steps (Width j) o w f = subst IsNotForSteps (sym f) tt
 
   not_for_steps : (o : BestView) → EndsWith q left right None o → IsNotForSteps o
   not_for_steps o (inl a) = subst IsNotForSteps (sym a.1) tt
-  not_for_steps o (inr a) = first_steps a.1.0 o (part_within (size_of q.space) (first q left right) right a.1.0 a.1.1) a.1.2
+  not_for_steps o (inr a) = first_steps a.1.0 o (phase_within (size_of q.space) (first q left right) right a.1.0 a.1.1) a.1.2
 
 pub best_never_out_of_steps : BestNeverOutOfSteps
-best_never_out_of_steps q left right j part e = not_for_steps q left right (Undecided (causes.Pivots j part)) e
+best_never_out_of_steps q left right j phase e = not_for_steps q left right (Undecided (causes.Pivots j phase)) e

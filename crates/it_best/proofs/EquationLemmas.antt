@@ -1,4 +1,4 @@
--- The equations of the third part, one after the other: what its numbers say of the factor, of the weights and of the point's values.
+-- The equations of the third phase, one after the other: what its numbers say of the factor, of the weights and of the point's values.
 use Rattle.std.proofs.Common.{◌≡◌, ℕ, zero, suc, ◌+◌, ◌^◌, ◌<◌, ◌≤◌, ℤ, pos, neg_ℤ, ◌+ℤ◌, List, [], ◌∷◌, ◌++◌, length, map, get_or, take, drop, Bool, true, false, cond, nat_eq, nat_lt, eq-eqb, ne_eqb, refl, sym, ap, ap₂, subst, ◌∙◌, arith}
 use Rattle.std.specs.List.{AllByRecursion as Every}
 use Rattle.std.proofs.Math.IntN.{+ℤ_idl, +ℤ_idr}
@@ -16,11 +16,11 @@ use Rattle.it_run.specs.RowValues.{rational_value}
 use Rattle.it_run.proofs.RowValues.{whole_plus}
 use Rattle.it_elemental.specs.Generators.{Generator, generator_at}
 use Rattle.it_columns.proofs.Wholes.{whole_minus}
-use Rattle.it_best.specs.Parts.{coordinate_terms, coordinate_row, coordinate_unknown, slack_by, slacks, left_equation, right_equation}
+use Rattle.it_best.specs.Phases.{coordinate_terms, coordinate_row, coordinate_unknown, slack_by, slacks, left_equation, right_equation}
 use Rattle.it_best.proofs.NumberLemmas.{number_sum, AreNumbers, zero_least}
 use Rattle.it_best.proofs.WholePoints.{rational_map}
 
--- ---- sums of numbers over parts of a list of unknowns
+-- ---- sums of numbers over pieces of a list of unknowns
 
 null_plus : (x : Rational) → plus (integer (pos 0)) x ≡ x
 null_plus x = ring ring_ℚ (x ∷ []) (S.plus nil (v 0)) (v 0) refl

@@ -1,4 +1,4 @@
--- The numbers of the first part and of the third are a factor with a certificate.
+-- The numbers of the first phase and of the third are a factor with a certificate.
 use Rattle.std.proofs.Common.{◌≡◌, ℕ, zero, suc, ◌+◌, ◌*◌, ◌<◌, ℤ, pos, neg_ℤ, ◌+ℤ◌, ◌-ℤ◌, ◌*ℤ◌, List, [], ◌∷◌, length, map, refl, sym, ap, ap₂, ◌∙◌, arith}
 use Rattle.std.specs.List.{AllByRecursion as Every}
 use Rattle.std.proofs.lemmas.Int.{ints}
@@ -16,7 +16,7 @@ use Rattle.it_run.proofs.RowValues.{whole_plus}
 use Rattle.it_columns.specs.Scaling.{scale_of, scaled_number, scaled_point}
 use Rattle.it_columns.proofs.Scales.{denominators_divide}
 use Rattle.it_columns.proofs.Wholes.{whole_same, whole_times, whole_minus, whole_scaled}
-use Rattle.it_best.specs.Parts.{counterweight}
+use Rattle.it_best.specs.Phases.{counterweight}
 use Rattle.it_best.specs.Numbers.{multiples}
 use Rattle.it_best.proofs.NumberLemmas.{number_sum}
 use Prim.Native.Nat.{◌∣◌}

@@ -1,5 +1,5 @@
--- From the ends of the parts' runs to the answer, step by step as the code goes.
-use Rattle.std.proofs.Common.{◌≡◌, ℕ, suc, ◌+◌, ◌^◌, ◌<◌, ◌≤◌, ℤ, pos, ◌*ℤ◌, ◌≤ℤ◌, List, [], ◌∷◌, ◌++◌, length, map, Option, Result, Ok, Err, sym, ap, ap₂, subst, subst₂, ◌∙◌, arith}
+-- From the ends of the phases' runs to the answer, step by step as the code goes.
+use Rattle.std.proofs.Common.{◌≡◌, ℕ, suc, ◌+◌, ◌^◌, ◌<◌, ◌≤◌, ℤ, pos, ◌*ℤ◌, ◌≤ℤ◌, List, [], ◌∷◌, ◌++◌, length, map, Option, Result, Ok, Err, inr, refl, sym, ap, ap₂, subst, subst₂, ◌∙◌, arith}
 use Rattle.std.specs.Result.{IfOk}
 use Rattle.std.proofs.Common.{◌↔◌, Bool, true, false}
 use Rattle.std.specs.Bool.{IsTrue}
@@ -18,22 +18,24 @@ use Rattle.it_polymatroid.specs.Elementals.{span}
 use Rattle.it_polymatroid.proofs.Spans.{length-span}
 use Rattle.it_run.specs.Readings.{AreWeights}
 use Rattle.it_run.specs.Runs.{RunEndView}
-use Rattle.it_run.specs.Runs.RunEndView.{Weights, Point}
+use Rattle.it_run.specs.Answers.{end_of_answer}
+use Rattle.it_run.specs.declared.answering.Solved.{Solved}
 use Rattle.it_elemental.specs.Generators.{Generator, generators}
 use Rattle.it_columns.specs.Columns.{columns}
 use Rattle.it_columns.specs.Scaling.{NumbersFit, scaled_point}
 use Rattle.it_columns.proofs.ColumnLemmas.{few_columns}
 use Rattle.it_best.specs.declared.types.Best.{Best}
 use Rattle.it_best.specs.declared.unknowns.Unknown.{Unknown}
-use Rattle.it_best.specs.BestViews.{best_view}
-use Rattle.it_best.specs.Ends.{EndsWith, LeastPointFits, PartEnds, PartSeparates, PartSums, SidesFit, first, third}
+use Rattle.it_best.specs.BestViews.{BestView, best_view}
+use Rattle.it_best.specs.Ends.{EndsWith, FirstFollows, IsLarge, LeastPointFits, PhaseEnds, SidesFit, first, third}
+use Rattle.it_best.specs.PhaseSteps.{PhaseSums}
 use Rattle.it_best.specs.Factors.{IsRightBest, IsFactor, IsPoint, ground_of}
 use Rattle.it_best.specs.Numbers.{column_weight, factor_of, numbers, values_of, weights_certificate, weights_of}
-use Rattle.it_best.specs.Parts.{counterweight, coordinate_unknown, first_part, right_equation, slack_by, slacks, third_part, third_target, unknown_view, unknown_views}
+use Rattle.it_best.specs.Phases.{counterweight, coordinate_unknown, first_phase, right_equation, slack_by, slacks, third_phase, third_target, unknown_view, unknown_views}
 use Rattle.it_best.proofs.AnswerLemmas.{third_meets, left_some}
-use Rattle.it_best.proofs.EndLemmas.{right_end, best_is_right}
+use Rattle.it_best.proofs.EndLemmas.{best_is_right}
 use Rattle.it_best.proofs.NumberLemmas.{length-numbers_from}
-use Rattle.it_best.proofs.PartLemmas as parts
+use Rattle.it_best.proofs.PhaseLemmas as phases
 use Rattle.it_best.proofs.SystemSteps.{few_equations}
 
 -- ---- how many unknowns and columns there are
@@ -47,8 +49,8 @@ slacks_few e (g ∷ gs) = by_kind g.kind (slacks_few (e + 1) gs)
     by_kind Inequality h = omega (arith, h)
     by_kind Equation h = omega (arith, h)
 
-third_length : (n size : ℕ) (gs : List Generator) (left right : Terms) → length (third_part n size gs left right) ≡ 1 + (length gs + (size + length (slacks (size + 1) gs)))
-unfolding third_part
+third_length : (n size : ℕ) (gs : List Generator) (left right : Terms) → length (third_phase n size gs left right) ≡ 1 + (length gs + (size + length (slacks (size + 1) gs)))
+unfolding third_phase
 third_length n size gs left right = ap suc (length-append (map counterweight gs) (map (coordinate_unknown n size gs left right) (span 1 size) ++ slacks (size + 1) gs)
     ∙ ap₂ (λ a b. a + b) (length-map gs counterweight) (length-append (map (coordinate_unknown n size gs left right) (span 1 size)) (slacks (size + 1) gs)
     ∙ ap (λ a. a + length (slacks (size + 1) gs)) (length-map (span 1 size) (coordinate_unknown n size gs left right) ∙ length-span 1 size))) ∙ as_sum (length gs + (size + length (slacks (size + 1) gs)))
@@ -56,8 +58,8 @@ third_length n size gs left right = ap suc (length-append (map counterweight gs)
     as_sum : (a : ℕ) → suc a ≡ 1 + a
     as_sum a = omega arith
 
-first_length : (gs : List Generator) (left : Terms) → length (first_part gs left) ≡ 1 + length gs
-unfolding first_part
+first_length : (gs : List Generator) (left : Terms) → length (first_phase gs left) ≡ 1 + length gs
+unfolding first_phase
 first_length gs left = ap suc (length-map gs counterweight) ∙ as_sum (length gs)
   where
     as_sum : (a : ℕ) → suc a ≡ 1 + a
@@ -87,7 +89,7 @@ module _ (q : ProblemView) (left right : Terms) (k : IsProblem q) where
   gs_few = omega (arith, few_equations q k)
 
 -- as the code has them
-pub ordered_of : (m : ℕ) (us : List Generator) (target : Terms) (ws : List (ℕ × Rational)) → length us < 2 ^ 23 → PartSums m us target ws → AreWeights field_ℚ (2 ^ 63) 0 ws
+pub ordered_of : (m : ℕ) (us : List Generator) (target : Terms) (ws : List (ℕ × Rational)) → length us < 2 ^ 23 → PhaseSums m us target ws → AreWeights field_ℚ (2 ^ 63) 0 ws
 ordered_of m us target ws h s = weights_below (length (columns us)) (2 ^ 63) 0 ws (omega (arith, h, few_columns us)) s.ordered
 
 pub unknowns_few : (unknowns : List Unknown) (us : List Generator) → unknown_views unknowns ≡ us → length us < 2 ^ 23 → length unknowns < 2 ^ 32
@@ -96,10 +98,10 @@ unknowns_few unknowns us e h = omega (arith, h, ap length e, length-map unknowns
 numbers_length : (us : List Generator) (ws : List (ℕ × Rational)) → length (numbers us ws) ≡ length us
 numbers_length us ws = length-numbers_from us 0 (column_weight ws)
 
--- ---- the third part's numbers
+-- ---- the third phase's numbers
 
 module _ (q : ProblemView) (left right : Terms) (k : IsProblem q) (l : IsUpTo (size_of q.space) left) (r : IsUpTo (size_of q.space) right) (ws : List (ℕ × Rational))
-    (s : PartSums (right_equation (size_of q.space) (generators q)) (third q left right) (third_target (size_of q.space) (generators q) right) ws) where
+    (s : PhaseSums (right_equation (size_of q.space) (generators q)) (third q left right) (third_target (size_of q.space) (generators q) right) ws) where
   abbrev ns : List Rational
   ns = numbers (third q left right) ws
 
@@ -108,20 +110,20 @@ module _ (q : ProblemView) (left right : Terms) (k : IsProblem q) (l : IsUpTo (s
 
   pub third_factor_is : (x : Rational) (xs : List Rational) → x ≡ factor_of ns → xs ≡ weights_of (length (generators q)) ns → IsFactor (ground_of q) (value left) (value right) x.num (pos x.den) (weights_certificate (pos x.den) xs)
   third_factor_is x xs e f = subst₂ (λ (x : Rational) (xs : List Rational). IsFactor (ground_of q) (value left) (value right) x.num (pos x.den) (weights_certificate (pos x.den) xs))
-      (sym (e ∙ parts.factor_is q left right k l r ws)) (sym (f ∙ parts.weights_are q left right k l r ws)) (parts.third_factor_right q left right k l r ws s)
+      (sym (e ∙ phases.factor_is q left right k l r ws)) (sym (f ∙ phases.weights_are q left right k l r ws)) (phases.third_factor_right q left right k l r ws s)
 
   pub third_values_length : (vs : List Rational) → vs ≡ values_of (length (generators q)) (size_of q.space) ns → length vs ≡ size_of q.space
-  third_values_length vs e = ap length (e ∙ parts.values_are q left right k l r ws) ∙ parts.hs_length q left right k l r ws
+  third_values_length vs e = ap length (e ∙ phases.values_are q left right k l r ws) ∙ phases.hs_length q left right k l r ws
 
   pub third_point_meets : (vs : List Rational) → vs ≡ values_of (length (generators q)) (size_of q.space) ns → IsPoint (ground_of q) (scaled_point vs)
-  third_point_meets vs e = subst (λ (vs : List Rational). IsPoint (ground_of q) (scaled_point vs)) (sym (e ∙ parts.values_are q left right k l r ws)) (third_meets q left right k l r ws s)
+  third_point_meets vs e = subst (λ (vs : List Rational). IsPoint (ground_of q) (scaled_point vs)) (sym (e ∙ phases.values_are q left right k l r ws)) (third_meets q left right k l r ws s)
 
   pub third_left_some : (vs : List Rational) → vs ≡ values_of (length (generators q)) (size_of q.space) ns → pos 1 ≤ℤ value left (map_of (scaled_point vs))
-  third_left_some vs e = subst (λ (vs : List Rational). pos 1 ≤ℤ value left (map_of (scaled_point vs))) (sym (e ∙ parts.values_are q left right k l r ws)) (left_some q left right k l r ws s)
+  third_left_some vs e = subst (λ (vs : List Rational). pos 1 ≤ℤ value left (map_of (scaled_point vs))) (sym (e ∙ phases.values_are q left right k l r ws)) (left_some q left right k l r ws s)
 
--- ---- the first part's
+-- ---- the first phase's
 
-module _ (q : ProblemView) (left right : Terms) (ws : List (ℕ × Rational)) (s : PartSums (size_of q.space) (first q left right) right ws) where
+module _ (q : ProblemView) (left right : Terms) (ws : List (ℕ × Rational)) (s : PhaseSums (size_of q.space) (first q left right) right ws) where
   abbrev first_ns : List Rational
   first_ns = numbers (first q left right) ws
 
@@ -129,31 +131,38 @@ module _ (q : ProblemView) (left right : Terms) (ws : List (ℕ × Rational)) (s
   first_long xs e = omega (arith, ap length e, numbers_length (first q left right) ws, first_length (generators q) left)
 
   pub first_factor_is : (x : Rational) (xs : List Rational) → x ≡ factor_of first_ns → xs ≡ weights_of (length (generators q)) first_ns → IsFactor (ground_of q) (value left) (value right) x.num (pos x.den) (weights_certificate (pos x.den) xs)
-  first_factor_is x xs e f = subst₂ (λ (x : Rational) (xs : List Rational). IsFactor (ground_of q) (value left) (value right) x.num (pos x.den) (weights_certificate (pos x.den) xs)) (sym e) (sym f) (parts.first_right q left right ws s)
+  first_factor_is x xs e f = subst₂ (λ (x : Rational) (xs : List Rational). IsFactor (ground_of q) (value left) (value right) x.num (pos x.den) (weights_certificate (pos x.den) xs)) (sym e) (sym f) (phases.first_right q left right ws s)
 
 pub gs_numbers_few : (q : ProblemView) (k : IsProblem q) (ws : List (ℕ × Rational)) (xs : List Rational) → xs ≡ numbers (generators q) ws → length xs < 2 ^ 32
 gs_numbers_few q k ws xs e = omega (arith, ap length e, numbers_length (generators q) ws, few_equations q k)
 
--- ---- the ends of the parts
+-- ---- the ends of the phases
 
-pub sums_of : (m : ℕ) (us : List Generator) (target : Terms) (budget : Option ℕ) (e : RunEndView (List (ℕ × Rational)) (List Rational)) (ws : List (ℕ × Rational)) → PartEnds m us target budget e → e ≡ Weights ws → PartSums m us target ws
-sums_of m us target budget e ws p is = right_end m us target budget (Weights ws) (subst (PartEnds m us target budget) is p)
+-- the run of the code's rows is that of the phase
+pub ends_so : (m n : ℕ) (us vs : List Generator) (target row : Terms) (budget : Option ℕ) (e : RunEndView (List (ℕ × Rational)) (List Rational)) → m ≡ n → us ≡ vs → target ≡ row → PhaseEnds m us target budget e → PhaseEnds n vs row budget e
+ends_so m n us vs target row budget e a b d p = subst (λ k. PhaseEnds k vs row budget e) a (subst₂ (λ (ws : List Generator) (ts : Terms). PhaseEnds m ws ts budget e) b d p)
 
-pub separates_of : (m : ℕ) (us : List Generator) (target : Terms) (budget : Option ℕ) (e : RunEndView (List (ℕ × Rational)) (List Rational)) (qs : List Rational) → PartEnds m us target budget e → e ≡ Point qs → PartSeparates m us target qs
-separates_of m us target budget e qs p is = right_end m us target budget (Point qs) (subst (PartEnds m us target budget) is p)
+-- the answer by the end of a phase's run is one by some end
+pub by_end : {E : Type 0} (m n : ℕ) (us vs : List Generator) (target : Terms) (budget : Option ℕ) (solved : Solved) (o : Result Best E) (Follows : RunEndView (List (ℕ × Rational)) (List Rational) → BestView → Type 0) → m ≡ n → us ≡ vs
+    → PhaseEnds m us target budget (end_of_answer solved) → IfOk o (λ b. Follows (end_of_answer solved) (best_view b))
+    → IfOk o (λ b. (e : RunEndView (List (ℕ × Rational)) (List Rational)) × PhaseEnds n vs target budget e × Follows e (best_view b))
+by_end m n us vs target budget solved (Err e) Follows a b p f = tt
+by_end m n us vs target budget solved (Ok o) Follows a b p f = (end_of_answer solved, ends_so m n us vs target target budget (end_of_answer solved) a b refl p, f)
 
 pub right_result : {E : Type 0} (q : ProblemView) (left right : Terms) (budget : Option ℕ) (r : Result Best E) → IsProblem q → IsUpTo (size_of q.space) left → IsUpTo (size_of q.space) right
     → IfOk r (λ b. EndsWith q left right budget (best_view b)) → IfOk r (λ b. IsRightBest (ground_of q) (value left) (value right) (best_view b))
 right_result q left right budget (Err e) k l r h = tt
 right_result q left right budget (Ok b) k l r h = best_is_right q left right budget (best_view b) k l r h
 
--- the run of the code's rows is that of the part
-pub ends_so : (m n : ℕ) (us vs : List Generator) (target row : Terms) (budget : Option ℕ) (e : RunEndView (List (ℕ × Rational)) (List Rational)) → m ≡ n → us ≡ vs → target ≡ row → PartEnds m us target budget e → PartEnds n vs row budget e
-ends_so m n us vs target row budget e a b d p = subst (λ k. PartEnds k vs row budget e) a (subst₂ (λ (ws : List Generator) (ts : Terms). PartEnds m ws ts budget e) b d p)
-
 pub not_large : (b : Bool) (P : Type 0) → b ≡ false → IsTrue b ↔ P → ¬ P
 not_large true P e i p = cc
 not_large false P e i p = Rattle.std.proofs.lemmas.Bool.false≢true (i.1 p)
+
+-- where the table isn't too large, the answer by the first phase is the answer
+pub goes_on : {E : Type 0} (q : ProblemView) (left right : Terms) (budget : Option ℕ) (o : Result Best E) → ¬ (IsLarge q)
+    → IfOk o (λ b. (e : RunEndView (List (ℕ × Rational)) (List Rational)) × PhaseEnds (size_of q.space) (first q left right) right budget e × FirstFollows q left right budget e (best_view b)) → IfOk o (λ b. EndsWith q left right budget (best_view b))
+goes_on q left right budget (Err e) small f = tt
+goes_on q left right budget (Ok b) small f = inr (small, f)
 
 -- ---- the point of the least factor
 

@@ -20,8 +20,8 @@ use Rattle.it_elemental.specs.Generators.{Generator}
 use Rattle.it_columns.specs.Columns.{count_by}
 use Rattle.it_best.specs.declared.unknowns.Unknown.{Unknown}
 use Rattle.it_best.specs.Numbers.{DifferencesFit, NumberFits, column_weight, multiples, number_by, numbers, numbers_from}
-use Rattle.it_best.specs.Parts.{unknown_view, unknown_views}
-use Rattle.it_best.proofs.WalkLemmas.{part_more, part_end}
+use Rattle.it_best.specs.Phases.{unknown_view, unknown_views}
+use Rattle.it_best.proofs.WalkLemmas.{piece_more, piece_end}
 
 -- ---- the numbers of unknowns
 
@@ -44,7 +44,7 @@ module _ (k : ℤ) (qs : List Rational) (i : ℕ) (q : Rational) (old : List Rat
 
   pub multiples_more : (new : List Rational) → new ≡ old ++ times q (integer k) ∷ [] → IsNarrow (times q (integer k)) → AreMultiples k qs (i + 1) new
   multiples_more new e f = record {
-    same = part_more old new (times q (integer k) ∷ []) (multiples k (drop (i + 1) qs)) (multiples k qs) e (ap (λ xs. old ++ multiples k xs) (sym next_multiple) ∙ a.same);
+    same = piece_more old new (times q (integer k) ∷ []) (multiples k (drop (i + 1) qs)) (multiples k qs) e (ap (λ xs. old ++ multiples k xs) (sym next_multiple) ∙ a.same);
     fits = (λ g. a.fits.0 (subst (MultiplesFit k) (sym next_multiple) (f, g)), λ g. (subst (MultiplesFit k) next_multiple (a.fits.1 g)).1);
   }
 
@@ -53,7 +53,7 @@ module _ (k : ℤ) (qs : List Rational) (i : ℕ) (q : Rational) (old : List Rat
 
 pub multiples_done : (k : ℤ) (qs : List Rational) (i : ℕ) (out : List Rational) → length qs ≤ i → AreMultiples k qs i out → (out ≡ multiples k qs) × MultiplesFit k qs
 multiples_done k qs i out h a = (
-  part_end out (multiples k (drop i qs)) (multiples k qs) (ap (multiples k) (drop_all i qs h)) a.same,
+  piece_end out (multiples k (drop i qs)) (multiples k qs) (ap (multiples k) (drop_all i qs h)) a.same,
   a.fits.0 (subst (MultiplesFit k) (sym (drop_all i qs h)) tt),
 )
 
@@ -106,7 +106,7 @@ module _ (us : List Unknown) (ws : List (ℕ × Rational)) (i column : ℕ) (u :
       let here : NumberFits u.kind (column_weight ws) column = subst (λ m. NumberFits m (column_weight ws) column) k f in
       let after : column + count_by u.kind ≡ column + width = ap (λ n. column + n) (sym (w ∙ ap count_by k)) in
       subst (λ n. AreNumbersSoFar (unknown_views us) ws (i + 1) n new) after (record {
-        same = part_more old new (number_by u.kind (column_weight ws) column ∷ []) (numbers_from (column + count_by u.kind) (drop (i + 1) (unknown_views us)) (column_weight ws)) (numbers (unknown_views us) ws)
+        same = piece_more old new (number_by u.kind (column_weight ws) column ∷ []) (numbers_from (column + count_by u.kind) (drop (i + 1) (unknown_views us)) (column_weight ws)) (numbers (unknown_views us) ws)
             (e ∙ ap (λ m. old ++ number_by m (column_weight ws) column ∷ []) k) (ap (λ xs. old ++ numbers_from column xs (column_weight ws)) (sym next_unknown) ∙ a.same);
         fits = (λ g. a.fits.0 (subst (λ xs. DifferencesFit column xs (column_weight ws)) (sym next_unknown) (here, g)), λ g. (subst (λ xs. DifferencesFit column xs (column_weight ws)) next_unknown (a.fits.1 g)).1);
         few = omega (arith, a.few, few_columns u.kind);
@@ -125,7 +125,7 @@ pub numbers_done : (us : List Unknown) (ws : List (ℕ × Rational)) (i column :
 unfolding numbers_from DifferencesFit
 numbers_done us ws i column out h a =
     let none : drop i (unknown_views us) ≡ [] = drop_all i (unknown_views us) (omega (arith, h, Rattle.std.proofs.lemmas.List.length-map us unknown_view)) in (
-      part_end out (numbers_from column (drop i (unknown_views us)) (column_weight ws)) (numbers (unknown_views us) ws) (ap (λ xs. numbers_from column xs (column_weight ws)) none) a.same,
+      piece_end out (numbers_from column (drop i (unknown_views us)) (column_weight ws)) (numbers (unknown_views us) ws) (ap (λ xs. numbers_from column xs (column_weight ws)) none) a.same,
       a.fits.0 (subst (λ xs. DifferencesFit column xs (column_weight ws)) (sym none) tt),
     )
 

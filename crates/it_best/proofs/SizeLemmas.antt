@@ -1,4 +1,4 @@
--- How many columns the third part has.
+-- How many columns the third phase has.
 use Rattle.std.proofs.Common.{◌≡◌, ℕ, zero, suc, ◌+◌, ◌-◌, ◌*◌, ◌^◌, ◌<◌, ◌≤◌, List, [], ◌∷◌, ◌++◌, length, map, Bool, true, false, nat_lt, refl, ap, ap₂, ◌∙◌, arith}
 use Rattle.std.specs.Bool.{Decides}
 use Rattle.std.specs.List.{flat_map}
@@ -15,7 +15,7 @@ use Rattle.it_elemental.specs.Generators.{Generator, generators}
 use Rattle.it_columns.specs.Columns.{columns, columns_by, columns_of, count_by}
 use Rattle.it_best.specs.Ends.{third}
 use Rattle.it_best.specs.Theorems.{SizeIsCounted}
-use Rattle.it_best.specs.Parts.{counterweight, coordinate_row, coordinate_unknown, slack_by, slacks, third_part}
+use Rattle.it_best.specs.Phases.{counterweight, coordinate_row, coordinate_unknown, slack_by, slacks, third_phase}
 
 abbrev counted : List Generator → ℕ
 counted [] = 0
@@ -86,13 +86,13 @@ module _ (n size : ℕ) (gs : List Generator) (left right : Terms) where
       ∙ omega (arith, e)
 
 pub size_is_counted : SizeIsCounted
-unfolding third_part
+unfolding third_phase
 size_is_counted q left right =
     let n = q.space.variables in
     let size = size_of q.space in
     let gs = generators q in
     let values = map (coordinate_unknown n size gs left right) (span 1 size) in
-    let parts : counted (map counterweight gs ++ (values ++ slacks (size + 1) gs)) ≡ counted (map counterweight gs) + (counted values + counted (slacks (size + 1) gs)) =
+    let pieces : counted (map counterweight gs ++ (values ++ slacks (size + 1) gs)) ≡ counted (map counterweight gs) + (counted values + counted (slacks (size + 1) gs)) =
     counted-append (map counterweight gs) (values ++ slacks (size + 1) gs) ∙ ap (λ k. counted (map counterweight gs) + k) (counted-append values (slacks (size + 1) gs)) in
     let all : length (columns (third q left right)) ≡ 2 + counted (map counterweight gs ++ (values ++ slacks (size + 1) gs)) = columns_counted (third q left right) in
-    omega (arith, all, parts, generators_counted (size + 1) gs, values_counted n size gs left right q.space.rates refl)
+    omega (arith, all, pieces, generators_counted (size + 1) gs, values_counted n size gs left right q.space.rates refl)

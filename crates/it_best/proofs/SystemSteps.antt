@@ -15,8 +15,8 @@ use Rattle.it_space.specs.declared.problems.Kind.{Kind}
 use Rattle.it_space.specs.declared.problems.Kind.TheVariants.{Equation}
 use Rattle.it_polymatroid.specs.Elementals.{span}
 use Rattle.it_best.specs.declared.unknowns.Unknown.{Unknown}
-use Rattle.it_best.specs.Parts.{bounded_unknown, free_unknown, unknown_views, counterweight, first_part, coordinate_terms, coordinate_row, coordinate_unknown, slacks, third_part, left_equation, right_equation}
-use Rattle.it_best.proofs.WalkLemmas.{part_more, part_end}
+use Rattle.it_best.specs.Phases.{bounded_unknown, free_unknown, unknown_views, counterweight, first_phase, coordinate_terms, coordinate_row, coordinate_unknown, slacks, third_phase, left_equation, right_equation}
+use Rattle.it_best.proofs.WalkLemmas.{piece_more, piece_end}
 
 -- the rows as those of generators
 abbrev terms_of_rows : ℕ → List Terms → ℕ → Terms
@@ -42,7 +42,7 @@ pub coordinate_more : (first c : ℕ) (rows : List Terms) (i : ℕ) (r : Terms) 
     → new ≡ old ++ single_term equation x → AreCoordinateTerms first c rows i old → AreCoordinateTerms first c rows (i + 1) new
 coordinate_more first c rows i r x equation old new h is value w q e a = record {
   same = ap (λ n. new ++ terms_of_rows n (drop (i + 1) rows) c) (next first i)
-      ∙ part_more old new (single_term (first + i) (coefficient r c)) (terms_of_rows (first + i + 1) (drop (i + 1) rows) c) (terms_of_rows first rows c)
+      ∙ piece_more old new (single_term (first + i) (coefficient r c)) (terms_of_rows (first + i + 1) (drop (i + 1) rows) c) (terms_of_rows first rows c)
       (e ∙ ap₂ (λ n y. old ++ single_term n y) q value)
       (ap (λ rs. old ++ terms_of_rows (first + i) rs c) (sym (Rattle.it_space.proofs.ListLemmas.drop_item rows i r h is)) ∙ a.same);
   within = λ j l. by_cases j (Rattle.std.proofs.lemmas.Bool.cases_lt j i) l;
@@ -64,7 +64,7 @@ coordinate_more first c rows i r x equation old new h is value w q e a = record 
 pub coordinate_done : (first c : ℕ) (rows : List Terms) (i : ℕ) (terms : Terms) → length rows ≤ i → AreCoordinateTerms first c rows i terms → (gs : List Generator) → rows ≡ map (λ (g : Generator). g.row) gs
     → terms ≡ coordinate_terms first gs c
 coordinate_done first c rows i terms h a gs e =
-    part_end terms (terms_of_rows (first + i) (drop i rows) c) (terms_of_rows first rows c) (ap (λ rs. terms_of_rows (first + i) rs c) (drop_all i rows h)) a.same
+    piece_end terms (terms_of_rows (first + i) (drop i rows) c) (terms_of_rows first rows c) (ap (λ rs. terms_of_rows (first + i) rs c) (drop_all i rows h)) a.same
     ∙ ap (λ rs. terms_of_rows first rs c) e ∙ rows_are_generators first gs c
 
 pub coordinate_within : (first c : ℕ) (rows : List Terms) (i : ℕ) (terms : Terms) → length rows ≤ i → AreCoordinateTerms first c rows i terms → (gs : List Generator) → rows ≡ map (λ (g : Generator). g.row) gs
@@ -109,7 +109,7 @@ few_equations q k =
     let power : 2 ^ q.space.variables ≤ 2 ^ 10 = pow_mono {i = q.space.variables} {j = 10} k.space.few in
     omega (arith, few_generators q k, power, k.space.few_rates)
 
--- ---- the parts as the code puts them together
+-- ---- the phases as the code puts them together
 
 pub row_after_pushes : (size : ℕ) (gs : List Generator) (left right : Terms) (c : ℕ) (one two three : Terms) (l r : ℕ) (x y : ℤ) → one ≡ coordinate_terms (size + 1) gs c → l ≡ left_equation size gs → x ≡ coefficient left c
     → r ≡ right_equation size gs → y ≡ coefficient right c → two ≡ one ++ single_term l x → three ≡ two ++ single_term r y → three ≡ coordinate_row size gs left right c
@@ -118,8 +118,8 @@ row_after_pushes size gs left right c one two three l r x y a b d e f g h =
     ∙ append_assoc (coordinate_terms (size + 1) gs c) (single_term (left_equation size gs) (coefficient left c)) (single_term (right_equation size gs) (coefficient right c))
 
 pub first_is : (gs : List Generator) (left row : Terms) (none one all : List Unknown) → row ≡ left → none ≡ [] → one ≡ none ++ record { kind = Equation; row = row } ∷ [] → unknown_views all ≡ unknown_views one ++ map counterweight gs
-    → unknown_views all ≡ first_part gs left
-unfolding first_part
+    → unknown_views all ≡ first_phase gs left
+unfolding first_phase
 first_is gs left row none one all e n o a = a ∙ ap (λ us. unknown_views us ++ map counterweight gs) (o ∙ ap (λ us. us ++ record { kind = Equation; row = row } ∷ []) n) ∙ ap (λ ts. free_unknown ts ∷ map counterweight gs) e
 
 pub value_unknown : (n size : ℕ) (gs : List Generator) (left right : Terms) (c : ℕ) (kind : Kind) (row : Terms) → kind ≡ (coordinate_unknown n size gs left right c).kind → row ≡ coordinate_row size gs left right c
@@ -136,8 +136,8 @@ value_unknown n size gs left right c kind row k e = ap₂ (λ a b. record { kind
 pub third_is : (n size : ℕ) (gs : List Generator) (left right row : Terms) (equation : ℕ) (none one two three all : List Unknown) → row ≡ left ++ (equation, neg_ℤ (pos 1)) ∷ [] → equation ≡ right_equation size gs → none ≡ []
     → one ≡ none ++ record { kind = Equation; row = row } ∷ [] → unknown_views two ≡ unknown_views one ++ map counterweight gs
     → unknown_views three ≡ unknown_views two ++ map (coordinate_unknown n size gs left right) (span 1 size) → unknown_views all ≡ unknown_views three ++ slacks (size + 1) gs
-    → unknown_views all ≡ third_part n size gs left right
-unfolding third_part
+    → unknown_views all ≡ third_phase n size gs left right
+unfolding third_phase
 third_is n size gs left right row equation none one two three all e q z o a b d =
     let values = map (coordinate_unknown n size gs left right) (span 1 size) in
     d ∙ ap (λ us. us ++ slacks (size + 1) gs) (b ∙ ap (λ us. us ++ values) (a ∙ ap (λ us. unknown_views us ++ map counterweight gs) (o ∙ ap (λ us. us ++ record { kind = Equation; row = row } ∷ []) z)))

@@ -1,4 +1,4 @@
--- How the search for the best factor ends: by the ends of the three parts' runs, each made exactly where the parts before it leave it to
+-- How the search for the best factor ends: by the ends of the three phases' runs, each made exactly where the phases before it leave it to
 -- be made, and by the numbers of the scaled answer.
 use Rattle.std.specs.Prelude.{◌≡◌, ◌⊎◌, ℕ, ◌+◌, ◌*◌, ◌<◌, ◌≤◌, ℤ, pos, neg_ℤ, ◌-ℤ◌, ◌*ℤ◌, List, length, map, All, Option}
 use Rattle.it_number.specs.Limit.{IsWithin}
@@ -8,9 +8,6 @@ use Rattle.it_space.specs.Rows.{Terms, ValueFits, coefficient, value, map_of, ne
 use Rattle.it_space.specs.Spaces.{size_of}
 use Rattle.it_space.specs.Sums.{terms_from}
 use Rattle.it_polymatroid.specs.Elementals.{span}
-use Rattle.it_rational.proofs.Field.{field_ℚ}
-use Rattle.it_tableau.specs.Problems.{feasibility_problem}
-use Rattle.it_run.specs.Readings.{Separates, SumsUp}
 use Rattle.it_run.specs.Runs.{RunEndView}
 use Rattle.it_run.specs.Runs.RunEndView.{Weights, Point, Pivots, Width}
 use Rattle.it_simplex.specs.Answers.{Solves}
@@ -22,11 +19,11 @@ use Rattle.it_best.specs.declared.types.BestCause.TheVariants as causes
 use Rattle.it_best.specs.declared.types.BestCause.TheVariants.{Scale, Size}
 use Rattle.it_best.specs.BestViews.{BestView, Least, Never, Unbounded, Undecided}
 use Rattle.it_best.specs.Numbers.{DifferencesFit, WeightsFit, column_weight, factor_of, numbers, values_of, weights_certificate, weights_of}
-use Rattle.it_best.specs.Parts.{first_part, third_part, third_target, right_equation}
+use Rattle.it_best.specs.Phases.{first_phase, third_phase, third_target, right_equation}
 
 -- ---- the size
 
--- the equations of the third part
+-- the equations of the third phase
 abbrev pub third_rows : ProblemView → ℕ
 third_rows q = size_of q.space + length (generators q) + 2
 
@@ -35,7 +32,7 @@ third_rows q = size_of q.space + length (generators q) + 2
 abbrev pub third_columns : ProblemView → ℕ
 third_columns q = 2 + 2 * length (generators q) + size_of q.space + q.space.rates + third_rows q
 
--- the table of the third part's start has more than 4,000,000 entries
+-- the table of the third phase's start has more than 4,000,000 entries
 abbrev pub IsLarge : ProblemView → Type 0
 IsLarge q = 4000000 < third_rows q * third_columns q
 
@@ -80,34 +77,26 @@ pub record LeastPointFits (q : ProblemView) (left right : Terms) (factor : Ratio
   pub left_times : IsWithin (factor.num *ℤ value left (map_of (scaled_point qs)))
   pub right_times : IsWithin (pos factor.den *ℤ value right (map_of (scaled_point qs)))
 
--- ---- the parts
+-- ---- the phases
 
 -- the run of unknowns that are to make a target, over so many equations, ends so
-abbrev pub PartEnds : ℕ → List Generator → Terms → Option ℕ → RunEndView (List (ℕ × Rational)) (List Rational) → Type 0
-PartEnds m us target budget e = Solves (span 1 m) (columns us) target budget e
-
--- weights of a part sum to its target
-abbrev pub PartSums : ℕ → List Generator → Terms → List (ℕ × Rational) → Type 0
-PartSums m us target ws = SumsUp field_ℚ (length (span 1 m)) (length (columns us)) (feasibility_problem (span 1 m) (columns us) target) ws
-
--- and a point of it separates its target from its columns
-abbrev pub PartSeparates : ℕ → List Generator → Terms → List Rational → Type 0
-PartSeparates m us target qs = Separates field_ℚ (length (span 1 m)) (length (columns us)) (feasibility_problem (span 1 m) (columns us) target) qs
+abbrev pub PhaseEnds : ℕ → List Generator → Terms → Option ℕ → RunEndView (List (ℕ × Rational)) (List Rational) → Type 0
+PhaseEnds m us target budget e = Solves (span 1 m) (columns us) target budget e
 
 module _ (q : ProblemView) (left right : Terms) where
   -- how many coordinates there are
   abbrev pub size : ℕ
   size = size_of q.space
 
-  -- the unknowns of the first part
+  -- the unknowns of the first phase
   abbrev pub first : List Generator
-  first = first_part (generators q) left
+  first = first_phase (generators q) left
 
-  -- those of the third part
+  -- those of the third phase
   abbrev pub third : List Generator
-  third = third_part q.space.variables size (generators q) left right
+  third = third_phase q.space.variables size (generators q) left right
 
-  -- the factor, by the weights of the first part or of the third
+  -- the factor, by the weights of the first phase or of the third
   abbrev pub factor_by : List Generator → List (ℕ × Rational) → Rational
   factor_by unknowns ws = factor_of (numbers unknowns ws)
 
@@ -136,11 +125,11 @@ module _ (q : ProblemView) (left right : Terms) where
     pub below_differences : DifferencesFit 0 (generators q) (column_weight below)
     pub below_proof : BelowFits q left (numbers (generators q) below)
 
-  -- the factor and both certificates, by the weights of the first part and of the second
+  -- the factor and both certificates, by the weights of the first phase and of the second
   abbrev pub unbounded_view : List (ℕ × Rational) → List (ℕ × Rational) → BestView
   unbounded_view ws below = Unbounded (factor_by first ws).num (pos (factor_by first ws).den) (weights_certificate (pos (factor_by first ws).den) (weights_by first ws)) (weights_certificate (pos 1) (numbers (generators q) below))
 
-  -- the point at which no factor holds: the first part's, made whole and turned
+  -- the point at which no factor holds: the first phase's, made whole and turned
   abbrev pub never_values : List Rational → List ℤ
   never_values qs = map neg_ℤ (scaled_point qs)
 
@@ -153,7 +142,7 @@ module _ (q : ProblemView) (left right : Terms) where
   abbrev pub OrScale : Type 0 → BestView → BestView → Type 0
   OrScale Fits answer o = (Fits × (o ≡ answer)) ⊎ (¬ Fits × (o ≡ Undecided Scale))
 
-  -- the answer by the end of the third part, which is never a point
+  -- the answer by the end of the third phase, which is never a point
   abbrev pub ThirdFollows : RunEndView (List (ℕ × Rational)) (List Rational) → BestView → Type 0
   ThirdFollows (Weights ws) o = OrScale (LeastFits ws) (least_view ws) o
   ThirdFollows (Point qs) o = ⊥
@@ -163,18 +152,18 @@ module _ (q : ProblemView) (left right : Terms) where
   -- by that of the second, where the first one ended by weights
   abbrev pub SecondFollows : Option ℕ → List (ℕ × Rational) → RunEndView (List (ℕ × Rational)) (List Rational) → BestView → Type 0
   SecondFollows budget ws (Weights below) o = OrScale (UnboundedFits ws below) (unbounded_view ws below) o
-  SecondFollows budget ws (Point qs) o = (e : RunEndView (List (ℕ × Rational)) (List Rational)) × PartEnds (right_equation size (generators q)) third (third_target size (generators q) right) budget e × ThirdFollows e o
+  SecondFollows budget ws (Point qs) o = (e : RunEndView (List (ℕ × Rational)) (List Rational)) × PhaseEnds (right_equation size (generators q)) third (third_target size (generators q) right) budget e × ThirdFollows e o
   SecondFollows budget ws (Pivots k) o = o ≡ Undecided (causes.Pivots k 2)
   SecondFollows budget ws (Width k) o = o ≡ Undecided (causes.Width k 2)
 
   -- by that of the first
   abbrev pub FirstFollows : Option ℕ → RunEndView (List (ℕ × Rational)) (List Rational) → BestView → Type 0
-  FirstFollows budget (Weights ws) o = (e : RunEndView (List (ℕ × Rational)) (List Rational)) × PartEnds size (generators q) (negated_terms left) budget e × SecondFollows budget ws e o
+  FirstFollows budget (Weights ws) o = (e : RunEndView (List (ℕ × Rational)) (List Rational)) × PhaseEnds size (generators q) (negated_terms left) budget e × SecondFollows budget ws e o
   FirstFollows budget (Point qs) o = OrScale (NeverFits qs) (Never (never_values qs)) o
   FirstFollows budget (Pivots k) o = o ≡ Undecided (causes.Pivots k 1)
   FirstFollows budget (Width k) o = o ≡ Undecided (causes.Width k 1)
 
-  -- the answer with a budget of steps for each part or without one
+  -- the answer with a budget of steps for each phase or without one
   abbrev pub EndsWith : Option ℕ → BestView → Type 0
   EndsWith budget o = (IsLarge q × (o ≡ Undecided Size))
-      ⊎ (¬ IsLarge q × ((e : RunEndView (List (ℕ × Rational)) (List Rational)) × PartEnds size first right budget e × FirstFollows budget e o))
+      ⊎ (¬ IsLarge q × ((e : RunEndView (List (ℕ × Rational)) (List Rational)) × PhaseEnds size first right budget e × FirstFollows budget e o))

@@ -11,7 +11,7 @@ use Rattle.it_best.specs.BestViews.{BestView, Undecided}
 use Rattle.it_best.specs.Ends.{EndsWith, third, third_columns, third_rows}
 use Rattle.it_best.specs.Factors.{HasNoFactor, HasNoLeastFactor, HoldsFactor, IsLeastFactor, IsRightBest, ground_of}
 
--- what the parts end with is right
+-- what the phases end with is right
 abbrev pub BestIsRight : Type 0
 BestIsRight = (q : ProblemView) (left right : Terms) (budget : Option ℕ) (o : BestView) → IsProblem q → IsUpTo (size_of q.space) left → IsUpTo (size_of q.space) right
     → EndsWith q left right budget o → IsRightBest (ground_of q) (value left) (value right) o
@@ -22,7 +22,7 @@ OneBest = (q : ProblemView) (left right : Terms) (budget : Option ℕ) (o p : Be
 
 -- without a budget no answer is left open for want of steps
 abbrev pub BestNeverOutOfSteps : Type 0
-BestNeverOutOfSteps = (q : ProblemView) (left right : Terms) (k part : ℕ) → EndsWith q left right None (Undecided (causes.Pivots k part)) → ⊥
+BestNeverOutOfSteps = (q : ProblemView) (left right : Terms) (k phase : ℕ) → EndsWith q left right None (Undecided (causes.Pivots k phase)) → ⊥
 
 -- ---- what right answers say of factors
 
@@ -43,7 +43,7 @@ UnboundedIsUnbounded = (q : ProblemView) (left right : Terms) (num den : ℤ) (p
     → HasNoLeastFactor (ground_of q) (value left) (value right) num den proof below
     → (a b : ℤ) → pos 1 ≤ℤ b → (a *ℤ den) ≤ℤ (num *ℤ b) → HoldsFactor (ground_of q) (value left) (value right) a b
 
--- that number of columns is that of the third part's columns and of one artificial column for each equation
+-- that number of columns is that of the third phase's columns and of one artificial column for each equation
 abbrev pub SizeIsCounted : Type 0
 SizeIsCounted = (q : ProblemView) (left right : Terms) → third_columns q ≡ length (columns (third q left right)) + third_rows q
 

@@ -1,5 +1,5 @@
 //! The best factor.
-ghost use Rattle.std.specs.Prelude.{◌≡◌, ◌<◌, ◌≤◌, ◌^◌, ◌+◌, List, ℕ, IfErr, IfOk, OnOk};
+ghost use Rattle.std.specs.Prelude.{◌≡◌, ◌<◌, ◌^◌, List, ℕ, IfOk};
 ghost use Rattle.it_rational.specs.Rational.{Rational};
 ghost use Rattle.it_space.specs.Problems.{IsProblem, problem_view};
 ghost use Rattle.it_space.specs.Rows.{IsUpTo, negated_terms, value};
@@ -7,28 +7,27 @@ ghost use Rattle.it_space.specs.Spaces.{size_of};
 ghost use Rattle.it_run.specs.Answers.{end_of_answer};
 ghost use Rattle.it_run.specs.Runs.{RunEndView};
 ghost use Rattle.it_elemental.specs.Generators.{generators};
-ghost use Rattle.it_best.specs.BestViews.{Never, best_view};
-ghost use Rattle.it_best.specs.Ends.{EndsWith, LeastFits, NeverFits, OrScale, PartEnds, PartSeparates, PartSums, SecondFollows, ThirdFollows, UnboundedFits, first, least_view, never_values, third, unbounded_view};
+ghost use Rattle.it_best.specs.BestViews.{best_view};
+ghost use Rattle.it_best.specs.Ends.{EndsWith, FirstFollows, PhaseEnds, SecondFollows, ThirdFollows, first, third};
 ghost use Rattle.it_best.specs.Factors.{IsRightBest, ground_of};
-ghost use Rattle.it_best.specs.Parts.{right_equation, third_target, unknown_views};
+ghost use Rattle.it_best.specs.Phases.{right_equation, third_target, unknown_views};
+ghost use Rattle.it_best.specs.PhaseSteps.{PhaseIsRight, PhaseSeparates, PhaseSums};
 
-use crate::judging::{below_proof, factor_proof, least_point, never_point};
-use crate::numbers::{factor_of, numbers, values_of, weights_of};
+use crate::answers::{least, never, unbounded};
 use crate::sizes::is_large;
 use crate::systems::{
-    first_part, left_equation, right_equation, second_part, third_part, with_term,
+    first_phase, left_equation, right_equation, second_phase, third_phase, with_term,
 };
 use crate::types::{Best, BestCause};
 use crate::unknowns::{Unknown, columns, equations};
 use it_columns::opposite_row;
-use it_elemental::generator_count;
 use it_fraction::Fraction;
 use it_simplex::{Budget, Solved, solve};
-use it_space::{Problem, Row, RowFault};
+use it_space::{Problem, Row};
 use std::alloc::{AllocError, Global};
 
-/// How the run of a part ends.
-fn part_end(
+/// How the run of a phase ends.
+fn phase_end(
     alloc: Global,
     unknowns: &[Unknown],
     count: u32,
@@ -36,7 +35,8 @@ fn part_end(
     budget: Budget,
 ) -> Result<Solved, AllocError>
     requires { count < 2 ^ 31 }
-    ensures { IfOk result (λ a. PartEnds count (unknown_views unknowns.now) target.now budget (end_of_answer a)) }
+    ensures ends { IfOk result (λ a. PhaseEnds count (unknown_views unknowns.now) target.now budget (end_of_answer a)) }
+    ensures right { IfOk result (λ a. PhaseIsRight count (unknown_views unknowns.now) target.now a) }
 {
     let coordinates = equations(alloc, count)?;
     let columns = columns(alloc, unknowns)?;
@@ -49,169 +49,63 @@ fn part_end(
     )
 }
 
-/// The answer by the point of the first part.
-fn never(
-    alloc: Global,
-    problem: &Problem,
-    left: &Row,
-    right: &Row,
-    values: &[Fraction],
-) -> Result<Best, AllocError>
-    requires problem { IsProblem (problem_view problem.now) }
-    requires left { IsUpTo (size_of problem.now.space) left.now }
-    requires right { IsUpTo (size_of problem.now.space) right.now }
-    requires separates { PartSeparates (size_of problem.now.space) (first (problem_view problem.now) left.now right.now) right.now values.now }
-    ensures { IfOk result (λ b. OrScale (problem_view problem.now) left.now right.now (NeverFits (problem_view problem.now) left.now right.now values.now) (Never (never_values (problem_view problem.now) left.now right.now values.now)) (best_view b)) }
-{
-    match never_point(alloc, problem, left, right, values) {
-        Ok(point) => Ok(Best::Never(point)),
-        Err(RowFault::Wide) => Ok(Best::Undecided(BestCause::Scale)),
-        Err(RowFault::Memory) => Err(AllocError),
-    }
-}
-
-/// The answer by the weights of the third part, where its numbers fit.
-fn least_answer(
-    alloc: Global,
-    problem: &Problem,
-    left: &Row,
-    right: &Row,
-    unknowns: &[Unknown],
-    weights: &[(usize, Fraction)],
-) -> Result<Best, RowFault>
-    requires problem { IsProblem (problem_view problem.now) }
-    requires left { IsUpTo (size_of problem.now.space) left.now }
-    requires right { IsUpTo (size_of problem.now.space) right.now }
-    requires unknowns { unknown_views unknowns.now ≡ third (problem_view problem.now) left.now right.now }
-    requires sums { PartSums (right_equation (size_of problem.now.space) (generators (problem_view problem.now))) (third (problem_view problem.now) left.now right.now) (third_target (size_of problem.now.space) (generators (problem_view problem.now)) right.now) weights.now }
-    ensures value { IfOk result (λ b. best_view b ≡ least_view (problem_view problem.now) left.now right.now weights.now) }
-    ensures fits { OnOk result (LeastFits (problem_view problem.now) left.now right.now weights.now) }
-    ensures wide { IfErr result (λ f. f ≡ RowFault.Wide → ¬ (LeastFits (problem_view problem.now) left.now right.now weights.now)) }
-{
-    let numbers = numbers(alloc, unknowns, weights)?;
-    let factor = factor_of(numbers.as_slice());
-    let count = generator_count(problem) as usize;
-    let proof = factor_proof(
-        alloc,
-        problem,
-        left,
-        right,
-        &factor,
-        weights_of(numbers.as_slice(), count),
-    )?;
-    let point = least_point(
-        alloc,
-        problem,
-        left,
-        right,
-        &factor,
-        values_of(numbers.as_slice(), count, problem.space.size() as usize),
-    )?;
-    Ok(Best::Least {
-        num: factor.num(),
-        den: factor.den(),
-        proof,
-        point,
-    })
-}
-
-/// The answer by the weights of the third part.
-fn least(
-    alloc: Global,
-    problem: &Problem,
-    left: &Row,
-    right: &Row,
-    unknowns: &[Unknown],
-    weights: &[(usize, Fraction)],
-) -> Result<Best, AllocError>
-    requires problem { IsProblem (problem_view problem.now) }
-    requires left { IsUpTo (size_of problem.now.space) left.now }
-    requires right { IsUpTo (size_of problem.now.space) right.now }
-    requires unknowns { unknown_views unknowns.now ≡ third (problem_view problem.now) left.now right.now }
-    requires sums { PartSums (right_equation (size_of problem.now.space) (generators (problem_view problem.now))) (third (problem_view problem.now) left.now right.now) (third_target (size_of problem.now.space) (generators (problem_view problem.now)) right.now) weights.now }
-    ensures { IfOk result (λ b. OrScale (problem_view problem.now) left.now right.now (LeastFits (problem_view problem.now) left.now right.now weights.now) (least_view (problem_view problem.now) left.now right.now weights.now) (best_view b)) }
-{
-    match least_answer(alloc, problem, left, right, unknowns, weights) {
-        Ok(best) => Ok(best),
-        Err(RowFault::Wide) => Ok(Best::Undecided(BestCause::Scale)),
-        Err(RowFault::Memory) => Err(AllocError),
-    }
-}
-
-/// The answer by the weights of the first part and of the second, where their numbers fit.
-fn unbounded_answer(
-    alloc: Global,
-    problem: &Problem,
-    left: &Row,
-    right: &Row,
-    unknowns: &[Unknown],
-    weights: &[(usize, Fraction)],
-    others: &[Unknown],
-    below: &[(usize, Fraction)],
-) -> Result<Best, RowFault>
-    requires problem { IsProblem (problem_view problem.now) }
-    requires left { IsUpTo (size_of problem.now.space) left.now }
-    requires right { IsUpTo (size_of problem.now.space) right.now }
-    requires unknowns { unknown_views unknowns.now ≡ first (problem_view problem.now) left.now right.now }
-    requires sums { PartSums (size_of problem.now.space) (first (problem_view problem.now) left.now right.now) right.now weights.now }
-    requires others { unknown_views others.now ≡ generators (problem_view problem.now) }
-    requires below { PartSums (size_of problem.now.space) (generators (problem_view problem.now)) (negated_terms left.now) below.now }
-    ensures value { IfOk result (λ b. best_view b ≡ unbounded_view (problem_view problem.now) left.now right.now weights.now below.now) }
-    ensures fits { OnOk result (UnboundedFits (problem_view problem.now) left.now right.now weights.now below.now) }
-    ensures wide { IfErr result (λ f. f ≡ RowFault.Wide → ¬ (UnboundedFits (problem_view problem.now) left.now right.now weights.now below.now)) }
-{
-    let first_numbers = numbers(alloc, unknowns, weights)?;
-    let factor = factor_of(first_numbers.as_slice());
-    let count = generator_count(problem) as usize;
-    let proof = factor_proof(
-        alloc,
-        problem,
-        left,
-        right,
-        &factor,
-        weights_of(first_numbers.as_slice(), count),
-    )?;
-    let second_numbers = numbers(alloc, others, below)?;
-    let below = below_proof(alloc, problem, left, second_numbers.as_slice())?;
-    Ok(Best::Unbounded {
-        num: factor.num(),
-        den: factor.den(),
-        proof,
-        below,
-    })
-}
-
-/// The answer by the weights of the first part and of the second.
-fn unbounded(
-    alloc: Global,
-    problem: &Problem,
-    left: &Row,
-    right: &Row,
-    unknowns: &[Unknown],
-    weights: &[(usize, Fraction)],
-    others: &[Unknown],
-    below: &[(usize, Fraction)],
-) -> Result<Best, AllocError>
-    requires problem { IsProblem (problem_view problem.now) }
-    requires left { IsUpTo (size_of problem.now.space) left.now }
-    requires right { IsUpTo (size_of problem.now.space) right.now }
-    requires unknowns { unknown_views unknowns.now ≡ first (problem_view problem.now) left.now right.now }
-    requires sums { PartSums (size_of problem.now.space) (first (problem_view problem.now) left.now right.now) right.now weights.now }
-    requires others { unknown_views others.now ≡ generators (problem_view problem.now) }
-    requires below { PartSums (size_of problem.now.space) (generators (problem_view problem.now)) (negated_terms left.now) below.now }
-    ensures { IfOk result (λ b. OrScale (problem_view problem.now) left.now right.now (UnboundedFits (problem_view problem.now) left.now right.now weights.now below.now) (unbounded_view (problem_view problem.now) left.now right.now weights.now below.now) (best_view b)) }
-{
-    match unbounded_answer(
-        alloc, problem, left, right, unknowns, weights, others, below,
-    ) {
-        Ok(best) => Ok(best),
-        Err(RowFault::Wide) => Ok(Best::Undecided(BestCause::Scale)),
-        Err(RowFault::Memory) => Err(AllocError),
-    }
-}
-
-/// The answer by the third part, after weights of the first and a point of the second: a point doesn't end it.
+/// The answer by the end of the third phase, which is no point after weights of the first and a point of the second.
 fn third_answer(
+    alloc: Global,
+    problem: &Problem,
+    left: &Row,
+    right: &Row,
+    unknowns: &[Unknown],
+    end: &Solved,
+) -> Result<Best, AllocError>
+    requires problem { IsProblem (problem_view problem.now) }
+    requires left { IsUpTo (size_of problem.now.space) left.now }
+    requires right { IsUpTo (size_of problem.now.space) right.now }
+    requires unknowns { unknown_views unknowns.now ≡ third (problem_view problem.now) left.now right.now }
+    requires end { PhaseIsRight (right_equation (size_of problem.now.space) (generators (problem_view problem.now))) (third (problem_view problem.now) left.now right.now) (third_target (size_of problem.now.space) (generators (problem_view problem.now)) right.now) end.now }
+    requires reached { (ps : List Rational) → PhaseSeparates (right_equation (size_of problem.now.space) (generators (problem_view problem.now))) (third (problem_view problem.now) left.now right.now) (third_target (size_of problem.now.space) (generators (problem_view problem.now)) right.now) ps → ⊥ }
+    ensures { IfOk result (λ b. ThirdFollows (problem_view problem.now) left.now right.now (end_of_answer end.now) (best_view b)) }
+{
+    match end {
+        Solved::Weights(weights) => least(
+            alloc,
+            problem,
+            left,
+            right,
+            unknowns,
+            weights.as_slice(),
+        ),
+        Solved::Point(_) => unreachable!(),
+        Solved::Pivots(steps) => Ok(Best::Undecided(BestCause::Pivots {
+            steps: *steps,
+            part: 3,
+        })),
+        Solved::Width(step) => Ok(Best::Undecided(BestCause::Width {
+            step: *step,
+            part: 3,
+        })),
+    }
+}
+
+/// How the run of the third phase ends.
+fn third_end(
+    alloc: Global,
+    problem: &Problem,
+    right: &Row,
+    unknowns: &[Unknown],
+    budget: Budget,
+) -> Result<Solved, AllocError>
+    requires problem { IsProblem (problem_view problem.now) }
+    requires right { IsUpTo (size_of problem.now.space) right.now }
+    ensures ends { IfOk result (λ a. PhaseEnds (right_equation (size_of problem.now.space) (generators (problem_view problem.now))) (unknown_views unknowns.now) (third_target (size_of problem.now.space) (generators (problem_view problem.now)) right.now) budget (end_of_answer a)) }
+    ensures right { IfOk result (λ a. PhaseIsRight (right_equation (size_of problem.now.space) (generators (problem_view problem.now))) (unknown_views unknowns.now) (third_target (size_of problem.now.space) (generators (problem_view problem.now)) right.now) a) }
+{
+    let target = with_term(alloc, right, left_equation(problem), 1)?;
+    phase_end(alloc, unknowns, right_equation(problem), &target, budget)
+}
+
+/// The answer by the third phase, where a point doesn't end it.
+fn by_third_phase(
     alloc: Global,
     problem: &Problem,
     left: &Row,
@@ -221,33 +115,15 @@ fn third_answer(
     requires problem { IsProblem (problem_view problem.now) }
     requires left { IsUpTo (size_of problem.now.space) left.now }
     requires right { IsUpTo (size_of problem.now.space) right.now }
-    requires reached { (ps : List Rational) → PartSeparates (right_equation (size_of problem.now.space) (generators (problem_view problem.now))) (third (problem_view problem.now) left.now right.now) (third_target (size_of problem.now.space) (generators (problem_view problem.now)) right.now) ps → ⊥ }
-    ensures { IfOk result (λ b. (e : RunEndView (List (ℕ × Rational)) (List Rational)) × PartEnds (right_equation (size_of problem.now.space) (generators (problem_view problem.now))) (third (problem_view problem.now) left.now right.now) (third_target (size_of problem.now.space) (generators (problem_view problem.now)) right.now) budget e × ThirdFollows (problem_view problem.now) left.now right.now e (best_view b)) }
+    requires reached { (ps : List Rational) → PhaseSeparates (right_equation (size_of problem.now.space) (generators (problem_view problem.now))) (third (problem_view problem.now) left.now right.now) (third_target (size_of problem.now.space) (generators (problem_view problem.now)) right.now) ps → ⊥ }
+    ensures { IfOk result (λ b. (e : RunEndView (List (ℕ × Rational)) (List Rational)) × PhaseEnds (right_equation (size_of problem.now.space) (generators (problem_view problem.now))) (third (problem_view problem.now) left.now right.now) (third_target (size_of problem.now.space) (generators (problem_view problem.now)) right.now) budget e × ThirdFollows (problem_view problem.now) left.now right.now e (best_view b)) }
 {
-    let unknowns = third_part(alloc, problem, left, right)?;
-    let target = with_term(alloc, right, left_equation(problem), 1)?;
-    match part_end(
-        alloc,
-        unknowns.as_slice(),
-        right_equation(problem),
-        &target,
-        budget,
-    )? {
-        Solved::Weights(weights) => least(
-            alloc,
-            problem,
-            left,
-            right,
-            unknowns.as_slice(),
-            weights.as_slice(),
-        ),
-        Solved::Point(_) => unreachable!(),
-        Solved::Pivots(steps) => Ok(Best::Undecided(BestCause::Pivots { steps, part: 3 })),
-        Solved::Width(step) => Ok(Best::Undecided(BestCause::Width { step, part: 3 })),
-    }
+    let unknowns = third_phase(alloc, problem, left, right)?;
+    let end = third_end(alloc, problem, right, unknowns.as_slice(), budget)?;
+    third_answer(alloc, problem, left, right, unknowns.as_slice(), &end)
 }
 
-/// The answer by the second part and those after it, after weights of the first.
+/// The answer by the end of the second phase, after weights of the first.
 fn second_answer(
     alloc: Global,
     problem: &Problem,
@@ -255,24 +131,20 @@ fn second_answer(
     right: &Row,
     unknowns: &[Unknown],
     weights: &[(usize, Fraction)],
+    others: &[Unknown],
+    end: &Solved,
     budget: Budget,
 ) -> Result<Best, AllocError>
     requires problem { IsProblem (problem_view problem.now) }
     requires left { IsUpTo (size_of problem.now.space) left.now }
     requires right { IsUpTo (size_of problem.now.space) right.now }
     requires unknowns { unknown_views unknowns.now ≡ first (problem_view problem.now) left.now right.now }
-    requires sums { PartSums (size_of problem.now.space) (first (problem_view problem.now) left.now right.now) right.now weights.now }
-    ensures { IfOk result (λ b. (e : RunEndView (List (ℕ × Rational)) (List Rational)) × PartEnds (size_of problem.now.space) (generators (problem_view problem.now)) (negated_terms left.now) budget e × SecondFollows (problem_view problem.now) left.now right.now budget weights.now e (best_view b)) }
+    requires sums { PhaseSums (size_of problem.now.space) (first (problem_view problem.now) left.now right.now) right.now weights.now }
+    requires others { unknown_views others.now ≡ generators (problem_view problem.now) }
+    requires end { PhaseIsRight (size_of problem.now.space) (generators (problem_view problem.now)) (negated_terms left.now) end.now }
+    ensures { IfOk result (λ b. SecondFollows (problem_view problem.now) left.now right.now budget weights.now (end_of_answer end.now) (best_view b)) }
 {
-    let others = second_part(alloc, problem)?;
-    let target = opposite_row(alloc, left)?;
-    match part_end(
-        alloc,
-        others.as_slice(),
-        problem.space.size(),
-        &target,
-        budget,
-    )? {
+    match end {
         Solved::Weights(below) => unbounded(
             alloc,
             problem,
@@ -280,17 +152,137 @@ fn second_answer(
             right,
             unknowns,
             weights,
-            others.as_slice(),
+            others,
             below.as_slice(),
         ),
-        Solved::Point(_) => third_answer(alloc, problem, left, right, budget),
-        Solved::Pivots(steps) => Ok(Best::Undecided(BestCause::Pivots { steps, part: 2 })),
-        Solved::Width(step) => Ok(Best::Undecided(BestCause::Width { step, part: 2 })),
+        Solved::Point(_) => by_third_phase(alloc, problem, left, right, budget),
+        Solved::Pivots(steps) => Ok(Best::Undecided(BestCause::Pivots {
+            steps: *steps,
+            part: 2,
+        })),
+        Solved::Width(step) => Ok(Best::Undecided(BestCause::Width {
+            step: *step,
+            part: 2,
+        })),
     }
 }
 
-/// The answer by all parts.
-fn best_by_parts(
+/// How the run of the second phase ends.
+fn second_end(
+    alloc: Global,
+    problem: &Problem,
+    left: &Row,
+    others: &[Unknown],
+    budget: Budget,
+) -> Result<Solved, AllocError>
+    requires problem { IsProblem (problem_view problem.now) }
+    ensures ends { IfOk result (λ a. PhaseEnds (size_of problem.now.space) (unknown_views others.now) (negated_terms left.now) budget (end_of_answer a)) }
+    ensures right { IfOk result (λ a. PhaseIsRight (size_of problem.now.space) (unknown_views others.now) (negated_terms left.now) a) }
+{
+    let target = opposite_row(alloc, left)?;
+    phase_end(alloc, others, problem.space.size(), &target, budget)
+}
+
+/// The answer by the second phase and the one after it, after weights of the first.
+fn by_second_phase(
+    alloc: Global,
+    problem: &Problem,
+    left: &Row,
+    right: &Row,
+    unknowns: &[Unknown],
+    weights: &[(usize, Fraction)],
+    budget: Budget,
+) -> Result<Best, AllocError>
+    requires problem { IsProblem (problem_view problem.now) }
+    requires left { IsUpTo (size_of problem.now.space) left.now }
+    requires right { IsUpTo (size_of problem.now.space) right.now }
+    requires unknowns { unknown_views unknowns.now ≡ first (problem_view problem.now) left.now right.now }
+    requires sums { PhaseSums (size_of problem.now.space) (first (problem_view problem.now) left.now right.now) right.now weights.now }
+    ensures { IfOk result (λ b. (e : RunEndView (List (ℕ × Rational)) (List Rational)) × PhaseEnds (size_of problem.now.space) (generators (problem_view problem.now)) (negated_terms left.now) budget e × SecondFollows (problem_view problem.now) left.now right.now budget weights.now e (best_view b)) }
+{
+    let others = second_phase(alloc, problem)?;
+    let end = second_end(alloc, problem, left, others.as_slice(), budget)?;
+    second_answer(
+        alloc,
+        problem,
+        left,
+        right,
+        unknowns,
+        weights,
+        others.as_slice(),
+        &end,
+        budget,
+    )
+}
+
+/// The answer by the end of the first phase.
+fn first_answer(
+    alloc: Global,
+    problem: &Problem,
+    left: &Row,
+    right: &Row,
+    unknowns: &[Unknown],
+    end: &Solved,
+    budget: Budget,
+) -> Result<Best, AllocError>
+    requires problem { IsProblem (problem_view problem.now) }
+    requires left { IsUpTo (size_of problem.now.space) left.now }
+    requires right { IsUpTo (size_of problem.now.space) right.now }
+    requires unknowns { unknown_views unknowns.now ≡ first (problem_view problem.now) left.now right.now }
+    requires end { PhaseIsRight (size_of problem.now.space) (first (problem_view problem.now) left.now right.now) right.now end.now }
+    ensures { IfOk result (λ b. FirstFollows (problem_view problem.now) left.now right.now budget (end_of_answer end.now) (best_view b)) }
+{
+    match end {
+        Solved::Weights(weights) => by_second_phase(
+            alloc,
+            problem,
+            left,
+            right,
+            unknowns,
+            weights.as_slice(),
+            budget,
+        ),
+        Solved::Point(point) => never(alloc, problem, left, right, point.as_slice()),
+        Solved::Pivots(steps) => Ok(Best::Undecided(BestCause::Pivots {
+            steps: *steps,
+            part: 1,
+        })),
+        Solved::Width(step) => Ok(Best::Undecided(BestCause::Width {
+            step: *step,
+            part: 1,
+        })),
+    }
+}
+
+/// The answer by the first phase and those after it.
+fn by_first_phase(
+    alloc: Global,
+    problem: &Problem,
+    left: &Row,
+    right: &Row,
+    budget: Budget,
+) -> Result<Best, AllocError>
+    requires problem { IsProblem (problem_view problem.now) }
+    requires left { IsUpTo (size_of problem.now.space) left.now }
+    requires right { IsUpTo (size_of problem.now.space) right.now }
+    ensures { IfOk result (λ b. (e : RunEndView (List (ℕ × Rational)) (List Rational)) × PhaseEnds (size_of problem.now.space) (first (problem_view problem.now) left.now right.now) right.now budget e × FirstFollows (problem_view problem.now) left.now right.now budget e (best_view b)) }
+{
+    let unknowns = first_phase(alloc, problem, left)?;
+    let size = problem.space.size();
+    let end = phase_end(alloc, unknowns.as_slice(), size, right, budget)?;
+    first_answer(
+        alloc,
+        problem,
+        left,
+        right,
+        unknowns.as_slice(),
+        &end,
+        budget,
+    )
+}
+
+/// The answer by all phases.
+fn best_by_phases(
     alloc: Global,
     problem: &Problem,
     left: &Row,
@@ -305,27 +297,7 @@ fn best_by_parts(
     if is_large(problem) {
         return Ok(Best::Undecided(BestCause::Size));
     }
-    let unknowns = first_part(alloc, problem, left)?;
-    match part_end(
-        alloc,
-        unknowns.as_slice(),
-        problem.space.size(),
-        right,
-        budget,
-    )? {
-        Solved::Weights(weights) => second_answer(
-            alloc,
-            problem,
-            left,
-            right,
-            unknowns.as_slice(),
-            weights.as_slice(),
-            budget,
-        ),
-        Solved::Point(point) => never(alloc, problem, left, right, point.as_slice()),
-        Solved::Pivots(steps) => Ok(Best::Undecided(BestCause::Pivots { steps, part: 1 })),
-        Solved::Width(step) => Ok(Best::Undecided(BestCause::Width { step, part: 1 })),
-    }
+    by_first_phase(alloc, problem, left, right, budget)
 }
 
 /// Which numbers c make c times the left side at least the right one wherever a polymatroid and rates meet the problem. The sides
@@ -346,5 +318,5 @@ pub fn best(
     ensures ends { IfOk result (λ b. EndsWith (problem_view problem.now) left.now right.now budget (best_view b)) }
     ensures right { IfOk result (λ b. IsRightBest (ground_of (problem_view problem.now)) (value left.now) (value right.now) (best_view b)) }
 {
-    best_by_parts(alloc, problem, left, right, budget)
+    best_by_phases(alloc, problem, left, right, budget)
 }

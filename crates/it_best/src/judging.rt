@@ -170,7 +170,7 @@ fn check_products(factor: &Fraction, left: i128, right: i128) -> Result<(), Wide
     Ok(())
 }
 
-/// The point at which no factor holds, by the point of the first part's run. `Wide` where a number of it or of the sides' values passes the
+/// The point at which no factor holds, by the point of the first phase's run. `Wide` where a number of it or of the sides' values passes the
 /// limit.
 pub fn never_point(
     alloc: Global,

@@ -11,7 +11,7 @@ ghost use Rattle.it_space.specs.Spaces.{IsSpace, size_of};
 ghost use Rattle.it_space.specs.Sums.{terms_from};
 ghost use Rattle.it_columns.specs.Scaling.{NumbersFit, scaled_point};
 ghost use Rattle.it_best.specs.Numbers.{DifferencesFit, NumberFits, WeightsFit, column_weight, factor_of, values_of, weights_of, multiples, number_by, numbers, weights_certificate};
-ghost use Rattle.it_best.specs.Parts.{unknown_views};
+ghost use Rattle.it_best.specs.Phases.{unknown_views};
 ghost use Rattle.it_columns.specs.Columns.{count_by};
 
 use crate::unknowns::Unknown;

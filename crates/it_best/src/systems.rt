@@ -1,4 +1,4 @@
-//! The unknowns of the three parts.
+//! The unknowns of the three phases.
 ghost use Rattle.std.specs.Prelude.{◌≡◌, ◌≢◌, ◌<◌, ◌≤◌, ◌+◌, ◌^◌, ◌++◌, ◌∷◌, [], ℕ, ℤ, pos, List, length, map, All, IfOk, OnOk};
 ghost use Rattle.it_number.specs.Limit.{IsWithin};
 ghost use Rattle.it_space.specs.Problems.{IsProblem, problem_view};
@@ -6,7 +6,7 @@ ghost use Rattle.it_space.specs.Rows.{IsUpTo, coefficient};
 ghost use Rattle.it_space.specs.Spaces.{size_of};
 ghost use Rattle.it_polymatroid.specs.Elementals.{span};
 ghost use Rattle.it_elemental.specs.Generators.{Generator, generators, generator_at};
-ghost use Rattle.it_best.specs.Parts.{coordinate_row, coordinate_terms, coordinate_unknown, counterweight, first_part, left_equation, right_equation, slack_by, slacks, third_part, unknown_view, unknown_views};
+ghost use Rattle.it_best.specs.Phases.{coordinate_row, coordinate_terms, coordinate_unknown, counterweight, first_phase, left_equation, right_equation, slack_by, slacks, third_phase, unknown_view, unknown_views};
 
 use crate::unknowns::Unknown;
 use it_columns::{generator_row, opposite_row, push_some};
@@ -57,10 +57,10 @@ fn push_counterweights(
     Ok(())
 }
 
-/// The first part: the factor, and the weights of the generators. They are to make the right side.
-pub fn first_part(alloc: Global, problem: &Problem, left: &Row) -> Result<Vec<Unknown>, AllocError>
+/// The first phase: the factor, and the weights of the generators. They are to make the right side.
+pub fn first_phase(alloc: Global, problem: &Problem, left: &Row) -> Result<Vec<Unknown>, AllocError>
     requires problem { IsProblem (problem_view problem.now) }
-    ensures { IfOk result (λ v. unknown_views v.items ≡ first_part (generators (problem_view problem.now)) left.now) }
+    ensures { IfOk result (λ v. unknown_views v.items ≡ first_phase (generators (problem_view problem.now)) left.now) }
 {
     let mut unknowns = Vec::new(alloc);
     let row = left.copy(alloc)?;
@@ -72,8 +72,8 @@ pub fn first_part(alloc: Global, problem: &Problem, left: &Row) -> Result<Vec<Un
     Ok(unknowns)
 }
 
-/// The second part: the weights of the generators. They are to make the left side turned.
-pub fn second_part(alloc: Global, problem: &Problem) -> Result<Vec<Unknown>, AllocError>
+/// The second phase: the weights of the generators. They are to make the left side turned.
+pub fn second_phase(alloc: Global, problem: &Problem) -> Result<Vec<Unknown>, AllocError>
     requires problem { IsProblem (problem_view problem.now) }
     ensures { IfOk result (λ v. unknown_views v.items ≡ generators (problem_view problem.now)) }
 {
@@ -253,9 +253,9 @@ fn push_slacks(
     Ok(())
 }
 
-/// The third part: the factor, the weights of the generators, the values of a point, and what each inequality has above 0 there.
+/// The third phase: the factor, the weights of the generators, the values of a point, and what each inequality has above 0 there.
 /// They are to make the right side, and 1 at the equation of the left side's value.
-pub fn third_part(
+pub fn third_phase(
     alloc: Global,
     problem: &Problem,
     left: &Row,
@@ -263,7 +263,7 @@ pub fn third_part(
 ) -> Result<Vec<Unknown>, AllocError>
     requires problem { IsProblem (problem_view problem.now) }
     requires left { IsUpTo (size_of problem.now.space) left.now }
-    ensures { IfOk result (λ v. unknown_views v.items ≡ third_part problem.now.space.variables (size_of problem.now.space) (generators (problem_view problem.now)) left.now right.now) }
+    ensures { IfOk result (λ v. unknown_views v.items ≡ third_phase problem.now.space.variables (size_of problem.now.space) (generators (problem_view problem.now)) left.now right.now) }
 {
     let rows = generator_rows(alloc, problem)?;
     let mut unknowns = Vec::new(alloc);

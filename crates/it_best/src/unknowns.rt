@@ -2,7 +2,7 @@
 ghost use Rattle.std.specs.Prelude.{◌≡◌, ◌<◌, ◌^◌, IfOk};
 ghost use Rattle.it_polymatroid.specs.Elementals.{span};
 ghost use Rattle.it_columns.specs.Columns.{columns};
-ghost use Rattle.it_best.specs.Parts.{unknown_views};
+ghost use Rattle.it_best.specs.Phases.{unknown_views};
 
 use it_columns::push_row;
 use it_space::{Kind, Row};
@@ -10,10 +10,16 @@ use std::alloc::{AllocError, Global};
 
 /// An unknown number: its coefficient in each equation, by the number of the equation, and whether it is at least 0 or, as a
 /// multiple of an equation may be, any number.
-#[derive(Debug, Drop)]
 pub struct Unknown {
     pub kind: Kind,
     pub row: Row,
+}
+
+// written out, so that letting an unknown go is one call
+impl Drop for Unknown {
+    fn drop(self) {
+        let Unknown { kind: _, row: _ } = self;
+    }
 }
 
 /// The columns of all, in order: one of an unknown that is at least 0, and of any other its row and the row turned.

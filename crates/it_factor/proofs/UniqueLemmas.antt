@@ -35,4 +35,4 @@ one_right_reply budget q Other (Found y) h k = let e : Some k.0 ≡ None = sym k
 one_right_reply budget q Other Other h k = refl
 
 pub never_out_of_steps : NeverOutOfSteps
-never_out_of_steps q k part h = let d = h.2.due in best_never_out_of_steps d.problem d.left d.right k part d.ends
+never_out_of_steps q k phase h = let d = h.2.due in best_never_out_of_steps d.problem d.left d.right k phase d.ends

@@ -22,10 +22,10 @@ use Rattle.it_factor.specs.Replies.{ReplyView, Found, Other}
 unfoldable pub factor_text : List (List ℕ) → List Origin → ℤ → ℤ → CertificateView → List ℕ
 factor_text names origins num den w = signed_decimal num ++ codes "/" ++ signed_decimal den ++ codes " " ++ certificate_text names origins w
 
--- why the factors stay undecided, with the part
+-- why the factors stay undecided, with the phase
 unfoldable pub best_cause_text : BestCause → List ℕ
-best_cause_text (causes.Pivots steps part) = codes "pivots " ++ decimal steps ++ codes " in " ++ decimal part
-best_cause_text (causes.Width step part) = codes "width " ++ decimal step ++ codes " in " ++ decimal part
+best_cause_text (causes.Pivots steps phase) = codes "pivots " ++ decimal steps ++ codes " in " ++ decimal phase
+best_cause_text (causes.Width step phase) = codes "width " ++ decimal step ++ codes " in " ++ decimal phase
 best_cause_text causes.Scale = codes "scale"
 best_cause_text causes.Size = codes "size"
 

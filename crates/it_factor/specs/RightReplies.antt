@@ -83,7 +83,7 @@ OneRightReply = (budget : Option ℕ) (q : BodyView) (a b : ReplyView) → IsRig
 
 -- without a budget no reply is undecided for want of steps
 abbrev pub NeverOutOfSteps : Type 0
-NeverOutOfSteps = (q : BodyView) (k part : ℕ) → IsRightReply None q (Found (Undecided (Pivots k part))) → ⊥
+NeverOutOfSteps = (q : BodyView) (k phase : ℕ) → IsRightReply None q (Found (Undecided (Pivots k phase))) → ⊥
 
 -- where a least factor is shown, it holds, and no smaller one does
 abbrev pub LeastIsTrue : Type 0

@@ -138,13 +138,13 @@ fn unbounded_line(
     Ok(out)
 }
 
-/// A number of steps with a part.
-fn write_in_part(out: &mut Vec<u8>, number: u32, part: u8) -> Result<(), AllocError>
-    ensures { OnOk result (out.new.items ≡ out.old.items ++ decimal number ++ codes " in " ++ decimal part) }
+/// A number of steps with a phase.
+fn write_in_phase(out: &mut Vec<u8>, number: u32, phase: u8) -> Result<(), AllocError>
+    ensures { OnOk result (out.new.items ≡ out.old.items ++ decimal number ++ codes " in " ++ decimal phase) }
 {
     write_number(out, number as usize)?;
     out.extend_from_slice(b" in ")?;
-    write_number(out, part as usize)
+    write_number(out, phase as usize)
 }
 
 /// Why the factors stay undecided.
@@ -153,13 +153,13 @@ fn write_cause(out: &mut Vec<u8>, cause: BestCause) -> Result<(), AllocError>
     ensures { OnOk result (out.new.items ≡ out.old.items ++ best_cause_text cause) }
 {
     match cause {
-        BestCause::Pivots { steps, part } => {
+        BestCause::Pivots { steps, part: phase } => {
             out.extend_from_slice(b"pivots ")?;
-            write_in_part(out, steps, part)
+            write_in_phase(out, steps, phase)
         }
-        BestCause::Width { step, part } => {
+        BestCause::Width { step, part: phase } => {
             out.extend_from_slice(b"width ")?;
-            write_in_part(out, step, part)
+            write_in_phase(out, step, phase)
         }
         BestCause::Scale => out.extend_from_slice(b"scale"),
         BestCause::Size => out.extend_from_slice(b"size"),

@@ -3,7 +3,7 @@ use it_best::types::Best;
 use it_space::Problem;
 
 /// What is replied to a question in mode `best`.
-#[derive(Debug, Drop)]
+#[derive(Drop)]
 pub enum Reply {
     /// To `prove E >= F`: which numbers c make c times E at least F.
     Found(Best),

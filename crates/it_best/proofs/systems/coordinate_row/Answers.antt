@@ -4,7 +4,7 @@ use Rattle.it_space.specs.Problems.{problem_view}
 use Rattle.it_space.specs.Rows.{IsCanonical, single_term}
 use Rattle.it_space.specs.Spaces.{size_of}
 use Rattle.it_elemental.specs.Generators.{Generator, generators}
-use Rattle.it_best.specs.Parts.{coordinate_row, coordinate_terms}
+use Rattle.it_best.specs.Phases.{coordinate_row, coordinate_terms}
 use Rattle.it_best.proofs.SystemSteps.{few_equations, row_ascends, row_after_pushes}
 use mir.Syntax.{w128}
 use Rattle.it_number.specs.Limit.{IsWithin}

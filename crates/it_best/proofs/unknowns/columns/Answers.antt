@@ -1,6 +1,6 @@
 use Rattle.it_best.proofs.WalkLemmas.{columns_more, columns_end}
 use Rattle.it_columns.specs.Columns.{columns}
-use Rattle.it_best.specs.Parts.{unknown_views}
+use Rattle.it_best.specs.Phases.{unknown_views}
 use Rattle.std.proofs.Common.{refl}
 use Rattle.it_best.proofs.unknowns.columns.Goals as goal
 

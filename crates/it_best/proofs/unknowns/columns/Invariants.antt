@@ -1,6 +1,6 @@
 use Rattle.std.proofs.Common.{◌≡◌, ◌++◌, drop}
 use Rattle.it_columns.specs.Columns.{columns}
-use Rattle.it_best.specs.Parts.{unknown_views}
+use Rattle.it_best.specs.Phases.{unknown_views}
 use Rattle.it_best.proofs.unknowns.columns.Given as goal
 
 abbrev pub invariant-loop-unknown : goal.invariant-loop-unknown

@@ -1,4 +1,4 @@
--- What the ends of the three parts by weights and by points show.
+-- What the ends of the three phases by weights and by points show.
 use Rattle.std.proofs.Common.{◌≡◌, ℕ, ◌+◌, ◌-◌, ◌^◌, ◌<◌, ◌≤◌, ℤ, pos, neg_ℤ, ◌+ℤ◌, ◌*ℤ◌, ◌≤ℤ◌, List, [], ◌∷◌, ◌++◌, length, map, take, drop, Bool, true, false, cond, nat_eq, eq-eqb, ne_eqb, refl, sym, ap, ap₂, subst, ◌∙◌, arith}
 use Rattle.std.proofs.lemmas.List.{length-map, length-take, length-drop, length-append}
 use Rattle.std.proofs.Math.IntN.{+ℤ_idl, +ℤ_idr}
@@ -23,7 +23,7 @@ use Rattle.it_elemental.proofs.GeneratorLemmas.{rows_of_space, no_coefficient_be
 use Rattle.it_columns.specs.Columns.{columns, count_by}
 use Rattle.it_best.specs.Factors.{IsFactor, ground_of}
 use Rattle.it_best.specs.Numbers.{column_weight, factor_of, numbers, number_by, numbers_from, values_of, weights_certificate, weights_of}
-use Rattle.it_best.specs.Parts.{counterweight, coordinate_unknown, coordinate_row, first_part, slacks, third_part, third_target, left_equation, right_equation}
+use Rattle.it_best.specs.Phases.{counterweight, coordinate_unknown, coordinate_row, first_phase, slacks, third_phase, third_target, left_equation, right_equation}
 use Rattle.it_best.proofs.NumberLemmas.{number_sum, numbers_sum_up, AreNumbers, numbers_signed, length-numbers_from}
 use Rattle.it_best.proofs.CertificateLemmas.{factor_certified}
 use Rattle.it_best.proofs.EquationLemmas.{number_sum-append, number_sum-none, values_equation, coordinate_at_low, coordinate_at_generator, coordinate_at_left, coordinate_at_right, coordinate_by, slacks_apart, slack_sum, IsSlack, are_numbers-append}
@@ -38,33 +38,33 @@ plus_null x = ring ring_ℚ (x ∷ []) (S.plus (v 0) nil) (v 0) refl
 take_all : (xs : List Rational) (n : ℕ) → length xs ≡ n → take n xs ≡ xs
 take_all xs n e = ap (λ m. take m xs) (sym e) ∙ Rattle.std.proofs.lemmas.List.take_all (length xs) xs (omega arith)
 
--- ---- the first part
+-- ---- the first phase
 
 module _ (q : ProblemView) (left right : Terms) (ws : List (ℕ × Rational))
-    (s : SumsUp field_ℚ (length (span 1 (size_of q.space))) (length (columns (first_part (generators q) left))) (feasibility_problem (span 1 (size_of q.space)) (columns (first_part (generators q) left)) right) ws) where
+    (s : SumsUp field_ℚ (length (span 1 (size_of q.space))) (length (columns (first_phase (generators q) left))) (feasibility_problem (span 1 (size_of q.space)) (columns (first_phase (generators q) left)) right) ws) where
   abbrev first_rest : List Rational
   first_rest = numbers_from (0 + count_by Equation) (map counterweight (generators q)) (column_weight ws)
 
-  first_numbers : numbers (first_part (generators q) left) ws ≡ number_by Equation (column_weight ws) 0 ∷ first_rest
-  unfolding first_part numbers_from
+  first_numbers : numbers (first_phase (generators q) left) ws ≡ number_by Equation (column_weight ws) 0 ∷ first_rest
+  unfolding first_phase numbers_from
   first_numbers = refl
 
   rest_length : length first_rest ≡ length (generators q)
   rest_length = length-numbers_from (map counterweight (generators q)) (0 + count_by Equation) (column_weight ws) ∙ length-map (generators q) counterweight
 
-  rest_is : weights_of (length (generators q)) (numbers (first_part (generators q) left) ws) ≡ first_rest
+  rest_is : weights_of (length (generators q)) (numbers (first_phase (generators q) left) ws) ≡ first_rest
   rest_is = ap (weights_of (length (generators q))) first_numbers ∙ take_all first_rest (length (generators q)) rest_length
 
   first_signed : AreNumbers first_rest (map counterweight (generators q))
-  unfolding first_part numbers_from
-  first_signed = (numbers_signed (first_part (generators q) left) (length (columns (first_part (generators q) left))) ws s.ordered).1
+  unfolding first_phase numbers_from
+  first_signed = (numbers_signed (first_phase (generators q) left) (length (columns (first_phase (generators q) left))) ws s.ordered).1
 
   first_sum : (c : ℕ) → 1 ≤ c → c ≤ size_of q.space → plus (times (number_by Equation (column_weight ws) 0) (integer (coefficient left c))) (number_sum c first_rest (map counterweight (generators q))) ≡ integer (coefficient right c)
-  unfolding first_part numbers_from
-  first_sum c h l = numbers_sum_up (size_of q.space) (first_part (generators q) left) right ws s c h l
+  unfolding first_phase numbers_from
+  first_sum c h l = numbers_sum_up (size_of q.space) (first_phase (generators q) left) right ws s c h l
 
   abbrev first_ns : List Rational
-  first_ns = numbers (first_part (generators q) left) ws
+  first_ns = numbers (first_phase (generators q) left) ws
 
   pub first_right : IsFactor (ground_of q) (value left) (value right) (factor_of first_ns).num (pos (factor_of first_ns).den)
       (weights_certificate (pos (factor_of first_ns).den) (weights_of (length (generators q)) first_ns))
@@ -73,7 +73,7 @@ module _ (q : ProblemView) (left right : Terms) (ws : List (ℕ × Rational))
       (sym (take_all first_rest (length (generators q)) rest_length))
       (factor_certified q left right (number_by Equation (column_weight ws) 0) first_rest rest_length first_signed first_sum))
 
--- ---- the third part
+-- ---- the third phase
 
 module _ (q : ProblemView) (left right : Terms) (k : IsProblem q) (l : IsUpTo (size_of q.space) left) (r : IsUpTo (size_of q.space) right) (ws : List (ℕ × Rational)) where
   abbrev size : ℕ
@@ -83,7 +83,7 @@ module _ (q : ProblemView) (left right : Terms) (k : IsProblem q) (l : IsUpTo (s
   gs = generators q
 
   abbrev third : List Generator
-  third = third_part q.space.variables size gs left right
+  third = third_phase q.space.variables size gs left right
 
   abbrev equations : List ℕ
   equations = span 1 (right_equation size gs)
@@ -119,7 +119,7 @@ module _ (q : ProblemView) (left right : Terms) (k : IsProblem q) (l : IsUpTo (s
   ss = drop size (drop (length gs) rest)
 
   third_numbers : ns ≡ x ∷ rest
-  unfolding third_part numbers_from
+  unfolding third_phase numbers_from
   third_numbers = refl
 
   pub factor_is : factor_of ns ≡ x
@@ -149,7 +149,7 @@ module _ (q : ProblemView) (left right : Terms) (k : IsProblem q) (l : IsUpTo (s
 
   module _ (s : SumsUp field_ℚ (length equations) (length (columns third)) (feasibility_problem equations (columns third) (third_target size gs right)) ws) where
     rest_signed : AreNumbers rest tail
-    unfolding third_part numbers_from
+    unfolding third_phase numbers_from
     rest_signed = (numbers_signed third (length (columns third)) ws s.ordered).1
 
     signs : AreNumbers xs weights_of_gs × (AreNumbers hs values_of_gs × AreNumbers ss (slacks (size + 1) gs))
@@ -160,17 +160,17 @@ module _ (q : ProblemView) (left right : Terms) (k : IsProblem q) (l : IsUpTo (s
         let two = are_numbers-append (drop (length gs) rest) values_of_gs (slacks (size + 1) gs) b in
         (a, (subst (λ n. AreNumbers (take n (drop (length gs) rest)) values_of_gs) count_values two.0, subst (λ n. AreNumbers (drop n (drop (length gs) rest)) (slacks (size + 1) gs)) count_values two.1))
 
-    -- the sum of each equation, part by part
+    -- the sum of each equation, piece by piece
     equation_sum : (e : ℕ) → 1 ≤ e → e ≤ right_equation size gs
         → plus (times x (integer (coefficient factor_row e))) (plus (number_sum e xs weights_of_gs) (plus (number_sum e hs values_of_gs) (number_sum e ss (slacks (size + 1) gs)))) ≡ integer (coefficient (third_target size gs right) e)
-    unfolding third_part numbers_from
-    equation_sum e h m = ap (plus (times x (integer (coefficient factor_row e)))) (sym parts) ∙ whole
+    unfolding third_phase numbers_from
+    equation_sum e h m = ap (plus (times x (integer (coefficient factor_row e)))) (sym pieces) ∙ whole
       where
         whole : plus (times x (integer (coefficient factor_row e))) (number_sum e rest tail) ≡ integer (coefficient (third_target size gs right) e)
         whole = numbers_sum_up (right_equation size gs) third (third_target size gs right) ws s e h m
 
-        parts : number_sum e rest tail ≡ plus (number_sum e xs weights_of_gs) (plus (number_sum e hs values_of_gs) (number_sum e ss (slacks (size + 1) gs)))
-        parts = number_sum-append e rest weights_of_gs (values_of_gs ++ slacks (size + 1) gs)
+        pieces : number_sum e rest tail ≡ plus (number_sum e xs weights_of_gs) (plus (number_sum e hs values_of_gs) (number_sum e ss (slacks (size + 1) gs)))
+        pieces = number_sum-append e rest weights_of_gs (values_of_gs ++ slacks (size + 1) gs)
             ∙ ap (λ n. plus (number_sum e (take n rest) weights_of_gs) (number_sum e (drop n rest) (values_of_gs ++ slacks (size + 1) gs))) count_weights
             ∙ ap (plus (number_sum e xs weights_of_gs)) (number_sum-append e (drop (length gs) rest) values_of_gs (slacks (size + 1) gs)
             ∙ ap (λ n. plus (number_sum e (take n (drop (length gs) rest)) values_of_gs) (number_sum e (drop n (drop (length gs) rest)) (slacks (size + 1) gs))) count_values)

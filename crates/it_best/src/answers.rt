@@ -1,0 +1,180 @@
+//! The answers by the numbers of the phases, where these fit.
+ghost use Rattle.std.specs.Prelude.{◌≡◌, IfErr, IfOk, OnOk};
+ghost use Rattle.it_space.specs.Problems.{IsProblem, problem_view};
+ghost use Rattle.it_space.specs.Rows.{IsUpTo, negated_terms};
+ghost use Rattle.it_space.specs.Spaces.{size_of};
+ghost use Rattle.it_elemental.specs.Generators.{generators};
+ghost use Rattle.it_best.specs.BestViews.{Never, best_view};
+ghost use Rattle.it_best.specs.Ends.{LeastFits, NeverFits, OrScale, UnboundedFits, first, least_view, never_values, third, unbounded_view};
+ghost use Rattle.it_best.specs.Phases.{right_equation, third_target, unknown_views};
+ghost use Rattle.it_best.specs.PhaseSteps.{PhaseSeparates, PhaseSums};
+
+use crate::judging::{below_proof, factor_proof, least_point, never_point};
+use crate::numbers::{factor_of, numbers, values_of, weights_of};
+use crate::types::{Best, BestCause};
+use crate::unknowns::Unknown;
+use it_elemental::generator_count;
+use it_fraction::Fraction;
+use it_space::{Problem, Row, RowFault};
+use std::alloc::{AllocError, Global};
+
+/// The answer by the point of the first phase.
+pub fn never(
+    alloc: Global,
+    problem: &Problem,
+    left: &Row,
+    right: &Row,
+    values: &[Fraction],
+) -> Result<Best, AllocError>
+    requires problem { IsProblem (problem_view problem.now) }
+    requires left { IsUpTo (size_of problem.now.space) left.now }
+    requires right { IsUpTo (size_of problem.now.space) right.now }
+    requires separates { PhaseSeparates (size_of problem.now.space) (first (problem_view problem.now) left.now right.now) right.now values.now }
+    ensures { IfOk result (λ b. OrScale (problem_view problem.now) left.now right.now (NeverFits (problem_view problem.now) left.now right.now values.now) (Never (never_values (problem_view problem.now) left.now right.now values.now)) (best_view b)) }
+{
+    match never_point(alloc, problem, left, right, values) {
+        Ok(point) => Ok(Best::Never(point)),
+        Err(RowFault::Wide) => Ok(Best::Undecided(BestCause::Scale)),
+        Err(RowFault::Memory) => Err(AllocError),
+    }
+}
+
+/// The answer by the weights of the third phase, where its numbers fit.
+fn least_answer(
+    alloc: Global,
+    problem: &Problem,
+    left: &Row,
+    right: &Row,
+    unknowns: &[Unknown],
+    weights: &[(usize, Fraction)],
+) -> Result<Best, RowFault>
+    requires problem { IsProblem (problem_view problem.now) }
+    requires left { IsUpTo (size_of problem.now.space) left.now }
+    requires right { IsUpTo (size_of problem.now.space) right.now }
+    requires unknowns { unknown_views unknowns.now ≡ third (problem_view problem.now) left.now right.now }
+    requires sums { PhaseSums (right_equation (size_of problem.now.space) (generators (problem_view problem.now))) (third (problem_view problem.now) left.now right.now) (third_target (size_of problem.now.space) (generators (problem_view problem.now)) right.now) weights.now }
+    ensures value { IfOk result (λ b. best_view b ≡ least_view (problem_view problem.now) left.now right.now weights.now) }
+    ensures fits { OnOk result (LeastFits (problem_view problem.now) left.now right.now weights.now) }
+    ensures wide { IfErr result (λ f. f ≡ RowFault.Wide → ¬ (LeastFits (problem_view problem.now) left.now right.now weights.now)) }
+{
+    let numbers = numbers(alloc, unknowns, weights)?;
+    let factor = factor_of(numbers.as_slice());
+    let count = generator_count(problem) as usize;
+    let proof = factor_proof(
+        alloc,
+        problem,
+        left,
+        right,
+        &factor,
+        weights_of(numbers.as_slice(), count),
+    )?;
+    let point = least_point(
+        alloc,
+        problem,
+        left,
+        right,
+        &factor,
+        values_of(numbers.as_slice(), count, problem.space.size() as usize),
+    )?;
+    Ok(Best::Least {
+        num: factor.num(),
+        den: factor.den(),
+        proof,
+        point,
+    })
+}
+
+/// The answer by the weights of the third phase.
+pub fn least(
+    alloc: Global,
+    problem: &Problem,
+    left: &Row,
+    right: &Row,
+    unknowns: &[Unknown],
+    weights: &[(usize, Fraction)],
+) -> Result<Best, AllocError>
+    requires problem { IsProblem (problem_view problem.now) }
+    requires left { IsUpTo (size_of problem.now.space) left.now }
+    requires right { IsUpTo (size_of problem.now.space) right.now }
+    requires unknowns { unknown_views unknowns.now ≡ third (problem_view problem.now) left.now right.now }
+    requires sums { PhaseSums (right_equation (size_of problem.now.space) (generators (problem_view problem.now))) (third (problem_view problem.now) left.now right.now) (third_target (size_of problem.now.space) (generators (problem_view problem.now)) right.now) weights.now }
+    ensures { IfOk result (λ b. OrScale (problem_view problem.now) left.now right.now (LeastFits (problem_view problem.now) left.now right.now weights.now) (least_view (problem_view problem.now) left.now right.now weights.now) (best_view b)) }
+{
+    match least_answer(alloc, problem, left, right, unknowns, weights) {
+        Ok(best) => Ok(best),
+        Err(RowFault::Wide) => Ok(Best::Undecided(BestCause::Scale)),
+        Err(RowFault::Memory) => Err(AllocError),
+    }
+}
+
+/// The answer by the weights of the first phase and of the second, where their numbers fit.
+fn unbounded_answer(
+    alloc: Global,
+    problem: &Problem,
+    left: &Row,
+    right: &Row,
+    unknowns: &[Unknown],
+    weights: &[(usize, Fraction)],
+    others: &[Unknown],
+    below: &[(usize, Fraction)],
+) -> Result<Best, RowFault>
+    requires problem { IsProblem (problem_view problem.now) }
+    requires left { IsUpTo (size_of problem.now.space) left.now }
+    requires right { IsUpTo (size_of problem.now.space) right.now }
+    requires unknowns { unknown_views unknowns.now ≡ first (problem_view problem.now) left.now right.now }
+    requires sums { PhaseSums (size_of problem.now.space) (first (problem_view problem.now) left.now right.now) right.now weights.now }
+    requires others { unknown_views others.now ≡ generators (problem_view problem.now) }
+    requires below { PhaseSums (size_of problem.now.space) (generators (problem_view problem.now)) (negated_terms left.now) below.now }
+    ensures value { IfOk result (λ b. best_view b ≡ unbounded_view (problem_view problem.now) left.now right.now weights.now below.now) }
+    ensures fits { OnOk result (UnboundedFits (problem_view problem.now) left.now right.now weights.now below.now) }
+    ensures wide { IfErr result (λ f. f ≡ RowFault.Wide → ¬ (UnboundedFits (problem_view problem.now) left.now right.now weights.now below.now)) }
+{
+    let first_numbers = numbers(alloc, unknowns, weights)?;
+    let factor = factor_of(first_numbers.as_slice());
+    let count = generator_count(problem) as usize;
+    let proof = factor_proof(
+        alloc,
+        problem,
+        left,
+        right,
+        &factor,
+        weights_of(first_numbers.as_slice(), count),
+    )?;
+    let second_numbers = numbers(alloc, others, below)?;
+    let below = below_proof(alloc, problem, left, second_numbers.as_slice())?;
+    Ok(Best::Unbounded {
+        num: factor.num(),
+        den: factor.den(),
+        proof,
+        below,
+    })
+}
+
+/// The answer by the weights of the first phase and of the second.
+pub fn unbounded(
+    alloc: Global,
+    problem: &Problem,
+    left: &Row,
+    right: &Row,
+    unknowns: &[Unknown],
+    weights: &[(usize, Fraction)],
+    others: &[Unknown],
+    below: &[(usize, Fraction)],
+) -> Result<Best, AllocError>
+    requires problem { IsProblem (problem_view problem.now) }
+    requires left { IsUpTo (size_of problem.now.space) left.now }
+    requires right { IsUpTo (size_of problem.now.space) right.now }
+    requires unknowns { unknown_views unknowns.now ≡ first (problem_view problem.now) left.now right.now }
+    requires sums { PhaseSums (size_of problem.now.space) (first (problem_view problem.now) left.now right.now) right.now weights.now }
+    requires others { unknown_views others.now ≡ generators (problem_view problem.now) }
+    requires below { PhaseSums (size_of problem.now.space) (generators (problem_view problem.now)) (negated_terms left.now) below.now }
+    ensures { IfOk result (λ b. OrScale (problem_view problem.now) left.now right.now (UnboundedFits (problem_view problem.now) left.now right.now weights.now below.now) (unbounded_view (problem_view problem.now) left.now right.now weights.now below.now) (best_view b)) }
+{
+    match unbounded_answer(
+        alloc, problem, left, right, unknowns, weights, others, below,
+    ) {
+        Ok(best) => Ok(best),
+        Err(RowFault::Wide) => Ok(Best::Undecided(BestCause::Scale)),
+        Err(RowFault::Memory) => Err(AllocError),
+    }
+}
