@@ -1,5 +1,6 @@
 -- Numbers, step by step as the code forms them.
 use Rattle.std.proofs.Common.{◌≡◌, ◌↔◌, ℕ, suc, ◌+◌, ◌*◌, ◌<◌, ◌≤◌, ℤ, pos, neg_ℤ, List, [], ◌∷◌, ◌++◌, length, map, drop, get_or, cond, eq-eqb, ne_eqb, refl, sym, ap, ap₂, subst, ◌∙◌, arith}
+use Rattle.std.proofs.lemmas.Int.{ints}
 use Rattle.std.proofs.lemmas.List.{drop_all}
 use Rattle.it_number.proofs.Ring.{ring, v, nil}
 use Rattle.it_number.proofs.Ring as S
@@ -8,7 +9,7 @@ use Rattle.it_rational.proofs.RationalLaws.{ring_ℚ}
 use Rattle.it_rational.proofs.Field.{field_ℚ}
 use Rattle.it_fraction.specs.Fits.{IsNarrow}
 use Rattle.std.specs.List.{AllByRecursion as Every}
-use Rattle.std.proofs.Common.{All}
+use Rattle.std.proofs.Common.{All, FitsSigned, ◌-ℤ◌}
 use Rattle.it_number.specs.Limit.{IsWithin}
 use Rattle.it_number.proofs.SignLemmas.{size_negated}
 use Rattle.it_space.proofs.EveryLemmas.{all_of, every_of, every-map, every-same}
@@ -22,6 +23,7 @@ use Rattle.it_best.specs.declared.unknowns.Unknown.{Unknown}
 use Rattle.it_best.specs.Numbers.{DifferencesFit, NumberFits, column_weight, multiples, number_by, numbers, numbers_from}
 use Rattle.it_best.specs.Phases.{unknown_view, unknown_views}
 use Rattle.it_best.proofs.WalkLemmas.{piece_more, piece_end}
+use mir.Syntax.{w128}
 
 -- ---- the numbers of unknowns
 
@@ -140,3 +142,6 @@ scaled_point_within l qs e f = subst (λ n. All IsWithin (map (scaled_number n) 
 
 pub turned_within : (xs : List ℤ) → All IsWithin xs → All IsWithin (map neg_ℤ xs)
 turned_within xs w = all_of IsWithin (map neg_ℤ xs) (every-map IsWithin neg_ℤ xs (every-same IsWithin (λ x. IsWithin (neg_ℤ x)) xs (λ x h. omega (arith, size_negated x, h)) (every_of IsWithin xs w)))
+
+pub turned_fits : (x : ℤ) → IsWithin x → FitsSigned w128 (pos 0 -ℤ x)
+turned_fits x h = omega (arith, ints, h)

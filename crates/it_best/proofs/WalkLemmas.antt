@@ -1,8 +1,9 @@
 -- Lists that loops make item by item.
-use Rattle.std.proofs.Common.{◌≡◌, ℕ, zero, suc, ◌+◌, ◌-◌, ◌<◌, ◌≤◌, List, [], ◌∷◌, ◌++◌, append_assoc, append-nil, length, map, drop, get_or, sym, ap, ◌∙◌, arith}
+use Rattle.std.proofs.Common.{◌≡◌, ℕ, ℤ, pos, zero, suc, ◌+◌, ◌-◌, ◌<◌, ◌≤◌, List, [], ◌∷◌, ◌++◌, append_assoc, append-nil, length, map, drop, get_or, sym, ap, ◌∙◌, arith}
 use Rattle.std.proofs.lemmas.List.{drop_more, drop_all, map-append}
 use Rattle.it_space.specs.declared.problems.Kind.{Kind}
-use Rattle.it_space.specs.Rows.{Terms}
+use Rattle.it_space.specs.Rows.{Terms, single_term}
+use Rattle.it_space.specs.Sums.{terms_from}
 use Rattle.it_polymatroid.specs.Elementals.{span}
 use Rattle.it_elemental.specs.Generators.{Generator, generator_at}
 use Rattle.it_columns.specs.Columns.{columns, columns_of, columns_by}
@@ -23,6 +24,13 @@ map_more f xs i x old new whole h is e inv = piece_more old new (f x ∷ []) (ma
 
 pub map_end : {X Y : Type 0} (f : X → Y) (xs : List X) (i : ℕ) (old whole : List Y) → length xs ≤ i → old ++ map f (drop i xs) ≡ whole → old ≡ whole
 map_end f xs i old whole h inv = piece_end old (map f (drop i xs)) whole (ap (map f) (drop_all i xs h)) inv
+
+-- by the numbers other than 0, each after its place
+pub terms_more : (xs : List ℤ) (i : ℕ) (old new whole : Terms) → i < length xs → new ≡ old ++ single_term i (get_or xs i (pos 0)) → old ++ terms_from i (drop i xs) ≡ whole → new ++ terms_from (i + 1) (drop (i + 1) xs) ≡ whole
+terms_more xs i old new whole h e inv = piece_more old new (single_term i (get_or xs i (pos 0))) (terms_from (i + 1) (drop (i + 1) xs)) whole e (ap (λ ys. old ++ terms_from i ys) (sym (drop_more xs i (pos 0) h)) ∙ inv)
+
+pub terms_end : (xs : List ℤ) (i : ℕ) (old whole : Terms) → length xs ≤ i → old ++ terms_from i (drop i xs) ≡ whole → old ≡ whole
+terms_end xs i old whole h inv = piece_end old (terms_from i (drop i xs)) whole (ap (terms_from i) (drop_all i xs h)) inv
 
 -- by the generators
 generator_split : (gs : List Generator) (i : ℕ) → i < length gs → drop i gs ≡ generator_at gs i ∷ drop (i + 1) gs
