@@ -1,5 +1,6 @@
 mod DigitLemmas
 mod PairLemmas
+mod ItemLemmas
 mod WithinLemmas
 pub mod RowLemmas
 mod BackLemmas

@@ -4,7 +4,7 @@ use thiserror::Error;
 
 /// The keys of a report in the order in which they are judged, but that `parts` comes before `proofs` and `answer` once more
 /// after `question`.
-#[derive(Clone, Copy, Debug, PartialEq, Eq)]
+#[derive(Clone, Copy, Debug)]
 pub enum Key {
     Answer,
     Question,
@@ -19,7 +19,7 @@ pub enum Key {
 }
 
 /// Why a line isn't read: memory ran out, it has no JSON reading, or the first key that is missing or of another shape.
-#[derive(Clone, Copy, Debug, PartialEq, Eq, Error)]
+#[derive(Clone, Copy, Debug, Error)]
 pub enum ReportFault {
     #[error("there is too little memory to read the report")]
     Memory,
@@ -30,7 +30,7 @@ pub enum ReportFault {
 }
 
 /// Why a part of a report isn't read: memory ran out, or it is missing or of another shape.
-#[derive(Clone, Copy, Debug, PartialEq, Eq)]
+#[derive(Clone, Copy)]
 pub enum Refusal {
     Memory,
     Shape,

@@ -5,7 +5,7 @@ ghost use Rattle.it_certificate.specs.Kinds.{answer_kind_of, back_of, cause_kind
 use it_space::Mark;
 
 /// Kinds of answers, by the words of the key `answer`.
-#[derive(Clone, Copy, Debug, PartialEq, Eq)]
+#[derive(Clone, Copy)]
 pub enum AnswerKind {
     Yes,
     No,
@@ -16,7 +16,7 @@ pub enum AnswerKind {
 }
 
 /// The words of the key `cause`.
-#[derive(Clone, Copy, Debug, PartialEq, Eq)]
+#[derive(Clone, Copy)]
 pub enum CauseKind {
     Pivots,
     Width,
