@@ -8,6 +8,7 @@ mod laws;
 mod lists;
 mod members;
 mod numbers;
+mod objects;
 mod obligations;
 mod questions;
 mod reports;

@@ -5,6 +5,7 @@ ghost use Rattle.serde_json.specs.View.{view};
 ghost use Rattle.it_space.specs.Answers.{IfRate, certificate_view, is_nonzero_weight};
 ghost use Rattle.it_certificate.specs.Values.{IsAsciiRate, cause_word, count_value, integer_value, list_value, pair_value, step_or_rate_word, proof_value, rate_name, row_value, side_word};
 
+use crate::objects::Members;
 use it_space::{Cause, Certificate, Mark, Row, VarSet, is_nonzero_weight};
 use it_syntax::Names;
 use itoa::Buffer;
@@ -57,8 +58,10 @@ fn proof(alloc: Global, certificate: &Certificate) -> Result<Value, AllocError>
     ensures { IfOk result (λ v. view v ≡ proof_value (certificate_view certificate.now)) }
 {
     let scale = integer(alloc, &certificate.scale)?;
+    let members = Members::new(alloc).with(alloc, "scale", scale)?;
     let weights = weights(alloc, certificate.weights.as_slice())?;
-    json!(in alloc; {"scale": scale, "weights": weights})
+    let members = members.with(alloc, "weights", weights)?;
+    Ok(members.into_value())
 }
 
 /// Certificates in order.
@@ -107,7 +110,9 @@ fn row(alloc: Global, row: &(Mark, Row)) -> Result<Value, AllocError>
     ensures { IfOk result (λ v. view v ≡ row_value row.now) }
 {
     let terms = terms(alloc, row.1.terms())?;
-    json!(in alloc; {"mark": row.0.word(), "row": terms})
+    let members = Members::new(alloc).with(alloc, "row", terms)?;
+    let members = members.with_text(alloc, "mark", row.0.word())?;
+    Ok(members.into_value())
 }
 
 /// The rows of a region.

@@ -6,6 +6,7 @@ ghost use Rattle.it_space.specs.Answers.{IfRate, answer_view, certificate_view};
 ghost use Rattle.it_space.specs.Answers.AnswerView.{Yes, No, Undecided, Region, Contained, Open};
 ghost use Rattle.it_certificate.specs.Values.{IsAsciiRate, IsWritable, answer_text, answer_value};
 
+use crate::objects::Members;
 use crate::values::{
     ascii_text, cause_word, integers, proofs, rows, sets, side_word, step_or_rate_value,
 };
@@ -25,7 +26,8 @@ fn yes_value(
     ensures { IfOk result (λ v. view v ≡ answer_value question.now names.now (Yes (map certificate_view certificates.now))) }
 {
     let proofs = proofs(alloc, certificates)?;
-    json!(in alloc; {"answer": "yes", "proofs": proofs, "question": question})
+    let members = Members::new(alloc).with(alloc, "proofs", proofs)?;
+    members.into_answer(alloc, "yes", question)
 }
 
 /// The value of a no.
@@ -40,7 +42,9 @@ fn no_value(
     ensures { IfOk result (λ v. view v ≡ answer_value question.now names.now (No back point.now)) }
 {
     let values = integers(alloc, point.values())?;
-    json!(in alloc; {"answer": "no", "point": values, "question": question, "side": side_word(back)})
+    let members = Members::new(alloc).with(alloc, "point", values)?;
+    let members = members.with_text(alloc, "side", side_word(back))?;
+    members.into_answer(alloc, "no", question)
 }
 
 /// The value of an undecided.
@@ -55,7 +59,9 @@ fn undecided_value(
     ensures { IfOk result (λ v. view v ≡ answer_value question.now names.now (Undecided cause)) }
 {
     let place = step_or_rate_value(alloc, names, cause)?;
-    json!(in alloc; {"answer": "undecided", "at": place, "cause": cause_word(cause), "question": question})
+    let members = Members::new(alloc).with(alloc, "at", place)?;
+    let members = members.with_text(alloc, "cause", cause_word(cause))?;
+    members.into_answer(alloc, "undecided", question)
 }
 
 /// The value of a region.
@@ -69,7 +75,8 @@ fn region_value(
     ensures { IfOk result (λ v. view v ≡ answer_value question.now names.now (Region marked.now)) }
 {
     let rows = rows(alloc, marked)?;
-    json!(in alloc; {"answer": "region", "question": question, "rows": rows})
+    let members = Members::new(alloc).with(alloc, "rows", rows)?;
+    members.into_answer(alloc, "region", question)
 }
 
 /// The value of a containment.
@@ -84,8 +91,10 @@ fn contained_value(
     ensures { IfOk result (λ v. view v ≡ answer_value question.now names.now (Contained parts.now (map certificate_view certificates.now))) }
 {
     let parts = sets(alloc, parts)?;
+    let members = Members::new(alloc).with(alloc, "parts", parts)?;
     let proofs = proofs(alloc, certificates)?;
-    json!(in alloc; {"answer": "contained", "parts": parts, "proofs": proofs, "question": question})
+    let members = members.with(alloc, "proofs", proofs)?;
+    members.into_answer(alloc, "contained", question)
 }
 
 /// The value of a search without an end.
@@ -93,7 +102,9 @@ fn contained_value(
 fn open_value(alloc: Global, question: &str, names: &Names, tried: u32) -> Result<Value, AllocError>
     ensures { IfOk result (λ v. view v ≡ answer_value question.now names.now (Open tried)) }
 {
-    json!(in alloc; {"answer": "open", "question": question, "tried": tried})
+    let count = json!(in alloc; tried)?;
+    let members = Members::new(alloc).with(alloc, "tried", count)?;
+    members.into_answer(alloc, "open", question)
 }
 
 /// The value of an answer.
