@@ -1,13 +1,14 @@
 //! Operations on fractions.
 
 use crate::Task;
+use crate::output::Output;
 use it_fraction::{Fraction, Wide};
 use std::alloc::{AllocError, Global};
 use std::cmp::Ordering;
-use std::io;
+use std::str::SplitWhitespace;
 
 /// The two operands of a call.
-#[derive(Debug, Clone, Copy)]
+#[derive(Clone, Copy)]
 struct Pair {
     left: Fraction,
     right: Fraction,
@@ -23,11 +24,16 @@ fn fraction(numerator: &str, denominator: &str) -> Option<Fraction> {
     Some(Fraction::lowest(num, den))
 }
 
+/// The fraction of the next two numbers.
+fn next_fraction(numbers: &mut SplitWhitespace<'_>) -> Option<Fraction> {
+    fraction(numbers.next()?, numbers.next()?)
+}
+
 /// The pair of a line.
 fn pair_of(line: &str) -> Option<Pair> {
     let mut numbers = line.split_whitespace();
-    let left = fraction(numbers.next()?, numbers.next()?)?;
-    let right = fraction(numbers.next()?, numbers.next()?)?;
+    let left = next_fraction(&mut numbers)?;
+    let right = next_fraction(&mut numbers)?;
     Some(Pair { left, right })
 }
 
@@ -89,48 +95,66 @@ fn orders(pairs: &[Pair], turns: u32) -> i128 {
     i128::from(sum)
 }
 
-/// Writes what an operation gives: a fraction as its numerator, `/` and its denominator, or `wide`.
-fn write_outcome(rt: HostRuntime, outcome: Result<Fraction, Wide>) -> io::Result<()> {
+/// Writes what an operation gives, a fraction or `wide`, and a space.
+fn write_outcome(out: &mut Output, outcome: Result<Fraction, Wide>) {
     match outcome {
-        Ok(fraction) => print!(rt; "{}/{} ", fraction.num(), fraction.den()),
-        Err(Wide) => print!(rt; "wide "),
+        Ok(fraction) => out.put_fraction(&fraction),
+        Err(Wide) => out.put("wide"),
     }
+    out.put(' ');
 }
 
-/// Writes a pair's sum, difference, product and quotient, the last where the right one isn't 0, and then how the left one compares
-/// with the right one.
-fn write_results(rt: HostRuntime, pair: &Pair) -> io::Result<()> {
-    write_outcome(rt, pair.left.add(pair.right))?;
-    write_outcome(rt, pair.left.sub(pair.right))?;
-    write_outcome(rt, pair.left.mul(pair.right))?;
+/// Writes a pair's quotient, where the right one isn't 0.
+fn write_quotient(out: &mut Output, pair: &Pair) {
     if pair.right.is_zero() {
-        print!(rt; "none ")?;
+        out.put("none ");
     } else {
-        write_outcome(rt, pair.left.div(pair.right))?;
-    }
-    match pair.left.compare(pair.right) {
-        Ordering::Less => println!(rt; "less"),
-        Ordering::Equal => println!(rt; "equal"),
-        Ordering::Greater => println!(rt; "greater"),
+        write_outcome(out, pair.left.div(pair.right));
     }
 }
 
-/// Does an operation on each pair, and prints a sum over the results; or writes the results of all of them.
-pub fn time(rt: HostRuntime, input: &[u8], task: &Task<'_>) -> io::Result<()> {
-    let Ok(text) = std::str::from_utf8(input) else {
-        return println!(rt; "no text");
-    };
-    let pairs = pairs(rt.alloc(), text)?;
-    if task.way == "each" {
-        for pair in pairs.as_slice() {
-            write_results(rt, pair)?;
-        }
-        return Ok(());
+/// How the left one compares with the right one.
+fn order_of(pair: &Pair) -> &'static str {
+    match pair.left.compare(pair.right) {
+        Ordering::Less => "less\n",
+        Ordering::Equal => "equal\n",
+        Ordering::Greater => "greater\n",
     }
-    let sum = match task.way {
-        "add" => sums(pairs.as_slice(), task.turns),
-        "mul" => products(pairs.as_slice(), task.turns),
-        _ => orders(pairs.as_slice(), task.turns),
-    };
-    println!(rt; "{sum}")
+}
+
+/// Writes each pair's sum, difference, product and quotient, and then how the left one compares with the right one.
+fn write_results(out: &mut Output, pairs: &[Pair]) {
+    for pair in pairs {
+        write_outcome(out, pair.left.add(pair.right));
+        write_outcome(out, pair.left.sub(pair.right));
+        write_outcome(out, pair.left.mul(pair.right));
+        write_quotient(out, pair);
+        out.put(order_of(pair));
+    }
+}
+
+/// A sum over the results of an operation.
+fn sum_of(pairs: &[Pair], task: &Task<'_>) -> i128 {
+    match task.way {
+        "add" => sums(pairs, task.turns),
+        "mul" => products(pairs, task.turns),
+        _ => orders(pairs, task.turns),
+    }
+}
+
+/// Does an operation on each pair, and writes a sum over the results; or writes the results of all of them.
+pub fn time(
+    alloc: Global,
+    out: &mut Output,
+    text: &str,
+    task: &Task<'_>,
+) -> Result<(), AllocError> {
+    let pairs = pairs(alloc, text)?;
+    if task.way == "each" {
+        write_results(out, pairs.as_slice());
+    } else {
+        out.put(sum_of(pairs.as_slice(), task));
+        out.put('\n');
+    }
+    Ok(())
 }

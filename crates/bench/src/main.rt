@@ -13,22 +13,24 @@
 //! each is; how it ends, and the calls.
 #![tactic(auto)]
 
-ghost use Rattle.std.specs.Prelude.{All};
+ghost use Rattle.std.specs.Prelude.{◌≤◌, All, length};
 ghost use Rattle.it_question.specs.Limits.{IsQuestion};
 ghost use Rattle.it_question.specs.Questions.{question_body};
 
 mod fractions;
+mod output;
 mod readings;
 mod reductions;
 mod runs;
 mod searches;
 mod systems;
 
+use crate::output::Output;
 use it_outside::{StdSource, read_all};
 use it_question::questions;
 use it_question::types::Question;
-use std::alloc::Global;
-use std::io;
+use std::alloc::{AllocError, Global};
+use std::{io, str};
 
 /// The most bytes of an input.
 const MOST: usize = 1_048_576;
@@ -41,72 +43,144 @@ pub struct Task<'a> {
     pub turns: u32,
 }
 
-/// Reads a question file again and again, and prints its bytes and its questions.
-fn reading(rt: HostRuntime, file: &[u8], task: &Task<'_>) -> io::Result<()> {
-    if file.len() > MOST {
-        return Ok(());
+/// How many questions a file has.
+fn count(alloc: Global, file: &[u8]) -> usize
+    requires { length file.now ≤ 1048577 }
+{
+    match questions(alloc, file) {
+        Ok(questions) => questions.len(),
+        Err(_) => 0,
     }
-    let mut count = 0;
+}
+
+/// Reads a question file again and again, and writes its bytes and its questions.
+fn reading(alloc: Global, out: &mut Output, file: &[u8], task: &Task<'_>)
+    requires { length file.now ≤ 1048577 }
+{
+    let mut questions = 0;
     for _ in 0..task.turns {
-        count = match questions(rt.alloc(), file) {
-            Ok(questions) => questions.len(),
-            Err(_) => 0,
-        };
+        questions = count(alloc, file);
     }
-    println!(rt; "{} {count}", file.len())
+    out.put(file.len());
+    out.put(' ');
+    out.put(questions);
+    out.put('\n');
 }
 
 /// Writes each question.
-fn write_all(rt: HostRuntime, questions: &[Question], task: &Task<'_>) -> io::Result<()>
+fn write_all(
+    alloc: Global,
+    out: &mut Output,
+    questions: &[Question],
+    task: &Task<'_>,
+) -> Result<(), AllocError>
     requires { All (λ q. IsQuestion (question_body q)) questions.now }
 {
     for question in questions {
-        readings::write(rt, question, task)?;
+        readings::write(alloc, out, question, task)?;
     }
     Ok(())
 }
 
 /// The work of a kernel on a question.
-fn asking(rt: HostRuntime, kernel: &str, question: &Question, task: &Task<'_>) -> io::Result<()>
+fn asking(
+    alloc: Global,
+    out: &mut Output,
+    kernel: &str,
+    question: &Question,
+    task: &Task<'_>,
+) -> Result<(), AllocError>
     requires { IsQuestion (question_body question.now) }
 {
     match kernel {
-        "simplex" => runs::time(rt, question, task),
-        "reduce" => reductions::time(rt, question, task),
-        "contain" => searches::time(rt, question, task),
-        _ => println!(rt; "no kernel"),
+        "simplex" => runs::time(alloc, out, question, task),
+        "reduce" => reductions::time(alloc, out, question, task),
+        "contain" => searches::time(alloc, out, question, task),
+        _ => {
+            out.put("no kernel\n");
+            Ok(())
+        }
+    }
+}
+
+/// The work of a kernel on a question file.
+fn on_questions(
+    alloc: Global,
+    out: &mut Output,
+    kernel: &str,
+    file: &[u8],
+    task: &Task<'_>,
+) -> Result<(), AllocError>
+    requires { length file.now ≤ 1048577 }
+{
+    match questions(alloc, file) {
+        Ok(questions) if kernel == "questions" => {
+            write_all(alloc, out, questions.as_slice(), task)
+        }
+        Ok(questions) if !questions.is_empty() => {
+            asking(alloc, out, kernel, &questions.as_slice()[0], task)
+        }
+        _ => {
+            out.put("no question\n");
+            Ok(())
+        }
+    }
+}
+
+/// The work of a kernel on the lines of a text.
+fn on_lines(
+    alloc: Global,
+    out: &mut Output,
+    kernel: &str,
+    input: &[u8],
+    task: &Task<'_>,
+) -> Result<(), AllocError> {
+    match str::from_utf8(input) {
+        Ok(text) if kernel == "fractions" => fractions::time(alloc, out, text, task),
+        Ok(text) => systems::write_ends(alloc, out, text),
+        Err(_) => {
+            out.put("no text\n");
+            Ok(())
+        }
     }
 }
 
 /// The work of a kernel on its input.
-fn time(rt: HostRuntime, kernel: &str, input: &[u8], task: &Task<'_>) -> io::Result<()> {
-    if kernel == "fractions" {
-        return fractions::time(rt, input, task);
-    }
-    if kernel == "reading" {
-        return reading(rt, input, task);
-    }
-    if kernel == "systems" {
-        return systems::write_ends(rt, input);
+fn time(
+    alloc: Global,
+    out: &mut Output,
+    kernel: &str,
+    input: &[u8],
+    task: &Task<'_>,
+) -> Result<(), AllocError> {
+    if kernel == "fractions" || kernel == "systems" {
+        return on_lines(alloc, out, kernel, input, task);
     }
     if input.len() > MOST {
         return Ok(());
     }
-    match questions(rt.alloc(), input) {
-        Ok(questions) if kernel == "questions" => write_all(rt, questions.as_slice(), task),
-        Ok(questions) if !questions.is_empty() => asking(
-            rt,
-            kernel,
-            &questions.as_slice()[0],
-            task,
-        ),
-        _ => println!(rt; "no question"),
+    if kernel == "reading" {
+        reading(alloc, out, input, task);
+        return Ok(());
     }
+    on_questions(alloc, out, kernel, input, task)
+}
+
+/// Reads the input, and does a kernel's work on it.
+fn run(rt: HostRuntime, kernel: &str, task: &Task<'_>) -> io::Result<()> {
+    let alloc = rt.alloc();
+    let mut out = Output::new(rt);
+    match read_all(alloc, &mut StdSource::new(rt.stdin()), MOST) {
+        Ok(input) => time(alloc, &mut out, kernel, input.as_slice(), task)?,
+        Err(_) => out.put("no input\n"),
+    }
+    out.end()
 }
 
 fn main(rt: HostRuntime) -> io::Result<()> {
-    let alloc = rt.alloc();
-    let words = std::env::args(&rt)?.skip(1).collect::<Vec<String>>(alloc)?;
+    let words = std::env::args(&rt)?
+        .skip(1)
+        .collect::<Vec<String>>(rt.alloc())?;
     let [kernel, way, limit, turns] = words.as_slice() else {
         return println!(rt; "usage: bench KERNEL WAY LIMIT TURNS < INPUT");
     };
@@ -115,8 +189,5 @@ fn main(rt: HostRuntime) -> io::Result<()> {
         limit: limit.as_str().parse::<u32>().unwrap_or(0),
         turns: turns.as_str().parse::<u32>().unwrap_or(0),
     };
-    let Ok(input) = read_all(alloc, &mut StdSource::new(rt.stdin()), MOST) else {
-        return println!(rt; "no input");
-    };
-    time(rt, kernel.as_str(), input.as_slice(), &task)
+    run(rt, kernel.as_str(), &task)
 }

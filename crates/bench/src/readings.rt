@@ -7,242 +7,254 @@ ghost use Rattle.it_question.specs.Limits.{IsQuestion};
 ghost use Rattle.it_question.specs.Questions.{question_body};
 
 use crate::Task;
+use crate::output::Output;
 use it_canon::{problem, system, target_rows};
 use it_question::types::{OwnLines, Question, Region, Verb};
 use it_space::{Constraint, Kind, Origin, Row, VarSet};
 use it_syntax::Names;
 use it_syntax::types::{Atom, Given, Relation, Sign, Term};
-use std::{io, str};
+use std::alloc::{AllocError, Global};
+use std::str;
 
-/// Writes a term.
-fn write_term(rt: HostRuntime, term: &Term) -> io::Result<()> {
-    let sign = if term.negative { '-' } else { '+' };
-    print!(rt; "{sign}{}", term.number)?;
-    if term.denominator != 1 {
-        print!(rt; "/{}", term.denominator)?;
-    }
-    match term.atom {
-        Atom::Nothing => Ok(()),
-        Atom::Entropy { of, given } => print!(rt; "H{}|{}", of.number(), given.number()),
-        Atom::Mutual { left, right, given } => {
-            print!(rt; "I{};{}|{}", left.number(), right.number(), given.number())
+/// Writes a set by number after a text.
+fn write_set(out: &mut Output, front: &str, set: VarSet) {
+    out.put(front);
+    out.put(set.number());
+}
+
+/// Writes what a term has a number of.
+fn write_atom(out: &mut Output, atom: Atom) {
+    match atom {
+        Atom::Nothing => {}
+        Atom::Entropy { of, given } => {
+            write_set(out, "H", of);
+            write_set(out, "|", given);
         }
-        Atom::Rate(rate) => print!(rt; "R{rate}"),
+        Atom::Mutual { left, right, given } => {
+            write_set(out, "I", left);
+            write_set(out, ";", right);
+            write_set(out, "|", given);
+        }
+        Atom::Rate(rate) => {
+            out.put('R');
+            out.put(rate);
+        }
     }
 }
 
 /// Writes terms one after the other.
-fn write_terms(rt: HostRuntime, terms: &[Term]) -> io::Result<()> {
+fn write_terms(out: &mut Output, terms: &[Term]) {
     for term in terms {
-        write_term(rt, term)?;
+        out.put(if term.negative { '-' } else { '+' });
+        out.put(term.number);
+        if term.denominator != 1 {
+            out.put('/');
+            out.put(term.denominator);
+        }
+        write_atom(out, term.atom);
     }
-    Ok(())
 }
 
-/// Writes a relation.
-fn write_relation(rt: HostRuntime, relation: &Relation) -> io::Result<()> {
-    write_terms(rt, relation.left.terms.as_slice())?;
-    match relation.sign {
-        Sign::AtLeast => print!(rt; ">=")?,
-        Sign::AtMost => print!(rt; "<=")?,
-        Sign::Equal => print!(rt; "=")?,
-    }
-    write_terms(rt, relation.right.terms.as_slice())
+/// Writes a relation after a text.
+fn write_relation(out: &mut Output, front: &str, relation: &Relation) {
+    out.put(front);
+    write_terms(out, relation.left.terms.as_slice());
+    out.put(match relation.sign {
+        Sign::AtLeast => ">=",
+        Sign::AtMost => "<=",
+        Sign::Equal => "=",
+    });
+    write_terms(out, relation.right.terms.as_slice());
 }
 
-/// Writes sets by number.
-fn write_sets(rt: HostRuntime, sets: &[VarSet]) -> io::Result<()> {
+/// Writes sets by number after a text.
+fn write_sets(out: &mut Output, front: &str, sets: &[VarSet]) {
+    out.put(front);
     for set in sets {
-        print!(rt; " {}", set.number())?;
+        write_set(out, " ", *set);
     }
-    Ok(())
 }
 
 /// Writes the constraint of a `given` line.
-fn write_given(rt: HostRuntime, given: &Given) -> io::Result<()> {
+fn write_given(out: &mut Output, given: &Given) {
     match given {
-        Given::Relation(relation) => {
-            print!(rt; " given ")?;
-            write_relation(rt, relation)
-        }
-        Given::Markov(members) => {
-            print!(rt; " markov")?;
-            write_sets(rt, members.as_slice())
-        }
+        Given::Relation(relation) => write_relation(out, " given ", relation),
+        Given::Markov(members) => write_sets(out, " markov", members.as_slice()),
         Given::Independent { members, given } => {
-            print!(rt; " indep")?;
-            write_sets(rt, members.as_slice())?;
-            print!(rt; "|{}", given.number())
+            write_sets(out, " indep", members.as_slice());
+            write_set(out, "|", *given);
         }
         Given::Function { value, argument } => {
-            print!(rt; " func {} of {}", value.number(), argument.number())
+            write_set(out, " func ", *value);
+            write_set(out, " of ", *argument);
         }
     }
 }
 
 /// Writes the `given` and `row` lines.
-fn write_lines(rt: HostRuntime, lines: &OwnLines) -> io::Result<()> {
+fn write_lines(out: &mut Output, lines: &OwnLines) {
     for given in lines.givens.as_slice() {
-        write_given(rt, given)?;
+        write_given(out, given);
     }
     for row in lines.rows.as_slice() {
-        print!(rt; " row ")?;
-        write_relation(rt, row)?;
+        write_relation(out, " row ", row);
     }
-    Ok(())
 }
 
 /// Writes a name after a comma, unless it is the first.
-fn write_name(rt: HostRuntime, is_first: bool, name: &[u8]) -> io::Result<()> {
+fn write_name(out: &mut Output, is_first: bool, name: &[u8]) {
     if !is_first {
-        print!(rt; ",")?;
+        out.put(',');
     }
-    print!(rt; "{}", str::from_utf8(name).unwrap_or("?"))
+    out.put(str::from_utf8(name).unwrap_or("?"));
 }
 
 /// Writes names: variables, `;` and rates.
-fn write_names(rt: HostRuntime, names: &Names) -> io::Result<()> {
+fn write_names(out: &mut Output, names: &Names) {
     for i in 0..names.space().variables {
-        write_name(rt, i == 0, names.variable_name(i))?;
+        write_name(out, i == 0, names.variable_name(i));
     }
-    print!(rt; ";")?;
+    out.put(';');
     for i in 0..names.space().rates {
-        write_name(rt, i == 0, names.rate_name(i))?;
+        write_name(out, i == 0, names.rate_name(i));
     }
-    Ok(())
 }
 
 /// Writes a region: its names, how many of them are its own, and its lines.
-fn write_region(rt: HostRuntime, region: &Region) -> io::Result<()> {
-    print!(rt; " (")?;
-    write_names(rt, &region.names)?;
-    print!(rt; " {}", region.auxiliaries)?;
-    write_lines(rt, &region.lines)?;
-    print!(rt; ")")
+fn write_region(out: &mut Output, region: &Region) {
+    out.put(" (");
+    write_names(out, &region.names);
+    out.put(' ');
+    out.put(region.auxiliaries);
+    write_lines(out, &region.lines);
+    out.put(')');
 }
 
-/// Writes rates by number.
-fn write_rates(rt: HostRuntime, rates: &[u8]) -> io::Result<()> {
+/// Writes the rates of an elimination by number.
+fn write_elimination(out: &mut Output, rates: &[u8]) {
+    out.put(" eliminate");
     for rate in rates {
-        print!(rt; " {rate}")?;
+        out.put(' ');
+        out.put(*rate);
     }
-    Ok(())
 }
 
-/// Writes the sets of the `try` lines.
-fn write_tries(rt: HostRuntime, tries: &[[VarSet; 4]]) -> io::Result<()> {
+/// Writes a containment with the sets of its `try` lines.
+fn write_containment(out: &mut Output, first: &Region, second: &Region, tries: &[[VarSet; 4]]) {
+    out.put(" contain");
+    write_region(out, first);
+    write_region(out, second);
     for sets in tries {
-        print!(rt; " try")?;
-        write_sets(rt, sets.as_slice())?;
+        write_sets(out, " try", sets.as_slice());
     }
-    Ok(())
 }
 
 /// Writes a verb with what it has.
-fn write_verb(rt: HostRuntime, verb: &Verb) -> io::Result<()> {
+fn write_verb(out: &mut Output, verb: &Verb) {
     match verb {
-        Verb::Prove(relation) => {
-            print!(rt; " prove ")?;
-            write_relation(rt, relation)
-        }
-        Verb::Eliminate(rates) => {
-            print!(rt; " eliminate")?;
-            write_rates(rt, rates.as_slice())
-        }
+        Verb::Prove(relation) => write_relation(out, " prove ", relation),
+        Verb::Eliminate(rates) => write_elimination(out, rates.as_slice()),
         Verb::Contain {
             first,
             second,
             tries,
-        } => {
-            print!(rt; " contain")?;
-            write_region(rt, first)?;
-            write_region(rt, second)?;
-            write_tries(rt, tries.as_slice())
-        }
+        } => write_containment(out, first, second, tries.as_slice()),
     }
 }
 
 /// Writes a question as it is read.
-fn write_question(rt: HostRuntime, question: &Question) -> io::Result<()> {
-    write_names(rt, &question.names)?;
-    write_lines(rt, &question.lines)?;
-    write_verb(rt, &question.verb)?;
-    println!(rt; "")
+fn write_question(out: &mut Output, question: &Question) {
+    write_names(out, &question.names);
+    write_lines(out, &question.lines);
+    write_verb(out, &question.verb);
+    out.put('\n');
 }
 
 /// Writes a row after what it is.
-fn write_row(rt: HostRuntime, row: &Row) -> io::Result<()> {
+fn write_row(out: &mut Output, row: &Row) {
     for (coordinate, coefficient) in row.terms() {
-        print!(rt; " {coordinate}:{coefficient}")?;
+        out.put(' ');
+        out.put(*coordinate);
+        out.put(':');
+        out.put(*coefficient);
     }
-    println!(rt; "")
+    out.put('\n');
 }
 
-/// Writes a constraint: where it is from, whether it is an equation, and its row.
-fn write_constraint(rt: HostRuntime, constraint: &Constraint) -> io::Result<()> {
-    match constraint.origin {
-        Origin::Given { line, part, parts } => print!(rt; "given {line} {part}/{parts}")?,
-        Origin::Rate { line } => print!(rt; "row {line}")?,
+/// Writes where a constraint is from.
+fn write_origin(out: &mut Output, origin: Origin) {
+    match origin {
+        Origin::Given { line, part, parts } => {
+            out.put("given ");
+            out.put(line);
+            out.put(' ');
+            out.put(part);
+            out.put('/');
+            out.put(parts);
+        }
+        Origin::Rate { line } => {
+            out.put("row ");
+            out.put(line);
+        }
     }
-    match constraint.kind {
-        Kind::Equation => print!(rt; " =")?,
-        Kind::Inequality => print!(rt; " >=")?,
-    }
-    write_row(rt, &constraint.row)
 }
 
-/// Writes rows after a word.
-fn write_rows(rt: HostRuntime, word: &str, rows: &[Row]) -> io::Result<()> {
+/// Writes constraints: where each is from, whether it is an equation, and its row.
+fn write_constraints(out: &mut Output, constraints: &[Constraint]) {
+    for constraint in constraints {
+        write_origin(out, constraint.origin);
+        out.put(match constraint.kind {
+            Kind::Equation => " =",
+            Kind::Inequality => " >=",
+        });
+        write_row(out, &constraint.row);
+    }
+}
+
+/// Writes rows, each after a word.
+fn write_rows(out: &mut Output, word: &str, rows: &[Row]) {
     for row in rows {
-        print!(rt; "{word}")?;
-        write_row(rt, row)?;
+        out.put(word);
+        write_row(out, row);
     }
-    Ok(())
-}
-
-/// Writes the constraints of a question.
-fn write_constraints(rt: HostRuntime, question: &Question) -> io::Result<()>
-    requires { IsQuestion (question_body question.now) }
-{
-    for constraint in problem(rt.alloc(), question)?.constraints.as_slice() {
-        write_constraint(rt, constraint)?;
-    }
-    Ok(())
 }
 
 /// Writes the rows of a question's targets, or of the system that it has rates eliminated from.
-fn write_asked(rt: HostRuntime, question: &Question) -> io::Result<()>
+fn write_asked(alloc: Global, out: &mut Output, question: &Question) -> Result<(), AllocError>
     requires { IsQuestion (question_body question.now) }
 {
-    let alloc = rt.alloc();
     match &question.verb {
         Verb::Prove(relation) => {
             let rows = target_rows(alloc, relation, question.names.space())?;
-            write_rows(rt, "target", rows.as_slice())
+            write_rows(out, "target", rows.as_slice());
         }
-        Verb::Eliminate(_) => write_rows(rt, "system", system(alloc, question)?.rows.as_slice()),
-        Verb::Contain { .. } => Ok(()),
+        Verb::Eliminate(_) => write_rows(out, "system", system(alloc, question)?.rows.as_slice()),
+        Verb::Contain { .. } => {}
     }
+    Ok(())
 }
 
 /// Writes the constraints of a question, and the rows that it asks about.
-fn write_problem(rt: HostRuntime, question: &Question) -> io::Result<()>
+fn write_problem(alloc: Global, out: &mut Output, question: &Question) -> Result<(), AllocError>
     requires { IsQuestion (question_body question.now) }
 {
-    write_constraints(rt, question)?;
-    write_asked(rt, question)
+    write_constraints(out, problem(alloc, question)?.constraints.as_slice());
+    write_asked(alloc, out, question)
 }
 
 /// Writes a question in the task's way: as it is read, its text, or its rows.
-pub fn write(rt: HostRuntime, question: &Question, task: &Task<'_>) -> io::Result<()>
+pub fn write(
+    alloc: Global,
+    out: &mut Output,
+    question: &Question,
+    task: &Task<'_>,
+) -> Result<(), AllocError>
     requires { IsQuestion (question_body question.now) }
 {
     match task.way {
-        "read" => write_question(rt, question),
-        "text" => print!(rt;
-            "{}",
-            str::from_utf8(question.text.as_slice()).unwrap_or("?")
-        ),
-        _ => write_problem(rt, question),
+        "read" => write_question(out, question),
+        "text" => out.put(str::from_utf8(question.text.as_slice()).unwrap_or("?")),
+        _ => return write_problem(alloc, out, question),
     }
+    Ok(())
 }

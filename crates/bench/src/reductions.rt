@@ -9,6 +9,7 @@ ghost use Rattle.it_space.specs.Problems.{IsProblem, problem_view};
 ghost use Rattle.it_space.specs.Rows.{IsUpTo};
 
 use crate::Task;
+use crate::output::Output;
 use it_canon::{problem, system};
 use it_eliminate::{Eliminated, step};
 use it_prove::{Proof, prove};
@@ -17,7 +18,6 @@ use it_redundant::{kept_system, reduce};
 use it_simplex::Budget;
 use it_space::{Constraint, Kind, Origin, Problem, Row, System};
 use std::alloc::{AllocError, Global};
-use std::io;
 
 /// The most rows that a rate may leave.
 const MOST: usize = 4096;
@@ -38,13 +38,47 @@ fn are_up_to(rows: &[Row], size: u32) -> bool
     rows.iter().all(|row| is_up_to(row, size))
 }
 
-/// A row as one that is to be at least 0.
-fn at_least_zero(alloc: Global, row: &Row) -> Result<Constraint, AllocError> {
-    Ok(Constraint {
-        row: row.copy(alloc)?,
-        kind: Kind::Inequality,
-        origin: Origin::Rate { line: 1 },
-    })
+/// One more constraint of a row.
+fn push(
+    alloc: Global,
+    constraints: &mut Vec<Constraint>,
+    row: &Row,
+    kind: Kind,
+    origin: Origin,
+) -> Result<(), AllocError> {
+    let row = row.copy(alloc)?;
+    constraints.push(Constraint { row, kind, origin })?;
+    Ok(())
+}
+
+/// The rows as ones that are to be at least 0.
+fn push_rows(
+    alloc: Global,
+    constraints: &mut Vec<Constraint>,
+    rows: &[Row],
+) -> Result<(), AllocError> {
+    for row in rows {
+        push(
+            alloc,
+            constraints,
+            row,
+            Kind::Inequality,
+            Origin::Rate { line: 1 },
+        )?;
+    }
+    Ok(())
+}
+
+/// The givens.
+fn push_givens(
+    alloc: Global,
+    constraints: &mut Vec<Constraint>,
+    givens: &Problem,
+) -> Result<(), AllocError> {
+    for given in givens.constraints.as_slice() {
+        push(alloc, constraints, &given.row, given.kind, given.origin)?;
+    }
+    Ok(())
 }
 
 /// The givens, and the rows before and after one.
@@ -55,19 +89,9 @@ fn problem_around(
     after: &[Row],
 ) -> Result<Problem, AllocError> {
     let mut constraints = Vec::new(alloc);
-    for given in &givens.constraints {
-        constraints.push(Constraint {
-            row: given.row.copy(alloc)?,
-            kind: given.kind,
-            origin: given.origin,
-        })?;
-    }
-    for row in before {
-        constraints.push(at_least_zero(alloc, row)?)?;
-    }
-    for row in after {
-        constraints.push(at_least_zero(alloc, row)?)?;
-    }
+    push_givens(alloc, &mut constraints, givens)?;
+    push_rows(alloc, &mut constraints, before)?;
+    push_rows(alloc, &mut constraints, after)?;
     Ok(Problem {
         space: givens.space,
         constraints,
@@ -216,21 +240,50 @@ fn elimination(
     Ok((counts, calls))
 }
 
-/// Eliminates the rates, and prints the rows after each and the calls.
-pub fn time(rt: HostRuntime, question: &Question, task: &Task<'_>) -> io::Result<()>
+/// Writes the rows after each rate, and the calls.
+fn write_counts(out: &mut Output, counts: &[usize], calls: usize) {
+    out.put("rows");
+    for rows in counts {
+        out.put(' ');
+        out.put(*rows);
+    }
+    out.put(" calls ");
+    out.put(calls);
+    out.put('\n');
+}
+
+/// Eliminates the rates so many times, and writes the rows after each and the calls.
+fn eliminate(
+    alloc: Global,
+    out: &mut Output,
+    question: &Question,
+    rates: &[u8],
+    task: &Task<'_>,
+) -> Result<(), AllocError>
     requires { IsQuestion (question_body question.now) }
 {
-    let alloc = rt.alloc();
-    let Verb::Eliminate(rates) = &question.verb else {
-        return println!(rt; "no rates");
-    };
     for _ in 1..task.turns {
-        elimination(alloc, question, rates.as_slice(), task.way)?;
+        elimination(alloc, question, rates, task.way)?;
     }
-    let (counts, calls) = elimination(alloc, question, rates.as_slice(), task.way)?;
-    print!(rt; "rows")?;
-    for rows in counts.as_slice() {
-        print!(rt; " {rows}")?;
+    let (counts, calls) = elimination(alloc, question, rates, task.way)?;
+    write_counts(out, counts.as_slice(), calls);
+    Ok(())
+}
+
+/// Eliminates the rates of a question, if it has such.
+pub fn time(
+    alloc: Global,
+    out: &mut Output,
+    question: &Question,
+    task: &Task<'_>,
+) -> Result<(), AllocError>
+    requires { IsQuestion (question_body question.now) }
+{
+    match &question.verb {
+        Verb::Eliminate(rates) => eliminate(alloc, out, question, rates.as_slice(), task),
+        _ => {
+            out.put("no rates\n");
+            Ok(())
+        }
     }
-    println!(rt; " calls {calls}")
 }

@@ -5,23 +5,16 @@ ghost use Rattle.it_question.specs.Limits.{IsQuestion};
 ghost use Rattle.it_question.specs.Questions.{question_body};
 
 use crate::Task;
+use crate::output::Output;
+use crate::systems::{System, end as solved_end};
 use it_canon::canon;
 use it_elemental::{count, row};
 use it_question::types::{Question, Verb};
 use it_run::exact_run;
-use it_simplex::{Budget, Solved, solve};
+use it_simplex::Solved;
 use it_space::{Row, RowFault};
 use it_tableau::Tableau;
 use std::alloc::{AllocError, Global};
-use std::io;
-
-/// The elemental inequalities as columns, their coordinates, and the form that is asked about.
-#[derive(Drop)]
-struct System {
-    columns: Vec<Row>,
-    coordinates: Vec<u32>,
-    target: Row,
-}
 
 /// The rows of the elemental inequalities.
 fn elemental_rows(alloc: Global, variables: u8) -> Result<Vec<Row>, AllocError>
@@ -35,8 +28,8 @@ fn elemental_rows(alloc: Global, variables: u8) -> Result<Vec<Row>, AllocError>
     Ok(rows)
 }
 
-/// The system of a question that proves a relation.
-fn system_of(alloc: Global, question: &Question) -> Result<Option<System>, AllocError>
+/// The elemental inequalities and the form of a question that proves a relation, with a budget of steps.
+fn system_of(alloc: Global, question: &Question, steps: u32) -> Result<Option<System>, AllocError>
     requires { IsQuestion (question_body question.now) }
 {
     let space = question.names.space();
@@ -44,6 +37,7 @@ fn system_of(alloc: Global, question: &Question) -> Result<Option<System>, Alloc
         return Ok(None);
     };
     Ok(Some(System {
+        steps: Some(steps),
         columns: elemental_rows(alloc, space.variables)?,
         coordinates: (1..1u32 << space.variables).collect(alloc)?,
         target: canon(alloc, relation, space)?,
@@ -65,54 +59,68 @@ fn exact_end(
     }
 }
 
-/// The end of the run with the task's budget, in its way.
+/// The end of the run in the task's way.
 fn end(alloc: Global, system: &System, task: &Task<'_>) -> Result<Solved, AllocError> {
-    let coordinates = system.coordinates.as_slice();
-    let columns = system.columns.as_slice();
-    if task.way == "exact" {
-        exact_end(alloc, coordinates, columns, &system.target, task.limit)
-    } else {
-        let budget = Budget::at_most(task.limit);
-        solve(alloc, coordinates, columns, &system.target, budget)
+    if task.way != "exact" {
+        return solved_end(alloc, system);
     }
+    exact_end(
+        alloc,
+        system.coordinates.as_slice(),
+        system.columns.as_slice(),
+        &system.target,
+        task.limit,
+    )
+}
+
+/// Makes the run so many times, and tells how it ends.
+fn run(alloc: Global, system: &System, task: &Task<'_>) -> Result<&'static str, AllocError> {
+    for _ in 1..task.turns {
+        end(alloc, system, task)?;
+    }
+    let word = match end(alloc, system, task)? {
+        Solved::Weights(_) => "weights\n",
+        Solved::Point(_) => "point\n",
+        Solved::Pivots(_) => "pivots\n",
+        Solved::Width(_) => "width\n",
+    };
+    Ok(word)
 }
 
 /// Writes a row as a line of coordinates with their coefficients.
-fn write_row(rt: HostRuntime, row: &Row) -> io::Result<()> {
+fn write_row(out: &mut Output, row: &Row) {
     for (coordinate, coefficient) in row.terms() {
-        print!(rt; "{coordinate} {coefficient} ")?;
+        out.put(*coordinate);
+        out.put(' ');
+        out.put(*coefficient);
+        out.put(' ');
     }
-    println!(rt; "")
+    out.put('\n');
 }
 
 /// Writes a system: the number of its rows, then the target and each column.
-fn write(rt: HostRuntime, system: &System) -> io::Result<()> {
-    println!(rt; "{}", system.coordinates.len())?;
-    write_row(rt, &system.target)?;
+fn write(out: &mut Output, system: &System) {
+    out.put(system.coordinates.len());
+    out.put('\n');
+    write_row(out, &system.target);
     for column in system.columns.as_slice() {
-        write_row(rt, column)?;
+        write_row(out, column);
     }
-    Ok(())
 }
 
-/// Makes the run, and prints how it ends.
-pub fn time(rt: HostRuntime, question: &Question, task: &Task<'_>) -> io::Result<()>
+/// Makes the run, and writes how it ends; or writes the system.
+pub fn time(
+    alloc: Global,
+    out: &mut Output,
+    question: &Question,
+    task: &Task<'_>,
+) -> Result<(), AllocError>
     requires { IsQuestion (question_body question.now) }
 {
-    let alloc = rt.alloc();
-    let Some(system) = system_of(alloc, question)? else {
-        return println!(rt; "no relation");
-    };
-    if task.way == "system" {
-        return write(rt, &system);
+    match system_of(alloc, question, task.limit)? {
+        None => out.put("no relation\n"),
+        Some(system) if task.way == "system" => write(out, &system),
+        Some(system) => out.put(run(alloc, &system, task)?),
     }
-    for _ in 1..task.turns {
-        end(alloc, &system, task)?;
-    }
-    match end(alloc, &system, task)? {
-        Solved::Weights(_) => println!(rt; "weights"),
-        Solved::Point(_) => println!(rt; "point"),
-        Solved::Pivots(_) => println!(rt; "pivots"),
-        Solved::Width(_) => println!(rt; "width"),
-    }
+    Ok(())
 }

@@ -6,6 +6,7 @@ ghost use Rattle.it_question.specs.Questions.{question_body, verb_view};
 ghost use Rattle.it_region.specs.Pairs.{IsPair, IsContainment};
 
 use crate::Task;
+use crate::output::Output;
 use indexmap::IndexSet;
 use it_contain::{
     Candidate, Contained, Pair, Proposer, Shape, Singles, Subsets, contain, fits, obligations, pair,
@@ -15,7 +16,6 @@ use it_question::types::{Question, Verb};
 use it_simplex::Budget;
 use it_space::Row;
 use std::alloc::{AllocError, Global};
-use std::io;
 
 /// How often the solver was called, and with which rows.
 #[derive(Drop)]
@@ -115,81 +115,97 @@ fn search_plainly(
     Ok((count, false))
 }
 
-/// Makes one search that keeps outcomes, and prints how it ends.
+/// Makes one search that keeps outcomes, and writes how it ends.
 fn search_kept(
-    rt: HostRuntime,
+    alloc: Global,
+    out: &mut Output,
     pair: &Pair,
     boxes: &mut Vec<Box<dyn Proposer>>,
     tries: u32,
-) -> io::Result<()>
+) -> Result<(), AllocError>
     requires { IsPair pair.now }
 {
-    match contain(rt.alloc(), pair, &[], boxes, tries, Budget::none())? {
-        Contained::Found(_, proofs) => println!(rt; "found {} proofs", proofs.len()),
-        Contained::Open { tried } => println!(rt; "open {tried}"),
+    match contain(alloc, pair, &[], boxes, tries, Budget::none())? {
+        Contained::Found(_, proofs) => {
+            out.put("found ");
+            out.put(proofs.len());
+            out.put(" proofs\n");
+        }
+        Contained::Open { tried } => {
+            out.put("open ");
+            out.put(tried);
+            out.put('\n');
+        }
     }
+    Ok(())
 }
 
-/// Makes one search that keeps none, and prints how it ends and what it called.
+/// Writes how a search ends, and what it called.
+fn write_calls(out: &mut Output, is_found: bool, tried: u32, calls: &Calls) {
+    out.put(if is_found { "found " } else { "open " });
+    out.put(tried);
+    out.put(" calls ");
+    out.put(calls.count);
+    out.put(" rows ");
+    out.put(calls.rows.len());
+    out.put('\n');
+}
+
+/// Makes one search that keeps none, and writes how it ends and what it called.
 fn search_anew(
-    rt: HostRuntime,
+    alloc: Global,
+    out: &mut Output,
     pair: &Pair,
     boxes: &mut Vec<Box<dyn Proposer>>,
     tries: u32,
-) -> io::Result<()>
+) -> Result<(), AllocError>
     requires { IsPair pair.now }
 {
-    let alloc = rt.alloc();
     let mut calls = Calls {
         count: 0,
         rows: IndexSet::new(alloc),
     };
     let (tried, is_found) = search_plainly(alloc, pair, boxes, tries, &mut calls)?;
-    let end = if is_found { "found" } else { "open" };
-    println!(rt;
-        "{end} {tried} calls {} rows {}",
-        calls.count,
-        calls.rows.len()
-    )
+    write_calls(out, is_found, tried, &calls);
+    Ok(())
 }
 
 /// Makes one search in the task's way.
 fn search(
-    rt: HostRuntime,
+    alloc: Global,
+    out: &mut Output,
     pair: &Pair,
     boxes: &mut Vec<Box<dyn Proposer>>,
     task: &Task<'_>,
-) -> io::Result<()>
+) -> Result<(), AllocError>
     requires { IsPair pair.now }
 {
     if task.way == "kept" {
-        search_kept(rt, pair, boxes, task.limit)
+        search_kept(alloc, out, pair, boxes, task.limit)
     } else {
-        search_anew(rt, pair, boxes, task.limit)
+        search_anew(alloc, out, pair, boxes, task.limit)
     }
 }
 
-/// Makes the searches of a question, among all sets of at most one variable and then all sets, and prints how each ends.
-pub fn time(rt: HostRuntime, question: &Question, task: &Task<'_>) -> io::Result<()>
+/// Makes the searches of a question, among all sets of at most one variable and then all sets, and writes how each ends.
+pub fn time(
+    alloc: Global,
+    out: &mut Output,
+    question: &Question,
+    task: &Task<'_>,
+) -> Result<(), AllocError>
     requires { IsQuestion (question_body question.now) }
 {
-    let alloc = rt.alloc();
     if !is_containment(&question.verb) {
-        return println!(rt; "no containment");
+        out.put("no containment\n");
+        return Ok(());
     }
     let pair = pair(alloc, question)?;
-    let (Ok(singles), Ok(subsets)) = (
-        Box::new(alloc, Singles::new()),
-        Box::new(alloc, Subsets::new()),
-    ) else {
-        return println!(rt; "no memory");
-    };
     let mut boxes: Vec<Box<dyn Proposer>> = Vec::new(alloc);
-    let (Ok(()), Ok(())) = (boxes.push(singles), boxes.push(subsets)) else {
-        return println!(rt; "no memory");
-    };
+    boxes.push(Box::new(alloc, Singles::new())?)?;
+    boxes.push(Box::new(alloc, Subsets::new())?)?;
     for _ in 0..task.turns {
-        search(rt, &pair, &mut boxes, task)?;
+        search(alloc, out, &pair, &mut boxes, task)?;
     }
     Ok(())
 }

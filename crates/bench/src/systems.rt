@@ -6,20 +6,21 @@ ghost use Rattle.std.specs.Prelude.{◌≡◌, ◌≢◌, ◌≤◌, ◌+◌, �
 ghost use Rattle.std.specs.Bool.{OnTrue};
 ghost use Rattle.it_number.specs.Limit.{IsWithin};
 
+use crate::output::Output;
 use it_engine::whole_run;
 use it_fraction::Fraction;
 use it_simplex::{Budget, Solved, solve};
 use it_space::Row;
 use std::alloc::{AllocError, Global};
-use std::io;
+use std::str::SplitWhitespace;
 
-/// What a line asks.
+/// Whether the target is a sum of the columns, with a budget of steps, if there is one.
 #[derive(Drop)]
-struct System {
-    steps: Option<u32>,
-    coordinates: Vec<u32>,
-    target: Row,
-    columns: Vec<Row>,
+pub struct System {
+    pub steps: Option<u32>,
+    pub coordinates: Vec<u32>,
+    pub target: Row,
+    pub columns: Vec<Row>,
 }
 
 /// Whether a row may have this coefficient.
@@ -86,25 +87,34 @@ fn steps_of(text: &str) -> Option<Option<u32>> {
     }
 }
 
+/// The rows of words, None where one is none.
+fn rows_of(alloc: Global, words: SplitWhitespace<'_>) -> Result<Option<Vec<Row>>, AllocError> {
+    let mut rows = Vec::new(alloc);
+    for word in words {
+        let Some(row) = row_of(alloc, word)? else {
+            return Ok(None);
+        };
+        rows.push(row)?;
+    }
+    Ok(Some(rows))
+}
+
 /// The system of a line, None where it is none.
 fn system_of(alloc: Global, line: &str) -> Result<Option<System>, AllocError> {
     let mut words = line.split_whitespace();
-    let (Some(steps), Some(count)) = (words.next().and_then(steps_of), words.next()) else {
+    let (Some(steps), Some(count)) = (words.next(), words.next()) else {
         return Ok(None);
     };
-    let (Some(count), Some(target)) = (count.parse::<u16>().ok(), words.next()) else {
+    let (Some(steps), Ok(count)) = (steps_of(steps), count.parse::<u16>()) else {
         return Ok(None);
     };
-    let Some(target) = row_of(alloc, target)? else {
+    let Some(mut columns) = rows_of(alloc, words)? else {
         return Ok(None);
     };
-    let mut columns = Vec::new(alloc);
-    for word in words {
-        let Some(column) = row_of(alloc, word)? else {
-            return Ok(None);
-        };
-        columns.push(column)?;
+    if columns.is_empty() {
+        return Ok(None);
     }
+    let target = columns.remove(0);
     Ok(Some(System {
         steps,
         coordinates: (1..u32::from(count) + 1).collect(alloc)?,
@@ -114,7 +124,7 @@ fn system_of(alloc: Global, line: &str) -> Result<Option<System>, AllocError> {
 }
 
 /// How the run ends.
-fn end(alloc: Global, system: &System) -> Result<Solved, AllocError> {
+pub fn end(alloc: Global, system: &System) -> Result<Solved, AllocError> {
     let budget = match system.steps {
         Some(steps) => Budget::at_most(steps),
         None => Budget::none(),
@@ -140,46 +150,61 @@ fn is_whole(alloc: Global, system: &System) -> Result<bool, AllocError> {
     Ok(end.is_some())
 }
 
-/// Writes a fraction as its numerator, `/` and its denominator.
-fn write_fraction(rt: HostRuntime, number: &Fraction) -> io::Result<()> {
-    print!(rt; " {}/{}", number.num(), number.den())
-}
-
-/// Writes how a run ends: weights by their columns, a point's values by their coordinates, or the number of steps.
-fn write_end(rt: HostRuntime, solved: &Solved) -> io::Result<()> {
-    match solved {
-        Solved::Weights(weights) => {
-            print!(rt; " weights")?;
-            for (column, weight) in weights.as_slice() {
-                print!(rt; " {column}:{}/{}", weight.num(), weight.den())?;
-            }
-            println!(rt; "")
-        }
-        Solved::Point(values) => {
-            print!(rt; " point")?;
-            for value in values.as_slice() {
-                write_fraction(rt, value)?;
-            }
-            println!(rt; "")
-        }
-        Solved::Pivots(steps) => println!(rt; " pivots {steps}"),
-        Solved::Width(step) => println!(rt; " width {step}"),
+/// Writes weights by their columns.
+fn write_weights(out: &mut Output, weights: &[(usize, Fraction)]) {
+    out.put(" weights");
+    for (column, weight) in weights {
+        out.put(' ');
+        out.put(*column);
+        out.put(':');
+        out.put_fraction(weight);
     }
 }
 
-/// Writes for each line how its run ends, after whether it ends on whole numbers alone.
-pub fn write_ends(rt: HostRuntime, input: &[u8]) -> io::Result<()> {
-    let Ok(text) = std::str::from_utf8(input) else {
-        return println!(rt; "no text");
+/// Writes a point's values by their coordinates.
+fn write_point(out: &mut Output, values: &[Fraction]) {
+    out.put(" point");
+    for value in values {
+        out.put(' ');
+        out.put_fraction(value);
+    }
+}
+
+/// Writes how a run ends, by weights, a point or the number of steps.
+fn write_end(out: &mut Output, solved: &Solved) {
+    match solved {
+        Solved::Weights(weights) => write_weights(out, weights.as_slice()),
+        Solved::Point(values) => write_point(out, values.as_slice()),
+        Solved::Pivots(steps) => {
+            out.put(" pivots ");
+            out.put(*steps);
+        }
+        Solved::Width(step) => {
+            out.put(" width ");
+            out.put(*step);
+        }
+    }
+    out.put('\n');
+}
+
+/// Writes how the run of a system ends, after whether it ends on whole numbers alone.
+fn write_run(alloc: Global, out: &mut Output, system: &System) -> Result<(), AllocError> {
+    let word = if is_whole(alloc, system)? {
+        "whole"
+    } else {
+        "exact"
     };
+    out.put(word);
+    write_end(out, &end(alloc, system)?);
+    Ok(())
+}
+
+/// Writes for each line how its run ends.
+pub fn write_ends(alloc: Global, out: &mut Output, text: &str) -> Result<(), AllocError> {
     for line in text.lines() {
-        match system_of(rt.alloc(), line)? {
-            Some(system) => {
-                let whole = is_whole(rt.alloc(), &system)?;
-                print!(rt; "{}", if whole { "whole" } else { "exact" })?;
-                write_end(rt, &end(rt.alloc(), &system)?)?;
-            }
-            None => println!(rt; "no system")?,
+        match system_of(alloc, line)? {
+            Some(system) => write_run(alloc, out, &system)?,
+            None => out.put("no system\n"),
         }
     }
     Ok(())
