@@ -6,7 +6,6 @@ ghost use Rattle.it_space.specs.Problems.{IsProblem, problem_view};
 use it_closure::Dependences;
 use it_space::{Constraint, Kind, Origin, Problem, Row, Space, VarSet};
 use std::alloc::{AllocError, Global};
-use std::test::Fail;
 
 /// Three variables and no rates.
 const SPACE: Space = Space {
@@ -51,25 +50,43 @@ fn dependences(alloc: Global) -> Result<Dependences, AllocError>
     Dependences::read(alloc, &problem)
 }
 
-#[test]
-fn functions_of_functions_close(rt: HostRuntime) -> Result<(), Fail> {
-    let alloc = rt.alloc();
-    let dependences = dependences(alloc)?;
-    assert!(rt; dependences.close(VarSet::single(0)) == VarSet::from_number(7));
-    let closed = dependences.closed(alloc, SPACE)?;
-    assert!(rt; closed.as_slice() == [4, 6, 7].as_slice());
-    Ok(())
+/// Whether X closes to all three variables, and the closed sets are these.
+fn closes(alloc: Global, dependences: &Dependences, sets: &[u32]) -> bool
+    requires { dependences.now.space ≡ record { variables = 3; rates = 0 } }
+{
+    match dependences.closed(alloc, SPACE) {
+        Ok(closed) => {
+            closed.as_slice() == sets
+                && dependences.close(VarSet::single(0)) == VarSet::from_number(7)
+        }
+        Err(_) => false,
+    }
+}
+
+/// Whether h(X,Z) - h(X) is nothing over closed sets.
+fn vanishes(alloc: Global, dependences: &Dependences) -> bool
+    requires { dependences.now.space ≡ record { variables = 3; rates = 0 } }
+{
+    let Ok(terms) = Vec::from_slice(alloc, &[(1, -1), (5, 1)]) else {
+        return false;
+    };
+    match dependences.collapse(alloc, &Row::new(terms)) {
+        Ok(collapsed) => collapsed.is_zero(),
+        Err(_) => false,
+    }
+}
+
+/// Whether functions of functions close, and a conditional entropy of one vanishes.
+fn are_functions(alloc: Global) -> bool {
+    match dependences(alloc) {
+        Ok(dependences) => {
+            closes(alloc, &dependences, &[4, 6, 7]) && vanishes(alloc, &dependences)
+        }
+        Err(_) => false,
+    }
 }
 
 #[test]
-fn a_conditional_entropy_of_a_function_collapses(rt: HostRuntime) -> Result<(), Fail> {
-    let alloc = rt.alloc();
-    // h(X,Z) - h(X)
-    let row = Row::new(vec![in alloc; (1, -1), (5, 1)]?);
-    let dependences = dependences(alloc)?;
-    let Ok(collapsed) = dependences.collapse(alloc, &row) else {
-        panic!(rt; "no memory");
-    };
-    assert!(rt; collapsed.is_zero());
-    Ok(())
+fn functions_of_functions_close_and_collapse(rt: HostRuntime) {
+    assert!(rt; are_functions(rt.alloc()));
 }

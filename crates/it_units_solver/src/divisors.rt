@@ -2,24 +2,28 @@
 
 use it_fraction::{gcd, lcm};
 
-// Python's math.gcd
-#[test]
-fn divisors_agree_with_exact_arithmetic(rt: HostRuntime) {
-    assert!(rt; gcd(0, 0) == 0);
-    assert!(rt; gcd(-12, 18) == 6);
-    assert!(rt; gcd(0, -i128::MAX) == i128::MAX);
-    assert!(rt; gcd(1 << 126, 3 << 100) == 1 << 100);
+/// Python's math.gcd
+fn are_divisors() -> bool {
+    gcd(0, 0) == 0
+        && gcd(-12, 18) == 6
+        && gcd(0, -i128::MAX) == i128::MAX
+        && gcd(1 << 126, 3 << 100) == 1 << 100
 }
 
-// Python's math.lcm
-#[test]
-fn multiples_agree_with_exact_arithmetic(rt: HostRuntime) {
+/// Python's math.lcm
+fn are_multiples() -> bool {
     let largest = i128::MAX;
     let big = 1 << 126;
-    assert!(rt; lcm(6, 4) == Ok(12));
-    assert!(rt; lcm(1, 1) == Ok(1));
-    assert!(rt; lcm(big, 3).is_err());
-    assert!(rt; lcm(big, 1 << 90) == Ok(big));
-    assert!(rt; lcm(largest, largest) == Ok(largest));
-    assert!(rt; lcm(largest, 2).is_err());
+    lcm(6, 4) == Ok(12)
+        && lcm(1, 1) == Ok(1)
+        && lcm(big, 3).is_err()
+        && lcm(big, 1 << 90) == Ok(big)
+        && lcm(largest, largest) == Ok(largest)
+        && lcm(largest, 2).is_err()
+}
+
+#[test]
+fn divisors_and_multiples_agree_with_exact_arithmetic(rt: HostRuntime) {
+    assert!(rt; are_divisors());
+    assert!(rt; are_multiples());
 }

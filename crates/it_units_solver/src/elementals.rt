@@ -6,103 +6,112 @@ use it_elemental::{Elemental, count, expand_conditional, expand_mutual, first_br
 use it_polymatroid::{Substitution, Table, is_polymatroid, pull_back};
 use it_space::VarSet;
 use std::alloc::{AllocError, Global};
-use std::test::Fail;
 
-/// The list of n variables, by loops over all variables, pairs and sets.
-fn list_by_loops(alloc: Global, n: u8) -> Result<Vec<Elemental>, AllocError>
-    requires { n ≤ 6 }
-{
-    let mut list = Vec::new(alloc);
-    for of in 0..n {
-        list.push(Elemental::Conditional { of })?;
-    }
-    for left in 0..n {
-        for right in left + 1..n {
-            for number in 0..1u16 << n {
-                let given = VarSet::from_number(number);
-                if !given.has(left) && !given.has(right) {
-                    list.push(Elemental::Mutual { left, right, given })?;
-                }
-            }
-        }
-    }
-    Ok(list)
-}
-
-/// Whether the inequalities of n variables, by number, are these.
-fn are_listed(n: u8, list: &[Elemental]) -> bool
+/// Whether the inequality of n variables with this number is this one.
+fn is_at(n: u8, index: u32, inequality: Elemental) -> bool
     requires some { 1 ≤ n }
     requires few { n ≤ 6 }
 {
-    let count = count(n);
-    for (index, elemental) in list.iter().enumerate() {
-        if index >= count as usize || parts(n, index as u32) != *elemental {
+    index < count(n) && parts(n, index) == inequality
+}
+
+/// Whether the inequalities of a pair of n variables, by loops over all sets, have the numbers from `first` on; the number after
+/// them.
+fn pair_listed(n: u8, left: u8, right: u8, first: u32) -> Option<u32>
+    requires some { 1 ≤ n }
+    requires few { n ≤ 6 }
+{
+    let mut index = first;
+    for number in 0..1u16 << n {
+        let given = VarSet::from_number(number);
+        if !given.has(left) && !given.has(right) {
+            if !is_at(n, index, Elemental::Mutual { left, right, given }) {
+                return None;
+            }
+            index = index.wrapping_add(1);
+        }
+    }
+    Some(index)
+}
+
+/// The number after those of all pairs, if the inequalities of n variables are listed pair by pair.
+fn pairs_listed(n: u8) -> Option<u32>
+    requires some { 1 ≤ n }
+    requires few { n ≤ 6 }
+{
+    let mut index = u32::from(n);
+    for left in 0..n {
+        for right in left + 1..n {
+            index = pair_listed(n, left, right, index)?;
+        }
+    }
+    Some(index)
+}
+
+/// Whether the inequalities of n variables are listed: those of each variable and then those of each pair.
+fn are_listed(n: u8) -> bool
+    requires some { 1 ≤ n }
+    requires few { n ≤ 6 }
+{
+    for of in 0..n {
+        if !is_at(n, u32::from(of), Elemental::Conditional { of }) {
             return false;
         }
     }
-    list.len() == count as usize
+    pairs_listed(n) == Some(count(n))
 }
 
 #[test]
-fn numbers_name_the_inequalities_in_order(rt: HostRuntime) -> Result<(), Fail> {
+fn numbers_name_the_inequalities_in_order(rt: HostRuntime) {
     for n in 1..=6 {
-        let list = list_by_loops(rt.alloc(), n)?;
-        assert!(rt; are_listed(n, list.as_slice()));
-    }
-    Ok(())
-}
-
-#[test]
-fn there_are_as_many_as_yeung_counts(rt: HostRuntime) {
-    assert!(rt; [count(1), count(2), count(3), count(4)] == [1, 3, 9, 28]);
-    assert!(rt; [count(5), count(6), count(7), count(8)] == [85, 246, 679, 1800]);
-}
-
-/// The inequality of three variables with this number.
-fn of_three(index: u32) -> Option<Elemental> {
-    if index < count(3) {
-        Some(parts(3, index))
-    } else {
-        None
+        assert!(rt; are_listed(n));
     }
 }
 
-#[test]
-fn an_inequality_has_its_parts(rt: HostRuntime) {
-    // I(Y;Z | X), of the variables X, Y, Z
+/// How many inequalities there are, by Yeung.
+fn are_as_many() -> bool {
+    [count(1), count(2), count(3), count(4)] == [1, 3, 9, 28]
+        && [count(5), count(6), count(7), count(8)] == [85, 246, 679, 1800]
+}
+
+/// Whether I(Y;Z | X), of the variables X, Y, Z, has its number and its row.
+fn is_eighth(alloc: Global) -> bool {
     let inequality = Elemental::Mutual {
         left: 1,
         right: 2,
         given: VarSet::from_number(1),
     };
-    assert!(rt; of_three(8) == Some(inequality));
+    let terms: &[(u32, i128)] = &[(1, -1), (3, 1), (5, 1), (7, -1)];
+    if !is_at(3, 8, inequality) || count(3) != 9 {
+        return false;
+    }
+    match row(alloc, 3, 8) {
+        Ok(row) => row.terms() == terms,
+        Err(_) => false,
+    }
 }
 
 #[test]
-fn an_inequality_has_its_row(rt: HostRuntime) -> Result<(), Fail> {
-    assert!(rt; count(3) == 9);
-    let row = row(rt.alloc(), 3, 8)?;
-    let terms: &[(u32, i128)] = &[(1, -1), (3, 1), (5, 1), (7, -1)];
-    assert!(rt; row.terms() == terms);
-    Ok(())
+fn there_are_as_many_as_yeung_counts_each_with_its_row(rt: HostRuntime) {
+    assert!(rt; are_as_many());
+    assert!(rt; is_eighth(rt.alloc()));
 }
 
-/// The expansion of the entropy of a set of three variables given another one.
-fn conditional(alloc: Global, of: u16, given: u16) -> Result<Vec<u32>, AllocError>
+/// Whether the entropy of a set of three variables given another one expands to these inequalities.
+fn is_conditional(alloc: Global, of: u16, given: u16, numbers: &[u32]) -> bool
     requires of { of < 8 }
     requires given { given < 8 }
     requires apart { bit_and of given ≡ 0 }
 {
-    expand_conditional(
-        alloc,
-        3,
-        VarSet::from_number(of),
-        VarSet::from_number(given),
-    )
+    let (of, given) = (VarSet::from_number(of), VarSet::from_number(given));
+    match expand_conditional(alloc, 3, of, given) {
+        Ok(list) => list.as_slice() == numbers,
+        Err(_) => false,
+    }
 }
 
-/// The expansion of the mutual information of two sets of three variables given a third one.
-fn mutual(alloc: Global, left: u16, right: u16, given: u16) -> Result<Vec<u32>, AllocError>
+/// Whether the mutual information of two sets of three variables given a third one expands to these inequalities.
+fn is_mutual(alloc: Global, left: u16, right: u16, given: u16, numbers: &[u32]) -> bool
     requires left { left < 8 }
     requires right { right < 8 }
     requires given { given < 8 }
@@ -110,23 +119,24 @@ fn mutual(alloc: Global, left: u16, right: u16, given: u16) -> Result<Vec<u32>, 
     requires left_apart { bit_and left given ≡ 0 }
     requires right_apart { bit_and right given ≡ 0 }
 {
-    expand_mutual(
-        alloc,
-        3,
-        VarSet::from_number(left),
-        VarSet::from_number(right),
-        VarSet::from_number(given),
-    )
+    let (left, right) = (VarSet::from_number(left), VarSet::from_number(right));
+    match expand_mutual(alloc, 3, left, right, VarSet::from_number(given)) {
+        Ok(list) => list.as_slice() == numbers,
+        Err(_) => false,
+    }
+}
+
+/// Whether expansions list their inequalities.
+fn expand(alloc: Global) -> bool {
+    is_conditional(alloc, 6, 1, &[1, 8, 2])
+        && is_conditional(alloc, 0, 1, &[])
+        && is_mutual(alloc, 1, 6, 0, &[3, 6])
+        && is_mutual(alloc, 1, 0, 6, &[])
 }
 
 #[test]
-fn expansions_list_their_inequalities(rt: HostRuntime) -> Result<(), Fail> {
-    let alloc = rt.alloc();
-    assert!(rt; conditional(alloc, 6, 1)?.as_slice() == [1, 8, 2].as_slice());
-    assert!(rt; conditional(alloc, 0, 1)?.is_empty());
-    assert!(rt; mutual(alloc, 1, 6, 0)?.as_slice() == [3, 6].as_slice());
-    assert!(rt; mutual(alloc, 1, 0, 6)?.is_empty());
-    Ok(())
+fn expansions_list_their_inequalities(rt: HostRuntime) {
+    assert!(rt; expand(rt.alloc()));
 }
 
 /// The set function of two variables with these values.
@@ -138,18 +148,20 @@ fn table(alloc: Global, x: u8, y: u8, both: u8) -> Result<Table, AllocError>
 }
 
 /// Whether this is the first inequality that is broken at the set function of these values, which is a polymatroid only where none is.
-fn breaks(alloc: Global, x: u8, y: u8, both: u8, broken: Option<u32>) -> Result<bool, AllocError> {
-    let table = table(alloc, x, y, both)?;
-    Ok(first_broken(&table) == Ok(broken) && is_polymatroid(&table) == broken.is_none())
+fn breaks(alloc: Global, x: u8, y: u8, both: u8, broken: Option<u32>) -> bool {
+    match table(alloc, x, y, both) {
+        Ok(table) => {
+            first_broken(&table) == Ok(broken) && is_polymatroid(&table) == broken.is_none()
+        }
+        Err(_) => false,
+    }
 }
 
-#[test]
-fn a_table_is_tested_by_its_first_broken_inequality(rt: HostRuntime) -> Result<(), Fail> {
-    let alloc = rt.alloc();
-    assert!(rt; breaks(alloc, 0, 1, 1, None)?);
-    assert!(rt; breaks(alloc, 1, 1, 3, Some(2))?);
-    assert!(rt; breaks(alloc, 2, 1, 1, Some(1))?);
-    Ok(())
+/// Whether tables are tested by their first broken inequality.
+fn are_tested(alloc: Global) -> bool {
+    breaks(alloc, 0, 1, 1, None)
+        && breaks(alloc, 1, 1, 3, Some(2))
+        && breaks(alloc, 2, 1, 1, Some(1))
 }
 
 /// One variable that stands for both of two, whose entropies are 1 and 1 and together 2.
@@ -161,11 +173,20 @@ fn pulled_back(alloc: Global) -> Result<Table, AllocError>
     pull_back(alloc, &table, &by)
 }
 
+/// Whether a variable that stands for a set has the set's entropy.
+fn stands_for_a_set(alloc: Global) -> bool {
+    match pulled_back(alloc) {
+        Ok(pulled) => {
+            pulled.variables() == 1
+                && pulled.at(VarSet::empty()) == 0
+                && pulled.at(VarSet::single(0)) == 2
+        }
+        Err(_) => false,
+    }
+}
+
 #[test]
-fn a_variable_stands_for_a_set(rt: HostRuntime) -> Result<(), Fail> {
-    let pulled = pulled_back(rt.alloc())?;
-    assert!(rt; pulled.variables() == 1);
-    assert!(rt; pulled.at(VarSet::empty()) == 0);
-    assert!(rt; pulled.at(VarSet::single(0)) == 2);
-    Ok(())
+fn tables_are_tested_and_pulled_back(rt: HostRuntime) {
+    assert!(rt; are_tested(rt.alloc()));
+    assert!(rt; stands_for_a_set(rt.alloc()));
 }

@@ -1,20 +1,31 @@
 //! Tests: rows in lowest terms.
 
-use it_space::{Row, normal};
-use std::test::Fail;
+ghost use Rattle.it_space.specs.Rows.{IsCanonical};
 
-/// Whether a row in lowest terms has these terms.
-fn has_lowest_terms(row: Row, terms: &[(u32, i128)]) -> bool {
-    normal(row).terms() == terms
+use it_space::{Row, normal};
+use std::alloc::Global;
+
+/// Whether a row of these terms has those in lowest terms.
+fn has_lowest_terms(alloc: Global, terms: &[(u32, i128)], lowest: &[(u32, i128)]) -> bool
+    requires { IsCanonical terms.now }
+{
+    match Vec::from_slice(alloc, terms) {
+        Ok(terms) => normal(Row::new(terms)).terms() == lowest,
+        Err(_) => false,
+    }
+}
+
+/// Whether rows are divided by their common divisor.
+fn are_divided(alloc: Global) -> bool {
+    has_lowest_terms(
+        alloc,
+        &[(1, 6), (2, -4), (7, 10)],
+        &[(1, 3), (2, -2), (7, 5)],
+    ) && has_lowest_terms(alloc, &[(4, -i128::MAX)], &[(4, -1)])
+        && has_lowest_terms(alloc, &[], &[])
 }
 
 #[test]
-fn rows_are_divided_by_their_common_divisor(rt: HostRuntime) -> Result<(), Fail> {
-    let alloc = rt.alloc();
-    let row = Row::new(vec![in alloc; (1, 6), (2, -4), (7, 10)]?);
-    assert!(rt; has_lowest_terms(row, &[(1, 3), (2, -2), (7, 5)]));
-    let row = Row::new(vec![in alloc; (4, -i128::MAX)]?);
-    assert!(rt; has_lowest_terms(row, &[(4, -1)]));
-    assert!(rt; has_lowest_terms(Row::new(Vec::new(alloc)), &[]));
-    Ok(())
+fn rows_are_divided_by_their_common_divisor(rt: HostRuntime) {
+    assert!(rt; are_divided(rt.alloc()));
 }

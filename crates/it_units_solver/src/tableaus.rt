@@ -6,32 +6,38 @@ ghost use Rattle.it_tableau.specs.TableauViews.{height};
 use it_space::{Row, RowFault};
 use it_tableau::Tableau;
 use std::alloc::{AllocError, Global};
-use std::test::Fail;
 
-/// The entries of all rows, each with its right side after them. They are whole numbers here: numerators alone.
-fn rows_of(alloc: Global, tableau: &Tableau) -> Result<Vec<i128>, AllocError>
-    requires { tableau.now.spent ≡ false }
-{
-    let mut numbers = Vec::new(alloc);
-    for row in 0..tableau.rows() {
-        for column in 0..tableau.columns() {
-            numbers.push(tableau.entry(row, column).num())?;
-        }
-        numbers.push(tableau.rhs(row).num())?;
-    }
-    Ok(numbers)
-}
-
-/// The terms of a row, numerators alone.
-fn terms_of(alloc: Global, tableau: &Tableau, row: usize) -> Result<Vec<(usize, i128)>, AllocError>
+/// Whether a row has these entries and this right side. They are whole numbers here: numerators alone.
+fn has_row(tableau: &Tableau, row: usize, entries: &[i128], right: i128) -> bool
     requires usable { tableau.now.spent ≡ false }
     requires row { row < height tableau.now }
 {
-    let mut numbers = Vec::new(alloc);
-    for (column, value) in tableau.terms(row) {
-        numbers.push((*column, value.num()))?;
+    if tableau.columns() != entries.len() || tableau.rhs(row).num() != right {
+        return false;
     }
-    Ok(numbers)
+    for column in 0..entries.len() {
+        if tableau.entry(row, column).num() != entries[column] {
+            return false;
+        }
+    }
+    true
+}
+
+/// Whether a row has these terms, numerators alone.
+fn has_terms(tableau: &Tableau, row: usize, terms: &[(usize, i128)]) -> bool
+    requires usable { tableau.now.spent ≡ false }
+    requires row { row < height tableau.now }
+{
+    let own = tableau.terms(row);
+    if own.len() != terms.len() {
+        return false;
+    }
+    for i in 0..terms.len() {
+        if own[i].0 != terms[i].0 || own[i].1.num() != terms[i].1 {
+            return false;
+        }
+    }
+    true
 }
 
 /// Whether the cost row has these entries and this right side, numerators alone.
@@ -95,48 +101,80 @@ fn pivoted(start: Tableau, row: usize, column: usize, num: i128, den: i128) -> O
     }
 }
 
-#[test]
-fn a_start_has_the_rows_with_their_signs(rt: HostRuntime) -> Result<(), Fail> {
-    let alloc = rt.alloc();
-    let tableau = example(alloc).expect(&rt, "start");
-    assert!(rt; tableau.rows() == 3 && tableau.columns() == 6);
-    assert!(rt; tableau.sign(0) == 1 && tableau.sign(1) == 1 && tableau.sign(2) == -1);
-    let rows: &[i128] = &[
-        0, -1, 1, 1, 0, 0, 1, -1, 0, 1, 0, 1, 0, 0, -1, -1, 1, 0, 0, 1, 1,
-    ];
-    assert!(rt; rows_of(alloc, &tableau)?.as_slice() == rows);
-    assert!(rt; costs(&tableau, &[2, 2, -3, -1, -1, -1], -2));
-    Ok(())
+/// Whether the start has three rows, three columns and three artificial ones, and the signs of the target.
+fn has_shape(tableau: &Tableau) -> bool
+    requires usable { tableau.now.spent ≡ false }
+    requires rows { height tableau.now ≡ 3 }
+{
+    tableau.rows() == 3
+        && tableau.columns() == 6
+        && tableau.generator_columns() == 3
+        && tableau.sign(0) == 1
+        && tableau.sign(1) == 1
+        && tableau.sign(2) == -1
+}
+
+/// Whether the start has the rows with their signs, and of a row the terms that are not 0.
+fn has_rows(tableau: &Tableau) -> bool
+    requires usable { tableau.now.spent ≡ false }
+    requires rows { height tableau.now ≡ 3 }
+{
+    has_row(tableau, 0, &[0, -1, 1, 1, 0, 0], 1)
+        && has_row(tableau, 1, &[-1, 0, 1, 0, 1, 0], 0)
+        && has_row(tableau, 2, &[-1, -1, 1, 0, 0, 1], 1)
+        && has_terms(tableau, 0, &[(1, -1), (2, 1), (3, 1)])
+        && costs(tableau, &[2, 2, -3, -1, -1, -1], -2)
+}
+
+/// Whether the example starts with its table.
+fn starts(alloc: Global) -> bool {
+    match example(alloc) {
+        Ok(tableau) => has_shape(&tableau) && has_rows(&tableau),
+        Err(_) => false,
+    }
+}
+
+/// Whether the table after both pivots has a point.
+fn has_point(tableau: &Tableau) -> bool
+    requires usable { tableau.now.spent ≡ false }
+    requires rows { height tableau.now ≡ 3 }
+{
+    costs(tableau, &[0, 1, 0, 0, 1, -1], -1)
+        && tableau.basic(0) == 0
+        && tableau.basic(1) == 2
+        && tableau.basic(2) == 5
+}
+
+/// Whether two pivots lead from the start to a point.
+fn leads_to_point(alloc: Global) -> bool {
+    let Ok(start) = example(alloc) else {
+        return false;
+    };
+    let Some(first) = pivoted(start, 1, 2, 0, 1) else {
+        return false;
+    };
+    if !costs(&first, &[-1, 2, 0, -1, 2, -1], -2) {
+        return false;
+    }
+    match pivoted(first, 0, 0, 1, 1) {
+        Some(second) => has_point(&second),
+        None => false,
+    }
 }
 
 #[test]
-fn a_row_has_the_terms_that_are_not_0(rt: HostRuntime) -> Result<(), Fail> {
-    let alloc = rt.alloc();
-    let tableau = example(alloc).expect(&rt, "start");
-    let terms: &[(usize, i128)] = &[(1, -1), (2, 1), (3, 1)];
-    assert!(rt; terms_of(alloc, &tableau, 0)?.as_slice() == terms);
-    assert!(rt; tableau.generator_columns() == 3);
-    Ok(())
+fn an_example_has_its_table_at_the_start_and_after_two_pivots(rt: HostRuntime) {
+    assert!(rt; starts(rt.alloc()));
+    assert!(rt; leads_to_point(rt.alloc()));
 }
 
-#[test]
-fn two_pivots_lead_to_a_point(rt: HostRuntime) {
-    let start = example(rt.alloc()).expect(&rt, "start");
-    let tableau = pivoted(start, 1, 2, 0, 1).expect(&rt, "first pivot");
-    assert!(rt; costs(&tableau, &[-1, 2, 0, -1, 2, -1], -2));
-    let tableau = pivoted(tableau, 0, 0, 1, 1).expect(&rt, "second pivot");
-    assert!(rt; costs(&tableau, &[0, 1, 0, 0, 1, -1], -1));
-    assert!(rt; tableau.basic(0) == 0 && tableau.basic(1) == 2 && tableau.basic(2) == 5);
-}
-
-/// 2^126 at two rows, whose sum passes 2^127 - 1.
-#[test]
-fn a_wide_start_is_told(rt: HostRuntime) -> Result<(), Fail> {
-    let alloc = rt.alloc();
-    let high = Row::new(Vec::from_slice(alloc, &[(1, 1 << 126), (2, 1 << 126)])?);
-    let start = Tableau::start(alloc, &[1, 2], &[], &high);
-    assert!(rt; matches!(start, Err(RowFault::Wide)));
-    Ok(())
+/// Whether the start is too wide with 2^126 at two rows, whose sum passes 2^127 - 1.
+fn is_wide_start(alloc: Global) -> bool {
+    let Ok(terms) = Vec::from_slice(alloc, &[(1, 1 << 126), (2, 1 << 126)]) else {
+        return false;
+    };
+    let start = Tableau::start(alloc, &[1, 2], &[], &Row::new(terms));
+    matches!(start, Err(RowFault::Wide))
 }
 
 /// The columns 3, 2^126 and 2^126, 0 over two coordinates.
@@ -160,10 +198,17 @@ fn large_start(alloc: Global) -> Result<Tableau, RowFault>
     Tableau::start(alloc, &[1, 2], columns.as_slice(), &zero)
 }
 
-/// 2^126 times 2^126 / 3.
+/// Whether a pivot is too wide that takes 2^126 times 2^126 / 3.
+fn is_wide_pivot(alloc: Global) -> bool {
+    let Ok(start) = large_start(alloc) else {
+        return false;
+    };
+    let mut tableau = start;
+    tableau.entry(0, 0).is_positive() && tableau.pivot(0, 0) == Err(RowFault::Wide)
+}
+
 #[test]
-fn a_wide_pivot_is_told(rt: HostRuntime) {
-    let mut tableau = large_start(rt.alloc()).expect(&rt, "start");
-    assert!(rt; tableau.entry(0, 0).is_positive());
-    assert!(rt; tableau.pivot(0, 0) == Err(RowFault::Wide));
+fn numbers_that_are_too_wide_are_told(rt: HostRuntime) {
+    assert!(rt; is_wide_start(rt.alloc()));
+    assert!(rt; is_wide_pivot(rt.alloc()));
 }
