@@ -8,7 +8,6 @@ use it_outside::{
 use std::alloc::{AllocError, Global};
 use std::io;
 use std::io::{ErrorKind, Read, Write};
-use std::test::Fail;
 
 const LINE: &[u8] = b"1 yes 1 : 1 I(X;Y)\n";
 
@@ -25,8 +24,20 @@ fn source(
     Ok(MemorySource::new(Vec::from_slice(alloc, bytes)?, step, failing))
 }
 
-/// Whether the reading of a source up to a limit ends so.
-fn reads(alloc: Global, source: MemorySource, limit: usize, want: Result<&[u8], InFault>) -> bool {
+/// Whether the reading up to a limit of these bytes ends so, where `step` come at a call and the calls `failing` fail.
+fn reads(
+    alloc: Global,
+    bytes: &[u8],
+    step: usize,
+    failing: &[u64],
+    limit: usize,
+    want: Result<&[u8], InFault>,
+) -> bool
+    requires { 0 < step }
+{
+    let Ok(source) = source(alloc, bytes, step, failing) else {
+        return false;
+    };
     let mut source = source;
     match read_all(alloc, &mut source, limit) {
         Ok(all) => want == Ok(all.as_slice()),
@@ -34,35 +45,28 @@ fn reads(alloc: Global, source: MemorySource, limit: usize, want: Result<&[u8], 
     }
 }
 
-#[test]
-fn reading_ends_at_the_end_the_limit_or_a_fault(rt: HostRuntime) -> Result<(), Fail> {
-    let alloc = rt.alloc();
+/// Whether reading ends at the end, the limit or a fault.
+fn ends_there(alloc: Global) -> bool {
     let all: &[u8] = b"abc";
-    assert!(rt; reads(alloc, source(alloc, all, 1, &[])?, 3, Ok(all)));
-    assert!(rt; reads(alloc, source(alloc, all, 9, &[])?, 3, Ok(all)));
-    assert!(rt; reads(alloc, source(alloc, all, 1, &[])?, 2, Err(InFault::TooLong)));
-    assert!(rt; reads(alloc, source(alloc, all, 9, &[])?, 2, Err(InFault::TooLong)));
-    assert!(rt;
-        reads(
-            alloc,
-            source(alloc, all, 1, &[2])?,
-            3,
-            Err(InFault::ReadFault)
-        )
-    );
-    assert!(rt; reads(alloc, source(alloc, b"", 1, &[])?, 0, Ok(b"")));
-    Ok(())
+    reads(alloc, all, 1, &[], 3, Ok(all))
+        && reads(alloc, all, 9, &[], 3, Ok(all))
+        && reads(alloc, all, 1, &[], 2, Err(InFault::TooLong))
+        && reads(alloc, all, 9, &[], 2, Err(InFault::TooLong))
+        && reads(alloc, all, 1, &[2], 3, Err(InFault::ReadFault))
+        && reads(alloc, b"", 1, &[], 0, Ok(b""))
+}
+
+/// Whether a read that would fail after the end changes nothing. One read gives all bytes and the second tells the end, so the
+/// third isn't made; three reads give a byte each and the fourth tells the end.
+fn ends_before(alloc: Global) -> bool {
+    let all: &[u8] = b"abc";
+    reads(alloc, all, 9, &[3], 3, Ok(all)) && reads(alloc, all, 1, &[5], 3, Ok(all))
 }
 
 #[test]
-fn a_read_that_would_fail_after_the_end_changes_nothing(rt: HostRuntime) -> Result<(), Fail> {
-    let alloc = rt.alloc();
-    let all: &[u8] = b"abc";
-    // One read gives all bytes and the second tells the end, so the third isn't made.
-    assert!(rt; reads(alloc, source(alloc, all, 9, &[3])?, 3, Ok(all)));
-    // Three reads give a byte each and the fourth tells the end.
-    assert!(rt; reads(alloc, source(alloc, all, 1, &[5])?, 3, Ok(all)));
-    Ok(())
+fn reading_ends_at_the_end_the_limit_or_a_fault(rt: HostRuntime) {
+    assert!(rt; ends_there(rt.alloc()));
+    assert!(rt; ends_before(rt.alloc()));
 }
 
 /// A sink with room for so many bytes that takes `step` at a call and fails at the calls `failing`.
@@ -74,41 +78,67 @@ fn sink(alloc: Global, room: usize, step: usize, failing: &[u64]) -> Result<Memo
     Ok(sink)
 }
 
-/// Whether the writing of the line to a sink ends so, with the line's first so many bytes there.
-fn writes(sink: MemorySink, count: usize, want: Result<(), OutFault>) -> bool {
+/// Whether the writing of the line to a sink with room for so many bytes, that takes `step` at a call and fails at the calls
+/// `failing`, ends so, with the line's first so many bytes there.
+fn writes(
+    alloc: Global,
+    room: usize,
+    step: usize,
+    failing: &[u64],
+    count: usize,
+    want: Result<(), OutFault>,
+) -> bool
+    requires { 0 < step }
+{
+    let Ok(sink) = sink(alloc, room, step, failing) else {
+        return false;
+    };
     let mut sink = sink;
     let end = write_all(&mut sink, LINE);
     end == want && LINE.get(..count) == Some(sink.bytes())
 }
 
-#[test]
-fn writing_stops_at_a_fault_or_without_room(rt: HostRuntime) -> Result<(), Fail> {
-    let alloc = rt.alloc();
+/// Whether writing stops at a fault or without room.
+fn stops(alloc: Global) -> bool {
     let fault = Err(OutFault::WriteFault);
-    assert!(rt; writes(sink(alloc, 19, 1, &[])?, 19, Ok(())));
-    assert!(rt; writes(sink(alloc, 19, 7, &[4])?, 19, Ok(())));
-    assert!(rt; writes(sink(alloc, 19, 1, &[5])?, 4, fault));
-    assert!(rt; writes(sink(alloc, 3, 7, &[])?, 3, fault));
-    assert!(rt; writes(sink(alloc, 0, 7, &[])?, 0, fault));
-    Ok(())
+    writes(alloc, 19, 1, &[], 19, Ok(()))
+        && writes(alloc, 19, 7, &[4], 19, Ok(()))
+        && writes(alloc, 19, 1, &[5], 4, fault)
+        && writes(alloc, 3, 7, &[], 3, fault)
+        && writes(alloc, 0, 7, &[], 0, fault)
 }
 
-/// Whether the writing of a piece ends so, with these bytes in the sink.
-fn ends(sink: &mut MemorySink, piece: &[u8], want: Result<(), OutFault>, bytes: &[u8]) -> bool {
+/// Whether the writing of a piece ends so after a call for more room, with these bytes in the sink.
+fn ends(
+    sink: &mut MemorySink,
+    more: usize,
+    piece: &[u8],
+    want: Result<(), OutFault>,
+    bytes: &[u8],
+) -> bool {
+    if sink.reserve(more).is_err() {
+        return false;
+    }
     let end = write_all(sink, piece);
     end == want && sink.bytes() == bytes
 }
 
+/// Whether room is what was reserved and not yet taken.
+fn takes_room(alloc: Global) -> bool {
+    let Ok(sink) = sink(alloc, 0, 100, &[]) else {
+        return false;
+    };
+    let mut sink = sink;
+    ends(&mut sink, 0, b"", Ok(()), b"")
+        && ends(&mut sink, 4, b"", Ok(()), b"")
+        && ends(&mut sink, 2, LINE, Err(OutFault::WriteFault), b"1 ye")
+        && ends(&mut sink, 1, b"!", Ok(()), b"1 ye!")
+}
+
 #[test]
-fn room_is_what_was_reserved_and_not_yet_taken(rt: HostRuntime) -> Result<(), Fail> {
-    let mut sink = sink(rt.alloc(), 0, 100, &[])?;
-    assert!(rt; ends(&mut sink, b"", Ok(()), b""));
-    sink.reserve(4)?;
-    sink.reserve(2)?;
-    assert!(rt; ends(&mut sink, LINE, Err(OutFault::WriteFault), b"1 ye"));
-    sink.reserve(1)?;
-    assert!(rt; ends(&mut sink, b"!", Ok(()), b"1 ye!"));
-    Ok(())
+fn writing_stops_at_a_fault_or_without_room(rt: HostRuntime) {
+    assert!(rt; stops(rt.alloc()));
+    assert!(rt; takes_room(rt.alloc()));
 }
 
 /// A reader and writer of one byte a call. It counts its calls of each kind, from 1, and fails at one of them, or at none
@@ -170,27 +200,32 @@ impl Write for Trial {
     }
 }
 
-#[test]
-fn a_source_passes_on_what_its_reader_gives(rt: HostRuntime) -> Result<(), Fail> {
-    let all = read_all(rt.alloc(), &mut StdSource::new(LINE), 19)?;
-    assert!(rt; all.as_slice() == LINE);
-    Ok(())
+/// Whether a source passes on what its reader gives.
+fn gives_line(alloc: Global) -> bool {
+    match read_all(alloc, &mut StdSource::new(LINE), 19) {
+        Ok(all) => all.as_slice() == LINE,
+        Err(_) => false,
+    }
+}
+
+/// Whether a sink passes on what it takes.
+fn takes_line(alloc: Global) -> bool {
+    let mut out: Vec<u8> = Vec::new(alloc);
+    let end = write_all(&mut StdSink::new(&mut out), LINE);
+    end == Ok(()) && out.as_slice() == LINE
 }
 
 #[test]
-fn a_sink_passes_on_what_it_takes(rt: HostRuntime) -> Result<(), Fail> {
-    let mut out: Vec<u8> = Vec::new(rt.alloc());
-    assert!(rt; write_all(&mut StdSink::new(&mut out), LINE) == Ok(()));
-    assert!(rt; out.as_slice() == LINE);
-    Ok(())
+fn a_source_and_a_sink_pass_on_a_line(rt: HostRuntime) {
+    assert!(rt; gives_line(rt.alloc()));
+    assert!(rt; takes_line(rt.alloc()));
 }
 
-#[test]
-fn a_source_fails_where_its_reader_does(rt: HostRuntime) {
+/// Whether a source fails where its reader does, at the second call.
+fn fails_at_read(alloc: Global) -> bool {
     let mut trial = Trial::new(2, 0, 0);
-    let read = read_all(rt.alloc(), &mut StdSource::new(&mut trial), 9);
-    assert!(rt; matches!(read, Err(InFault::ReadFault)));
-    assert_eq!(rt; trial.reads, 2);
+    let read = read_all(alloc, &mut StdSource::new(&mut trial), 9);
+    matches!(read, Err(InFault::ReadFault)) && trial.reads == 2
 }
 
 /// Whether the writing of the line ends so where these calls fail, after so many writes and so many flushes.
@@ -200,42 +235,48 @@ fn tries(failing_write: u32, failing_flush: u32, calls: u32, want: Result<(), Ou
     end == want && trial.writes == calls && trial.flushes == calls
 }
 
-#[test]
-fn a_sink_fails_where_its_writer_does(rt: HostRuntime) {
+/// Whether a sink fails where its writer does. Without a fault the line takes a write and a flush for each of its 19 bytes.
+fn fails_at_call() -> bool {
     let fault = Err(OutFault::WriteFault);
-    // without a fault the line takes a write and a flush for each of its 19 bytes
-    assert!(rt; tries(0, 0, 19, Ok(())));
-    assert!(rt; tries(3, 0, 3, fault));
-    assert!(rt; tries(0, 3, 3, fault));
-    assert!(rt; tries(0, 1, 1, fault));
+    tries(0, 0, 19, Ok(()))
+        && tries(3, 0, 3, fault)
+        && tries(0, 3, 3, fault)
+        && tries(0, 1, 1, fault)
 }
 
-#[test]
-fn a_sink_fails_where_nothing_was_taken(rt: HostRuntime) {
+/// Whether a sink fails where nothing was taken.
+fn fails_when_full() -> bool {
     let mut two = [0; 2];
-    let mut sink = StdSink::new(&mut two[..]);
-    assert_eq!(rt; write_all(&mut sink, b"abc"), Err(OutFault::WriteFault));
-    assert_eq!(rt; two.as_slice(), b"ab".as_slice());
+    let end = write_all(&mut StdSink::new(&mut two[..]), b"abc");
+    end == Err(OutFault::WriteFault) && two.as_slice() == b"ab".as_slice()
 }
 
 /// Whether a sure sink with such a limit keeps this of what a sure source gives, and tells whether there was more.
-fn keeps(alloc: Global, limit: usize, kept: &[u8], more: bool) -> Result<bool, AllocError> {
-    let mut source = SureSource::new(Vec::from_slice(alloc, b"abc")?);
-    let Ok(all) = read_all(alloc, &mut source, 3) else {
-        return Ok(false);
+fn keeps(alloc: Global, limit: usize, kept: &[u8], more: bool) -> bool {
+    let Ok(bytes) = Vec::from_slice(alloc, b"abc") else {
+        return false;
     };
-    let mut sink = SureSink::new(Vec::with_capacity(alloc, limit)?, limit);
-    let end = write_all(&mut sink, all.as_slice());
-    Ok(end == Ok(()) && sink.bytes() == kept && sink.has_more() == more)
+    let Ok(room) = Vec::with_capacity(alloc, limit) else {
+        return false;
+    };
+    let mut sink = SureSink::new(room, limit);
+    match read_all(alloc, &mut SureSource::new(bytes), 3) {
+        Ok(all) => {
+            let end = write_all(&mut sink, all.as_slice());
+            end == Ok(()) && sink.bytes() == kept && sink.has_more() == more
+        }
+        Err(_) => false,
+    }
+}
+
+/// Whether it keeps a prefix.
+fn keeps_prefix(alloc: Global) -> bool {
+    keeps(alloc, 4, b"abc", false) && keeps(alloc, 3, b"abc", false) && keeps(alloc, 2, b"ab", true)
 }
 
 #[test]
-fn a_sure_sink_keeps_what_a_sure_source_gives(rt: HostRuntime) -> Result<(), Fail> {
-    let alloc = rt.alloc();
-    assert!(rt; keeps(alloc, 4, b"abc", false)?);
-    assert!(rt; keeps(alloc, 3, b"abc", false)?);
-    assert!(rt; keeps(alloc, 2, b"ab", true)?);
-    Ok(())
+fn a_sure_sink_keeps_what_a_sure_source_gives(rt: HostRuntime) {
+    assert!(rt; keeps_prefix(rt.alloc()));
 }
 
 /// A writer that takes everything, and whose reader is gone, which only the flush finds.
@@ -252,8 +293,15 @@ impl Write for BrokenPipe {
     }
 }
 
+/// Whether a sink fails where the flush finds a broken pipe.
+fn fails_at_flush() -> bool {
+    write_all(&mut StdSink::new(BrokenPipe), LINE) == Err(OutFault::WriteFault)
+}
+
 #[test]
-fn a_sink_fails_where_the_flush_finds_a_broken_pipe(rt: HostRuntime) {
-    let mut sink = StdSink::new(BrokenPipe);
-    assert_eq!(rt; write_all(&mut sink, LINE), Err(OutFault::WriteFault));
+fn a_source_and_a_sink_fail_where_an_inner_call_does(rt: HostRuntime) {
+    assert!(rt; fails_at_read(rt.alloc()));
+    assert!(rt; fails_at_call());
+    assert!(rt; fails_when_full());
+    assert!(rt; fails_at_flush());
 }

@@ -1,6 +1,6 @@
 //! Tests: searches over boxes, with their candidates, limits and outcomes.
 
-ghost use Rattle.std.specs.Prelude.{[], IsTrue, replicate};
+ghost use Rattle.std.specs.Prelude.{[], IfSome, IsTrue, replicate};
 ghost use Rattle.it_question.specs.Questions.{verb_view};
 ghost use Rattle.it_region.specs.Pairs.{IsPair, IsContainment};
 
@@ -13,7 +13,6 @@ use it_question::types::Verb;
 use it_simplex::Budget;
 use it_space::{Problem, Space, VarSet};
 use std::alloc::Global;
-use std::process::Abort;
 
 /// A proposer of one candidate, so many times, whatever it is begun with. It learns nothing. One that lies in `learn`, so that a
 /// failure changes what it proposes or a proof changes it otherwise than its plan says, can't be written: it has no proof.
@@ -52,22 +51,46 @@ fn candidate(count: u8, first: VarSet) -> Candidate {
     }
 }
 
-/// A list of one box, which is stubborn.
-fn boxes_with(
-    rt: &impl Abort,
+/// Adds a stubborn box.
+fn add_stubborn(
     alloc: Global,
+    boxes: &mut Vec<Box<dyn Proposer>>,
     candidate: Candidate,
     times: u64,
-) -> Vec<Box<dyn Proposer>> {
-    let mut boxes: Vec<Box<dyn Proposer>> = Vec::new(alloc);
+) -> bool {
     let one = StubbornProposer {
         candidate,
         times,
         left: 0,
     };
-    let one = Box::new(alloc, one).expect(rt, "memory");
-    boxes.push(one).expect(rt, "memory");
-    boxes
+    match Box::new(alloc, one) {
+        Ok(one) => boxes.push(one).is_ok(),
+        Err(_) => false,
+    }
+}
+
+/// Adds the box of all sets.
+fn add_subsets(alloc: Global, boxes: &mut Vec<Box<dyn Proposer>>) -> bool {
+    match Box::new(alloc, Subsets::new()) {
+        Ok(one) => boxes.push(one).is_ok(),
+        Err(_) => false,
+    }
+}
+
+/// Adds the box of all sets of at most one variable.
+fn add_singles(alloc: Global, boxes: &mut Vec<Box<dyn Proposer>>) -> bool {
+    match Box::new(alloc, Singles::new()) {
+        Ok(one) => boxes.push(one).is_ok(),
+        Err(_) => false,
+    }
+}
+
+/// Adds the box of what was found last.
+fn add_recent(alloc: Global, boxes: &mut Vec<Box<dyn Proposer>>) -> bool {
+    match Box::new(alloc, Recent::new()) {
+        Ok(one) => boxes.push(one).is_ok(),
+        Err(_) => false,
+    }
 }
 
 /// A first region of one variable without lines, and a second one of that and an auxiliary, without lines.
@@ -94,7 +117,7 @@ fn free_pair(alloc: Global) -> Pair
 }
 
 /// Whether a search tried so many candidates in vain.
-fn is_open(end: &Contained, count: u32) -> bool {
+fn has_tried(end: &Contained, count: u32) -> bool {
     match end {
         Contained::Open { tried } => *tried == count,
         Contained::Found(..) => false,
@@ -102,55 +125,62 @@ fn is_open(end: &Contained, count: u32) -> bool {
 }
 
 /// Whether a search found a candidate with this first part.
-fn is_found(end: &Contained, part: VarSet) -> bool {
+fn has_part(end: &Contained, part: VarSet) -> bool {
     match end {
         Contained::Open { .. } => false,
         Contained::Found(candidate, _) => candidate.parts[0] == part,
     }
 }
 
-/// How a search by these boxes ends.
-fn search(
-    rt: &impl Abort,
+/// Whether a search by these boxes tries so many candidates in vain.
+fn is_open(
     alloc: Global,
     pair: &Pair,
     first: &[Candidate],
     boxes: &mut Vec<Box<dyn Proposer>>,
     tries: u32,
-) -> Contained
+    count: u32,
+) -> bool
     requires { IsPair pair.now }
 {
-    contain(alloc, pair, first, boxes, tries, Budget::none()).expect(rt, "memory")
+    match contain(alloc, pair, first, boxes, tries, Budget::none()) {
+        Ok(end) => has_tried(&end, count),
+        Err(_) => false,
+    }
 }
 
-/// Adds the box of all sets.
-fn add_subsets(rt: &impl Abort, alloc: Global, boxes: &mut Vec<Box<dyn Proposer>>) {
-    let subsets = Box::new(alloc, Subsets::new()).expect(rt, "memory");
-    boxes.push(subsets).expect(rt, "memory");
+/// Whether a search by these boxes finds a candidate with this first part.
+fn is_found(
+    alloc: Global,
+    pair: &Pair,
+    first: &[Candidate],
+    boxes: &mut Vec<Box<dyn Proposer>>,
+    tries: u32,
+    part: VarSet,
+) -> bool
+    requires { IsPair pair.now }
+{
+    match contain(alloc, pair, first, boxes, tries, Budget::none()) {
+        Ok(end) => has_part(&end, part),
+        Err(_) => false,
+    }
 }
 
-/// Adds the box of all sets of at most one variable.
-fn add_singles(rt: &impl Abort, alloc: Global, boxes: &mut Vec<Box<dyn Proposer>>) {
-    let singles = Box::new(alloc, Singles::new()).expect(rt, "memory");
-    boxes.push(singles).expect(rt, "memory");
-}
-
-/// A set of a variable that there isn't, and sets for two auxiliaries where there is one, are tried and not proved. The
-/// next candidate, the empty set, is.
-#[test]
-fn candidates_that_do_not_fit(rt: HostRuntime) {
-    let alloc = rt.alloc();
+/// Whether a set of a variable that there isn't, and sets for two auxiliaries where there is one, are tried and not proved, and
+/// the next candidate, the empty set, is.
+fn do_not_fit(alloc: Global) -> bool {
     let pair = free_pair(alloc);
     let first = [candidate(1, VarSet::single(9))];
-    let mut boxes = boxes_with(&rt, alloc, candidate(2, VarSet::single(9)), 1);
-    assert!(rt; is_open(&search(&rt, alloc, &pair, &first, &mut boxes, 256), 2));
-    add_subsets(&rt, alloc, &mut boxes);
-    assert!(rt;
-        is_found(
-            &search(&rt, alloc, &pair, &first, &mut boxes, 256),
-            VarSet::empty()
-        )
-    );
+    let mut boxes: Vec<Box<dyn Proposer>> = Vec::new(alloc);
+    add_stubborn(alloc, &mut boxes, candidate(2, VarSet::single(9)), 1)
+        && is_open(alloc, &pair, &first, &mut boxes, 256, 2)
+        && add_subsets(alloc, &mut boxes)
+        && is_found(alloc, &pair, &first, &mut boxes, 256, VarSet::empty())
+}
+
+#[test]
+fn candidates_that_do_not_fit(rt: HostRuntime) {
+    assert!(rt; do_not_fit(rt.alloc()));
 }
 
 /// Under the first region a rate is at most I(X;Y), and with U standing for X it lies in the second.
@@ -176,55 +206,71 @@ fn is_containment(verb: &Verb) -> bool
 }
 
 /// The pair of the two regions.
-fn pair_of_regions(rt: &impl Abort, alloc: Global) -> Pair
-    ensures { IsPair result }
+fn pair_of_regions(alloc: Global) -> Option<Pair>
+    ensures { IfSome result IsPair }
 {
-    assert!(rt; REGIONS.len() <= LONGEST_FILE);
-    let asked = questions(alloc, REGIONS).expect(rt, "reading");
-    assert!(rt; asked.len() == 1);
+    if REGIONS.len() > LONGEST_FILE {
+        return None;
+    }
+    let asked = questions(alloc, REGIONS).ok()?;
+    if asked.len() != 1 {
+        return None;
+    }
     let question = &asked.as_slice()[0];
-    assert!(rt; is_containment(&question.verb));
-    pair(alloc, question).expect(rt, "memory")
+    if !is_containment(&question.verb) {
+        return None;
+    }
+    match pair(alloc, question) {
+        Ok(pair) => Some(pair),
+        Err(_) => None,
+    }
 }
 
-/// How the search ends with three candidates of a set that there isn't, and after them all sets of at most one variable.
-fn end_after_strangers(rt: &impl Abort, alloc: Global, tries: u32) -> Contained {
-    let pair = pair_of_regions(rt, alloc);
-    let mut boxes = boxes_with(rt, alloc, candidate(1, VarSet::single(2)), 3);
-    add_singles(rt, alloc, &mut boxes);
-    search(rt, alloc, &pair, &[], &mut boxes, tries)
-}
-
-/// Strangers count among the tries: X is the fifth candidate.
-#[test]
-fn sets_that_do_not_exist(rt: HostRuntime) {
-    let alloc = rt.alloc();
-    assert!(rt; is_open(&end_after_strangers(&rt, alloc, 3), 3));
-    assert!(rt; is_open(&end_after_strangers(&rt, alloc, 4), 4));
-    assert!(rt; is_found(&end_after_strangers(&rt, alloc, 5), VarSet::single(0)));
+/// Three candidates of a set that there isn't, and after them all sets of at most one variable: strangers count among the tries, so
+/// X is the fifth candidate.
+fn do_not_exist(alloc: Global, pair: &Pair) -> bool
+    requires { IsPair pair.now }
+{
+    let mut boxes: Vec<Box<dyn Proposer>> = Vec::new(alloc);
+    add_stubborn(alloc, &mut boxes, candidate(1, VarSet::single(2)), 3)
+        && add_singles(alloc, &mut boxes)
+        && is_open(alloc, pair, &[], &mut boxes, 3, 3)
+        && is_open(alloc, pair, &[], &mut boxes, 4, 4)
+        && is_found(alloc, pair, &[], &mut boxes, 5, VarSet::single(0))
 }
 
 /// One box that never ends, with a candidate that fits and isn't proved, takes all tries, and the next box has none.
-#[test]
-fn candidates_without_end(rt: HostRuntime) {
-    let alloc = rt.alloc();
-    let pair = pair_of_regions(&rt, alloc);
-    let mut boxes = boxes_with(&rt, alloc, candidate(1, VarSet::empty()), u64::MAX);
-    add_singles(&rt, alloc, &mut boxes);
-    assert!(rt; is_open(&search(&rt, alloc, &pair, &[], &mut boxes, 256), 256));
+fn do_not_end(alloc: Global, pair: &Pair) -> bool
+    requires { IsPair pair.now }
+{
+    let mut boxes: Vec<Box<dyn Proposer>> = Vec::new(alloc);
+    add_stubborn(alloc, &mut boxes, candidate(1, VarSet::empty()), u64::MAX)
+        && add_singles(alloc, &mut boxes)
+        && is_open(alloc, pair, &[], &mut boxes, 256, 256)
 }
 
 /// What was proved for one question is tried first for the next.
-#[test]
-fn what_worked_last(rt: HostRuntime) {
-    let alloc = rt.alloc();
-    let pair = pair_of_regions(&rt, alloc);
+fn come_first(alloc: Global, pair: &Pair) -> bool
+    requires { IsPair pair.now }
+{
     let mut boxes: Vec<Box<dyn Proposer>> = Vec::new(alloc);
-    let recent = Box::new(alloc, Recent::new()).expect(&rt, "memory");
-    boxes.push(recent).expect(&rt, "memory");
     let known = [candidate(1, VarSet::single(0))];
-    let end = search(&rt, alloc, &pair, &known, &mut boxes, 1);
-    assert!(rt; is_found(&end, VarSet::single(0)));
-    let end = search(&rt, alloc, &pair, &[], &mut boxes, 1);
-    assert!(rt; is_found(&end, VarSet::single(0)));
+    add_recent(alloc, &mut boxes)
+        && is_found(alloc, pair, &known, &mut boxes, 1, VarSet::single(0))
+        && is_found(alloc, pair, &[], &mut boxes, 1, VarSet::single(0))
+}
+
+/// Whether the searches about the two regions end so.
+fn are_searched(alloc: Global) -> bool {
+    match pair_of_regions(alloc) {
+        Some(pair) => {
+            do_not_exist(alloc, &pair) && do_not_end(alloc, &pair) && come_first(alloc, &pair)
+        }
+        None => false,
+    }
+}
+
+#[test]
+fn candidates_that_do_not_exist_or_end_and_what_worked_last(rt: HostRuntime) {
+    assert!(rt; are_searched(rt.alloc()));
 }
