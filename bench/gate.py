@@ -26,6 +26,9 @@ def process(pid):
             return None
         with open(f"/proc/{pid}/cmdline", encoding="utf-8") as file:
             words = file.read().split("\0")
+        if not words[0]:
+            # it has ended, and keeps its name alone
+            return None
         seconds = (int(fields[11]) + int(fields[12])) / TICK
         return f"{pid}:{fields[19]}", os.readlink(f"/proc/{pid}/cwd"), words, seconds
     except (OSError, IndexError):
