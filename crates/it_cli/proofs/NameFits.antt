@@ -6,20 +6,20 @@ use Rattle.std.proofs.lemmas.Bool.{ne_eqb}
 use Rattle.std.proofs.lemmas.Bool.Decides.{nat_tests}
 use Rattle.std.proofs.lemmas.List.{take_at, drop_at}
 use Rattle.std.proofs.lemmas.Slice.Eq.{bytes_eq-Decides}
+use Rattle.std.specs.Prelude.{codes}
 use Rattle.it_syntax.specs.declared.types.Misspelling.{Misspelling}
 use Rattle.it_syntax.specs.declared.types.Token.{Token}
 use Rattle.it_syntax.specs.declared.types.TokenKind.{TokenKind}
 use Rattle.it_syntax.specs.declared.types.TokenKind.TheVariants as kinds
 use Rattle.it_forms.specs.declared.types.Symbol.TheVariants.{Comma}
 use Rattle.it_forms.specs.Letters.{Letter, Word, Number, Sym, End, Bad}
-use Rattle.it_syntax.specs.NameFlags.{is_measure}
+use Rattle.it_syntax.specs.MeasureWords.{is_measure}
 use Rattle.it_syntax.specs.Misspellings.{SpellsUntil}
 use Rattle.it_syntax.specs.NamesViews.{NamesView, index_of, IsNew}
 use Rattle.it_syntax.specs.Spans.{letter_of, letters_until, last_letter}
 use Rattle.it_syntax.specs.Spelling.{StartsWith, IsText}
 use Rattle.it_syntax.proofs.NameLemmas.{nowhere_all, distinct_insert, differs_both_ways}
 use Rattle.it_question.specs.Files.{IsFile}
-use Rattle.it_question.specs.Keywords.{vars_keyword, rates_keyword}
 use Rattle.it_question.specs.Lines.{LineView, AreLines, split_lines, letters_of_lines}
 use Rattle.it_question.specs.NewNames.{NameSortView, Variable, Rate, with_name, no_names, is_taken, new_flag}
 use Rattle.it_question.specs.Texts.{text_of_lines, question_line_count, with_texts}
@@ -143,10 +143,10 @@ question_keeps : Always question (λ p q. IfSound p q.names)
 unfolding Always question
 question_keeps =
     always_weaker (new_names Variable most_variables no_names) (λ p v. IfSound p v) _ (λ p v h.
-    always_weaker (names_line Rate most_rates rates_keyword v) (λ q w. IfSound (p ++ q) w) _ (λ q w k.
+    always_weaker (names_line Rate most_rates (codes "rates") v) (λ q w. IfSound (p ++ q) w) _ (λ q w k.
     always_any (own_lines most_lines most_lines w) _ (λ r own.
     always_any (verb own w) _ (λ t aim all. k (every_front IsSound (p ++ q) (r ++ (t ++ [])) (subst (Every IsSound) (sym (append_assoc p q (r ++ (t ++ [])))) all)))))
-    (names_line_keeps Rate most_rates rates_keyword p v h))
+    (names_line_keeps Rate most_rates (codes "rates") p v h))
     (new_names_keep Variable most_variables [] no_names (λ all. no_names_good))
 
 -- the names of questions
@@ -155,9 +155,9 @@ IfSoundAll p qs = Every IsSound p → Every (λ q. AreGood q.names) qs
 
 more_questions_keep : (p : List Letter) (qs : List BodyView) → IfSoundAll p qs → Always (more_questions qs) (λ q rs. IfSoundAll (p ++ q) rs)
 unfolding Always more_questions
-more_questions_keep p qs s = loop_keeps (Keyword vars_keyword ∷ []) (λ qs l. (limit_flag (most_questions - length qs), tt {0})) (λ qs u. Then question (λ q. Give (qs ++ q ∷ []))) IfSoundAll turn p qs s
+more_questions_keep p qs s = loop_keeps (Keyword (codes "vars") ∷ []) (λ qs l. (limit_flag (most_questions - length qs), tt {0})) (λ qs u. Then question (λ q. Give (qs ++ q ∷ []))) IfSoundAll turn p qs s
   where
-    turn : (p : List Letter) (qs : List BodyView) → IfSoundAll p qs → OfEach (record { kinds = Keyword vars_keyword ∷ []; says = λ l. (limit_flag (most_questions - length qs), tt {0}) }) (λ p0 b. Always (Then question (λ q. Give (qs ++ q ∷ []))) (λ q rs. IfSoundAll (p ++ (p0 ++ q)) rs))
+    turn : (p : List Letter) (qs : List BodyView) → IfSoundAll p qs → OfEach (record { kinds = Keyword (codes "vars") ∷ []; says = λ l. (limit_flag (most_questions - length qs), tt {0}) }) (λ p0 b. Always (Then question (λ q. Give (qs ++ q ∷ []))) (λ q rs. IfSoundAll (p ++ (p0 ++ q)) rs))
     turn p qs s l e m = always_weaker question (λ q b. IfSound q b.names) _ (λ q b h all.
         let parts = every_back IsSound p ((l ∷ []) ++ (q ++ [])) all in
         every-append (λ b. AreGood b.names) qs (b ∷ []) (s (every_front IsSound p ((l ∷ []) ++ (q ++ [])) all)) (h (every_front IsSound q [] parts.1), tt)) question_keeps

@@ -6,7 +6,7 @@ use Rattle.it_syntax.specs.declared.types.Misspelling.{Misspelling}
 use Rattle.it_question.proofs.LetterLemmas.{length_with_ends, split_length}
 use Rattle.it_question.specs.Files.{IsFile}
 use Rattle.it_question.specs.Lines.{LineView, AreLines, split_lines, without_return, before_comment, without_tab, plain_text}
-use Rattle.it_question.specs.Texts.{without_leading, unless_blank, without_trailing, trimmed_line, text_of_lines, question_line_count, with_texts}
+use Rattle.it_question.specs.Texts.{without_leading, unless_blank, without_trailing, text_of_lines, question_line_count, with_texts}
 use Rattle.it_question.proofs.FileLineLemmas.{return_shorter, comment_shorter}
 use Rattle.it_question.specs.QuestionForms.{file}
 use Rattle.it_question.specs.Questions.{BodyView, QuestionView}
@@ -36,7 +36,7 @@ trailing_short : (line : List ℕ) → length (without_trailing line) ≤ length
 trailing_short [] = omega arith
 trailing_short (b ∷ line) = let a = unless_short b (without_trailing line) in let h = trailing_short line in omega (arith, a, h)
 
-trimmed_short : (line : List ℕ) → length (trimmed_line (plain_text line)) ≤ length line
+trimmed_short : (line : List ℕ) → length (without_trailing (without_leading (plain_text line))) ≤ length line
 trimmed_short line =
     let a = trailing_short (without_leading (plain_text line)) in
     let b = leading_short (plain_text line) in
@@ -55,7 +55,7 @@ given_by (Some m) n = 0
 -- what lines give to a text
 abbrev given_all : List LineView → ℕ
 given_all [] = 0
-given_all (l ∷ lines) = given_by l.misspelling (length (trimmed_line l.text) + 1) + given_all lines
+given_all (l ∷ lines) = given_by l.misspelling (length (without_trailing (without_leading l.text)) + 1) + given_all lines
 
 given_little : (m : Option Misspelling) (n : ℕ) → given_by m n ≤ n
 given_little None n = omega arith
@@ -66,8 +66,8 @@ lines_short n [] lines h = subst (λ (ls : List LineView). given_all ls ≤ 0) (
 lines_short n (bytes ∷ more) lines (inl h) = let k = lines_short (n + 1) more lines h.1 in omega (arith, k)
 lines_short n (bytes ∷ more) lines (inr h) =
     let l = h.0 in
-    let a = given_little l.misspelling (length (trimmed_line l.text) + 1) in
-    let b = ap (λ (t : List ℕ). length (trimmed_line t)) h.3.text in
+    let a = given_little l.misspelling (length (without_trailing (without_leading l.text)) + 1) in
+    let b = ap (λ (t : List ℕ). length (without_trailing (without_leading t))) h.3.text in
     let c = trimmed_short bytes in
     let k = lines_short (n + 1) more h.1 h.5 in
     subst (λ (ls : List LineView). given_all ls ≤ length bytes + 1 + length_with_ends more) (sym h.2) (omega (arith, a, b, c, k))
@@ -75,8 +75,8 @@ lines_short n (bytes ∷ more) lines (inr h) =
 whole_text : (lines : List LineView) → AreWhole lines → length (text_of_lines lines) ≡ given_all lines
 whole_text [] w = refl
 whole_text (l ∷ lines) w =
-    let a = ap (λ (m : Option Misspelling). given_by m (length (trimmed_line l.text) + 1)) w.0.misspelling in
-    let b = length-append (trimmed_line l.text) (10 ∷ text_of_lines lines) in
+    let a = ap (λ (m : Option Misspelling). given_by m (length (without_trailing (without_leading l.text)) + 1)) w.0.misspelling in
+    let b = length-append (without_trailing (without_leading l.text)) (10 ∷ text_of_lines lines) in
     let k = whole_text lines w.1 in
     omega (arith, a, b, k)
 

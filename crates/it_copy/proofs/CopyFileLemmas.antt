@@ -1,6 +1,7 @@
 -- A file with a head asks one thing or has one first fault.
 use Rattle.std.proofs.Common.{◌≡◌, ℕ, ◌+◌, ◌-◌, List, [], ◌∷◌, ◌++◌, length, length-append, drop, map, All, Ok, refl, sym, ap, ◌∙◌, subst, inl, inr, arith}
 use Rattle.std.proofs.lemmas.List.Elements.{All-weaker}
+use Rattle.std.specs.Prelude.{codes}
 use Rattle.it_forms.specs.Forms.{Keyword, Give, Then, Spells}
 use Rattle.it_forms.specs.FormReading.{read}
 use Rattle.it_forms.specs.FormTexts.{spelling}
@@ -22,7 +23,7 @@ use Rattle.it_question.proofs.Puts.{puts_at, lines_then, line_puts}
 use Rattle.it_question.proofs.QuestionLines.{Grows, turns_grow}
 use Rattle.it_question.proofs.WholeFileLemmas.{EndsFile, form_is_one, form_has_one, read_says, whole_fault_is_one, whole_or_fault}
 use Rattle.it_copy.specs.CopyForms.{member, more_members, over, copy, more_copies, copy_file}
-use Rattle.it_copy.specs.CopyLines.{CopyView, copy_keyword, most_copies}
+use Rattle.it_copy.specs.CopyLines.{CopyView, most_copies}
 use Rattle.it_copy.specs.Files.{copies_with_questions, IsCopyFile, CopyFileIsOne, CopyFaultIsOne, CopyFileOrFault, CopyFileHasOne}
 use Rattle.it_copy.proofs.CopyOutlines.{copy_file_has}
 
@@ -39,7 +40,7 @@ copy_has_no_end = (refl, λ fresh. (refl, λ u. (refl, λ old. (refl, λ u. (ove
 pub copies_lines : (cs all : List CopyView) (m k : FlaggedLetters) → Spells (more_copies cs) all m k → Grows length cs all m k
 unfolding more_copies Spells
 copies_lines cs all m k s =
-    turns_grow (λ (cs : List CopyView). record { kinds = Keyword copy_keyword ∷ []; says = λ l. (limit_flag (most_copies - length cs), tt {0}) }) (λ cs u. Spells (Then (to_end copy) (λ c. Give (cs ++ c ∷ [])))) length (λ cs. refl) (λ cs u c m k t. (0, puts_at (line_puts copy copy_has_no_end t.0 m t.1 t.2) t.3.1, sym (ap length t.3.0) ∙ omega (arith, length-append cs (t.0 ∷ [])))) s.0 cs all m k s.1
+    turns_grow (λ (cs : List CopyView). record { kinds = Keyword (codes "copy") ∷ []; says = λ l. (limit_flag (most_copies - length cs), tt {0}) }) (λ cs u. Spells (Then (to_end copy) (λ c. Give (cs ++ c ∷ [])))) length (λ cs. refl) (λ cs u c m k t. (0, puts_at (line_puts copy copy_has_no_end t.0 m t.1 t.2) t.3.1, sym (ap length t.3.0) ∙ omega (arith, length-append cs (t.0 ∷ [])))) s.0 cs all m k s.1
 
 pub copy_file_ends : EndsFile copy_file
 unfolding copy_file Spells

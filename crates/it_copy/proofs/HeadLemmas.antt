@@ -1,6 +1,7 @@
 -- The head of a file, as it is read.
 use Rattle.std.proofs.Common.{◌≡◌, ℕ, zero, suc, ◌+◌, ◌-◌, ◌<◌, ◌≤◌, ◌==◌, Bool, true, false, ◌||◌, cond, List, [], ◌∷◌, ◌++◌, length, drop, Some, None, Ok, Err, refl, sym, ap, ◌∙◌, subst, inl, inr, arith}
 use Rattle.std.proofs.lemmas.List.{append-nil, drop-drop, drop_all}
+use Rattle.std.specs.Prelude.{codes}
 use Rattle.it_forms.specs.FirstFault.{own_code}
 use Rattle.it_forms.specs.Forms.{Keyword, FileEnd, Give, Then, Spells}
 use Rattle.it_forms.specs.FormReading.{read}
@@ -18,7 +19,6 @@ use Rattle.it_syntax.specs.declared.rest.Stop.TheVariants as stops
 use Rattle.it_syntax.specs.Gives.{StopsAs}
 use Rattle.it_question.specs.declared.types.FileFault.{FileFault}
 use Rattle.it_question.specs.declared.types.FileFault.TheVariants.{Memory, Fault}
-use Rattle.it_question.specs.Keywords.{vars_keyword}
 use Rattle.it_question.specs.Lines.{LineView, AreLines, AreLinesOf, in_front, split_lines, letters_of_lines}
 use Rattle.it_question.specs.QuestionForms.{question, more_questions, file}
 use Rattle.it_question.specs.QuestionLimits.{most_questions}
@@ -31,7 +31,7 @@ use Rattle.it_question.proofs.Puts.{HasLines}
 use Rattle.it_question.proofs.WholeFileLemmas.{first_form_fault}
 use Rattle.it_question.proofs.WordLoops.{word_ends}
 use Rattle.it_copy.specs.CopyForms.{more_copies, copy_file}
-use Rattle.it_copy.specs.CopyLines.{CopyView, copy_keyword}
+use Rattle.it_copy.specs.CopyLines.{CopyView}
 use Rattle.it_copy.specs.Heads.{begins_questions, lines_before, IsHead, HasNoHead, IsFirstHeadFault}
 use Rattle.it_copy.specs.HeadSteps.{ReadsNoHead, StopsInHead}
 use Rattle.it_copy.proofs.CopyOutlines.{copies_has, copy_file_has}
@@ -125,9 +125,9 @@ head_read bytes lines copies r from skipped cut e begins counted within after =
       after = after;
     }
 
-free_of_copies : (r : List Letter) → begins_questions r ≡ true → IsFree (Keyword copy_keyword ∷ []) (without_flags r)
+free_of_copies : (r : List Letter) → begins_questions r ≡ true → IsFree (Keyword (codes "copy") ∷ []) (without_flags r)
 free_of_copies [] e = tt
-free_of_copies (l ∷ r) e = apart_among (Keyword copy_keyword ∷ []) (Keyword vars_keyword ∷ FileEnd ∷ []) l refl e
+free_of_copies (l ∷ r) e = apart_among (Keyword (codes "copy") ∷ []) (Keyword (codes "vars") ∷ FileEnd ∷ []) l refl e
 
 -- a head that is written is read
 written_head_is_read : (cs : List CopyView) (ls r : List Letter) → Spells (more_copies []) cs (without_flags ls) (without_flags r) → begins_questions r ≡ true → read (more_copies []) ls ≡ Ok (cs, r)
@@ -154,7 +154,7 @@ unfolding read file more_questions
 no_file [] e = refl
 no_file (l ∷ ls) e =
     let other = both_false _ _ e in
-    let question : read (more_questions []) (l ∷ ls) ≡ Ok ([], l ∷ ls) = word_ends vars_keyword (λ qs. limit_flag (most_questions - length qs)) (λ qs. question) (λ qs q. qs ++ q ∷ []) [] (l ∷ ls) _ refl (ap (λ (b : Bool). cond b (Some ((None, tt), ls)) None) other.0) in
+    let question : read (more_questions []) (l ∷ ls) ≡ Ok ([], l ∷ ls) = word_ends (codes "vars") (λ qs. limit_flag (most_questions - length qs)) (λ qs. question) (λ qs q. qs ++ q ∷ []) [] (l ∷ ls) _ refl (ap (λ (b : Bool). cond b (Some ((None, tt), ls)) None) other.0) in
     let end : read file_end (l ∷ ls) ≡ Err (own_code (l ∷ ls), l ∷ ls) = other_is (just (FileEnd ∷ []) tt) l other.1 (λ a rest. Ok (a, rest)) ls (no_rule (l ∷ ls)) in
     ap (λ (t : Reads (List BodyView)). t >>= λ x. read (Then file_end (λ u. Give x.0)) x.1) question ∙ ap (λ (t : Reads (Unit {0})). t >>= λ x. read (Give []) x.1) end
 

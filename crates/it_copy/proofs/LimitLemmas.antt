@@ -4,20 +4,23 @@ use Rattle.std.proofs.Math.Pow.{ones_lt, pow-lt}
 use Rattle.std.proofs.lemmas.List.Elements.{All-nil, All-cons, All-append, All-filter, All-map, All-weaker}
 use Rattle.it_polymatroid.proofs.Spans.{get_or-span, length-span}
 use Rattle.std.proofs.lemmas.Nat.{or_lt, pow_pos}
+use Rattle.std.specs.Option.{option_map_or}
+use Rattle.std.specs.Prelude.{map}
 use Rattle.it_polymatroid.specs.Elementals.{span}
 use Rattle.it_syntax.specs.declared.types.Term.{Term}
 use Rattle.it_syntax.specs.declared.types.Atom.TheVariants.{Nothing, Entropy, Mutual}
 use Rattle.it_syntax.specs.NamesViews.{NamesView}
 use Rattle.it_syntax.specs.Meaning.{IsAtomOf}
 use Rattle.it_syntax.specs.Givens.{GivenView, IsGivenOf, IsRelationOf}
+use Rattle.it_closure.specs.Closures.{is_inside}
 use Rattle.it_question.specs.Questions.{BodyView, VerbView, Prove, Eliminate, Contain}
 use Rattle.it_question.specs.Limits.{IsQuestion, IsVerbOver}
 use Rattle.it_question.specs.QuestionLimits.{most_lines, most_variables}
 use Rattle.it_number.specs.Gcd.{gcd, gcd_within, lcm}
 use Rattle.it_demand.proofs.LimitLemmas.{wider_given, wider_relation}
 use Rattle.it_copy.specs.CopyLines.{CopyView}
-use Rattle.it_copy.specs.Equations.{apart_equation, copy_equations, inside_equation, inside_equations, is_part, term_of}
-use Rattle.it_copy.specs.Extensions.{CanBeMade, IsProof, equations_in, equations_of, extended, first_unplaced, placed, with_copies, with_copy}
+use Rattle.it_copy.specs.Equations.{apart_equation, copy_equations, inside_equation, term_of}
+use Rattle.it_copy.specs.Extensions.{CanBeMade, IsProof, equations_of, extended, first_unplaced, placed, with_copies, with_copy}
 use Rattle.it_copy.proofs.PlaceLemmas.{first_has_place, place_told}
 
 -- ---- the equations of one copy
@@ -65,9 +68,9 @@ module _ (n a over : ℕ) (old : a < n) (inside : over < 2 ^ n) where
   pub equations_are_givens : All (IsGivenOf (n + 1)) (copy_equations n a over)
   unfolding copy_equations
   equations_are_givens =
-      All-append (IsGivenOf (n + 1)) (inside_equations n a over) (apart_equation n over ∷ [])
-      (All-map (IsGivenOf (n + 1)) (inside_equation n a) (filter (is_part over) (span 0 (over + 1)))
-      (All-weaker (λ s. s < over + 1) (λ s. IsGivenOf (n + 1) (inside_equation n a s)) inside_is_given (filter (is_part over) (span 0 (over + 1))) (All-filter (is_part over) (λ s. s < over + 1) (span 0 (over + 1)) numbers_below)))
+      All-append (IsGivenOf (n + 1)) (map (inside_equation n a) (filter (λ s. is_inside s over) (span 0 (over + 1)))) (apart_equation n over ∷ [])
+      (All-map (IsGivenOf (n + 1)) (inside_equation n a) (filter (λ s. is_inside s over) (span 0 (over + 1)))
+      (All-weaker (λ s. s < over + 1) (λ s. IsGivenOf (n + 1) (inside_equation n a s)) inside_is_given (filter (λ s. is_inside s over) (span 0 (over + 1))) (All-filter (λ s. is_inside s over) (λ s. s < over + 1) (span 0 (over + 1)) numbers_below)))
       (All-cons (IsGivenOf (n + 1)) (apart_equation n over) [] apart_is_given (All-nil (IsGivenOf (n + 1))))
 
 -- ---- the equations of all copies, over all variables
@@ -94,8 +97,8 @@ copies_are_added k v (c ∷ cs) few e =
       more = omega (arith, counted, later.more);
       few = later.few;
       rates = later.rates;
-      givens = All-append (IsGivenOf (length all.variables)) (equations_in (length v.variables) (placed v c)) (equations_of (with_copy v c) cs)
-          (subst (λ (o : Option (ℕ × ℕ)). All (IsGivenOf (length all.variables)) (equations_in (length v.variables) o)) (sym x.2) own) later.givens;
+      givens = All-append (IsGivenOf (length all.variables)) (option_map_or (λ (x : ℕ × ℕ). copy_equations (length v.variables) x.0 x.1) (placed v c) []) (equations_of (with_copy v c) cs)
+          (subst (λ (o : Option (ℕ × ℕ)). All (IsGivenOf (length all.variables)) (option_map_or (λ (x : ℕ × ℕ). copy_equations (length v.variables) x.0 x.1) o [])) (sym x.2) own) later.givens;
     }
 
 -- ---- the question with copies

@@ -1,17 +1,18 @@
 -- The grammar of files with a head, whose lines ask for copies. `Word` stands against H and I in the place of a name, `Many`
 -- against the first letter past a limit.
-use Rattle.std.specs.Prelude.{ℕ, ◌-◌, List, [], ◌∷◌, ◌++◌, length}
+use Rattle.std.specs.Prelude.{ℕ, ◌-◌, false, List, [], ◌∷◌, ◌++◌, length, codes}
 use Rattle.it_forms.specs.declared.types.Symbol.TheVariants.{Comma}
-use Rattle.it_syntax.specs.NameFlags.{is_measure}
+use Rattle.it_syntax.specs.MeasureWords.{is_measure}
+use Rattle.it_question.specs.NewNames.{new_flag}
 use Rattle.it_question.specs.QuestionForms.{file}
 use Rattle.it_question.specs.Questions.{BodyView}
-use Rattle.it_copy.specs.CopyLines.{CopyView, most_copies, copy_keyword, of_keyword, over_keyword, most_members, member_flag}
+use Rattle.it_copy.specs.CopyLines.{CopyView, most_copies, most_members}
 use Rattle.it_forms.specs.Forms.{Form, Give, Take, If}
 use Rattle.it_forms.specs.Words.{◌>>=◌, ◌>>◌, word, any_word, each_after, each_flagged, to_end, zero_alone, limit_flag}
 
 -- a name, of which n are allowed
 unfoldable pub member : ℕ → Form (List ℕ)
-member n = Take (any_word (λ w. (member_flag (is_measure w) n, w)))
+member n = Take (any_word (λ w. (new_flag (is_measure w) false n, w)))
 
 -- further names, each after a comma
 unfoldable pub more_members : List (List ℕ) → Form (List (List ℕ))
@@ -25,15 +26,15 @@ over = If zero_alone (λ u. Give []) (member most_members >>= λ w. more_members
 unfoldable pub copy : Form CopyView
 copy = do
   fresh ← member 1
-  Take (word of_keyword)
+  Take (word (codes "of"))
   old ← member 1
-  Take (word over_keyword)
+  Take (word (codes "over"))
   set ← over
   Give (record { fresh = fresh; old = old; over = set })
 
 -- lines that ask for copies, after others
 unfoldable pub more_copies : List CopyView → Form (List CopyView)
-more_copies cs = each_flagged copy_keyword (λ cs. limit_flag (most_copies - length cs)) (λ cs. to_end copy) (λ cs c. cs ++ c ∷ []) cs
+more_copies cs = each_flagged (codes "copy") (λ cs. limit_flag (most_copies - length cs)) (λ cs. to_end copy) (λ cs c. cs ++ c ∷ []) cs
 
 -- a head, and the question file after it
 unfoldable pub copy_file : Form (List CopyView × List BodyView)

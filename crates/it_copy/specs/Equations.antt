@@ -1,8 +1,9 @@
 -- The equations of a copy (Zhang and Yeung, "On characterization of entropy function via information inequalities", 1998): it has
 -- with each part of the set the entropy of its original with that part, and is independent, given the set, of all variables
 -- before it that aren't in the set.
-use Rattle.std.specs.Prelude.{ℕ, ◌+◌, ◌-◌, ◌^◌, ◌==◌, Bool, false, List, [], ◌∷◌, ◌++◌, map, filter, bit_and, bit_or}
+use Rattle.std.specs.Prelude.{ℕ, ◌+◌, ◌-◌, ◌^◌, false, List, [], ◌∷◌, ◌++◌, map, filter, bit_or}
 use Rattle.it_polymatroid.specs.Elementals.{span}
+use Rattle.it_closure.specs.Closures.{is_inside}
 use Rattle.it_syntax.specs.declared.types.Sign.TheVariants.{Equal}
 use Rattle.it_syntax.specs.declared.types.Atom.{Atom}
 use Rattle.it_syntax.specs.declared.types.Atom.TheVariants.{Nothing, Entropy, Mutual, Rate}
@@ -24,18 +25,10 @@ equal_atoms left right = Relation (record { left = term_of left ∷ []; sign = E
 abbrev pub inside_equation : ℕ → ℕ → ℕ → GivenView
 inside_equation fresh old s = equal_atoms (Entropy (bit_or (2 ^ fresh) s) 0) (Entropy (bit_or (2 ^ old) s) 0)
 
--- whether each member of s is in `over`
-abbrev pub is_part : ℕ → ℕ → Bool
-is_part over s = bit_and s over == s
-
--- one for each set S inside W, by number
-abbrev pub inside_equations : ℕ → ℕ → ℕ → List GivenView
-inside_equations fresh old over = map (inside_equation fresh old) (filter (is_part over) (span 0 (over + 1)))
-
 -- I(R;V|W) = 0, where V is the variables before R that aren't in W
 abbrev pub apart_equation : ℕ → ℕ → GivenView
 apart_equation fresh over = equal_atoms (Mutual (2 ^ fresh) ((2 ^ fresh - 1) - over) over) Nothing
 
--- the equations of variable `fresh`, a copy of variable `old` over a set
+-- the equations of variable `fresh`, a copy of variable `old` over a set: one for each set inside it, by number, and the last one
 unfoldable pub copy_equations : ℕ → ℕ → ℕ → List GivenView
-copy_equations fresh old over = inside_equations fresh old over ++ apart_equation fresh over ∷ []
+copy_equations fresh old over = map (inside_equation fresh old) (filter (λ s. is_inside s over) (span 0 (over + 1))) ++ apart_equation fresh over ∷ []

@@ -1,5 +1,7 @@
 -- A question with copies of variables added, and why it can't have them.
 use Rattle.std.specs.Prelude.{◌≡◌, ℕ, ◌+◌, ◌<◌, ◌≤◌, ◌^◌, ◌||◌, nat_le, List, [], ◌∷◌, ◌++◌, length, Option, Some, None, is_some, if◌then◌else◌, option_and_then, bit_or}
+use Rattle.std.specs.List.{fold}
+use Rattle.std.specs.Option.{option_map_or}
 use Rattle.it_space.specs.Sets.{has_member}
 use Rattle.it_syntax.specs.NamesViews.{NamesView, index_of}
 use Rattle.it_syntax.specs.Givens.{GivenView}
@@ -36,18 +38,12 @@ with_copy v c = with_name Variable v c.fresh
 
 -- the names with those of copies, in order
 abbrev pub with_copies : NamesView → List CopyView → NamesView
-with_copies v [] = v
-with_copies v (c ∷ cs) = with_copies (with_copy v c) cs
-
--- the equations of a copy in its place, the next variable being number n
-abbrev pub equations_in : ℕ → Option (ℕ × ℕ) → List GivenView
-equations_in n None = []
-equations_in n (Some (a, s)) = copy_equations n a s
+with_copies v cs = fold with_copy v cs
 
 -- the equations of copies, in order
 abbrev pub equations_of : NamesView → List CopyView → List GivenView
 equations_of v [] = []
-equations_of v (c ∷ cs) = equations_in (length v.variables) (placed v c) ++ equations_of (with_copy v c) cs
+equations_of v (c ∷ cs) = option_map_or (λ (x : ℕ × ℕ). copy_equations (length v.variables) x.0 x.1) (placed v c) [] ++ equations_of (with_copy v c) cs
 
 -- the number of the first copy that can't be made, the first being number k
 abbrev pub first_unplaced : ℕ → NamesView → List CopyView → Option ℕ

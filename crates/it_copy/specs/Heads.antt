@@ -1,11 +1,10 @@
 -- The head of a file: its lines that ask for copies, before the word `vars` or the file's end.
-use Rattle.std.specs.Prelude.{◌≡◌, ℕ, ◌-◌, ◌≤◌, Bool, true, false, List, [], ◌∷◌, length, drop}
+use Rattle.std.specs.Prelude.{◌≡◌, ℕ, ◌-◌, ◌≤◌, Bool, true, false, List, [], ◌∷◌, length, drop, codes}
 use Rattle.it_forms.specs.declared.types.Code.{Code}
 use Rattle.it_forms.specs.Forms.{Keyword, FileEnd, is_among, Spells}
 use Rattle.it_forms.specs.Letters.{Letter, without_flags}
 use Rattle.it_question.specs.declared.types.FileFault.{FileFault}
 use Rattle.it_question.specs.declared.types.FileFault.TheVariants.{Memory, Fault}
-use Rattle.it_question.specs.Keywords.{vars_keyword}
 use Rattle.it_question.specs.Lines.{LineView, AreLinesOf, split_lines, letters_of_lines}
 use Rattle.it_copy.specs.CopyForms.{more_copies}
 use Rattle.it_copy.specs.CopyLines.{CopyView}
@@ -14,7 +13,7 @@ use Rattle.it_copy.specs.Files.{CopyFileFaultAt}
 -- whether the next letter is the word `vars` or the file's end
 abbrev pub begins_questions : List Letter → Bool
 begins_questions [] = false
-begins_questions (l ∷ ls) = is_among (Keyword vars_keyword ∷ FileEnd ∷ []) l
+begins_questions (l ∷ ls) = is_among (Keyword (codes "vars") ∷ FileEnd ∷ []) l
 
 -- how many lines stand before the first of these
 abbrev pub lines_before : List LineView → ℕ

@@ -1,13 +1,13 @@
 -- Where none of some words stands, a form without them in front reads as the form.
 use Rattle.std.proofs.Common.{◌≡◌, Bool, true, false, cond, ◌||◌, List, [], ◌∷◌, ◌++◌, ℕ, Option, Some, None, refl, ap, ◌∙◌}
-use Rattle.std.specs.Prelude.{bytes_eq, not}
+use Rattle.std.specs.Prelude.{bytes_eq, not, map}
 use Rattle.std.specs.List.{list_any}
 use Rattle.it_forms.specs.declared.types.Code.{Code}
 use Rattle.it_forms.specs.Reads.{Reads, ◌>>=◌}
 use Rattle.it_forms.specs.Letters.{Letter, Word, Number, Sym, End, Bad}
 use Rattle.it_forms.specs.Forms.{Kind, WordBut, is_of, is_among, Terminal, Form, Give, Take, Then, If, While}
 use Rattle.it_forms.specs.FormReading.{if_unflagged, if_taken, read, after}
-use Rattle.it_forms.specs.Words.{word, without, all_without, terminal_but, but}
+use Rattle.it_forms.specs.Words.{word, without, terminal_but, but}
 use Rattle.it_forms.proofs.FormTraces.{Reader}
 
 abbrev pub NoneStands : List (List ℕ) → List Letter → Type 0
@@ -30,9 +30,9 @@ same_kind ts (WordBut us) End ls e = refl
 same_kind ts (WordBut us) (Bad c) ls e = refl
 same_kind ts k l ls e = refl
 
-same_kinds : (ts : List (List ℕ)) (ks : List Kind) (l : Letter) (ls : List Letter) → NoneStands ts (l ∷ ls) → is_among (all_without ts ks) l ≡ is_among ks l
+same_kinds : (ts : List (List ℕ)) (ks : List Kind) (l : Letter) (ls : List Letter) → NoneStands ts (l ∷ ls) → is_among (map (without ts) ks) l ≡ is_among ks l
 same_kinds ts [] l ls e = refl
-same_kinds ts (k ∷ ks) l ls e = ap (λ (b : Bool). b || is_among (all_without ts ks) l) (same_kind ts k l ls e) ∙ ap (λ (b : Bool). is_of k l || b) (same_kinds ts ks l ls e)
+same_kinds ts (k ∷ ks) l ls e = ap (λ (b : Bool). b || is_among (map (without ts) ks) l) (same_kind ts k l ls e) ∙ ap (λ (b : Bool). is_of k l || b) (same_kinds ts ks l ls e)
 
 same_terminal : {A B : Type 0} (ts : List (List ℕ)) (t : Terminal A) (ls : List Letter) (g : A → Reader B) (other same : Reads B) → NoneStands ts ls → other ≡ same → if_taken (terminal_but ts t) ls g other ≡ if_taken t ls g same
 same_terminal ts t [] g other same h e = e

@@ -1,16 +1,17 @@
 -- A language has one first fault at most, and what stands at it.
+use Rattle.std.specs.Prelude.{slice_get}
 use Rattle.std.proofs.Common.{◌≡◌, List, [], ◌∷◌, ◌++◌, Some, None, Err, refl, sym, ap, ◌∙◌, subst, inl, inr, ◌⊎◌, append_assoc}
 use Rattle.std.proofs.lemmas.List.{append_cancel_right}
 use Rattle.it_forms.specs.declared.types.Code.{Code}
 use Rattle.it_forms.specs.Letters.{Letter, FlaggedLetters, letters, without_flags}
-use Rattle.it_forms.specs.FirstFault.{head, own_code, FlaggedAt, FirstFault}
+use Rattle.it_forms.specs.FirstFault.{own_code, FlaggedAt, FirstFault}
 use Rattle.it_forms.specs.Reads.{Fault, Reads}
 use Rattle.it_forms.proofs.FlaggedReadings.{Flags}
 use Rattle.it_forms.proofs.LetterLemmas.{letters_after, second_is, same_tails}
 
 -- why the fault is c where r is left, and q would be spelled there: no rule goes on, or the rules flag the letter
 abbrev pub Why : FlaggedLetters → Code → List Letter → Type 0
-Why q c r = (own_code r ≡ c) ⊎ ((l : Letter) × (more : FlaggedLetters) × ((q ≡ (l, Some c) ∷ more) × (head r ≡ Some l)))
+Why q c r = (own_code r ≡ c) ⊎ ((l : Letter) × (more : FlaggedLetters) × ((q ≡ (l, Some c) ∷ more) × (slice_get r 0 ≡ Some l)))
 
 abbrev pub err_of : {A : Type 0} → Fault → Reads A
 err_of f = Err f
@@ -52,7 +53,7 @@ no_earlier_fault : {X : Type 0} (spell : X → FlaggedLetters) (ls : List Letter
 no_earlier_fault spell ls c e r s f g l d front-is r-is =
     let spelled : spell g.tree ≡ without_flags (f.prefix ++ (l ∷ d)) ++ g.more = g.viable ∙ ap (λ (t : List Letter). without_flags t ++ g.more) front-is in
     let here : letters (spell g.tree) ≡ f.prefix ++ (l ∷ (d ++ letters g.more)) = ap letters spelled ∙ letters_after (f.prefix ++ (l ∷ d)) g.more ∙ append_assoc f.prefix (l ∷ d) (letters g.more) in
-    let k = f.each g.tree (l ∷ (d ++ letters g.more)) (sym (ap head r-is)) here in
+    let k = f.each g.tree (l ∷ (d ++ letters g.more)) (sym (ap (λ (ls : List Letter). slice_get ls 0) r-is)) here in
     clean_not_flagged f.prefix d l g.more c (k.0, k.1, sym spelled ∙ k.2)
 
 flags_same : (m : FlaggedLetters) (prefix : List Letter) (c e : Code) → FlaggedAt m prefix c → FlaggedAt m prefix e → c ≡ e
@@ -66,9 +67,9 @@ one_code spell ls c e r s f g same left =
     elim f.code [
       | inl a ↦ elim g.code [
         | inl b ↦ sym a ∙ ap own_code left ∙ b
-        | inr y ↦ flags_same (spell y.0) f.prefix c e (f.each y.0 y.1 (y.2.0 ∙ ap head (sym left)) (y.2.1 ∙ ap (λ (t : List Letter). t ++ y.1) (sym same))) (subst (λ (t : List Letter). FlaggedAt (spell y.0) t e) (sym same) (g.each y.0 y.1 y.2.0 y.2.1))
+        | inr y ↦ flags_same (spell y.0) f.prefix c e (f.each y.0 y.1 (y.2.0 ∙ ap (λ (ls : List Letter). slice_get ls 0) (sym left)) (y.2.1 ∙ ap (λ (t : List Letter). t ++ y.1) (sym same))) (subst (λ (t : List Letter). FlaggedAt (spell y.0) t e) (sym same) (g.each y.0 y.1 y.2.0 y.2.1))
       ]
-      | inr x ↦ flags_same (spell x.0) f.prefix c e (f.each x.0 x.1 x.2.0 x.2.1) (subst (λ (t : List Letter). FlaggedAt (spell x.0) t e) (sym same) (g.each x.0 x.1 (x.2.0 ∙ ap head left) (x.2.1 ∙ ap (λ (t : List Letter). t ++ x.1) same)))
+      | inr x ↦ flags_same (spell x.0) f.prefix c e (f.each x.0 x.1 x.2.0 x.2.1) (subst (λ (t : List Letter). FlaggedAt (spell x.0) t e) (sym same) (g.each x.0 x.1 (x.2.0 ∙ ap (λ (ls : List Letter). slice_get ls 0) left) (x.2.1 ∙ ap (λ (t : List Letter). t ++ x.1) same)))
     ]
 
 -- two first faults are one

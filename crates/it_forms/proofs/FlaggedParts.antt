@@ -1,21 +1,21 @@
 -- What always holds of what is read in a form holds where the first letter is flagged, or may not be some words; and what is
 -- allowed no more isn't read.
+use Rattle.std.specs.Option.{option_or}
 use Rattle.std.proofs.Common.{◌≡◌, ℕ, zero, suc, Bool, true, false, ◌||◌, List, [], ◌∷◌, ◌++◌, Option, Some, None, refl}
-use Rattle.std.specs.Prelude.{bytes_eq, not}
+use Rattle.std.specs.Prelude.{bytes_eq, not, map}
 use Rattle.std.specs.List.{list_any}
 use Rattle.it_forms.specs.declared.types.Code.{Code}
 use Rattle.it_forms.specs.declared.types.Code.TheVariants as codes
 use Rattle.it_forms.specs.Letters.{Letter, Word}
 use Rattle.it_forms.specs.Forms.{Kind, WordBut, is_of, is_among, Form, Give, Take, Then, If, While}
-use Rattle.it_forms.specs.Words.{or_flag, flagged, allowed, without, all_without, but}
+use Rattle.it_forms.specs.Words.{flagged, allowed, without, but}
 use Rattle.it_forms.proofs.FormParts.{Fact, Always}
 
 -- ---- flags
 
-unflagged_before : (o m : Option Code) → or_flag o m ≡ None → m ≡ None
-unflagged_before None m e = e
-unflagged_before (Some c) None e = refl
-unflagged_before (Some c) (Some d) e = absurd cc
+unflagged_before : (o m : Option Code) → option_or m o ≡ None → m ≡ None
+unflagged_before o None e = refl
+unflagged_before o (Some d) e = absurd cc
 
 pub always_flagged : {A : Type 0} (o : Option Code) (f : Form A) (P : Fact A) → Always f P → Always (flagged o f) P
 unfolding Always flagged
@@ -33,7 +33,7 @@ Takes (Then f g) = Takes f
 Takes (If t g other) = Takes other
 Takes (While ks says step a) = ⊥
 
-surely_flagged : (c : Code) (m : Option Code) → or_flag (Some c) m ≡ None → ⊥
+surely_flagged : (c : Code) (m : Option Code) → option_or m (Some c) ≡ None → ⊥
 surely_flagged c None e = absurd cc
 surely_flagged c (Some d) e = absurd cc
 
@@ -64,11 +64,11 @@ of_wider_kind ts (WordBut us) (Word w) e = any_before (bytes_eq w) ts us e
 of_wider_kind ts (WordBut us) l e = absurd cc
 of_wider_kind ts k l e = e
 
-among_wider_kinds : (ts : List (List ℕ)) (ks : List Kind) (l : Letter) → is_among (all_without ts ks) l ≡ true → is_among ks l ≡ true
+among_wider_kinds : (ts : List (List ℕ)) (ks : List Kind) (l : Letter) → is_among (map (without ts) ks) l ≡ true → is_among ks l ≡ true
 among_wider_kinds ts [] l e = e
 among_wider_kinds ts (k ∷ ks) l e = by_tests (is_of (without ts k) l) (is_of k l) e (of_wider_kind ts k l) (among_wider_kinds ts ks l)
   where
-    by_tests : (a b : Bool) → (a || is_among (all_without ts ks) l) ≡ true → (a ≡ true → b ≡ true) → (is_among (all_without ts ks) l ≡ true → is_among ks l ≡ true) → (b || is_among ks l) ≡ true
+    by_tests : (a b : Bool) → (a || is_among (map (without ts) ks) l) ≡ true → (a ≡ true → b ≡ true) → (is_among (map (without ts) ks) l ≡ true → is_among ks l ≡ true) → (b || is_among ks l) ≡ true
     by_tests a true e h more = refl
     by_tests true false e h more = let x = h refl in absurd cc
     by_tests false false e h more = more e

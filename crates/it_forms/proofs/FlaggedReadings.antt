@@ -1,6 +1,7 @@
 -- A reading of flagged letters: what they say, or the fault at the first flag.
+use Rattle.std.specs.Prelude.{None}
 use Rattle.std.proofs.Common.{◌≡◌, List, [], ◌∷◌, ◌++◌, Some, Ok, Err, refl, ap, ◌∙◌, inl, inr, ◌⊎◌, append_assoc}
-use Rattle.it_forms.specs.Letters.{Letter, FlaggedLetters, without_flag, letters, without_flags}
+use Rattle.it_forms.specs.Letters.{Letter, FlaggedLetters, letters, without_flags}
 use Rattle.it_forms.proofs.LetterLemmas.{cleaned_append}
 use Rattle.it_forms.specs.Reads.{Fault, Reads, ◌>>=◌}
 
@@ -24,11 +25,11 @@ Answers r m x k = ((r ≡ Ok (x, letters k)) × Clears m k) ⊎ ((f : Fault) × 
 passes_none : (k : FlaggedLetters) → Clears k k
 passes_none k = record { prefix = []; is = refl }
 
-passes_cons : (l : Letter) (m k : FlaggedLetters) → Clears m k → Clears (without_flag l ∷ m) k
-passes_cons l m k p = record { prefix = l ∷ p.prefix; is = ap (λ (q : FlaggedLetters). without_flag l ∷ q) p.is }
+passes_cons : (l : Letter) (m k : FlaggedLetters) → Clears m k → Clears ((l, None) ∷ m) k
+passes_cons l m k p = record { prefix = l ∷ p.prefix; is = ap (λ (q : FlaggedLetters). (l, None) ∷ q) p.is }
 
-flags_cons : (l : Letter) (m : FlaggedLetters) (f : Fault) → Flags m f → Flags (without_flag l ∷ m) f
-flags_cons l m f p = record { prefix = l ∷ p.prefix; letter = p.letter; rest = p.rest; is = ap (λ (q : FlaggedLetters). without_flag l ∷ q) p.is; left = p.left }
+flags_cons : (l : Letter) (m : FlaggedLetters) (f : Fault) → Flags m f → Flags ((l, None) ∷ m) f
+flags_cons l m f p = record { prefix = l ∷ p.prefix; letter = p.letter; rest = p.rest; is = ap (λ (q : FlaggedLetters). (l, None) ∷ q) p.is; left = p.left }
 
 append_cleaned : (p q : List Letter) (m n k : FlaggedLetters) → m ≡ without_flags p ++ n → n ≡ without_flags q ++ k → m ≡ without_flags (p ++ q) ++ k
 append_cleaned p q m n k g h = g ∙ ap (λ (t : FlaggedLetters). without_flags p ++ t) h ∙ rw (cleaned_append p q, append_assoc) refl
@@ -44,7 +45,7 @@ pub answers_ok : {A : Type 0} (x : A) (k : FlaggedLetters) → Answers (Ok (x, l
 answers_ok x k = inl (refl, passes_none k)
 
 -- a letter that nothing is said against stands in front
-pub answers_cons : {A : Type 0} (l : Letter) (r : Reads A) (m : FlaggedLetters) (x : A) (k : FlaggedLetters) → Answers r m x k → Answers r (without_flag l ∷ m) x k
+pub answers_cons : {A : Type 0} (l : Letter) (r : Reads A) (m : FlaggedLetters) (x : A) (k : FlaggedLetters) → Answers r m x k → Answers r ((l, None) ∷ m) x k
 answers_cons l r m x k (inl a) = inl (a.0, passes_cons l m k a.1)
 answers_cons l r m x k (inr b) = inr (b.0, (b.1.0, flags_cons l m b.0 b.1.1))
 

@@ -1,8 +1,9 @@
 -- A form's reading gives what is written, or the first fault.
+use Rattle.std.specs.Prelude.{slice_get}
 use Rattle.std.proofs.Common.{◌≡◌, List, [], ◌∷◌, ◌++◌, Ok, Err, refl, sym, ap, ◌∙◌, subst, inl, inr, ◌⊎◌}
 use Rattle.it_forms.specs.declared.types.Code.{Code}
 use Rattle.it_forms.specs.Letters.{Letter, FlaggedLetters, letters, without_flags}
-use Rattle.it_forms.specs.FirstFault.{head, own_code, FlaggedAt}
+use Rattle.it_forms.specs.FirstFault.{own_code, FlaggedAt}
 use Rattle.it_forms.specs.Reads.{Reads}
 use Rattle.it_forms.proofs.FirstFaults.{Why, err_is, flag_place}
 use Rattle.it_forms.proofs.FlaggedReadings.{Answers}
@@ -26,9 +27,9 @@ each_flagged {A} f o s prefix c q e x h = by_answer (written_is_read f o s x.0 x
     by_answer (inr b) = flag_place x.1 b.0 prefix q c b.1.1 (err_is {A = A} b.0 (c, q) (sym b.1.0 ∙ here)) h
 
 why_code : {A : Type 0} (f : Form A) (x : Written f) (q : FlaggedLetters) (c : Code) (prefix r : List Letter) → x.1 ≡ without_flags prefix ++ q → Why q c r
-    → (own_code r ≡ c) ⊎ ((x : Written f) × (q : List Letter) × ((head q ≡ head r) × (letters x.1 ≡ prefix ++ q)))
+    → (own_code r ≡ c) ⊎ ((x : Written f) × (q : List Letter) × ((slice_get q 0 ≡ slice_get r 0) × (letters x.1 ≡ prefix ++ q)))
 why_code f x q c prefix r h (inl o) = inl o
-why_code f x q c prefix r h (inr w) = inr (x, letters q, (ap head (ap letters w.2.0) ∙ sym w.2.1, ap letters h ∙ letters_after prefix q))
+why_code f x q c prefix r h (inr w) = inr (x, letters q, (ap (λ (ls : List Letter). slice_get ls 0) (ap letters w.2.0) ∙ sym w.2.1, ap letters h ∙ letters_after prefix q))
 
 -- where the reading stops is the first fault
 pub first_fault : {A : Type 0} (f : Form A) (o : Outline) → Has f o → (ls : List Letter) (c : Code) (r : List Letter) → read f ls ≡ Err (c, r) → IsFirstFault f ls c r

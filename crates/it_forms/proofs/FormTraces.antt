@@ -1,8 +1,9 @@
 -- What a reading tells of the letters that it looked at, for readers and for what they read.
+use Rattle.std.specs.Prelude.{slice_get}
 use Rattle.std.proofs.Common.{◌≡◌, Bool, true, false, cond, List, [], ◌∷◌, ◌++◌, Option, Some, None, Ok, Err, refl, sym, ap, ◌∙◌, subst, inl, inr, append_assoc}
 use Rattle.it_forms.specs.declared.types.Code.{Code}
-use Rattle.it_forms.specs.Letters.{Letter, Bad, FlaggedLetters, without_flag, without_flags}
-use Rattle.it_forms.specs.FirstFault.{head, own_code}
+use Rattle.it_forms.specs.Letters.{Letter, Bad, FlaggedLetters, without_flags}
+use Rattle.it_forms.specs.FirstFault.{own_code}
 use Rattle.it_forms.specs.Reads.{Reads, ◌>>=◌, no_rule}
 use Rattle.it_forms.proofs.FirstFaults.{Why}
 use Rattle.it_forms.proofs.LetterLemmas.{cleaned_append}
@@ -21,7 +22,7 @@ pub record Went {A : Type 0} (f : Reader A) (says : Language A) (ls : List Lette
   pub prefix : List Letter
   pub parts : ls ≡ prefix ++ r
   pub spells : (k : FlaggedLetters) → says y (without_flags prefix ++ k) k
-  pub stays : (s : List Letter) → head s ≡ head r → f (prefix ++ s) ≡ Ok (y, s)
+  pub stays : (s : List Letter) → slice_get s 0 ≡ slice_get r 0 → f (prefix ++ s) ≡ Ok (y, s)
 
 -- It stopped with code c at r: something is written so up to r, and the same letters stop it whatever follows r's first
 -- letter.
@@ -30,7 +31,7 @@ pub record Stuck {A : Type 0} (f : Reader A) (says : Language A) (ls : List Lett
   pub parts : ls ≡ prefix ++ r
   pub value : A
   pub spells : (k : FlaggedLetters) → (q : FlaggedLetters) × says value (without_flags prefix ++ q) k × Why q c r
-  pub stays : (s : List Letter) → head s ≡ head r → f (prefix ++ s) ≡ Err (c, s)
+  pub stays : (s : List Letter) → slice_get s 0 ≡ slice_get r 0 → f (prefix ++ s) ≡ Err (c, s)
 
 -- what a result tells
 abbrev pub By : {A : Type 0} → Reader A → Language A → List Letter → Reads A → Type 0
@@ -44,15 +45,15 @@ Completes {A} says = (y : A) × ((k : FlaggedLetters) → (m : FlaggedLetters) �
 unflagged_all_append : (p q : List Letter) (k : FlaggedLetters) → without_flags p ++ (without_flags q ++ k) ≡ without_flags (p ++ q) ++ k
 unflagged_all_append p q k = rw (cleaned_append p q, append_assoc) refl
 
-head_same : (p s r : List Letter) → head s ≡ head r → head (p ++ s) ≡ head (p ++ r)
+head_same : (p s r : List Letter) → slice_get s 0 ≡ slice_get r 0 → slice_get (p ++ s) 0 ≡ slice_get (p ++ r) 0
 head_same [] s r e = e
 head_same (l ∷ p) s r e = refl
 
-for_head : (P : List Letter → Type 0) (l : Letter) → ((s : List Letter) → P (l ∷ s)) → (s : List Letter) → head s ≡ Some l → P s
+for_head : (P : List Letter → Type 0) (l : Letter) → ((s : List Letter) → P (l ∷ s)) → (s : List Letter) → slice_get s 0 ≡ Some l → P s
 for_head P l h [] e = absurd cc
 for_head P l h (m ∷ s) e = let same : l ≡ m = cc in subst (λ (n : Letter). P (n ∷ s)) same (h s)
 
-for_no_head : (P : List Letter → Type 0) → P [] → (s : List Letter) → head s ≡ None → P s
+for_no_head : (P : List Letter → Type 0) → P [] → (s : List Letter) → slice_get s 0 ≡ None → P s
 for_no_head P h [] e = h
 for_no_head P h (m ∷ s) e = absurd cc
 
@@ -72,14 +73,14 @@ second_then f g h first second both c ls a r w (Ok x) v = record {
   prefix = w.prefix ++ v.prefix;
   parts = w.parts ∙ ap (λ (t : List Letter). w.prefix ++ t) v.parts ∙ sym (append_assoc w.prefix v.prefix x.1);
   spells = λ k. subst (λ (m : FlaggedLetters). both x.0 m k) (unflagged_all_append w.prefix v.prefix k) (c.says a x.0 (without_flags w.prefix ++ (without_flags v.prefix ++ k)) (without_flags v.prefix ++ k) k (w.spells (without_flags v.prefix ++ k)) (v.spells k));
-  stays = λ s e. ap h (append_assoc w.prefix v.prefix s) ∙ c.is (w.prefix ++ (v.prefix ++ s)) ∙ bind_ok f g w.prefix a (v.prefix ++ s) (Ok (x.0, s)) (w.stays (v.prefix ++ s) (head_same v.prefix s x.1 e ∙ ap head (sym v.parts))) (v.stays s e);
+  stays = λ s e. ap h (append_assoc w.prefix v.prefix s) ∙ c.is (w.prefix ++ (v.prefix ++ s)) ∙ bind_ok f g w.prefix a (v.prefix ++ s) (Ok (x.0, s)) (w.stays (v.prefix ++ s) (head_same v.prefix s x.1 e ∙ ap (λ (ls : List Letter). slice_get ls 0) (sym v.parts))) (v.stays s e);
 }
 second_then f g h first second both c ls a r w (Err x) v = record {
   prefix = w.prefix ++ v.prefix;
   parts = w.parts ∙ ap (λ (t : List Letter). w.prefix ++ t) v.parts ∙ sym (append_assoc w.prefix v.prefix x.1);
   value = v.value;
   spells = λ k. let q = v.spells k in (q.0, subst (λ (m : FlaggedLetters). both v.value m k) (unflagged_all_append w.prefix v.prefix q.0) (c.says a v.value (without_flags w.prefix ++ (without_flags v.prefix ++ q.0)) (without_flags v.prefix ++ q.0) k (w.spells (without_flags v.prefix ++ q.0)) q.1), q.2);
-  stays = λ s e. ap h (append_assoc w.prefix v.prefix s) ∙ c.is (w.prefix ++ (v.prefix ++ s)) ∙ bind_ok f g w.prefix a (v.prefix ++ s) (Err (x.0, s)) (w.stays (v.prefix ++ s) (head_same v.prefix s x.1 e ∙ ap head (sym v.parts))) (v.stays s e);
+  stays = λ s e. ap h (append_assoc w.prefix v.prefix s) ∙ c.is (w.prefix ++ (v.prefix ++ s)) ∙ bind_ok f g w.prefix a (v.prefix ++ s) (Err (x.0, s)) (w.stays (v.prefix ++ s) (head_same v.prefix s x.1 e ∙ ap (λ (ls : List Letter). slice_get ls 0) (sym v.parts))) (v.stays s e);
 }
 
 first_then : {A B : Type 0} (f : Reader A) (g : A → Reader B) (h : Reader B) (first : Language A) (second : A → Language B) (both : Language B) → Chain f g h first second both
@@ -116,7 +117,7 @@ by_terminal : {A B : Type 0} (t : Terminal A) (g : A → Reader B) (other : Read
     → (l : Letter) (rest : List Letter) → is_among t.kinds l ≡ true → (p : Option Code × A) → t.says l ≡ p → ((a : A) → By (g a) (left a) rest (g a rest)) → By h both (l ∷ rest) (if_unflagged p l rest (λ a. g a rest))
 by_terminal t g other h left right both c l rest e (None, a) same next = by_result (g a rest) (next a)
   where
-    token : (n : FlaggedLetters) → IsTaken t a (without_flag l ∷ n) n
+    token : (n : FlaggedLetters) → IsTaken t a ((l, None) ∷ n) n
     token n = (l, e, ap (λ (q : Option Code × _). q.1) same, ap (λ (q : Option Code × _). (l, q.0) ∷ n) (sym same))
 
     reads : (s : List Letter) → h (l ∷ s) ≡ g a s
@@ -126,14 +127,14 @@ by_terminal t g other h left right both c l rest e (None, a) same next = by_resu
     by_result (Ok x) w = record {
       prefix = l ∷ w.prefix;
       parts = ap (λ (s : List Letter). l ∷ s) w.parts;
-      spells = λ k. c.taken a x.0 (without_flag l ∷ (without_flags w.prefix ++ k)) (without_flags w.prefix ++ k) k (token (without_flags w.prefix ++ k)) (w.spells k);
+      spells = λ k. c.taken a x.0 ((l, None) ∷ (without_flags w.prefix ++ k)) (without_flags w.prefix ++ k) k (token (without_flags w.prefix ++ k)) (w.spells k);
       stays = λ s h. reads (w.prefix ++ s) ∙ w.stays s h;
     }
     by_result (Err x) w = record {
       prefix = l ∷ w.prefix;
       parts = ap (λ (s : List Letter). l ∷ s) w.parts;
       value = w.value;
-      spells = λ k. let q = w.spells k in (q.0, c.taken a w.value (without_flag l ∷ (without_flags w.prefix ++ q.0)) (without_flags w.prefix ++ q.0) k (token (without_flags w.prefix ++ q.0)) q.1, q.2);
+      spells = λ k. let q = w.spells k in (q.0, c.taken a w.value ((l, None) ∷ (without_flags w.prefix ++ q.0)) (without_flags w.prefix ++ q.0) k (token (without_flags w.prefix ++ q.0)) q.1, q.2);
       stays = λ s h. reads (w.prefix ++ s) ∙ w.stays s h;
     }
 by_terminal t g other h left right both c l rest e (Some x, a) same next = record {
@@ -145,19 +146,19 @@ by_terminal t g other h left right both c l rest e (Some x, a) same next = recor
 }
 
 else_then : {A B : Type 0} (t : Terminal A) (g : A → Reader B) (other : Reader B) (h : Reader B) (left : A → Language B) (right : Language B) (both : Language B) → Branch t g other h left right both
-    → (ls : List Letter) → ((s : List Letter) → head s ≡ head ls → h s ≡ other s) → (r : Reads B) → By other right ls r → By h both ls r
+    → (ls : List Letter) → ((s : List Letter) → slice_get s 0 ≡ slice_get ls 0 → h s ≡ other s) → (r : Reads B) → By other right ls r → By h both ls r
 else_then t g other h left right both c ls same (Ok x) w = record {
   prefix = w.prefix;
   parts = w.parts;
   spells = λ k. c.else x.0 (without_flags w.prefix ++ k) k (w.spells k);
-  stays = λ s e. same (w.prefix ++ s) (head_same w.prefix s x.1 e ∙ ap head (sym w.parts)) ∙ w.stays s e;
+  stays = λ s e. same (w.prefix ++ s) (head_same w.prefix s x.1 e ∙ ap (λ (ls : List Letter). slice_get ls 0) (sym w.parts)) ∙ w.stays s e;
 }
 else_then t g other h left right both c ls same (Err x) w = record {
   prefix = w.prefix;
   parts = w.parts;
   value = w.value;
   spells = λ k. let q = w.spells k in (q.0, c.else w.value (without_flags w.prefix ++ q.0) k q.1, q.2);
-  stays = λ s e. same (w.prefix ++ s) (head_same w.prefix s x.1 e ∙ ap head (sym w.parts)) ∙ w.stays s e;
+  stays = λ s e. same (w.prefix ++ s) (head_same w.prefix s x.1 e ∙ ap (λ (ls : List Letter). slice_get ls 0) (sym w.parts)) ∙ w.stays s e;
 }
 
 branch_by : {A B : Type 0} (t : Terminal A) (g : A → Reader B) (other : Reader B) (h : Reader B) (left : A → Language B) (right : Language B) (both : Language B) → Branch t g other h left right both
@@ -178,7 +179,7 @@ by_branch t g other h left right both c (l ∷ rest) next w = branch_by t g othe
 pub by_nothing : {A : Type 0} (f : Reader A) (says : Language A) (a : A) (ls : List Letter) → ((s : List Letter) → f s ≡ Ok (a, s)) → ((k : FlaggedLetters) → says a k k) → By f says ls (f ls)
 by_nothing f says a ls e h = subst (λ (r : Reads _). By f says ls r) (sym (e ls)) (record { prefix = []; parts = refl; spells = h; stays = λ s h. e s })
 
-no_rule_stays : {A : Type 0} (ls s : List Letter) → head s ≡ head ls → no_rule {A = A × List Letter} s ≡ Err (own_code ls, s)
+no_rule_stays : {A : Type 0} (ls s : List Letter) → slice_get s 0 ≡ slice_get ls 0 → no_rule {A = A × List Letter} s ≡ Err (own_code ls, s)
 no_rule_stays {A} [] = for_no_head (λ s. no_rule {A = A × List Letter} s ≡ Err (own_code [], s)) refl
 no_rule_stays {A} (l ∷ ls) = for_head (λ s. no_rule {A = A × List Letter} s ≡ Err (own_code (l ∷ ls), s)) l (λ s. own_is l ls s)
   where

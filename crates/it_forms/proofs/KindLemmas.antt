@@ -1,5 +1,5 @@
 -- Kinds that are apart share no letter.
-use Rattle.std.proofs.Common.{◌≡◌, ℕ, Bool, true, false, ◌&&◌, ◌||◌, List, [], ◌∷◌, ◌++◌, refl, sym, ap, ◌∙◌, subst}
+use Rattle.std.proofs.Common.{◌≡◌, ℕ, zero, suc, Bool, true, false, ◌&&◌, ◌||◌, List, [], ◌∷◌, ◌++◌, refl, sym, ap, ◌∙◌, subst}
 use Rattle.std.specs.Prelude.{bytes_eq, not}
 use Rattle.std.specs.List.{list_any}
 use Rattle.std.proofs.lemmas.Slice.Eq.{bytes_eq-Decides}
@@ -22,10 +22,6 @@ word_left_out t w us p e h =
     let q : not (list_any (bytes_eq t) us) ≡ true = subst (λ (x : List ℕ). not (list_any (bytes_eq x) us) ≡ true) a h in
     let r : not true ≡ true = subst (λ (x : Bool). not x ≡ true) p q in absurd cc
 
-never_both : (b : Bool) → b ≡ true → not b ≡ true → ⊥
-never_both true e h = absurd cc
-never_both false e h = absurd cc
-
 word_apart : (k l : Kind) (w : List ℕ) → are_apart k l ≡ true → is_of k (Word w) ≡ true → is_of l (Word w) ≡ true → ⊥
 word_apart (Keyword t) (Keyword u) w p e h = texts_differ t u w p e h
 word_apart (Keyword t) (WordBut us) w p e h = word_left_out t w us p e h
@@ -42,11 +38,13 @@ kinds_apart (Punctuation s) (Punctuation u) (Sym x) p e h = texts_differ (symbol
 kinds_apart (Punctuation s) l (Sym x) p e h = absurd cc
 kinds_apart (Punctuation s) l x p e h = absurd cc
 kinds_apart Zero Zero x p e h = absurd cc
-kinds_apart Zero Positive (Number n) p e h = never_both _ e h
+kinds_apart Zero Positive (Number zero) p e h = absurd cc
+kinds_apart Zero Positive (Number (suc n)) p e h = absurd cc
 kinds_apart Zero l (Number n) p e h = absurd cc
 kinds_apart Zero l x p e h = absurd cc
 kinds_apart Positive Positive x p e h = absurd cc
-kinds_apart Positive Zero (Number n) p e h = never_both _ h e
+kinds_apart Positive Zero (Number zero) p e h = absurd cc
+kinds_apart Positive Zero (Number (suc n)) p e h = absurd cc
 kinds_apart Positive l (Number n) p e h = absurd cc
 kinds_apart Positive l x p e h = absurd cc
 kinds_apart LineEnd LineEnd x p e h = absurd cc

@@ -1,12 +1,12 @@
 -- Flagged letters one after the other.
 use Rattle.std.proofs.Common.{◌≡◌, List, [], ◌∷◌, ◌++◌, Option, Some, None, refl, ap, ◌∙◌}
 use Rattle.it_forms.specs.declared.types.Code.{Code}
-use Rattle.it_forms.specs.Letters.{Letter, FlaggedLetters, without_flag, letters, without_flags}
+use Rattle.it_forms.specs.Letters.{Letter, FlaggedLetters, letters, without_flags}
 use Rattle.it_forms.specs.FirstFault.{FlaggedAt}
 
 pub cleaned_append : (p q : List Letter) → without_flags (p ++ q) ≡ without_flags p ++ without_flags q
 cleaned_append [] q = refl
-cleaned_append (l ∷ p) q = ap (λ (m : FlaggedLetters). without_flag l ∷ m) (cleaned_append p q)
+cleaned_append (l ∷ p) q = ap (λ (m : FlaggedLetters). (l, None) ∷ m) (cleaned_append p q)
 
 pub letters_append : (m n : FlaggedLetters) → letters (m ++ n) ≡ letters m ++ letters n
 letters_append [] n = refl
@@ -31,4 +31,4 @@ pub clean_is_clean : (ls prefix : List Letter) (c : Code) → FlaggedAt (without
 clean_is_clean [] [] c k = let e = k.2 in absurd cc
 clean_is_clean (l ∷ ls) [] c k = let e : None ≡ Some c = second_is (l, None) (k.0, Some c) (without_flags ls) k.1 k.2 in absurd cc
 clean_is_clean [] (x ∷ prefix) c k = let e = k.2 in absurd cc
-clean_is_clean (l ∷ ls) (x ∷ prefix) c k = clean_is_clean ls prefix c (k.0, k.1, same_tails (without_flag l) (without_flag x) (without_flags ls) (without_flags prefix ++ ((k.0, Some c) ∷ k.1)) k.2)
+clean_is_clean (l ∷ ls) (x ∷ prefix) c k = clean_is_clean ls prefix c (k.0, k.1, same_tails (l, None) (x, None) (without_flags ls) (without_flags prefix ++ ((k.0, Some c) ∷ k.1)) k.2)

@@ -1,8 +1,9 @@
 -- Forms that end neither a line nor the file.
+use Rattle.std.specs.Prelude.{map}
 use Rattle.std.proofs.Common.{◌≡◌, ℕ, Bool, true, ◌&&◌, List, [], ◌∷◌, Option, refl, ap, ◌∙◌}
 use Rattle.it_forms.specs.declared.types.Code.{Code}
 use Rattle.it_forms.specs.Forms.{Kind, WordBut, LineEnd, FileEnd, Form, Give, Take, Then, If, While}
-use Rattle.it_forms.specs.Words.{without, all_without, flagged, but}
+use Rattle.it_forms.specs.Words.{without, flagged, but}
 use Rattle.it_forms.proofs.Outlines.{are_apart, is_apart, all_apart}
 
 -- none of these kinds is that of a line's end or of the file's
@@ -27,24 +28,24 @@ no_end_flagged o (If t g other) h = (h.0, h.1, no_end_flagged o other h.2)
 no_end_flagged o (While ks says step a) h = h
 
 -- nor do words that don't stand in front
-line_end_apart : (ts : List (List ℕ)) (ks : List Kind) → is_apart LineEnd (all_without ts ks) ≡ is_apart LineEnd ks
+line_end_apart : (ts : List (List ℕ)) (ks : List Kind) → is_apart LineEnd (map (without ts) ks) ≡ is_apart LineEnd ks
 line_end_apart ts [] = refl
-line_end_apart ts (k ∷ ks) = ap (λ (b : Bool). b && is_apart LineEnd (all_without ts ks)) (by_kind k) ∙ ap (λ (b : Bool). are_apart LineEnd k && b) (line_end_apart ts ks)
+line_end_apart ts (k ∷ ks) = ap (λ (b : Bool). b && is_apart LineEnd (map (without ts) ks)) (by_kind k) ∙ ap (λ (b : Bool). are_apart LineEnd k && b) (line_end_apart ts ks)
   where
     by_kind : (k : Kind) → are_apart LineEnd (without ts k) ≡ are_apart LineEnd k
     by_kind (WordBut us) = refl
     by_kind k = refl
 
-file_end_apart : (ts : List (List ℕ)) (ks : List Kind) → is_apart FileEnd (all_without ts ks) ≡ is_apart FileEnd ks
+file_end_apart : (ts : List (List ℕ)) (ks : List Kind) → is_apart FileEnd (map (without ts) ks) ≡ is_apart FileEnd ks
 file_end_apart ts [] = refl
-file_end_apart ts (k ∷ ks) = ap (λ (b : Bool). b && is_apart FileEnd (all_without ts ks)) (by_kind k) ∙ ap (λ (b : Bool). are_apart FileEnd k && b) (file_end_apart ts ks)
+file_end_apart ts (k ∷ ks) = ap (λ (b : Bool). b && is_apart FileEnd (map (without ts) ks)) (by_kind k) ∙ ap (λ (b : Bool). are_apart FileEnd k && b) (file_end_apart ts ks)
   where
     by_kind : (k : Kind) → are_apart FileEnd (without ts k) ≡ are_apart FileEnd k
     by_kind (WordBut us) = refl
     by_kind k = refl
 
-no_end_without : (ts : List (List ℕ)) (ks : List Kind) → NoEndAmong ks → NoEndAmong (all_without ts ks)
-no_end_without ts ks h = ap (λ (b : Bool). b && (is_apart FileEnd (all_without ts ks) && true)) (line_end_apart ts ks) ∙ ap (λ (b : Bool). is_apart LineEnd ks && (b && true)) (file_end_apart ts ks) ∙ h
+no_end_without : (ts : List (List ℕ)) (ks : List Kind) → NoEndAmong ks → NoEndAmong (map (without ts) ks)
+no_end_without ts ks h = ap (λ (b : Bool). b && (is_apart FileEnd (map (without ts) ks) && true)) (line_end_apart ts ks) ∙ ap (λ (b : Bool). is_apart LineEnd ks && (b && true)) (file_end_apart ts ks) ∙ h
 
 pub no_end_but : {A : Type 0} (ts : List (List ℕ)) (f : Form A) → HasNoEnd f → HasNoEnd (but ts f)
 unfolding HasNoEnd but

@@ -4,7 +4,8 @@ use Rattle.std.specs.Prelude.{bytes_eq}
 use Rattle.it_forms.specs.declared.types.Symbol.{Symbol}
 use Rattle.it_forms.specs.declared.types.Symbol.TheVariants.{LeftParen, RightParen, Comma, Semicolon, Bar, Plus, Minus, Arrow, AtLeast, AtMost, Equal, Assign, Slash}
 use Rattle.it_forms.specs.SymbolTexts.{symbol_text}
-use Rattle.it_forms.specs.Forms.{is_zero}
+use Rattle.it_forms.specs.Letters.{Number}
+use Rattle.it_forms.specs.Forms.{Zero, is_of}
 
 pub same_symbol : (s : Symbol) → bytes_eq (symbol_text s) (symbol_text s) ≡ true
 same_symbol LeftParen = refl
@@ -37,6 +38,6 @@ other_symbol Assign Assign h = absurd (h refl)
 other_symbol Slash Slash h = absurd (h refl)
 other_symbol x s h = refl
 
-pub not_zero : (n : ℕ) → ¬ (n ≡ 0) → is_zero n ≡ false
+pub not_zero : (n : ℕ) → ¬ (n ≡ 0) → is_of Zero (Number n) ≡ false
 not_zero zero h = absurd (h refl)
 not_zero (suc n) h = refl

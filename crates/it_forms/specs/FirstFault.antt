@@ -1,13 +1,8 @@
 -- The first fault of letters, for a language that is told by what is written in it and how each is spelled.
-use Rattle.std.specs.Prelude.{◌≡◌, ◌⊎◌, List, [], ◌∷◌, ◌++◌, Option, Some, None}
+use Rattle.std.specs.Prelude.{◌≡◌, ◌⊎◌, List, ◌∷◌, ◌++◌, Some, slice_get}
 use Rattle.it_forms.specs.declared.types.Code.{Code}
 use Rattle.it_forms.specs.declared.types.Code.TheVariants as codes
 use Rattle.it_forms.specs.Letters.{Letter, Bad, FlaggedLetters, letters, without_flags}
-
--- the first of these letters, if there is one
-abbrev pub head : List Letter → Option Letter
-head [] = None
-head (l ∷ ls) = Some l
 
 -- the code where no rule goes on: that of a letter that is no token, and else `word`
 abbrev pub own_code : List Letter → Code
@@ -27,6 +22,6 @@ pub record FirstFault {X : Type 0} (spell : X → FlaggedLetters) (ls : List Let
   pub more : FlaggedLetters
   pub viable : spell tree ≡ without_flags prefix ++ more
   -- with the letter that stands there no line goes on that the rules don't flag there
-  pub each : (x : X) (q : List Letter) → head q ≡ head r → letters (spell x) ≡ prefix ++ q → FlaggedAt (spell x) prefix c
+  pub each : (x : X) (q : List Letter) → slice_get q 0 ≡ slice_get r 0 → letters (spell x) ≡ prefix ++ q → FlaggedAt (spell x) prefix c
   -- the code is that flag, or where no line goes on the letter's own
-  pub code : (own_code r ≡ c) ⊎ ((x : X) × (q : List Letter) × ((head q ≡ head r) × (letters (spell x) ≡ prefix ++ q)))
+  pub code : (own_code r ≡ c) ⊎ ((x : X) × (q : List Letter) × ((slice_get q 0 ≡ slice_get r 0) × (letters (spell x) ≡ prefix ++ q)))

@@ -1,7 +1,7 @@
 -- Forms: how a text is written, letter by letter, and what it says. A grammar is a table of forms. A form is a parser of one
 -- letter's lookahead in the sense of LL(1) grammars (Lewis and Stearns 1968, "Syntax-Directed Transduction"), and its value
 -- may decide what comes next.
-use Rattle.std.specs.Prelude.{◌≡◌, ◌⊎◌, ℕ, zero, suc, Bool, true, false, not, ◌||◌, List, [], ◌∷◌, Option, bytes_eq}
+use Rattle.std.specs.Prelude.{◌≡◌, ◌⊎◌, ℕ, zero, suc, Bool, true, false, not, List, ◌∷◌, Option, bytes_eq}
 use Rattle.std.specs.List.{list_any}
 use Rattle.it_forms.specs.declared.types.Symbol.{Symbol}
 use Rattle.it_forms.specs.declared.types.Code.{Code}
@@ -21,26 +21,20 @@ pub data Kind : Type 0 where
   LineEnd : Kind
   FileEnd : Kind
 
--- whether a number is 0
-abbrev pub is_zero : ℕ → Bool
-is_zero zero = true
-is_zero (suc n) = false
-
 -- whether a letter is of this kind
 abbrev pub is_of : Kind → Letter → Bool
 is_of (Keyword t) (Word w) = bytes_eq w t
 is_of (Punctuation s) (Sym x) = bytes_eq (symbol_text x) (symbol_text s)
 is_of (WordBut ts) (Word w) = not (list_any (bytes_eq w) ts)
-is_of Zero (Number n) = is_zero n
-is_of Positive (Number n) = not (is_zero n)
+is_of Zero (Number zero) = true
+is_of Positive (Number (suc n)) = true
 is_of LineEnd End = true
 is_of FileEnd (Bad codes.Unfinished) = true
 is_of k l = false
 
 -- whether it is of one of these kinds
 abbrev pub is_among : List Kind → Letter → Bool
-is_among [] l = false
-is_among (k ∷ ks) l = is_of k l || is_among ks l
+is_among ks l = list_any (λ k. is_of k l) ks
 
 -- A terminal of the grammar: letters of some kinds, each with what the rules say against it where it stands, and with what
 -- it says.

@@ -15,14 +15,10 @@ pub data Letter : Type 0 where
 abbrev pub FlaggedLetters : Type 0
 FlaggedLetters = List (Letter × Option Code)
 
--- nothing is said against it
-abbrev pub without_flag : Letter → Letter × Option Code
-without_flag l = (l, None)
-
 -- the letters without what is said against them
 abbrev pub letters : FlaggedLetters → List Letter
 letters m = map (λ (x : Letter × Option Code). x.0) m
 
 -- nothing is said against any of them
 abbrev pub without_flags : List Letter → FlaggedLetters
-without_flags ls = map without_flag ls
+without_flags ls = map (λ l. (l, None)) ls

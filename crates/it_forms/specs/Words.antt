@@ -1,5 +1,6 @@
 -- The words in which tables of forms are written.
-use Rattle.std.specs.Prelude.{ℕ, zero, suc, List, [], ◌∷◌, ◌++◌, Option, Some, None}
+use Rattle.std.specs.Option.{option_or}
+use Rattle.std.specs.Prelude.{ℕ, zero, suc, List, [], ◌∷◌, ◌++◌, Option, Some, None, map}
 use Rattle.it_forms.specs.declared.types.Symbol.{Symbol}
 use Rattle.it_forms.specs.declared.types.Code.{Code}
 use Rattle.it_forms.specs.declared.types.Code.TheVariants as codes
@@ -88,15 +89,9 @@ each_after s item put a = each (Punctuation s ∷ []) (λ a l. (None, tt {0})) (
 abbrev pub each_flagged : {A C : Type 0} → List ℕ → (A → Option Code) → (A → Form C) → (A → C → A) → A → Form A
 each_flagged w flag item put a = each (Keyword w ∷ []) (λ a l. (flag a, tt {0})) (λ a u. item a) put a
 
--- what is said already, or else what else is said
-abbrev pub or_flag : Option Code → Option Code → Option Code
-or_flag None m = m
-or_flag (Some c) None = Some c
-or_flag (Some c) (Some d) = Some d
-
 -- the terminal, with this flag where nothing else is said
 abbrev pub flagged_terminal : {A : Type 0} → Option Code → Terminal A → Terminal A
-flagged_terminal o t = record { kinds = t.kinds; says = λ l. (or_flag o (t.says l).0, (t.says l).1) }
+flagged_terminal o t = record { kinds = t.kinds; says = λ l. (option_or (t.says l).0 o, (t.says l).1) }
 
 -- the form, with this flag against its first letter where nothing else is said
 unfoldable pub flagged : {A : Type 0} → Option Code → Form A → Form A
@@ -111,6 +106,11 @@ abbrev pub limit_flag : ℕ → Option Code
 limit_flag zero = Some codes.Many
 limit_flag (suc n) = None
 
+-- this code, where there is no value
+abbrev pub missing_flag : {A : Type 0} → Code → Option A → Option Code
+missing_flag c None = Some c
+missing_flag c (Some x) = None
+
 -- the form, where n more are allowed
 abbrev pub allowed : {A : Type 0} → ℕ → Form A → Form A
 allowed n f = flagged (limit_flag n) f
@@ -120,14 +120,9 @@ abbrev pub without : List (List ℕ) → Kind → Kind
 without ts (WordBut us) = WordBut (ts ++ us)
 without ts k = k
 
--- each of the kinds without these words
-abbrev pub all_without : List (List ℕ) → List Kind → List Kind
-all_without ts [] = []
-all_without ts (k ∷ ks) = without ts k ∷ all_without ts ks
-
 -- the terminal without these words
 abbrev pub terminal_but : {A : Type 0} → List (List ℕ) → Terminal A → Terminal A
-terminal_but ts t = record { kinds = all_without ts t.kinds; says = t.says }
+terminal_but ts t = record { kinds = map (without ts) t.kinds; says = t.says }
 
 -- the form, with none of these words in front
 unfoldable pub but : {A : Type 0} → List (List ℕ) → Form A → Form A

@@ -1,6 +1,6 @@
 -- The parts of a drawn question are written in their forms.
 use Rattle.std.proofs.Common.{◌≡◌, ℕ, zero, suc, ◌+◌, ◌-◌, ◌/◌, ◌^◌, ◌<◌, ◌≤◌, ◌==◌, Bool, true, false, cond, List, [], ◌∷◌, ◌++◌, length, Option, None, codes, refl, sym, ap, subst, arith, append_assoc, append-nil}
-use Rattle.std.specs.Prelude.{nat_eq, decimal, bit_or}
+use Rattle.std.specs.Prelude.{nat_eq, decimal, bit_or, unwrap_or, if◌then◌else◌, Some}
 use Rattle.std.specs.Int.{bit_at}
 use Rattle.std.proofs.lemmas.Nat.Bits.{bit_at-lt}
 use Rattle.std.proofs.Math.Dec.{lit<}
@@ -12,20 +12,22 @@ use Rattle.it_polymatroid.specs.Elementals.{Elemental, Conditional, Mutual, elem
 use Rattle.it_elemental.specs.Views.{IsElemental}
 use Rattle.it_elemental.proofs.PlaceLemmas.{is_elemental}
 use Rattle.it_forms.specs.declared.types.Code.{Code}
+use Rattle.it_forms.specs.declared.types.Code.TheVariants as codes
 use Rattle.it_forms.specs.declared.types.Symbol.TheVariants as symbols
-use Rattle.it_forms.specs.Forms.{Form}
-use Rattle.it_forms.specs.Letters.{Word, Number, Sym, without_flag}
-use Rattle.it_forms.specs.Words.{symbol, word, any_word, flagged}
+use Rattle.it_forms.specs.Forms.{Form, is_of, Punctuation}
+use Rattle.it_forms.specs.Letters.{Word, Number, Sym}
+use Rattle.it_forms.specs.Words.{symbol, word, any_word, flagged, missing_flag}
+use Rattle.it_forms.specs.declared.types.Symbol.TheVariants.{Minus}
 use Rattle.it_syntax.specs.declared.types.Atom.{Atom}
 use Rattle.it_syntax.specs.declared.types.Sign.TheVariants.{AtLeast}
 use Rattle.it_syntax.specs.declared.types.TokenKind.TheVariants as kinds
-use Rattle.it_syntax.specs.LineForms.{variable, more_names, names, given_set, entropy, mutual_information, measure_or, atom, atom_or_nothing, term, signs, is_minus, more_terms, terms, sum, compare, relation}
+use Rattle.it_syntax.specs.LineForms.{variable, more_names, names, given_set, entropy, mutual_information, measure_or, atom, atom_or_nothing, term, signs, more_terms, terms, sum, compare, relation}
 use Rattle.it_syntax.specs.Meaning.{multiple_from}
 use Rattle.it_syntax.specs.Multiples.{most_terms}
-use Rattle.it_syntax.specs.NameFlags.{entropy_text, mutual_text, name_flag, index_or}
 use Rattle.it_syntax.specs.NamesViews.{NamesView}
 use Rattle.it_syntax.specs.Scopes.{Environment, Scope, env_of, scope_of}
 use Rattle.it_syntax.specs.Spelling.{is_word_byte, Stops, IsText}
+use Rattle.it_syntax.specs.MeasureWords.{is_measure}
 use Rattle.it_print.specs.Lines.{joined_texts, one_if, members_from, set_text, elemental_text}
 use Rattle.it_gen.specs.Draws.{state_after, draw}
 use Rattle.it_gen.specs.GeneratedFiles.{four_names, generated_term_text, bound_text}
@@ -42,7 +44,7 @@ env = env_of four_variables
 
 -- a word that is one of the names
 abbrev IsKnown : List ℕ → Type 0
-IsKnown w = IsText kinds.Word w × (name_flag env w ≡ None)
+IsKnown w = IsText kinds.Word w × ((if is_measure w then Some codes.Word else missing_flag codes.Name (env w)) ≡ None)
 
 abbrev AreKnown : List (List ℕ) → Type 0
 AreKnown [] = Unit {0}
@@ -62,8 +64,8 @@ members_known i (w ∷ ws) set h = by_test (has_member set i) (members_known (i 
     by_test true more = (h.0, more)
     by_test false more = more
 
-name_letter : (w : List ℕ) → IsKnown w → IsLetter (Stops is_word_byte) w (any_word (λ w. (name_flag env w, index_or (env w)))) (index_or (env w))
-name_letter w h = record { letter = Word w; writes = writes_word w h.0; among = refl; says = ap (λ (flag : Option Code). (flag, index_or (env w))) h.1 }
+name_letter : (w : List ℕ) → IsKnown w → IsLetter (Stops is_word_byte) w (any_word (λ w. (if is_measure w then Some codes.Word else missing_flag codes.Name (env w), unwrap_or (env w) 0))) (unwrap_or (env w) 0)
+name_letter w h = record { letter = Word w; writes = writes_word w h.0; among = refl; says = ap (λ (flag : Option Code). (flag, unwrap_or (env w) 0)) h.1 }
 
 variable_written : (w : List ℕ) → IsKnown w → IsWritten (Stops is_word_byte) w (variable env)
 unfolding variable
@@ -142,11 +144,11 @@ semicolon = record { letter = Sym symbols.Semicolon; writes = writes_symbol symb
 bar : IsLetter Anything (codes "|") (symbol symbols.Bar) tt
 bar = record { letter = Sym symbols.Bar; writes = writes_symbol symbols.Bar; among = refl; says = refl }
 
-entropy_letter : IsLetter (Stops is_word_byte) (codes "H") (word entropy_text) tt
+entropy_letter : IsLetter (Stops is_word_byte) (codes "H") (word (codes "H")) tt
 unfolding is_word_byte
 entropy_letter = let short : 1 ≤ 16 = omega arith in record { letter = Word (codes "H"); writes = writes_word (codes "H") (refl, (refl, tt), short); among = refl; says = refl }
 
-mutual_letter : IsLetter (Stops is_word_byte) (codes "I") (word mutual_text) tt
+mutual_letter : IsLetter (Stops is_word_byte) (codes "I") (word (codes "I")) tt
 unfolding is_word_byte
 mutual_letter = let short : 1 ≤ 16 = omega arith in record { letter = Word (codes "I"); writes = writes_word (codes "I") (refl, (refl, tt), short); among = refl; says = refl }
 
@@ -205,7 +207,7 @@ digit_text c h = subst (IsText (kinds.Number c)) (sym (decimal_digit c (omega (a
 abbrev pub scope : Scope
 scope = scope_of four_variables true
 
-digit_writes : (c : ℕ) → c < 5 → Writes Anything (decimal c ++ codes " ") (λ k. without_flag (Number c) ∷ k)
+digit_writes : (c : ℕ) → c < 5 → Writes Anything (decimal c ++ codes " ") (λ k. (Number c, None) ∷ k)
 digit_writes c h = writes_then (writes_number c (decimal c) (digit_text c h)) writes_space (λ rest d. refl)
 
 -- a digit, a space and an atom
@@ -238,7 +240,7 @@ bound_written m x =
 
 -- ---- the relation
 
-plus : IsLetter Anything (codes " + ") (record { kinds = signs; says = λ l. (None, is_minus l) }) false
+plus : IsLetter Anything (codes " + ") (record { kinds = signs; says = λ l. (None, is_of (Punctuation Minus) l) }) false
 plus = record { letter = Sym symbols.Plus; writes = writes_then writes_space (writes_then (writes_symbol symbols.Plus) writes_space (λ rest d. tt)) (λ rest d. tt); among = refl; says = refl }
 
 -- three terms with plus signs between them

@@ -1,7 +1,7 @@
 -- Bytes of a line that are written in a form, put together part by part.
 use Rattle.std.proofs.Common.{◌≡◌, ℕ, suc, true, List, [], ◌∷◌, ◌++◌, Option, None, refl, sym, ap, subst, inl, inr}
 use Rattle.it_forms.specs.declared.types.Code.{Code}
-use Rattle.it_forms.specs.Letters.{Letter, FlaggedLetters, without_flag}
+use Rattle.it_forms.specs.Letters.{Letter, FlaggedLetters}
 use Rattle.it_forms.specs.Forms.{Kind, Terminal, is_among, IsTaken, Form, Give, Take, Then, If, While, Spells}
 use Rattle.it_forms.specs.Words.{each}
 use Rattle.it_gen.proofs.SpelledLines.{Writes, Anything, writes_then, writes_nothing}
@@ -9,7 +9,7 @@ use Rattle.it_gen.proofs.SpelledLines.{Writes, Anything, writes_then, writes_not
 -- Where what follows is as C says, the text is a letter of the terminal, which says a, and nothing is said against it.
 pub record IsLetter {A : Type 0} (C : List ℕ → Type 0) (text : List ℕ) (t : Terminal A) (a : A) : Type 0 where
   pub letter : Letter
-  pub writes : Writes C text (λ k. without_flag letter ∷ k)
+  pub writes : Writes C text (λ k. (letter, None) ∷ k)
   pub among : is_among t.kinds letter ≡ true
   pub says : t.says letter ≡ (None, a)
 
@@ -20,7 +20,7 @@ pub record IsWritten {A : Type 0} (C : List ℕ → Type 0) (text : List ℕ) (f
   pub writes : Writes C text prefix
   pub says : (k : FlaggedLetters) → Spells f value (prefix k) k
 
-pub is_taken : {A : Type 0} {C : List ℕ → Type 0} {text : List ℕ} (t : Terminal A) (a : A) (x : IsLetter C text t a) (k : FlaggedLetters) → IsTaken t a (without_flag x.letter ∷ k) k
+pub is_taken : {A : Type 0} {C : List ℕ → Type 0} {text : List ℕ} (t : Terminal A) (a : A) (x : IsLetter C text t a) (k : FlaggedLetters) → IsTaken t a ((x.letter, None) ∷ k) k
 is_taken {A} t a x k = (x.letter, x.among, ap (λ (p : Option Code × A). p.1) x.says, ap (λ (p : Option Code × A). (x.letter, p.0) ∷ k) (sym x.says))
 
 unfoldable pub same_text : {A : Type 0} {C : List ℕ → Type 0} {a b : List ℕ} {f : Form A} → a ≡ b → IsWritten C a f → IsWritten C b f
@@ -28,7 +28,7 @@ same_text {C = C} e p = record { value = p.value; prefix = p.prefix; writes = su
 
 unfoldable pub letter_written : {A : Type 0} {C : List ℕ → Type 0} {text : List ℕ} {t : Terminal A} {a : A} → IsLetter C text t a → IsWritten C text (Take t)
 unfolding Spells
-letter_written {t = t} {a = a} x = record { value = a; prefix = λ k. without_flag x.letter ∷ k; writes = x.writes; says = λ k. is_taken t a x k }
+letter_written {t = t} {a = a} x = record { value = a; prefix = λ k. (x.letter, None) ∷ k; writes = x.writes; says = λ k. is_taken t a x k }
 
 unfoldable pub then_written : {A B : Type 0} {C D : List ℕ → Type 0} {a b : List ℕ} {f : Form A} {g : A → Form B} → (p : IsWritten C a f) → IsWritten D b (g p.value) → ((rest : List ℕ) → D rest → C (b ++ rest)) → IsWritten D (a ++ b) (Then f g)
 unfolding Spells
@@ -41,7 +41,7 @@ last_written {g = g} p = record { value = g p.value; prefix = p.prefix; writes =
 
 unfoldable pub first_written : {A B : Type 0} {C D : List ℕ → Type 0} {a b : List ℕ} {t : Terminal A} {x : A} {g : A → Form B} {h : Form B} → IsLetter C a t x → IsWritten D b (g x) → ((rest : List ℕ) → D rest → C (b ++ rest)) → IsWritten D (a ++ b) (If t g h)
 unfolding Spells
-first_written {t = t} {x = x} p q fits = record { value = q.value; prefix = λ k. without_flag p.letter ∷ q.prefix k; writes = writes_then p.writes q.writes fits; says = λ k. inl (x, q.prefix k, is_taken t x p (q.prefix k), q.says k) }
+first_written {t = t} {x = x} p q fits = record { value = q.value; prefix = λ k. (p.letter, None) ∷ q.prefix k; writes = writes_then p.writes q.writes fits; says = λ k. inl (x, q.prefix k, is_taken t x p (q.prefix k), q.says k) }
 
 unfoldable pub other_written : {A B : Type 0} {C : List ℕ → Type 0} {a : List ℕ} {t : Terminal A} {g : A → Form B} {h : Form B} → IsWritten C a h → IsWritten C a (If t g h)
 unfolding Spells
@@ -58,7 +58,7 @@ unfoldable pub one_written : {A B E : Type 0} {C D : List ℕ → Type 0} {a b c
 unfolding Spells
 one_written {ks = ks} {says = says} {put = put} {x = x} {y = y} p q r fits = record {
   value = r.value;
-  prefix = λ k. without_flag p.letter ∷ q.prefix (r.prefix k);
+  prefix = λ k. (p.letter, None) ∷ q.prefix (r.prefix k);
   writes = writes_then p.writes (writes_then q.writes r.writes fits) (λ rest d. tt);
   says = λ k.
       let m = r.prefix k in

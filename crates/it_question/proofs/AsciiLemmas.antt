@@ -1,4 +1,5 @@
 -- A line that is tokens and spaces is ASCII, so the texts and the names of a file's questions are.
+use Rattle.std.specs.Prelude.{codes}
 use Rattle.std.proofs.Common.{◌≡◌, ℕ, zero, suc, ◌-◌, ◌<◌, ◌==◌, Bool, true, false, cond, List, [], ◌∷◌, ◌++◌, take, drop, All, IsAscii, Option, None, inl, inr, sym, ap, ◌∙◌, subst, arith}
 use Rattle.std.specs.Char.{is_ascii_digit}
 use Rattle.std.proofs.lemmas.Bool.Decides.{nat_tests}
@@ -21,7 +22,6 @@ use Rattle.it_syntax.proofs.RunLemmas.{value_digits}
 use Rattle.it_question.specs.AsciiTexts.{IsAsciiQuestion, TextsAreAscii}
 use Rattle.it_question.specs.Lines.{LineView, split_lines, file_end, line_letters, letters_of_lines}
 use Rattle.it_question.specs.NewNames.{NameSortView, Variable, Rate, with_name, no_names}
-use Rattle.it_question.specs.Keywords.{rates_keyword}
 use Rattle.it_question.specs.QuestionLimits.{most_variables, most_rates}
 use Rattle.it_question.specs.QuestionForms.{new_name, more_new, new_names, names_line, question, file}
 use Rattle.it_question.specs.Questions.{BodyView, QuestionView}
@@ -32,7 +32,7 @@ use Rattle.it_forms.specs.Forms.{WordBut, is_among, AreTurns, Form, Take, Then, 
 use Rattle.it_forms.specs.Words.{text_of, symbol, word}
 use Rattle.it_forms.proofs.FormLanguage.{prefix_moves}
 use Rattle.it_forms.proofs.LetterLemmas.{letters_append, letters_cleaned}
-use Rattle.it_question.specs.Texts.{without_leading, unless_blank, without_trailing, trimmed_line, text_of_lines, question_line_count, with_texts}
+use Rattle.it_question.specs.Texts.{without_leading, unless_blank, without_trailing, text_of_lines, question_line_count, with_texts}
 
 -- ---- bytes of tokens
 
@@ -114,7 +114,7 @@ lines_ascii : (lines : List LineView) → AreWhole lines → IsAscii (text_of_li
 lines_ascii [] h = IsAscii-nil
 lines_ascii (l ∷ lines) h =
     let line = trailing_ascii (without_leading l.text) (leading_ascii l.text (spelled_ascii 0 l.text l.tokens h.0.spelled)) in
-    IsAscii-append (trimmed_line l.text) (10 ∷ text_of_lines lines) line (IsAscii-cons 10 (text_of_lines lines) (omega arith) (lines_ascii lines h.1))
+    IsAscii-append (without_trailing (without_leading l.text)) (10 ∷ text_of_lines lines) line (IsAscii-cons 10 (text_of_lines lines) (omega arith) (lines_ascii lines h.1))
 
 -- ---- the words of lines
 
@@ -206,7 +206,7 @@ names_ascii : (q : BodyView) (m k : FlaggedLetters) → Spells question q m k �
 unfolding question Spells
 names_ascii q m k s h =
     let first = new_names_ascii Variable most_variables no_names s.0 m s.1 s.2 no_names_ascii h in
-    subst (λ (x : BodyView). AsciiNames x.names) s.3.3.3.3.0 (names_line_ascii Rate most_rates rates_keyword s.0 s.3.0 s.1 s.3.1 s.3.2 first (words_after (new_names Variable most_variables no_names) s.0 m s.1 s.2 h))
+    subst (λ (x : BodyView). AsciiNames x.names) s.3.3.3.3.0 (names_line_ascii Rate most_rates (codes "rates") s.0 s.3.0 s.1 s.3.1 s.3.2 first (words_after (new_names Variable most_variables no_names) s.0 m s.1 s.2 h))
 
 -- ---- files
 

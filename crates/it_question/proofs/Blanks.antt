@@ -1,7 +1,7 @@
 -- Blanks at the ends of a line: what is trimmed has none, and nothing else is taken from what is spelled.
 use Rattle.std.proofs.Common.{◌≡◌, ℕ, ◌==◌, Bool, true, false, cond, List, [], ◌∷◌, ◌++◌, refl, sym, ap, ◌∙◌}
 use Rattle.it_syntax.specs.Spelling.{AreAll, Stops, is_space}
-use Rattle.it_question.specs.Texts.{without_leading, unless_blank, without_trailing, trimmed_line}
+use Rattle.it_question.specs.Texts.{without_leading, unless_blank, without_trailing}
 
 -- ---- in front
 
@@ -74,5 +74,5 @@ trailing_once (b ∷ line) = by_list (without_trailing line) (trailing_once line
     by_list (c ∷ rest) e = ap (unless_blank b) e
 
 -- what is trimmed stays so
-pub trimmed_once : (line : List ℕ) → trimmed_line (trimmed_line line) ≡ trimmed_line line
-trimmed_once line = ap without_trailing (leading_kept (trimmed_line line) (trailing_stops is_space (without_leading line) (leading_stops line))) ∙ trailing_once (without_leading line)
+pub trimmed_once : (line : List ℕ) → without_trailing (without_leading (without_trailing (without_leading line))) ≡ without_trailing (without_leading line)
+trimmed_once line = ap without_trailing (leading_kept (without_trailing (without_leading line)) (trailing_stops is_space (without_leading line) (leading_stops line))) ∙ trailing_once (without_leading line)

@@ -1,13 +1,13 @@
 -- A file of questions has one reading or one first fault.
+use Rattle.std.specs.Prelude.{codes, None}
 use Rattle.std.proofs.Common.{◌≡◌, zero, suc, true, [], ◌∷◌, ◌++◌, refl, ap, ◌∙◌}
 use Rattle.it_forms.specs.Forms.{FileEnd, IsTaken, is_among, Spells}
 use Rattle.it_forms.specs.FormTexts.{spelling}
-use Rattle.it_forms.specs.Letters.{Letter, Word, Bad, FlaggedLetters, without_flag}
+use Rattle.it_forms.specs.Letters.{Letter, Word, Bad, FlaggedLetters}
 use Rattle.it_forms.specs.declared.types.Code.TheVariants.{Unfinished}
 use Rattle.it_forms.specs.Words.{just}
 use Rattle.it_forms.proofs.FormLanguage.{prefix_moves}
 use Rattle.it_question.specs.Files.{FileIsOne, FileFaultIsOne, FileOrFault, FileHasOne, QuestionStandsAlone}
-use Rattle.it_question.specs.Keywords.{vars_keyword}
 use Rattle.it_question.specs.QuestionForms.{question, more_questions, file}
 use Rattle.it_question.specs.Questions.{BodyView}
 use Rattle.it_question.specs.Texts.{with_texts}
@@ -18,7 +18,7 @@ use Rattle.it_question.proofs.WholeFileLemmas.{the_end, EndsFile, form_is_one, f
 
 -- the file's end is one letter, against which nothing is said
 pub end_is : (u : Unit {0}) (m k : FlaggedLetters) → IsTaken (just (FileEnd ∷ []) tt) u m k → k ≡ [] → m ≡ the_end
-end_is u m k s e = s.3 ∙ ap (λ (l : Letter). without_flag l ∷ k) (by_letter s.0 s.1) ∙ ap (λ (t : FlaggedLetters). without_flag (Bad Unfinished) ∷ t) e
+end_is u m k s e = s.3 ∙ ap (λ (l : Letter). (l, None) ∷ k) (by_letter s.0 s.1) ∙ ap (λ (t : FlaggedLetters). (Bad Unfinished, None) ∷ t) e
   where
     by_letter : (l : Letter) → is_among (FileEnd ∷ []) l ≡ true → l ≡ Bad Unfinished
     by_letter (Bad Unfinished) h = refl
@@ -41,10 +41,10 @@ pub file_has_one : FileHasOne
 file_has_one = form_has_one file _ file_has file_ends with_texts
 
 -- what says a question before the file's end says it alone
-pub alone : (q : BodyView) (m : FlaggedLetters) → Spells question q (m ++ the_end) the_end → Spells file (q ∷ []) (without_flag (Word vars_keyword) ∷ (m ++ the_end)) []
+pub alone : (q : BodyView) (m : FlaggedLetters) → Spells question q (m ++ the_end) the_end → Spells file (q ∷ []) ((Word (codes "vars"), None) ∷ (m ++ the_end)) []
 unfolding more_questions file Spells
 alone q m s =
-    let turns : Spells (more_questions []) (q ∷ []) (without_flag (Word vars_keyword) ∷ (m ++ the_end)) the_end = (suc zero, (tt, m ++ the_end, q ∷ [], the_end, (Word vars_keyword, refl, refl, refl), (q, the_end, s, (refl, refl)), (refl, refl))) in
+    let turns : Spells (more_questions []) (q ∷ []) ((Word (codes "vars"), None) ∷ (m ++ the_end)) the_end = (suc zero, (tt, m ++ the_end, q ∷ [], the_end, (Word (codes "vars"), refl, refl, refl), (q, the_end, s, (refl, refl)), (refl, refl))) in
     (q ∷ [], the_end, turns, (tt, [], (Bad Unfinished, refl, refl, refl), (refl, refl)))
 
 pub question_stands_alone : QuestionStandsAlone

@@ -1,4 +1,5 @@
 -- The letters of a file's lines, and their places.
+use Rattle.std.specs.Prelude.{flat_map}
 use Rattle.std.proofs.Common.{◌≡◌, ℕ, suc, ◌+◌, ◌≤◌, ◌==◌, Bool, true, false, cond, List, [], ◌∷◌, ◌++◌, length, Option, Some, None, refl, sym, ap, ◌∙◌, subst, inl, inr, length-append, append_assoc, arith}
 use Rattle.it_forms.specs.declared.types.Code.{Code}
 use Rattle.it_forms.specs.declared.types.Code.TheVariants as codes
@@ -10,16 +11,16 @@ use Rattle.it_forms.specs.Letters.{Letter, End, Bad}
 use Rattle.it_syntax.specs.Misspellings.{IsWrong, SpellsUntil}
 use Rattle.it_syntax.specs.Spans.{letter_of, letters_until, last_letter}
 use Rattle.it_syntax.proofs.TokenLemmas.{shape_of, shape_some}
-use Rattle.it_question.specs.Lines.{LineView, AreLines, AreLinesOf, IsLine, in_front, split_lines, file_end, line_letters, letters_of_lines, line_places, places_of_lines}
+use Rattle.it_question.specs.Lines.{LineView, AreLines, AreLinesOf, IsLine, in_front, split_lines, file_end, line_letters, letters_of_lines, line_places}
 use Rattle.it_question.proofs.FileLineLemmas.{plain_shorter}
 use Rattle.it_question.proofs.PlaceLemmas.{line_letters_length, letters_length, line_places_length}
 
 -- ---- how many there are
 
 -- each letter has a place
-pub places_length : (lines : List LineView) → length (places_of_lines lines) ≡ length (letters_of_lines lines)
+pub places_length : (lines : List LineView) → length (flat_map line_places lines) ≡ length (letters_of_lines lines)
 places_length [] = refl
-places_length (l ∷ lines) = length-append (line_places l) (places_of_lines lines) ∙ omega (arith, line_places_length l, places_length lines) ∙ sym (letters_length l lines)
+places_length (l ∷ lines) = length-append (line_places l) (flat_map line_places lines) ∙ omega (arith, line_places_length l, places_length lines) ∙ sym (letters_length l lines)
 
 -- each token takes a byte
 tokens_fewer : (at : ℕ) (bytes : List ℕ) (ts : List Token) (m : Option Misspelling) → SpellsUntil at bytes ts m → length ts ≤ length bytes

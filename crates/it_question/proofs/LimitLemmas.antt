@@ -1,7 +1,7 @@
 -- The questions that are read keep the limits, and their tables aren't too large.
 use Rattle.std.proofs.Common.{◌≡◌, ℕ, zero, suc, ◌+◌, ◌-◌, ◌≤◌, ◌<◌, ◌^◌, Bool, true, false, cond, nat_lt, List, [], ◌∷◌, ◌++◌, length, Option, None, Some, Ok, refl, ap, ◌∙◌, arith, length-append}
-use Rattle.std.specs.Prelude.{All, ◌||◌, eqb, ◌==◌, bytes_eq}
-use Rattle.std.specs.List.{IsDistinct, AllByRecursion}
+use Rattle.std.specs.Prelude.{All, ◌||◌, eqb, ◌==◌, bytes_eq, codes, unwrap_or, is_some, if◌then◌else◌}
+use Rattle.std.specs.List.{IsDistinct, AllByRecursion, list_any, list_all}
 use Rattle.std.proofs.Math.Nat.{min-le_left, min-le_right}
 use Rattle.std.proofs.lemmas.Bool.Decides.{nat_tests}
 use Rattle.std.proofs.lemmas.List.{length-map}
@@ -19,21 +19,18 @@ use Rattle.it_forms.specs.Words.{text_of, limit_flag, to_end}
 use Rattle.it_forms.proofs.FormParts.{Always, always_weaker, loop_keeps, each_keeps, line_keeps, value_read}
 use Rattle.it_syntax.specs.Givens.{GivenView, IsRelationOf, IsGivenOf}
 use Rattle.it_syntax.specs.Meaning.{RelationView}
-use Rattle.it_question.specs.Bodies.{with_given_line, with_row_line}
 use Rattle.it_syntax.specs.LineForms.{names, relation, given}
-use Rattle.it_syntax.specs.NameFlags.{is_measure, index_or}
-use Rattle.it_syntax.specs.NamesViews.{NamesView}
+use Rattle.it_syntax.specs.MeasureWords.{is_measure}
+use Rattle.it_syntax.specs.NamesViews.{NamesView, index_of}
 use Rattle.it_syntax.specs.Scopes.{Environment, env_of, scope_of}
 use Rattle.it_syntax.proofs.FormLimits.{Knows, empty_is_set, names_keep, relation_keeps, given_keeps, knows_names, scope_covers, variables_covered}
-use Rattle.it_question.specs.Keywords.{vars_keyword, rates_keyword, given_keyword, aux_keyword, try_keyword}
 use Rattle.it_question.specs.Limits.{AreLinesOver, IsRegionOf, IsTryOf, AreRatesOf, IsVerbOver, IsQuestion}
-use Rattle.it_question.specs.NewNames.{NameSortView, Variable, Rate, with_name, no_names, is_taken, new_flag}
-use Rattle.it_question.specs.QuestionForms.{count, new_name, more_new, new_names, names_line, own_line, own_words, lines_left, own_keyword, more_own_lines, own_lines, once, more_once, distinct, auxiliary, set, part, more_parts, try_line, more_tries, region, containment, verb, question, more_questions, file}
+use Rattle.it_question.specs.NewNames.{NameSortView, Variable, Rate, with_name, no_names, is_taken, new_flag, once_flag}
+use Rattle.it_question.specs.QuestionForms.{count, new_name, more_new, new_names, names_line, own_line, own_words, own_keyword, more_own_lines, own_lines, once, more_once, distinct, auxiliary, set, part, more_parts, try_line, more_tries, region, containment, verb, question, more_questions, file}
 use Rattle.it_question.specs.QuestionLimits.{most_questions, most_variables, most_rates, most_lines, auxiliaries_left, givens_left, rows_left}
 use Rattle.it_question.specs.Questions.{OwnLinesView, RegionView, VerbView, Prove, Eliminate, Contain, BodyView, no_lines}
-use Rattle.it_question.specs.RateNames.{is_among, once_flag, rates_env}
 use Rattle.it_question.specs.Tables.{givens_alone, problem_names_by, problem_lines_by, problem_of_lines, most_entries, size_flag, HasSmallTable}
-use Rattle.it_question.specs.TrySets.{Sets, unnamed_sets, with_set, is_whole, set_or, try_flag, auxiliary_env}
+use Rattle.it_question.specs.TrySets.{Sets, unnamed_sets, with_set, auxiliary_env}
 use Rattle.it_question.proofs.QuestionLines.{IsGrown, not_grown, grown_more}
 
 -- ---- names
@@ -95,23 +92,23 @@ record AreOwn (g r : ℕ) (v : NamesView) (own : OwnLinesView) : Type 0 where
 all_and_one : {X : Type 0} (P : X → Type 0) (xs : List X) (x : X) → All P xs → P x → All P (xs ++ x ∷ [])
 all_and_one P xs x h k = All-append P xs (x ∷ []) h (All-cons P x [] k (All-nil P))
 
-own_line_keeps : (g r : ℕ) (v : NamesView) (own : OwnLinesView) (b : Bool) → AreOwn g r v own → limit_flag (lines_left g r own b) ≡ None → Always (own_line v own b) (λ p y. AreOwn g r v y)
+own_line_keeps : (g r : ℕ) (v : NamesView) (own : OwnLinesView) (b : Bool) → AreOwn g r v own → limit_flag (if b then givens_left g own else rows_left r own) ≡ None → Always (own_line v own b) (λ p y. AreOwn g r v y)
 unfolding own_line Always
 own_line_keeps g r v own true h m =
     let some = some_allowed (givens_left g own) m in
-    let more : (x : GivenView) → IsGivenOf (length v.variables) x → AreOwn g r v (with_given_line own x) = λ x hx. record { few_givens = omega (arith, some, length-append own.givens (x ∷ [])); few_rows = h.few_rows; givens = all_and_one (IsGivenOf (length v.variables)) own.givens x h.givens hx; rows = h.rows } in
-    always_weaker (to_end (given (scope_of v false))) (λ p x. IsGivenOf (length v.variables) x) (λ p x. AreOwn g r v (with_given_line own x)) (λ p x hx. more x hx)
+    let more : (x : GivenView) → IsGivenOf (length v.variables) x → AreOwn g r v (record own { givens = own.givens ++ x ∷ [] }) = λ x hx. record { few_givens = omega (arith, some, length-append own.givens (x ∷ [])); few_rows = h.few_rows; givens = all_and_one (IsGivenOf (length v.variables)) own.givens x h.givens hx; rows = h.rows } in
+    always_weaker (to_end (given (scope_of v false))) (λ p x. IsGivenOf (length v.variables) x) (λ p x. AreOwn g r v (record own { givens = own.givens ++ x ∷ [] })) (λ p x hx. more x hx)
     (line_keeps (given (scope_of v false)) (IsGivenOf (length v.variables)) (given_keeps (scope_of v false) (length v.variables) (variables_covered v)))
 own_line_keeps g r v own false h m =
     let some = some_allowed (rows_left r own) m in
-    let more : (x : RelationView) → IsRelationOf (length v.variables) (length v.rates) x → AreOwn g r v (with_row_line own x) = λ x hx. record { few_givens = h.few_givens; few_rows = omega (arith, some, length-append own.rows (x ∷ [])); givens = h.givens; rows = all_and_one (IsRelationOf (length v.variables) (length v.rates)) own.rows x h.rows hx } in
-    always_weaker (to_end (relation (scope_of v true))) (λ p x. IsRelationOf (length v.variables) (length v.rates) x) (λ p x. AreOwn g r v (with_row_line own x)) (λ p x hx. more x hx)
+    let more : (x : RelationView) → IsRelationOf (length v.variables) (length v.rates) x → AreOwn g r v (record own { rows = own.rows ++ x ∷ [] }) = λ x hx. record { few_givens = h.few_givens; few_rows = omega (arith, some, length-append own.rows (x ∷ [])); givens = h.givens; rows = all_and_one (IsRelationOf (length v.variables) (length v.rates)) own.rows x h.rows hx } in
+    always_weaker (to_end (relation (scope_of v true))) (λ p x. IsRelationOf (length v.variables) (length v.rates) x) (λ p x. AreOwn g r v (record own { rows = own.rows ++ x ∷ [] })) (λ p x hx. more x hx)
     (line_keeps (relation (scope_of v true)) (IsRelationOf (length v.variables) (length v.rates)) (relation_keeps (scope_of v true) (length v.variables) (length v.rates) (scope_covers v true)))
 
 own_lines_keep : (g r : ℕ) (v : NamesView) → Always (own_lines g r v) (λ p own. AreOwn g r v own)
 unfolding more_own_lines
 own_lines_keep g r v =
-    loop_keeps own_words (own_keyword g r) (own_line v) (λ p own. AreOwn g r v own) (λ p own h l e m. own_line_keeps g r v own (is_of (Keyword given_keyword) l) h m) [] no_lines
+    loop_keeps own_words (own_keyword g r) (own_line v) (λ p own. AreOwn g r v own) (λ p own h l e m. own_line_keeps g r v own (is_of (Keyword (codes "given")) l) h m) [] no_lines
     (record { few_givens = omega arith; few_rows = omega arith; givens = All-nil (IsGivenOf (length v.variables)); rows = All-nil (IsRelationOf (length v.variables) (length v.rates)) })
 
 lines_over : (g r : ℕ) (v : NamesView) (own : OwnLinesView) → g ≤ 64 → r ≤ 64 → AreOwn g r v own → AreLinesOver v own
@@ -120,20 +117,19 @@ lines_over g r v own few_g few_r h = record { few_givens = omega (arith, few_g, 
 -- ---- the rates of an `eliminate` line
 
 -- the names are those of the rates of a vocabulary
-knows_rates : (v : NamesView) → Knows (rates_env v) (length v.rates)
-unfolding rates_env
+knows_rates : (v : NamesView) → Knows (index_of v.rates) (length v.rates)
 knows_rates v w i e = (position-Some (bytes_eq w) v.rates i [] e).0
 
-unseen : (m : ℕ) (measure : Bool) (seen : List ℕ) (o : Option ℕ) → ((i : ℕ) → o ≡ Some i → i < m) → once_flag measure seen o ≡ None → (index_or o < m) × (is_among seen (index_or o) ≡ false)
+unseen : (m : ℕ) (measure : Bool) (seen : List ℕ) (o : Option ℕ) → ((i : ℕ) → o ≡ Some i → i < m) → once_flag measure (λ i. list_any (λ j. j == i) seen) o ≡ None → (unwrap_or o 0 < m) × (list_any (λ j. j == unwrap_or o 0) seen ≡ false)
 unseen m true seen o k e = absurd cc
 unseen m false seen None k e = absurd cc
-unseen m false seen (Some i) k e = (k i refl, by_test (is_among seen i) e)
+unseen m false seen (Some i) k e = (k i refl, by_test (list_any (λ j. j == i) seen) e)
   where
     by_test : (b : Bool) → cond b (Some codes.Twice) None ≡ None → b ≡ false
     by_test true e = absurd cc
     by_test false e = refl
 
-once_keeps : (env : Environment) (m : ℕ) → Knows env m → (seen : List ℕ) → Always (once env seen) (λ p i. (i < m) × (is_among seen i ≡ false))
+once_keeps : (env : Environment) (m : ℕ) → Knows env m → (seen : List ℕ) → Always (once env seen) (λ p i. (i < m) × (list_any (λ j. j == i) seen ≡ false))
 unfolding once Always
 once_keeps env m k seen l e u = unseen m (is_measure (text_of l)) seen (env (text_of l)) (k (text_of l)) u
 
@@ -141,10 +137,10 @@ both_are_false : (a b : Bool) → (a || b) ≡ false → (a ≡ false) × (b ≡
 both_are_false true b e = absurd cc
 both_are_false false b e = (refl, e)
 
-distinct_more : (seen : List ℕ) (i : ℕ) → IsDistinct eqb seen → is_among seen i ≡ false → IsDistinct eqb (seen ++ i ∷ [])
+distinct_more : (seen : List ℕ) (i : ℕ) → IsDistinct eqb seen → list_any (λ j. j == i) seen ≡ false → IsDistinct eqb (seen ++ i ∷ [])
 unfolding IsDistinct
 distinct_more [] i d e = (tt, tt)
-distinct_more (j ∷ seen) i d e = let b = both_are_false (j == i) (is_among seen i) e in (others seen d.0 b.0, distinct_more seen i d.1 b.1)
+distinct_more (j ∷ seen) i d e = let b = both_are_false (j == i) (list_any (λ j. j == i) seen) e in (others seen d.0 b.0, distinct_more seen i d.1 b.1)
   where
     others : (xs : List ℕ) → AllByRecursion (λ x. eqb j x ≡ false) xs → eqb j i ≡ false → AllByRecursion (λ x. eqb j x ≡ false) (xs ++ i ∷ [])
     others [] a f = (f, tt)
@@ -164,7 +160,7 @@ distinct_keeps env m k = always_weaker (once env []) _ _
 -- ---- `try` lines
 
 abbrev IsWithin : ℕ → Option ℕ → Type 0
-IsWithin n o = set_or o < 2 ^ n
+IsWithin n o = unwrap_or o 0 < 2 ^ n
 
 -- four places, and what is there is a set of n variables
 record AreWithin (n : ℕ) (sets : Sets) : Type 0 where
@@ -206,17 +202,17 @@ with_set_within n sets i set small h = record { four = same_length sets i ∙ h.
 part_keeps : (aux env : Environment) (n : ℕ) → Knows env n → (sets : Sets) → AreWithin n sets → Always (part aux env sets) (λ p y. AreWithin n y)
 unfolding part auxiliary set Always
 part_keeps aux env n k sets h = λ w e m l' e' m'. (
-  λ l e m. with_set_within n sets (index_or (aux (text_of w))) 0 (empty_is_set n) h,
-  always_weaker (names env) (λ p s. s < 2 ^ n) _ (λ p s hs. with_set_within n sets (index_or (aux (text_of w))) s hs h) (names_keep env n k),
+  λ l e m. with_set_within n sets (unwrap_or (aux (text_of w)) 0) 0 (empty_is_set n) h,
+  always_weaker (names env) (λ p s. s < 2 ^ n) _ (λ p s hs. with_set_within n sets (unwrap_or (aux (text_of w)) 0) s hs h) (names_keep env n k),
 )
 
 try_line_keeps : (aux env : Environment) (n : ℕ) → Knows env n → (sets : Sets) → AreWithin n sets → Always (try_line aux env sets) (λ p t. IsTryOf n t)
 unfolding try_line more_parts Always
 try_line_keeps aux env n k sets h = always_weaker (part aux env sets) _ _
-    (λ p first hf. always_weaker (more_parts aux env first) _ _ (λ q all ha l e m. record { four = length-map all set_or ∙ ha.four; within = All-map (λ (s : ℕ). s < 2 ^ n) set_or all ha.within })
+    (λ p first hf. always_weaker (more_parts aux env first) _ _ (λ q all ha l e m. record { four = length-map all (λ s. unwrap_or s 0) ∙ ha.four; within = All-map (λ (s : ℕ). s < 2 ^ n) (λ s. unwrap_or s 0) all ha.within })
     (each_keeps (Punctuation Semicolon ∷ []) (λ a l. (None, tt {0})) (λ sets u. part aux env sets) (λ sets more. more) (AreWithin n) (λ sets hs l e m. part_keeps aux env n k sets hs) first hf)) (part_keeps aux env n k sets h)
 
-try_allowed : (whole : Bool) (n : ℕ) → try_flag whole n ≡ None → 1 ≤ n
+try_allowed : (whole : Bool) (n : ℕ) → (if whole then Some codes.Word else limit_flag n) ≡ None → 1 ≤ n
 try_allowed true n e = absurd cc
 try_allowed false n e = some_allowed n e
 
@@ -228,8 +224,8 @@ tries_keep : (aux env : Environment) (n : ℕ) → Knows env n → (auxiliaries 
 unfolding more_tries
 tries_keep aux env n k auxiliaries =
     let sets = unnamed_sets auxiliaries in
-    each_keeps (Keyword try_keyword ∷ []) (λ ts l. (try_flag (is_whole sets) (most_lines - length ts), tt {0})) (λ ts u. try_line aux env sets) (λ ts t. ts ++ t ∷ []) (AreTries n)
-    (λ ts h l e m. always_weaker (try_line aux env sets) _ _ (λ p t ht. (let some = try_allowed (is_whole sets) (most_lines - length ts) m in omega (arith, some, length-append ts (t ∷ [])), all_and_one (IsTryOf n) ts t h.1 ht)) (try_line_keeps aux env n k sets (unnamed_within n auxiliaries))) []
+    each_keeps (Keyword (codes "try") ∷ []) (λ ts l. (if list_all is_some sets then Some codes.Word else limit_flag (most_lines - length ts), tt {0})) (λ ts u. try_line aux env sets) (λ ts t. ts ++ t ∷ []) (AreTries n)
+    (λ ts h l e m. always_weaker (try_line aux env sets) _ _ (λ p t ht. (let some = try_allowed (list_all is_some sets) (most_lines - length ts) m in omega (arith, some, length-append ts (t ∷ [])), all_and_one (IsTryOf n) ts t h.1 ht)) (try_line_keeps aux env n k sets (unnamed_within n auxiliaries))) []
     (omega arith, All-nil (IsTryOf n))
 
 -- ---- regions
@@ -260,9 +256,9 @@ pub record IsCounted (g r : ℕ) (v : NamesView) (x : RegionView) : Type 0 where
 region_keeps : (g r : ℕ) (v : NamesView) → g ≤ 64 → r ≤ 64 → length v.variables ≤ 10 → Always (region g r v) (λ p x. IsCounted g r v x)
 unfolding region Always
 region_keeps g r v few_g few_r few = λ l e m.
-    always_weaker (names_line Variable (length v.variables + auxiliaries_left v) aux_keyword v) _ _
+    always_weaker (names_line Variable (length v.variables + auxiliaries_left v) (codes "aux") v) _ _
     (λ p names hn. always_weaker (own_lines g r names) _ _ (λ q own ho. record { region = region_of_own v names own few hn (lines_over g r names own few_g few_r ho); givens = ho.few_givens; rows = ho.few_rows }) (own_lines_keep g r names))
-    (names_line_keeps Variable (length v.variables + auxiliaries_left v) aux_keyword v)
+    (names_line_keeps Variable (length v.variables + auxiliaries_left v) (codes "aux") v)
 
 -- ---- what a question wants
 
@@ -298,7 +294,7 @@ unfolding verb Always
 verb_keeps own v few = (
   λ l e m. always_weaker (to_end (relation (scope_of v true))) (λ p x. IsRelationOf (length v.variables) (length v.rates) x) (λ p x. IsWanted own v (Prove x)) (λ p x hx. record { over = hx; small = unflagged_is_small v own m }) (line_keeps (relation (scope_of v true)) (IsRelationOf (length v.variables) (length v.rates)) (relation_keeps (scope_of v true) (length v.variables) (length v.rates) (scope_covers v true))),
   (
-    λ l e m. always_weaker (to_end (distinct (rates_env v))) (λ p x. AreRatesOf (length v.rates) x) (λ p x. IsWanted own v (Eliminate x)) (λ p x hx. record { over = hx; small = unflagged_is_small v (givens_alone own) m }) (line_keeps (distinct (rates_env v)) (AreRatesOf (length v.rates)) (distinct_keeps (rates_env v) (length v.rates) (knows_rates v))),
+    λ l e m. always_weaker (to_end (distinct (index_of v.rates))) (λ p x. AreRatesOf (length v.rates) x) (λ p x. IsWanted own v (Eliminate x)) (λ p x hx. record { over = hx; small = unflagged_is_small v (givens_alone own) m }) (line_keeps (distinct (index_of v.rates)) (AreRatesOf (length v.rates)) (distinct_keeps (index_of v.rates) (length v.rates) (knows_rates v))),
     λ l e m. containment_keeps own v few,
   ),
 )
@@ -330,26 +326,26 @@ are_names variables names hv hn =
 question_keeps : Always question (λ p q. IsRead q)
 unfolding question Always
 question_keeps = always_weaker (new_names Variable most_variables no_names) _ _
-    (λ p variables hv. always_weaker (names_line Rate most_rates rates_keyword variables) _ _
+    (λ p variables hv. always_weaker (names_line Rate most_rates (codes "rates") variables) _ _
     (λ q names hn. let n = are_names variables names hv hn in
     always_weaker (own_lines most_lines most_lines names) _ _
     (λ r own ho. always_weaker (verb own names) _ _ (λ s aim ha. record { limits = record { some = n.some; few = n.few; few_rates = n.few_rates; lines = lines_over most_lines most_lines names own (omega arith) (omega arith) ho; verb = ha.over }; small = ha.small })
-    (verb_keeps own names n.few)) (own_lines_keep most_lines most_lines names)) (names_line_keeps Rate most_rates rates_keyword variables)) (new_names_keep Variable most_variables no_names)
+    (verb_keeps own names n.few)) (own_lines_keep most_lines most_lines names)) (names_line_keeps Rate most_rates (codes "rates") variables)) (new_names_keep Variable most_variables no_names)
 
 file_keeps : Always file (λ p qs. All IsRead qs)
 unfolding file more_questions Always
 file_keeps = always_weaker (more_questions []) _ _ (λ p qs h l e m. h)
-    (each_keeps (Keyword vars_keyword ∷ []) (λ qs l. (limit_flag (most_questions - length qs), tt {0})) (λ qs u. question) (λ qs q. qs ++ q ∷ []) (All IsRead) (λ qs h l e m. always_weaker question _ _ (λ p q hq. all_and_one IsRead qs q h hq) question_keeps) [] (All-nil IsRead))
+    (each_keeps (Keyword (codes "vars") ∷ []) (λ qs l. (limit_flag (most_questions - length qs), tt {0})) (λ qs u. question) (λ qs q. qs ++ q ∷ []) (All IsRead) (λ qs h l e m. always_weaker question _ _ (λ p q hq. all_and_one IsRead qs q h hq) question_keeps) [] (All-nil IsRead))
 
 -- ---- what the readers hand on
 
 pub file_limited : (ls r : List Letter) (qs : List BodyView) → read file ls ≡ Ok (qs, r) → All IsRead qs
 file_limited ls r qs e = value_read file (All IsRead) ls r qs file_keeps e
 
-pub names_limited : (variables names : NamesView) (ls a b r : List Letter) → read (new_names Variable most_variables no_names) ls ≡ Ok (variables, a) → read (names_line Rate most_rates rates_keyword variables) b ≡ Ok (names, r) → IsSpace (space_of names)
+pub names_limited : (variables names : NamesView) (ls a b r : List Letter) → read (new_names Variable most_variables no_names) ls ≡ Ok (variables, a) → read (names_line Rate most_rates (codes "rates") variables) b ≡ Ok (names, r) → IsSpace (space_of names)
 names_limited variables names ls a b r e f =
     let hv = value_read (new_names Variable most_variables no_names) (AreNamed Variable most_variables no_names) ls a variables (new_names_keep Variable most_variables no_names) e in
-    let hn = value_read (names_line Rate most_rates rates_keyword variables) (MayBeNamed Rate most_rates variables) b r names (names_line_keeps Rate most_rates rates_keyword variables) f in
+    let hn = value_read (names_line Rate most_rates (codes "rates") variables) (MayBeNamed Rate most_rates variables) b r names (names_line_keeps Rate most_rates (codes "rates") variables) f in
     let n = are_names variables names hv hn in
     record { some = n.some; few = n.few; few_rates = n.few_rates }
 

@@ -1,4 +1,5 @@
 -- How many lines a question has.
+use Rattle.std.specs.Prelude.{min}
 use Rattle.std.proofs.Common.{◌≡◌, ℕ, ◌+◌, ◌≤◌, List, [], ◌∷◌, ◌++◌, length, map, take, drop, All, sym, ap, ◌∙◌, subst, arith, append_assoc}
 use Rattle.std.proofs.lemmas.List.Elements.{All-head, All-tail}
 use Rattle.std.proofs.lemmas.List.{length-map, map-append, take-map, drop-map}
@@ -13,7 +14,7 @@ use Rattle.it_question.specs.Cursors.{line_view}
 use Rattle.it_question.specs.Lines.{LineView}
 use Rattle.it_question.specs.Questions.{region_view, BodyView, QuestionView, question_view}
 use Rattle.it_question.specs.ReaderSteps.{FewLines}
-use Rattle.it_question.specs.Texts.{region_line_count, one_unless_zero, question_line_count, text_of_lines, with_texts}
+use Rattle.it_question.specs.Texts.{region_line_count, question_line_count, text_of_lines, with_texts}
 
 abbrev question_with : BodyView → List ℕ → QuestionView
 question_with p text = record { body = p; text = text }
@@ -24,7 +25,7 @@ few_givens r h = omega (arith, h.0, length-map r.lines.givens.items given_view)
 pub few_rows : (r : Region) → FewLines (region_view r).lines → length r.lines.rows.items ≤ 64
 few_rows r h = omega (arith, h.1, length-map r.lines.rows.items relation_view)
 
-pub region_lines_are : (r : Region) → region_line_count (region_view r) ≡ 1 + one_unless_zero r.auxiliaries + (length r.lines.givens.items + length r.lines.rows.items)
+pub region_lines_are : (r : Region) → region_line_count (region_view r) ≡ 1 + min 1 r.auxiliaries + (length r.lines.givens.items + length r.lines.rows.items)
 region_lines_are r = omega (arith, length-map r.lines.givens.items given_view, length-map r.lines.rows.items relation_view)
 
 -- ---- questions with their texts, one after the other

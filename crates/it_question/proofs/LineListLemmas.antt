@@ -4,7 +4,7 @@ use Rattle.it_syntax.specs.declared.types.Misspelling.{Misspelling}
 use Rattle.it_syntax.specs.declared.types.Token.{Token}
 use Rattle.it_syntax.specs.Misspellings.{SpellsUntil}
 use Rattle.it_syntax.proofs.MisspellingLemmas.{line_tokens_are_one}
-use Rattle.it_question.specs.Lines.{LineView, AreLines, IsLine, HasTokens, IsFilled, plain_text, end_line}
+use Rattle.it_question.specs.Lines.{LineView, AreLines, IsLine, IsFilled, plain_text, end_line}
 use Rattle.it_question.proofs.TokensExist.{tokens_there}
 
 -- ---- there is not more than one
@@ -12,7 +12,7 @@ use Rattle.it_question.proofs.TokensExist.{tokens_there}
 line_made : ℕ → List ℕ → List Token → Option Misspelling → LineView
 line_made n text ts m = record { number = n; text = text; tokens = ts; misspelling = m }
 
-blank_or_filled : (n : ℕ) (bytes : List ℕ) (l : LineView) → SpellsUntil 0 (plain_text bytes) [] None → IsLine n bytes l → HasTokens l → ⊥
+blank_or_filled : (n : ℕ) (bytes : List ℕ) (l : LineView) → SpellsUntil 0 (plain_text bytes) [] None → IsLine n bytes l → IsFilled l.tokens l.misspelling → ⊥
 blank_or_filled n bytes l blank h filled =
     let one = line_tokens_are_one (plain_text bytes) l.tokens [] l.misspelling None (subst (λ (t : List ℕ). SpellsUntil 0 t l.tokens l.misspelling) h.text h.spelled) blank in
     subst (λ (m : Option Misspelling). IsFilled [] m) one.1 (subst (λ (ts : List Token). IsFilled ts l.misspelling) one.0 filled)

@@ -7,7 +7,7 @@ use Rattle.it_syntax.specs.declared.types.TokenKind.TheVariants as kinds
 use Rattle.it_forms.specs.Letters.{Letter, End, Bad}
 use Rattle.it_syntax.specs.Misspellings.{SpellsUntil}
 use Rattle.it_syntax.specs.Spans.{letter_of, letters_until, last_letter}
-use Rattle.it_question.specs.Lines.{LineView, AreLines, HasTokens, IsFilled, line_letters, letters_of_lines}
+use Rattle.it_question.specs.Lines.{LineView, AreLines, IsFilled, line_letters, letters_of_lines}
 use Rattle.it_question.proofs.Puts.{HasLines}
 use Rattle.it_question.proofs.TrimmedLines.{IsWhole}
 
@@ -23,7 +23,7 @@ abbrev pub AreSound : List LineView → Type 0
 AreSound [] = Unit {0}
 AreSound (l ∷ lines) = (l.misspelling ≡ None → IsWhole l) × AreSound lines
 
-line_sound : (l : LineView) → SpellsUntil 0 l.text l.tokens l.misspelling → HasTokens l → l.misspelling ≡ None → IsWhole l
+line_sound : (l : LineView) → SpellsUntil 0 l.text l.tokens l.misspelling → IsFilled l.tokens l.misspelling → l.misspelling ≡ None → IsWhole l
 line_sound l h f e = record {
   misspelling = e;
   spelled = subst (λ (m : Option Misspelling). SpellsUntil 0 l.text l.tokens m) e h;

@@ -1,12 +1,14 @@
 -- The numbers in the questions of a file are below 2 ^ 64: those of its letters are, and a question has no others.
+use Rattle.std.specs.Prelude.{codes}
 use Rattle.std.proofs.Common.{◌≡◌, ℕ, ◌+◌, ◌-◌, ◌<◌, ◌^◌, lit<, Bool, true, false, List, [], ◌∷◌, ◌++◌, length, drop, Option, Some, None, inl, inr, sym, subst, refl}
 use Rattle.std.specs.List.{AllByRecursion as Every}
-use Rattle.it_forms.specs.Forms.{Positive, Keyword, is_of, is_among, Form, Give, Then}
+use Rattle.it_forms.specs.Forms.{Positive, Keyword, is_of, is_among, Form, Give, Then, Punctuation}
 use Rattle.it_forms.specs.Letters.{Letter, Number}
 use Rattle.it_forms.specs.Words.{number_of, allowed, limit_flag, to_end}
 use Rattle.it_forms.proofs.FormFacts.{always_any, always_said}
 use Rattle.it_forms.proofs.FormParts.{Always, always_weaker, loop_keeps}
 use Rattle.it_forms.proofs.FlaggedParts.{always_flagged, always_but}
+use Rattle.it_forms.specs.declared.types.Symbol.TheVariants.{Minus}
 use Rattle.it_syntax.specs.declared.types.Atom.{Atom}
 use Rattle.it_syntax.specs.declared.types.Misspelling.{Misspelling}
 use Rattle.it_syntax.specs.declared.types.Term.{Term}
@@ -15,22 +17,20 @@ use Rattle.it_syntax.specs.declared.types.TokenKind.{TokenKind}
 use Rattle.it_syntax.specs.declared.types.TokenKind.TheVariants as kinds
 use Rattle.it_syntax.specs.Givens.{GivenView}
 use Rattle.it_syntax.specs.Givens as given_views
-use Rattle.it_syntax.specs.LineForms.{names, atom, atom_or_nothing, over_or, term, signs, is_minus, more_terms, terms, sum, compare, relation, more_members, chain, after_bar, independence, function, given}
+use Rattle.it_syntax.specs.LineForms.{names, atom, atom_or_nothing, over_or, term, signs, more_terms, terms, sum, compare, relation, more_members, chain, after_bar, independence, function, given}
 use Rattle.it_syntax.specs.Meaning.{RelationView, multiple_from}
 use Rattle.it_syntax.specs.Misspellings.{SpellsUntil}
 use Rattle.it_syntax.specs.Multiples.{most_terms}
-use Rattle.it_syntax.specs.NamesViews.{NamesView}
+use Rattle.it_syntax.specs.NamesViews.{NamesView, index_of}
 use Rattle.it_syntax.specs.Scopes.{Scope, scope_of, env_of}
 use Rattle.it_syntax.specs.Spans.{letter_of, letters_until, last_letter}
 use Rattle.it_syntax.specs.Spelling.{IsText}
 use Rattle.it_question.specs.Files.{IsFile}
 use Rattle.it_question.specs.Lines.{LineView, AreLines, letters_of_lines, split_lines}
 use Rattle.it_question.specs.QuestionForms.{own_words, own_keyword, own_line, more_own_lines, own_lines, names_line, new_names, distinct, more_tries, region, containment, verb, question, more_questions, file}
-use Rattle.it_question.specs.Keywords.{vars_keyword, rates_keyword, given_keyword, aux_keyword}
 use Rattle.it_question.specs.QuestionLimits.{most_questions, most_lines, most_variables, most_rates, auxiliaries_left, givens_left, rows_left}
 use Rattle.it_question.specs.Questions.{OwnLinesView, RegionView, VerbView, BodyView, QuestionView, no_lines}
 use Rattle.it_question.specs.Questions as views
-use Rattle.it_question.specs.RateNames.{rates_env}
 use Rattle.it_question.specs.Texts.{question_line_count, with_texts}
 use Rattle.it_question.specs.TrySets.{auxiliary_env, unnamed_sets}
 use Rattle.it_question.specs.NewNames.{Variable, Rate, no_names}
@@ -107,8 +107,8 @@ terms_small : (most m : ℕ) (s : Scope) (minus : Bool) → Always (terms most m
 unfolding terms more_terms Always
 terms_small most m s minus =
     always_flagged _ (term m s minus) _ (always_weaker (term m s minus) _ _
-    (λ p t h. loop_keeps signs (λ ts l. (None, is_minus l)) (λ ts minus. Then (allowed (most - length ts) (term (multiple_from m ts) s minus)) (λ t. Give (ts ++ t ∷ []))) (λ p ts. AreSmall p → Every IsSmall ts)
-    (λ p ts h l e u. always_flagged _ (term (multiple_from m ts) s (is_minus l)) _ (always_weaker (term (multiple_from m ts) s (is_minus l)) _ _ (λ q t k small. every_more IsSmall ts t (h (front_small p _ small)) (k (front_small q _ (rest_small (l ∷ []) _ (rest_small p _ small))))) (term_small (multiple_from m ts) s (is_minus l))))
+    (λ p t h. loop_keeps signs (λ ts l. (None, is_of (Punctuation Minus) l)) (λ ts minus. Then (allowed (most - length ts) (term (multiple_from m ts) s minus)) (λ t. Give (ts ++ t ∷ []))) (λ p ts. AreSmall p → Every IsSmall ts)
+    (λ p ts h l e u. always_flagged _ (term (multiple_from m ts) s (is_of (Punctuation Minus) l)) _ (always_weaker (term (multiple_from m ts) s (is_of (Punctuation Minus) l)) _ _ (λ q t k small. every_more IsSmall ts t (h (front_small p _ small)) (k (front_small q _ (rest_small (l ∷ []) _ (rest_small p _ small))))) (term_small (multiple_from m ts) s (is_of (Punctuation Minus) l))))
     p (t ∷ []) (λ small. (h small, tt))) (term_small m s minus))
 
 sum_small : (most m : ℕ) (s : Scope) → Always (sum most m s) (λ p ts. AreSmall p → Every IsSmall ts)
@@ -148,11 +148,11 @@ own_line_small v own false = always_weaker (relation (scope_of v true)) _ _ (λ 
 own_lines_small : (g r : ℕ) (v : NamesView) → Always (own_lines g r v) (λ p own. AreSmall p → LinesHaveSmallNumbers own)
 unfolding more_own_lines
 own_lines_small g r v = loop_keeps own_words (own_keyword g r) (own_line v) (λ p own. AreSmall p → LinesHaveSmallNumbers own)
-    (λ p own h l e u. always_weaker (own_line v own (is_of (Keyword given_keyword) l)) _ _ (λ q y k small. k (rest_small (l ∷ []) _ (rest_small p _ small)) (h (front_small p _ small))) (own_line_small v own (is_of (Keyword given_keyword) l))) [] no_lines (λ small. (tt, tt))
+    (λ p own h l e u. always_weaker (own_line v own (is_of (Keyword (codes "given")) l)) _ _ (λ q y k small. k (rest_small (l ∷ []) _ (rest_small p _ small)) (h (front_small p _ small))) (own_line_small v own (is_of (Keyword (codes "given")) l))) [] no_lines (λ small. (tt, tt))
 
 region_small : (g r : ℕ) (v : NamesView) → Always (region g r v) (λ p x. AreSmall p → LinesHaveSmallNumbers x.lines)
 unfolding region Always
-region_small g r v = λ l e u. always_any (names_line Variable (length v.variables + auxiliaries_left v) aux_keyword v) _ (λ p names. always_weaker (own_lines g r names) _ _ (λ q own h small. h (front_small q _ (rest_small p _ (rest_small (l ∷ []) _ small)))) (own_lines_small g r names))
+region_small g r v = λ l e u. always_any (names_line Variable (length v.variables + auxiliaries_left v) (codes "aux") v) _ (λ p names. always_weaker (own_lines g r names) _ _ (λ q own h small. h (front_small q _ (rest_small p _ (rest_small (l ∷ []) _ small)))) (own_lines_small g r names))
 
 containment_small : (own : OwnLinesView) (v : NamesView) → Always (containment own v) (λ p y. AreSmall p → VerbHasSmallNumbers y)
 unfolding containment Always
@@ -170,19 +170,19 @@ verb_small : (own : OwnLinesView) (v : NamesView) → Always (verb own v) (λ p 
 unfolding verb Always
 verb_small own v = (
   λ l e u. always_weaker (to_end (relation (scope_of v true))) (λ p x. AreSmall p → HasSmallNumbers x) (λ p x. AreSmall ((l ∷ []) ++ (p ++ [])) → HasSmallNumbers x) (λ p x h small. h (front_small p [] (rest_small (l ∷ []) (p ++ []) small))) (relation_line_small v),
-  (λ l e u. always_any (to_end (distinct (rates_env v))) (λ q x. AreSmall ((l ∷ []) ++ (q ++ [])) → Unit {0}) (λ q x small. tt), λ l e u. always_weaker (containment own v) _ _ (λ q y h small. h (rest_small (l ∷ []) q small)) (containment_small own v)),
+  (λ l e u. always_any (to_end (distinct (index_of v.rates))) (λ q x. AreSmall ((l ∷ []) ++ (q ++ [])) → Unit {0}) (λ q x small. tt), λ l e u. always_weaker (containment own v) _ _ (λ q y h small. h (rest_small (l ∷ []) q small)) (containment_small own v)),
 )
 
 question_small : Always question (λ p q. AreSmall p → QuestionHasSmallNumbers q)
 unfolding question Always
-question_small = always_any (new_names Variable most_variables no_names) _ (λ p variables. always_any (names_line Rate most_rates rates_keyword variables) _
+question_small = always_any (new_names Variable most_variables no_names) _ (λ p variables. always_any (names_line Rate most_rates (codes "rates") variables) _
     (λ q names. always_weaker (own_lines most_lines most_lines names) _ _ (λ r own ho. always_weaker (verb own names) _ _ (λ w aim ha small.
     let after = rest_small q _ (rest_small p _ small) in (ho (front_small r _ after), ha (front_small w _ (rest_small r _ after)))) (verb_small own names)) (own_lines_small most_lines most_lines names)))
 
 file_small : Always file (λ p qs. AreSmall p → Every QuestionHasSmallNumbers qs)
 unfolding file more_questions Always
 file_small = always_weaker (more_questions []) _ _ (λ p qs h l e u small. h (front_small p _ small))
-    (loop_keeps (Keyword vars_keyword ∷ []) (λ qs l. (limit_flag (most_questions - length qs), tt {0})) (λ qs u. Then question (λ q. Give (qs ++ q ∷ []))) (λ p qs. AreSmall p → Every QuestionHasSmallNumbers qs)
+    (loop_keeps (Keyword (codes "vars") ∷ []) (λ qs l. (limit_flag (most_questions - length qs), tt {0})) (λ qs u. Then question (λ q. Give (qs ++ q ∷ []))) (λ p qs. AreSmall p → Every QuestionHasSmallNumbers qs)
     (λ p qs h l e u. always_weaker question _ _ (λ q b k small. every_more QuestionHasSmallNumbers qs b (h (front_small p _ small)) (k (front_small q _ (rest_small (l ∷ []) _ (rest_small p _ small))))) question_small) [] [] (λ small. tt))
 
 -- ---- the letters of lines

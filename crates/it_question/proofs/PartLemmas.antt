@@ -1,8 +1,8 @@
 -- What a form reads of a line's letters it reads of them with the letters of further lines after them.
+use Rattle.std.specs.Prelude.{slice_get}
 use Rattle.std.proofs.Common.{◌≡◌, ℕ, Bool, List, [], ◌∷◌, ◌++◌, Ok, Err, refl, ap, ◌∙◌, subst, append_assoc}
 use Rattle.it_forms.specs.declared.types.Code.TheVariants as codes
 use Rattle.it_forms.specs.Letters.{Letter, Word, Number, Sym, End, Bad}
-use Rattle.it_forms.specs.FirstFault.{head}
 use Rattle.it_forms.specs.Reads.{Reads, ◌>>=◌}
 use Rattle.it_forms.specs.Forms.{Form, Spells}
 use Rattle.it_forms.specs.FormReading.{read}
@@ -30,7 +30,7 @@ pub line_has : (line : List ℕ) (ts : List Token) (last : Letter) → HasLetter
 line_has line [] last = tt
 line_has line (t ∷ ts) last = tt
 
-head_same : (r more : List Letter) → HasLetters r → head (r ++ more) ≡ head r
+head_same : (r more : List Letter) → HasLetters r → slice_get (r ++ more) 0 ≡ slice_get r 0
 head_same [] more h = absurd h
 head_same (l ∷ r) more h = refl
 

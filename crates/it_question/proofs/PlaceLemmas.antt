@@ -1,6 +1,6 @@
 -- The letters of lines and their places, one line after the other.
 use Rattle.std.proofs.Common.{◌≡◌, ℕ, zero, suc, ◌+◌, ◌-◌, ◌<◌, ◌≤◌, List, [], ◌∷◌, ◌++◌, length, map, drop, Option, Some, refl, sym, ap, ◌∙◌, arith, length-append}
-use Rattle.std.specs.Prelude.{slice_get, slice_index_or}
+use Rattle.std.specs.Prelude.{slice_get, slice_index_or, flat_map}
 use Rattle.std.proofs.lemmas.List.{length-map}
 use Rattle.it_syntax.specs.declared.types.Token.{Token}
 use Rattle.it_syntax.specs.declared.types.Misspelling.{Misspelling}
@@ -12,7 +12,7 @@ use Rattle.it_syntax.proofs.LineLemmas.{until_length}
 use Rattle.it_question.specs.declared.cursor.Line.{Line}
 use Rattle.it_question.specs.declared.cursor.Cursor.{Cursor}
 use Rattle.it_question.specs.Cursors.{line_view, letters_left, left_of}
-use Rattle.it_question.specs.Lines.{LineView, line_letters, letters_of_lines, line_places, places_of_lines}
+use Rattle.it_question.specs.Lines.{LineView, line_letters, letters_of_lines, line_places}
 
 pub line_letters_length : (l : LineView) → length (line_letters l) ≡ suc (length l.tokens)
 line_letters_length l = until_length l.text l.tokens (last_letter l.misspelling)
@@ -48,19 +48,19 @@ pub line_places_length : (l : LineView) → length (line_places l) ≡ suc (leng
 line_places_length l = length-append {A = ℕ × ℕ} (map (λ (t : Token). (l.number, t.start + 1)) l.tokens) _ ∙ omega (arith, length-map {B = ℕ × ℕ} l.tokens (λ (t : Token). (l.number, t.start + 1)))
 
 pub place_here : (lines : List Line) (i n : ℕ) (l : Line) → i < length lines → l ≡ slice_index_or lines i l → n ≤ length l.tokens.tokens.items
-    → slice_get (places_of_lines (map line_view (drop i lines))) n ≡ slice_get (line_places (line_view l)) n
+    → slice_get (flat_map line_places (map line_view (drop i lines))) n ≡ slice_get (line_places (line_view l)) n
 place_here lines i n l lt e le =
-    ap (λ (ls : List LineView). slice_get (places_of_lines ls) n) (from_line lines i l lt)
-    ∙ ap (λ (x : Line). slice_get (line_places (line_view x) ++ places_of_lines (map line_view (drop (i + 1) lines))) n) (sym e)
-    ∙ get_front (line_places (line_view l)) (places_of_lines (map line_view (drop (i + 1) lines))) n (omega (arith, line_places_length (line_view l), le))
+    ap (λ (ls : List LineView). slice_get (flat_map line_places ls) n) (from_line lines i l lt)
+    ∙ ap (λ (x : Line). slice_get (line_places (line_view x) ++ flat_map line_places (map line_view (drop (i + 1) lines))) n) (sym e)
+    ∙ get_front (line_places (line_view l)) (flat_map line_places (map line_view (drop (i + 1) lines))) n (omega (arith, line_places_length (line_view l), le))
 
 pub place_after : (lines : List Line) (i n k : ℕ) (l : Line) → i < length lines → l ≡ slice_index_or lines i l → k ≡ length l.tokens.tokens.items → k < n
-    → slice_get (places_of_lines (map line_view (drop i lines))) n ≡ slice_get (places_of_lines (map line_view (drop (i + 1) lines))) (n - (k + 1))
+    → slice_get (flat_map line_places (map line_view (drop i lines))) n ≡ slice_get (flat_map line_places (map line_view (drop (i + 1) lines))) (n - (k + 1))
 place_after lines i n k l lt e same le =
-    ap (λ (ls : List LineView). slice_get (places_of_lines ls) n) (from_line lines i l lt)
-    ∙ ap (λ (x : Line). slice_get (line_places (line_view x) ++ places_of_lines (map line_view (drop (i + 1) lines))) n) (sym e)
-    ∙ get_back (line_places (line_view l)) (places_of_lines (map line_view (drop (i + 1) lines))) n (omega (arith, line_places_length (line_view l), same, le))
-    ∙ ap (slice_get (places_of_lines (map line_view (drop (i + 1) lines)))) (less_is n (length l.tokens.tokens.items) k (length (line_places (line_view l))) (line_places_length (line_view l)) same)
+    ap (λ (ls : List LineView). slice_get (flat_map line_places ls) n) (from_line lines i l lt)
+    ∙ ap (λ (x : Line). slice_get (line_places (line_view x) ++ flat_map line_places (map line_view (drop (i + 1) lines))) n) (sym e)
+    ∙ get_back (line_places (line_view l)) (flat_map line_places (map line_view (drop (i + 1) lines))) n (omega (arith, line_places_length (line_view l), same, le))
+    ∙ ap (slice_get (flat_map line_places (map line_view (drop (i + 1) lines)))) (less_is n (length l.tokens.tokens.items) k (length (line_places (line_view l))) (line_places_length (line_view l)) same)
   where
     less_is : (n a k b : ℕ) → b ≡ suc a → k ≡ a → n - b ≡ n - (k + 1)
     less_is n a k b h g = omega (arith, h, g)

@@ -1,24 +1,25 @@
 -- What the forms of question files put: as many whole lines as are counted of what they say.
-use Rattle.std.proofs.Common.{◌≡◌, ℕ, zero, suc, ◌+◌, ◌-◌, ◌≤◌, ◌==◌, Bool, true, false, cond, List, [], ◌∷◌, ◌++◌, length, None, refl, sym, ap, ◌∙◌, subst, inl, inr, ◌⊎◌, append_assoc, length-append, arith}
+use Rattle.std.specs.List.{list_all}
+use Rattle.std.specs.Prelude.{codes, is_some, min, if◌then◌else◌, Some}
+use Rattle.std.proofs.Common.{◌≡◌, ℕ, zero, suc, ◌+◌, ◌-◌, ◌≤◌, Bool, true, false, List, [], ◌∷◌, ◌++◌, length, None, refl, sym, ap, ◌∙◌, subst, inl, inr, ◌⊎◌, append_assoc, length-append, arith}
+use Rattle.std.proofs.Math.Nat.{min-le_left, le-min}
 use Rattle.std.proofs.lemmas.List.{append-nil}
-use Rattle.std.proofs.lemmas.Bool.Decides.{eqb_tells}
 use Rattle.it_forms.specs.Letters.{FlaggedLetters}
+use Rattle.it_forms.specs.declared.types.Code.TheVariants as codes
 use Rattle.it_forms.specs.declared.types.Symbol.TheVariants.{Comma}
 use Rattle.it_forms.specs.Forms.{Keyword, Punctuation, Terminal, AreTurns, Then, Give, Spells}
 use Rattle.it_forms.specs.Words.{word, flagged_word, limit_flag}
 use Rattle.it_forms.proofs.LineEnds.{NoEndAmong, HasNoEnd}
 use Rattle.it_syntax.proofs.OneLine.{names_has_no_end, relation_has_no_end, given_has_no_end}
-use Rattle.it_syntax.specs.NamesViews.{NamesView}
+use Rattle.it_syntax.specs.NamesViews.{NamesView, index_of}
 use Rattle.it_syntax.specs.Scopes.{Environment, scope_of}
 use Rattle.it_syntax.specs.LineForms.{relation, given}
-use Rattle.it_question.specs.Keywords.{vars_keyword, rates_keyword, region_keyword, aux_keyword, try_keyword, prove_keyword, eliminate_keyword, contain_keyword}
 use Rattle.it_question.specs.NewNames.{NameSortView, Variable, Rate, with_name, no_names}
 use Rattle.it_question.specs.QuestionForms.{own_words, own_keyword, new_name, more_new, new_names, names_line, own_line, more_own_lines, once, more_once, distinct, auxiliary, set, part, more_parts, try_line, more_tries, region, containment, verb, question, more_questions}
 use Rattle.it_question.specs.Questions.{OwnLinesView, RegionView, VerbView, Prove, Eliminate, Contain, BodyView}
-use Rattle.it_question.specs.RateNames.{rates_env}
-use Rattle.it_question.specs.Texts.{one_if_some, own_line_count, one_unless_zero, region_line_count, verb_line_count, question_line_count}
-use Rattle.it_question.specs.TrySets.{Sets, is_whole, try_flag}
-use Rattle.it_question.specs.Tables.{givens_alone, size_flag, contain_flag}
+use Rattle.it_question.specs.Texts.{own_line_count, region_line_count, verb_line_count, question_line_count}
+use Rattle.it_question.specs.TrySets.{Sets}
+use Rattle.it_question.specs.Tables.{givens_alone, size_flag, lines_with}
 use Rattle.it_question.specs.QuestionLimits.{most_questions, most_lines}
 use Rattle.it_question.proofs.Puts.{AreTokens, HasLines, Puts, puts_at, no_lines, tokens_then, taken_token, in_line, end_puts, tokens_lines, lines_then, lines_as, line_puts}
 
@@ -131,34 +132,25 @@ try_line_lines aux env sets y m k s =
 
 tries_lines : (aux env : Environment) (sets : Sets) (ts y : List (List ℕ)) (m k : FlaggedLetters) → Spells (more_tries aux env sets ts) y m k → Grows length ts y m k
 unfolding more_tries Spells
-tries_lines aux env sets ts y m k s = turns_grow (λ (ts : List (List ℕ)). record { kinds = Keyword try_keyword ∷ []; says = λ l. (try_flag (is_whole sets) (most_lines - length ts), tt {0}) }) (λ ts u. Spells (Then (try_line aux env sets) (λ t. Give (ts ++ t ∷ [])))) length (λ ts. refl) (λ ts u c m k t. (0, puts_at (try_line_lines aux env sets t.0 m t.1 t.2) t.3.1, sym (ap length t.3.0) ∙ omega (arith, length-append ts (t.0 ∷ [])))) s.0 ts y m k s.1
+tries_lines aux env sets ts y m k s = turns_grow (λ (ts : List (List ℕ)). record { kinds = Keyword (codes "try") ∷ []; says = λ l. (if list_all is_some sets then Some codes.Word else limit_flag (most_lines - length ts), tt {0}) }) (λ ts u. Spells (Then (try_line aux env sets) (λ t. Give (ts ++ t ∷ [])))) length (λ ts. refl) (λ ts u c m k t. (0, puts_at (try_line_lines aux env sets t.0 m t.1 t.2) t.3.1, sym (ap length t.3.0) ∙ omega (arith, length-append ts (t.0 ∷ [])))) s.0 ts y m k s.1
 
 -- ---- regions
 
-one_unless_suc : (n : ℕ) → one_unless_zero (suc n) ≡ 1
-one_unless_suc n =
-    let e : (suc n == 0) ≡ false = elim (eqb_tells (suc n) 0) [
-      | inl h ↦ absurd (omega (arith, h.1))
-      | inr h ↦ h.0
-    ] in
-    ap (λ (b : Bool). cond b 0 1) e
+one_line : (n : ℕ) → 1 ≤ n → min 1 n ≡ 1
+one_line n h = let small = min-le_left 1 n in let some : 1 ≤ min 1 n = le-min (omega arith) h in omega (arith, small, some)
 
 -- an `aux` line stands there where the region has auxiliaries
-aux_lines : (i : ℕ) (v y : NamesView) → OneOrNone i Variable v y → i ≡ one_unless_zero (length y.variables - length v.variables)
+aux_lines : (i : ℕ) (v y : NamesView) → OneOrNone i Variable v y → i ≡ min 1 (length y.variables - length v.variables)
 aux_lines i v y (inl h) =
     let e = h.1.some in
     let l = ap (λ (u : NamesView). length u.variables) h.1.is ∙ length-append v.variables h.1.own in
-    by_count (length y.variables - length v.variables) (omega (arith, e, l))
-  where
-    by_count : (n : ℕ) → 1 ≤ n → i ≡ one_unless_zero n
-    by_count zero le = absurd (omega (arith, le))
-    by_count (suc n) le = h.0 ∙ sym (one_unless_suc n)
-aux_lines i v y (inr h) = let e : length y.variables - length v.variables ≡ 0 = let l = ap (λ (u : NamesView). length u.variables) h.1 in omega (arith, l) in h.0 ∙ sym (ap one_unless_zero e)
+    h.0 ∙ sym (one_line (length y.variables - length v.variables) (omega (arith, e, l)))
+aux_lines i v y (inr h) = let e : length y.variables - length v.variables ≡ 0 = let l = ap (λ (u : NamesView). length u.variables) h.1 in omega (arith, l) in h.0 ∙ sym (ap (min 1) e)
 
 region_lines : (g r : ℕ) (v : NamesView) (y : RegionView) (m k : FlaggedLetters) → Spells (region g r v) y m k → Puts (HasLines (region_line_count y)) m k
 unfolding region Spells
 region_lines g r v y m k s =
-    let names = names_line_lines Variable _ aux_keyword v s.3.0 s.1 s.3.1 s.3.2 in
+    let names = names_line_lines Variable _ (codes "aux") v s.3.0 s.1 s.3.1 s.3.2 in
     let own = own_lines_lines g r s.3.0 _ s.3.3.0 s.3.1 s.3.3.1 s.3.3.2 in
     let all = lines_then 1 (names.0 + own.lines) (end_puts _ s.0 m s.1 refl s.2) (lines_then names.0 own.lines names.1 own.puts) in
     subst (λ (x : RegionView). Puts (HasLines (region_line_count x)) m k) s.3.3.3.0 (lines_as (1 + (names.0 + own.lines)) _ (puts_at all s.3.3.3.1) (omega (arith, own.grows, aux_lines names.0 v s.3.0 names.2)))
@@ -179,10 +171,10 @@ containment_lines own v y m k s =
     let first = region_lines _ _ v s.0 m s.1 s.2 in
     let second = region_lines _ _ v s.3.3.0 s.3.1 s.3.3.1 s.3.3.2 in
     let tries = tries_lines _ _ _ [] s.3.3.3.0 s.3.3.1 s.3.3.3.1 s.3.3.3.2 in
-    let contain = tokens_lines 0 (taken_token (flagged_word contain_keyword (contain_flag own s.0)) s.3.3.3.3.0 s.3.3.3.1 s.3.3.3.3.1 refl s.3.3.3.3.2) (end_puts _ s.3.3.3.3.3.0 s.3.3.3.3.1 s.3.3.3.3.3.1 refl s.3.3.3.3.3.2) in
+    let contain = tokens_lines 0 (taken_token (flagged_word (codes "contain") (size_flag s.0.names (lines_with own s.0))) s.3.3.3.3.0 s.3.3.3.1 s.3.3.3.3.1 refl s.3.3.3.3.2) (end_puts _ s.3.3.3.3.3.0 s.3.3.3.3.1 s.3.3.3.3.3.1 refl s.3.3.3.3.3.2) in
     let i = region_line_count s.0 in
     let j = region_line_count s.3.3.0 in
-    let after = some_lines (j + (tries.lines + 1)) (omega arith) (taken_token (word region_keyword) s.3.0 s.1 s.3.1 refl s.3.2) (lines_then j (tries.lines + 1) second (lines_then tries.lines 1 tries.puts contain)) in
+    let after = some_lines (j + (tries.lines + 1)) (omega arith) (taken_token (word (codes "region")) s.3.0 s.1 s.3.1 refl s.3.2) (lines_then j (tries.lines + 1) second (lines_then tries.lines 1 tries.puts contain)) in
     subst (λ (x : VerbView). Puts (HasLines (verb_line_count x)) m k) s.3.3.3.3.3.3.0 (lines_as (i + (j + (tries.lines + 1))) _ (puts_at (lines_then i (j + (tries.lines + 1)) first after) s.3.3.3.3.3.3.1) (omega (arith, tries.grows)))
 
 verb_has_lines : (y : VerbView) → 1 ≤ verb_line_count y
@@ -192,25 +184,21 @@ verb_has_lines (Contain first second tries) = omega arith
 
 verb_lines : (own : OwnLinesView) (v : NamesView) (y : VerbView) (m k : FlaggedLetters) → Spells (verb own v) y m k → Puts (HasLines (verb_line_count y)) m k
 unfolding verb Spells
-verb_lines own v y m k (inl s) = subst (λ (x : VerbView). Puts (HasLines (verb_line_count x)) m k) s.3.3.0 (puts_at (tokens_lines 0 (taken_token (flagged_word prove_keyword (size_flag v own)) s.0 m s.1 refl s.2) (line_puts (relation (scope_of v true)) (relation_has_no_end _) s.3.0 s.1 s.3.1 s.3.2)) s.3.3.1)
-verb_lines own v y m k (inr (inl s)) = subst (λ (x : VerbView). Puts (HasLines (verb_line_count x)) m k) s.3.3.0 (puts_at (tokens_lines 0 (taken_token (flagged_word eliminate_keyword (size_flag v (givens_alone own))) s.0 m s.1 refl s.2) (line_puts (distinct (rates_env v)) (distinct_has_no_end _) s.3.0 s.1 s.3.1 s.3.2)) s.3.3.1)
-verb_lines own v y m k (inr (inr s)) = some_lines (verb_line_count y) (verb_has_lines y) (taken_token (word region_keyword) s.0 m s.1 refl s.2) (containment_lines own v y s.1 k s.3)
-
-some_rates : (v : NamesView) (own : List (List ℕ)) → v.rates ≡ [] → 1 ≤ length own → one_if_some (v.rates ++ own) ≡ 1
-some_rates v [] e h = absurd (omega (arith, h))
-some_rates v (r ∷ own) e h = ap (λ (rs : List (List ℕ)). one_if_some (rs ++ r ∷ own)) e
+verb_lines own v y m k (inl s) = subst (λ (x : VerbView). Puts (HasLines (verb_line_count x)) m k) s.3.3.0 (puts_at (tokens_lines 0 (taken_token (flagged_word (codes "prove") (size_flag v own)) s.0 m s.1 refl s.2) (line_puts (relation (scope_of v true)) (relation_has_no_end _) s.3.0 s.1 s.3.1 s.3.2)) s.3.3.1)
+verb_lines own v y m k (inr (inl s)) = subst (λ (x : VerbView). Puts (HasLines (verb_line_count x)) m k) s.3.3.0 (puts_at (tokens_lines 0 (taken_token (flagged_word (codes "eliminate") (size_flag v (givens_alone own))) s.0 m s.1 refl s.2) (line_puts (distinct (index_of v.rates)) (distinct_has_no_end _) s.3.0 s.1 s.3.1 s.3.2)) s.3.3.1)
+verb_lines own v y m k (inr (inr s)) = some_lines (verb_line_count y) (verb_has_lines y) (taken_token (word (codes "region")) s.0 m s.1 refl s.2) (containment_lines own v y s.1 k s.3)
 
 -- a `rates` line stands there where there are rates
-rates_lines : (i : ℕ) (v y : NamesView) → v.rates ≡ [] → OneOrNone i Rate v y → i ≡ one_if_some y.rates
-rates_lines i v y e (inl h) = h.0 ∙ sym (ap (λ (u : NamesView). one_if_some u.rates) h.1.is ∙ some_rates v h.1.own e h.1.some)
-rates_lines i v y e (inr h) = h.0 ∙ sym (ap (λ (u : NamesView). one_if_some u.rates) (sym h.1) ∙ ap one_if_some e)
+rates_lines : (i : ℕ) (v y : NamesView) → v.rates ≡ [] → OneOrNone i Rate v y → i ≡ min 1 (length y.rates)
+rates_lines i v y e (inl h) = h.0 ∙ sym (ap (λ (u : NamesView). min 1 (length u.rates)) h.1.is ∙ one_line (length (v.rates ++ h.1.own)) (let some = h.1.some in omega (arith, some, length-append v.rates h.1.own)))
+rates_lines i v y e (inr h) = h.0 ∙ sym (ap (λ (u : NamesView). min 1 (length u.rates)) (sym h.1) ∙ ap (λ (xs : List (List ℕ)). min 1 (length xs)) e)
 
 -- A question, after its word `vars`, is as many lines as are counted of it.
 pub question_lines : (q : BodyView) (m k : FlaggedLetters) → Spells question q m k → Puts (HasLines (question_line_count q)) m k
 unfolding question Spells
 question_lines q m k s =
     let variables = new_names_lines Variable _ no_names s.0 m s.1 s.2 in
-    let names = names_line_lines Rate _ rates_keyword s.0 s.3.0 s.1 s.3.1 s.3.2 in
+    let names = names_line_lines Rate _ (codes "rates") s.0 s.3.0 s.1 s.3.1 s.3.2 in
     let own = own_lines_lines _ _ s.3.0 _ s.3.3.0 s.3.1 s.3.3.1 s.3.3.2 in
     let aim = verb_lines s.3.3.0 s.3.0 s.3.3.3.0 s.3.3.1 s.3.3.3.1 s.3.3.3.2 in
     let j = verb_line_count s.3.3.3.0 in
@@ -230,7 +218,7 @@ lines_append (p ∷ qs) q = let e = lines_append qs q in omega (arith, e)
 pub questions_lines : (qs ys : List BodyView) (m k : FlaggedLetters) → Spells (more_questions qs) ys m k → Grows all_lines qs ys m k
 unfolding more_questions Spells
 questions_lines qs ys m k s =
-    turns_grow (λ (qs : List BodyView). record { kinds = Keyword vars_keyword ∷ []; says = λ l. (limit_flag (most_questions - length qs), tt {0}) }) (λ qs u. Spells (Then question (λ q. Give (qs ++ q ∷ [])))) all_lines (λ qs. refl)
-    (λ qs u c m k t. let q = t.0 in let i = one_if_some q.names.rates + own_line_count q.lines + verb_line_count q.verb in
+    turns_grow (λ (qs : List BodyView). record { kinds = Keyword (codes "vars") ∷ []; says = λ l. (limit_flag (most_questions - length qs), tt {0}) }) (λ qs u. Spells (Then question (λ q. Give (qs ++ q ∷ [])))) all_lines (λ qs. refl)
+    (λ qs u c m k t. let q = t.0 in let i = min 1 (length q.names.rates) + own_line_count q.lines + verb_line_count q.verb in
     (i, lines_as (question_line_count q) (suc i) (puts_at (question_lines q m t.1 t.2) t.3.1) (omega arith), sym (ap all_lines t.3.0) ∙ lines_append qs q ∙ omega arith))
     s.0 qs ys m k s.1

@@ -1,6 +1,6 @@
 -- The outlines of the forms of question files.
 use Rattle.std.proofs.Common.{◌≡◌, ℕ, Bool, true, false, List, [], ◌∷◌, ◌++◌, Option, refl, ◌||◌}
-use Rattle.std.specs.Prelude.{bytes_eq}
+use Rattle.std.specs.Prelude.{bytes_eq, codes}
 use Rattle.it_forms.specs.declared.types.Symbol.TheVariants.{Comma, Assign}
 use Rattle.it_forms.specs.declared.types.Code.TheVariants as codes
 use Rattle.it_forms.specs.Letters.{Word, End, Bad}
@@ -10,7 +10,6 @@ use Rattle.it_question.specs.QuestionForms.{new_name, more_new, new_names, names
 use Rattle.it_syntax.proofs.LineOutlines.{a_name, names_has, a_relation, relation_has, a_given, given_has}
 use Rattle.it_forms.specs.declared.types.Code.{Code}
 use Rattle.it_syntax.specs.NamesViews.{NamesView}
-use Rattle.it_question.specs.Keywords.{vars_keyword, rates_keyword, region_keyword, aux_keyword, try_keyword, prove_keyword, eliminate_keyword, contain_keyword}
 use Rattle.it_question.specs.Questions.{OwnLinesView, BodyView}
 use Rattle.it_question.specs.NewNames.{NameSortView}
 use Rattle.it_forms.specs.Forms.{Keyword, Punctuation, WordBut, Zero, LineEnd, FileEnd, Take}
@@ -72,42 +71,42 @@ unfolding try_line more_parts
 try_line_has aux env sets =
     has_then _ _ _ _ (part_has aux env sets) (λ first. has_then _ _ _ _ (has_while _ _ _ _ _ (λ sets u. has_then _ _ _ _ (part_has aux env sets) (λ more. has_give _) refl) refl) (λ all. has_then _ _ _ _ (has_take _ End refl) (λ u. has_give _) refl) refl) refl
 
-tries_has : (aux env : Environment) (sets : Sets) (ts : List (List ℕ)) → Has (more_tries aux env sets ts) (record { begins = Keyword try_keyword ∷ []; skips = true; goes = Keyword try_keyword ∷ [] })
+tries_has : (aux env : Environment) (sets : Sets) (ts : List (List ℕ)) → Has (more_tries aux env sets ts) (record { begins = Keyword (codes "try") ∷ []; skips = true; goes = Keyword (codes "try") ∷ [] })
 unfolding more_tries
 tries_has aux env sets ts = has_while _ _ _ _ _ (λ ts u. has_then _ _ _ _ (try_line_has aux env sets) (λ t. has_give _) refl) refl
 
 abbrev a_region : Outline
-a_region = record { begins = LineEnd ∷ []; skips = false; goes = own_words ++ Keyword aux_keyword ∷ [] }
+a_region = record { begins = LineEnd ∷ []; skips = false; goes = own_words ++ Keyword (codes "aux") ∷ [] }
 
 region_has : (g r : ℕ) (v : NamesView) → Has (region g r v) a_region
 unfolding region
-region_has g r v = has_then _ _ _ _ end_has (λ u. has_then _ _ _ _ (names_line_has _ _ aux_keyword v) (λ names. has_then _ _ _ _ (own_lines_has g r names) (λ own. has_give _) refl) refl) refl
+region_has g r v = has_then _ _ _ _ end_has (λ u. has_then _ _ _ _ (names_line_has _ _ (codes "aux") v) (λ names. has_then _ _ _ _ (own_lines_has g r names) (λ own. has_give _) refl) refl) refl
 
 containment_has : (own : OwnLinesView) (v : NamesView) → Has (containment own v) (one_of (LineEnd ∷ []))
 unfolding containment
 containment_has own v =
-    has_then _ _ _ _ (region_has _ _ v) (λ first. has_then _ _ _ _ (word_has region_keyword refl) (λ u. has_then _ _ _ _ (region_has _ _ v) (λ second. has_then _ _ _ _ (tries_has _ _ _ _) (λ ts.
-    has_then _ _ _ _ (flagged_word_has contain_keyword _ refl) (λ u. has_then _ _ _ _ end_has (λ u. has_give _) refl) refl) refl) refl) refl) refl
+    has_then _ _ _ _ (region_has _ _ v) (λ first. has_then _ _ _ _ (word_has (codes "region") refl) (λ u. has_then _ _ _ _ (region_has _ _ v) (λ second. has_then _ _ _ _ (tries_has _ _ _ _) (λ ts.
+    has_then _ _ _ _ (flagged_word_has (codes "contain") _ refl) (λ u. has_then _ _ _ _ end_has (λ u. has_give _) refl) refl) refl) refl) refl) refl
 
 distinct_has : (env : Environment) → Has (distinct env) (record { begins = WordBut [] ∷ []; skips = false; goes = Punctuation Comma ∷ [] })
 unfolding distinct more_once once
 distinct_has env = has_then _ _ _ _ (has_take _ (Word []) refl) (λ first. has_while _ _ _ _ _ (λ seen u. has_then _ _ _ _ (has_take _ (Word []) refl) (λ i. has_give _) refl) refl) refl
 
-verb_has : (own : OwnLinesView) (v : NamesView) → Has (verb own v) (one_of (Keyword prove_keyword ∷ Keyword eliminate_keyword ∷ Keyword region_keyword ∷ []))
+verb_has : (own : OwnLinesView) (v : NamesView) → Has (verb own v) (one_of (Keyword (codes "prove") ∷ Keyword (codes "eliminate") ∷ Keyword (codes "region") ∷ []))
 unfolding verb
 verb_has own v =
     has_if _ _ _ _ _ (λ u. has_then _ _ _ _ (has_then _ _ _ _ (relation_has _) (λ x. has_then _ _ _ _ end_has (λ u. has_give _) refl) refl) (λ x. has_give _) refl)
     (has_if _ _ _ _ _ (λ u. has_then _ _ _ _ (has_then _ _ _ _ (distinct_has _) (λ rates. has_then _ _ _ _ end_has (λ u. has_give _) refl) refl) (λ x. has_give _) refl)
-    (has_then _ _ _ _ (word_has region_keyword refl) (λ u. containment_has own v) refl) refl) refl
+    (has_then _ _ _ _ (word_has (codes "region") refl) (λ u. containment_has own v) refl) refl) refl
 
 question_has : Has question (one_of (WordBut [] ∷ []))
 unfolding question
-question_has = has_then _ _ _ _ (new_names_has _ _ _) (λ variables. has_then _ _ _ _ (names_line_has _ _ rates_keyword variables) (λ names. has_then _ _ _ _ (own_lines_has _ _ names) (λ own. has_then _ _ _ _ (verb_has _ names) (λ aim. has_give _) refl) refl) refl) refl
+question_has = has_then _ _ _ _ (new_names_has _ _ _) (λ variables. has_then _ _ _ _ (names_line_has _ _ (codes "rates") variables) (λ names. has_then _ _ _ _ (own_lines_has _ _ names) (λ own. has_then _ _ _ _ (verb_has _ names) (λ aim. has_give _) refl) refl) refl) refl
 
-questions_has : (qs : List BodyView) → Has (more_questions qs) (repeated (Keyword vars_keyword ∷ []) (one_then (one_of (WordBut [] ∷ [])) nothing))
+questions_has : (qs : List BodyView) → Has (more_questions qs) (repeated (Keyword (codes "vars") ∷ []) (one_then (one_of (WordBut [] ∷ [])) nothing))
 unfolding more_questions
 questions_has qs = has_while _ _ _ _ _ (λ qs u. has_then _ _ _ _ question_has (λ q. has_give _) refl) refl
 
-pub file_has : Has file (one_of (Keyword vars_keyword ∷ FileEnd ∷ []))
+pub file_has : Has file (one_of (Keyword (codes "vars") ∷ FileEnd ∷ []))
 unfolding file
 file_has = has_then _ _ _ _ (questions_has []) (λ qs. has_then _ _ _ _ (has_take _ (Bad codes.Unfinished) refl) (λ u. has_give _) refl) refl

@@ -1,6 +1,6 @@
 -- The questions of a file, each in its lines.
 use Rattle.std.proofs.Common.{◌≡◌, ℕ, zero, suc, ◌-◌, ◌≤◌, Bool, true, false, List, [], ◌∷◌, ◌++◌, length, take, drop, Option, refl, sym, ap, ◌∙◌, subst, append_assoc, append-nil, length-append, arith}
-use Rattle.std.specs.Prelude.{bytes_eq, ◌||◌}
+use Rattle.std.specs.Prelude.{bytes_eq, ◌||◌, codes}
 use Rattle.std.proofs.lemmas.Slice.Eq.{bytes_eq-Decides}
 use Rattle.it_forms.specs.declared.types.Code.{Code}
 use Rattle.it_forms.specs.Letters.{Letter, Word, FlaggedLetters, letters, without_flags}
@@ -8,7 +8,6 @@ use Rattle.it_forms.specs.Forms.{Keyword, is_among, AreTurns, Then, Give, Spells
 use Rattle.it_forms.specs.FormTexts.{Says}
 use Rattle.it_forms.specs.Words.{flagged_word, limit_flag}
 use Rattle.it_forms.proofs.FormLanguage.{prefix_moves}
-use Rattle.it_question.specs.Keywords.{vars_keyword}
 use Rattle.it_question.specs.Lines.{LineView, letters_of_lines}
 use Rattle.it_question.specs.QuestionForms.{question, more_questions, file}
 use Rattle.it_question.specs.QuestionLimits.{most_questions}
@@ -23,7 +22,7 @@ use Rattle.it_question.proofs.WholeFileLemmas.{the_end}
 -- the first of these lines are those of a question: the letters after its word `vars` say it
 pub record QuestionAt (lines : List LineView) (q : BodyView) : Type 0 where
   pub said : List Letter
-  pub first : letters_of_lines (take (question_line_count q) lines) ≡ Word vars_keyword ∷ said
+  pub first : letters_of_lines (take (question_line_count q) lines) ≡ Word (codes "vars") ∷ said
   pub says : Spells question q (without_flags said ++ the_end) the_end
   pub long : length (take (question_line_count q) lines) ≡ question_line_count q
   pub whole : AreWhole (take (question_line_count q) lines)
@@ -61,14 +60,14 @@ record FirstQuestion (lines : List LineView) (q : BodyView) (n : FlaggedLetters)
   after : n ≡ without_flags (letters_of_lines (drop (question_line_count q) lines))
   sound : AreSound (drop (question_line_count q) lines)
 
-first_question : (q : BodyView) (l : Letter) (flag : Option Code) (p n : FlaggedLetters) (lines : List LineView) → l ≡ Word vars_keyword → Spells question q p n → (l, flag) ∷ p ≡ without_flags (letters_of_lines lines) → AreSound lines → FirstQuestion lines q n
+first_question : (q : BodyView) (l : Letter) (flag : Option Code) (p n : FlaggedLetters) (lines : List LineView) → l ≡ Word (codes "vars") → Spells question q p n → (l, flag) ∷ p ≡ without_flags (letters_of_lines lines) → AreSound lines → FirstQuestion lines q n
 first_question q l flag p n lines word s e sound =
     let i = question_line_count q in
     let lines_of = question_lines q p n s in
     let moves = prefix_moves question q p n s in
     let prefix : moves.prefix ≡ lines_of.prefix = same_prefix moves.prefix lines_of.prefix n (sym moves.is ∙ lines_of.is) in
-    let c = clean_parts ((Word vars_keyword, flag) ∷ lines_of.prefix) n (letters_of_lines lines) (ap (λ (t : FlaggedLetters). (Word vars_keyword, flag) ∷ t) (sym lines_of.is) ∙ ap (λ (x : Letter). (x, flag) ∷ p) (sym word) ∙ e) in
-    let d = letters_of_first_lines i lines (Word vars_keyword ∷ letters lines_of.prefix) (letters n) (word_before i vars_keyword (letters lines_of.prefix) (omega arith) lines_of.kind) c.all sound in
+    let c = clean_parts ((Word (codes "vars"), flag) ∷ lines_of.prefix) n (letters_of_lines lines) (ap (λ (t : FlaggedLetters). (Word (codes "vars"), flag) ∷ t) (sym lines_of.is) ∙ ap (λ (x : Letter). (x, flag) ∷ p) (sym word) ∙ e) in
+    let d = letters_of_first_lines i lines (Word (codes "vars") ∷ letters lines_of.prefix) (letters n) (word_before i (codes "vars") (letters lines_of.prefix) (omega arith) lines_of.kind) c.all sound in
     let clean : lines_of.prefix ≡ without_flags (letters lines_of.prefix) = cc in
     record {
       at = record {
@@ -83,12 +82,12 @@ first_question q l flag p n lines word s e sound =
     }
 
 -- the questions that turns add
-turns_at : (n : ℕ) (qs ys : List BodyView) (m k : FlaggedLetters) (lines : List LineView) → AreTurns (λ (qs : List BodyView). flagged_word vars_keyword (limit_flag (most_questions - length qs))) (λ qs u. Spells (Then question (λ q. Give (qs ++ q ∷ [])))) n qs ys m k → m ≡ without_flags (letters_of_lines lines) → AreSound lines
+turns_at : (n : ℕ) (qs ys : List BodyView) (m k : FlaggedLetters) (lines : List LineView) → AreTurns (λ (qs : List BodyView). flagged_word (codes "vars") (limit_flag (most_questions - length qs))) (λ qs u. Spells (Then question (λ q. Give (qs ++ q ∷ [])))) n qs ys m k → m ≡ without_flags (letters_of_lines lines) → AreSound lines
     → (new : List BodyView) × (ys ≡ qs ++ new) × AreAt lines new
 unfolding Spells
 turns_at zero qs ys m k lines s e sound = ([], sym s.0 ∙ sym (append-nil qs), tt)
 turns_at (suc n) qs ys m k lines s e sound =
-    let one = first_question s.5.0 s.4.0 _ s.1 s.5.1 lines (the_word vars_keyword s.4.0 s.4.1) s.5.2 (sym s.4.3 ∙ e) sound in
+    let one = first_question s.5.0 s.4.0 _ s.1 s.5.1 lines (the_word (codes "vars") s.4.0 s.4.1) s.5.2 (sym s.4.3 ∙ e) sound in
     let more = turns_at n s.2 ys s.3 k (drop (question_line_count s.5.0) lines) s.6 (sym s.5.3.1 ∙ one.after) one.sound in
     (s.5.0 ∷ more.0, more.1 ∙ ap (λ (t : List BodyView). t ++ more.0) (sym s.5.3.0) ∙ append_assoc qs (s.5.0 ∷ []) more.0, (one.at, more.2))
 

@@ -1,4 +1,5 @@
 -- Where reading stops after two regions, and what it gives.
+use Rattle.std.specs.Prelude.{codes}
 use Rattle.std.proofs.Common.{◌≡◌, ℕ, List, [], Ok, Err, refl, sym, ap, subst, ◌∙◌}
 use Rattle.it_forms.specs.Letters.{Letter}
 use Rattle.it_forms.specs.Forms.{Form, Give, Take, Then}
@@ -10,11 +11,10 @@ use Rattle.it_syntax.specs.declared.rest.Stop.TheVariants as stops
 use Rattle.it_syntax.specs.Gives.{StopsAs}
 use Rattle.it_syntax.specs.NamesViews.{NamesView}
 use Rattle.it_syntax.specs.Scopes.{env_of}
-use Rattle.it_question.specs.Keywords.{region_keyword, contain_keyword}
 use Rattle.it_question.specs.QuestionForms.{region, more_tries, containment}
 use Rattle.it_question.specs.QuestionLimits.{givens_left, rows_left, most_lines}
 use Rattle.it_question.specs.Questions.{OwnLinesView, RegionView, VerbView, Contain}
-use Rattle.it_question.specs.Tables.{contain_flag}
+use Rattle.it_question.specs.Tables.{lines_with, size_flag}
 use Rattle.it_question.specs.TrySets.{auxiliary_env, unnamed_sets}
 
 -- ---- one form after the other
@@ -47,7 +47,7 @@ pub record ReadRegions (own : OwnLinesView) (v : NamesView) (ls a b d : List Let
   pub most_givens_are : most_givens ≡ givens_left most_lines own
   pub most_rows_are : most_rows ≡ rows_left most_lines own
   pub one : read (region most_givens most_rows v) ls ≡ Ok (first, a)
-  pub word : read (Take (word region_keyword)) a ≡ Ok (tt, b)
+  pub word : read (Take (word (codes "region"))) a ≡ Ok (tt, b)
   pub givens : more_givens ≡ givens_left most_givens first.lines
   pub rows : more_rows ≡ rows_left most_rows first.lines
   pub two : read (region more_givens more_rows v) b ≡ Ok (second, d)
@@ -57,10 +57,10 @@ tries_of v first second = more_tries (auxiliary_env v second.names) (env_of firs
 
 -- the line of `contain`
 abbrev pub contain_line : OwnLinesView → RegionView → Form (Unit {0})
-contain_line own first = Then (Take (flagged_word contain_keyword (contain_flag own first))) (λ u. line_end)
+contain_line own first = Then (Take (flagged_word (codes "contain") (size_flag first.names (lines_with own first)))) (λ u. line_end)
 
 abbrev end_of : OwnLinesView → RegionView → RegionView → List (List ℕ) → Form VerbView
-end_of own first second tries = Then (Take (flagged_word contain_keyword (contain_flag own first))) (λ u. Then line_end (λ u. Give (Contain first second tries)))
+end_of own first second tries = Then (Take (flagged_word (codes "contain") (size_flag first.names (lines_with own first)))) (λ u. Then line_end (λ u. Give (Contain first second tries)))
 
 module _ (own : OwnLinesView) (v : NamesView) (ls a b d : List Letter) (first second : RegionView) (i j m n : ℕ) (h : ReadRegions own v ls a b d first second i j m n) where
   up_to_tries : read (containment own v) ls ≡ read (Then (tries_of v first second) (λ ts. end_of own first second ts)) d
@@ -78,7 +78,7 @@ module _ (own : OwnLinesView) (v : NamesView) (ls a b d : List Letter) (first se
 
   module _ (tries : List (List ℕ)) (after : List Letter) (t : read (tries_of v first second) d ≡ Ok (tries, after)) where
     up_to_contain : read (containment own v) ls ≡ read (Then (contain_line own first) (λ u. Give (Contain first second tries))) after
-    up_to_contain = up_to_tries ∙ then_gives (tries_of v first second) _ d after tries t ∙ then_again (Take (flagged_word contain_keyword (contain_flag own first))) (λ u. line_end) (λ u. Give (Contain first second tries)) after
+    up_to_contain = up_to_tries ∙ then_gives (tries_of v first second) _ d after tries t ∙ then_again (Take (flagged_word (codes "contain") (size_flag first.names (lines_with own first)))) (λ u. line_end) (λ u. Give (Contain first second tries)) after
 
     -- at a fault after them
     pub contain_stops : (e : Stop) (rest : List Letter) → StopsAs e rest (read (contain_line own first) after) → StopsAs e rest (read (containment own v) ls)

@@ -1,10 +1,10 @@
 -- The text of a question reads as that question alone.
+use Rattle.std.specs.Prelude.{codes, None}
 use Rattle.std.proofs.Common.{◌≡◌, ℕ, List, [], ◌∷◌, ◌++◌, take, drop, sym, ap, ◌∙◌, subst}
-use Rattle.it_forms.specs.Letters.{Letter, Word, FlaggedLetters, without_flag, without_flags}
+use Rattle.it_forms.specs.Letters.{Letter, Word, FlaggedLetters, without_flags}
 use Rattle.it_forms.specs.Forms.{Spells}
 use Rattle.it_forms.proofs.LetterLemmas.{cleaned_append}
 use Rattle.it_question.specs.Files.{IsFile, TextReadsBack}
-use Rattle.it_question.specs.Keywords.{vars_keyword}
 use Rattle.it_question.specs.Lines.{LineView, split_lines, file_end, letters_of_lines}
 use Rattle.it_question.specs.QuestionForms.{file}
 use Rattle.it_question.specs.Questions.{BodyView, QuestionView}
@@ -23,8 +23,8 @@ first_alone : (q : BodyView) (lines : List LineView) → QuestionAt lines q → 
 unfolding first_of
 first_alone q lines h =
     let t = read_again 1 (take (question_line_count q) lines) h.whole in
-    let spelled : without_flag (Word vars_keyword) ∷ (without_flags h.said ++ the_end) ≡ without_flags (letters_of_lines t.again) =
-    sym (cleaned_append (Word vars_keyword ∷ h.said) (file_end ∷ [])) ∙ ap without_flags (ap (λ (ls : List Letter). ls ++ file_end ∷ []) (sym h.first) ∙ sym t.same) in
+    let spelled : (Word (codes "vars"), None) ∷ (without_flags h.said ++ the_end) ≡ without_flags (letters_of_lines t.again) =
+    sym (cleaned_append (Word (codes "vars") ∷ h.said) (file_end ∷ [])) ∙ ap without_flags (ap (λ (ls : List Letter). ls ++ file_end ∷ []) (sym h.first) ∙ sym t.same) in
     let says = subst (λ (m : FlaggedLetters). Spells file (q ∷ []) m []) spelled (alone q (without_flags h.said) h.says) in
     subst (λ (text : List ℕ). IsFile (first_of q lines).text (record { body = q; text = text } ∷ [])) (ap (λ (i : ℕ). text_of_lines (take i t.again)) (sym h.long) ∙ t.text) (says_file file with_texts (first_of q lines).text t.again (q ∷ []) t.cut says)
 

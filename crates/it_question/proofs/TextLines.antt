@@ -4,7 +4,7 @@ use Rattle.it_syntax.specs.declared.types.Misspelling.{Misspelling}
 use Rattle.it_forms.specs.Letters.{Letter, End}
 use Rattle.it_syntax.specs.Spans.{letters_until, last_letter}
 use Rattle.it_question.specs.Lines.{LineView, AreLines, split_lines, file_end, end_line, line_letters, letters_of_lines}
-use Rattle.it_question.specs.Texts.{trimmed_line, text_of_lines}
+use Rattle.it_question.specs.Texts.{text_of_lines, without_trailing, without_leading}
 use Rattle.it_question.proofs.Blanks.{trimmed_once}
 use Rattle.it_question.proofs.PlainLines.{spelled_plain, plain_first}
 use Rattle.it_question.proofs.TrimmedLines.{IsWhole, reads_again}
@@ -26,11 +26,11 @@ read_again n [] h = record { again = end_line n ∷ []; cut = refl; same = refl;
 read_again n (l ∷ lines) h =
     let a = reads_again n l h.0 in
     let more = read_again (n + 1) lines h.1 in
-    let plain = spelled_plain 0 (trimmed_line l.text) a.line.tokens a.spelled in
+    let plain = spelled_plain 0 (without_trailing (without_leading l.text)) a.line.tokens a.spelled in
     let letters : line_letters a.line ≡ line_letters l = a.letters ∙ sym (whole_letters l h.0) in
     record {
       again = a.line ∷ more.again;
-      cut = subst (λ (split : List (List ℕ)). AreLines n split (a.line ∷ more.again)) (sym (plain_first (trimmed_line l.text) (text_of_lines lines) plain)) (inr (a.line, more.again, refl, a.is, a.filled, more.cut));
+      cut = subst (λ (split : List (List ℕ)). AreLines n split (a.line ∷ more.again)) (sym (plain_first (without_trailing (without_leading l.text)) (text_of_lines lines) plain)) (inr (a.line, more.again, refl, a.is, a.filled, more.cut));
       same = ap (λ (q : List Letter). q ++ letters_of_lines more.again) letters ∙ ap (λ (q : List Letter). line_letters l ++ q) more.same ∙ sym (append_assoc (line_letters l) (letters_of_lines lines) (file_end ∷ []));
-      text = ap (λ (t : List ℕ). trimmed_line t ++ 10 ∷ text_of_lines (take (length lines) more.again)) a.text ∙ ap (λ (t : List ℕ). t ++ 10 ∷ text_of_lines (take (length lines) more.again)) (trimmed_once l.text) ∙ ap (λ (t : List ℕ). trimmed_line l.text ++ 10 ∷ t) more.text;
+      text = ap (λ (t : List ℕ). without_trailing (without_leading t) ++ 10 ∷ text_of_lines (take (length lines) more.again)) a.text ∙ ap (λ (t : List ℕ). t ++ 10 ∷ text_of_lines (take (length lines) more.again)) (trimmed_once l.text) ∙ ap (λ (t : List ℕ). without_trailing (without_leading l.text) ++ 10 ∷ t) more.text;
     }

@@ -1,4 +1,5 @@
 -- A trimmed line has the tokens of the line, in their new places.
+use Rattle.std.specs.Prelude.{◌==◌}
 use Rattle.std.proofs.Common.{◌≡◌, ℕ, ◌+◌, ◌-◌, Bool, false, List, [], ◌∷◌, ◌++◌, length, take, drop, None, refl, sym, ap, ◌∙◌, subst, length-append, append_assoc, arith}
 use Rattle.std.proofs.lemmas.List.{take_at, drop_at}
 use Rattle.it_forms.specs.declared.types.Symbol.{Symbol}
@@ -11,11 +12,11 @@ use Rattle.it_forms.specs.SymbolTexts.{symbol_text}
 use Rattle.it_syntax.specs.Misspellings.{SpellsUntil}
 use Rattle.it_syntax.specs.Spans.{letter_of, letters_until}
 use Rattle.std.specs.Char.{is_ascii_digit}
-use Rattle.it_syntax.specs.Spelling.{is_word_byte, is_space, is_greater, AreAll, Stops, IsText, EndsToken, Cut}
+use Rattle.it_syntax.specs.Spelling.{is_word_byte, is_space, AreAll, Stops, IsText, EndsToken, Cut}
 use Rattle.it_syntax.proofs.TokenLemmas.{not_space}
 use Rattle.it_syntax.proofs.RunLemmas.{value_digits}
-use Rattle.it_question.specs.Lines.{LineView, IsFilled, IsLine, HasTokens, line_letters}
-use Rattle.it_question.specs.Texts.{without_leading, without_trailing, trimmed_line}
+use Rattle.it_question.specs.Lines.{LineView, IsFilled, IsLine, line_letters}
+use Rattle.it_question.specs.Texts.{without_leading, without_trailing}
 use Rattle.it_question.proofs.Blanks.{AreSolid, leading_after, trailing_stops, trailing_blank, solid_kept, some_kept}
 use Rattle.it_question.proofs.PlainLines.{spelled_plain, plain_same}
 
@@ -74,7 +75,7 @@ text_bytes (kinds.Symbol s) text h = subst HasBytes (sym h) (symbol_bytes s)
 ends_trimmed : (k : TokenKind) (rest : List ℕ) → EndsToken k rest → EndsToken k (without_trailing rest)
 ends_trimmed kinds.Word rest h = trailing_stops is_word_byte rest h
 ends_trimmed (kinds.Number n) rest h = trailing_stops is_ascii_digit rest h
-ends_trimmed (kinds.Symbol Minus) rest h = trailing_stops is_greater rest h
+ends_trimmed (kinds.Symbol Minus) rest h = trailing_stops (λ b. 62 == b) rest h
 ends_trimmed (kinds.Symbol LeftParen) rest h = tt
 ends_trimmed (kinds.Symbol RightParen) rest h = tt
 ends_trimmed (kinds.Symbol Comma) rest h = tt
@@ -168,13 +169,13 @@ pub record IsWhole (l : LineView) : Type 0 where
 -- the line that a trimmed line is read as
 pub record ReadsAgain (n : ℕ) (l : LineView) : Type 0 where
   pub line : LineView
-  pub is : IsLine n (trimmed_line l.text) line
-  pub spelled : SpellsUntil 0 (trimmed_line l.text) line.tokens None
-  pub filled : HasTokens line
-  pub text : line.text ≡ trimmed_line l.text
+  pub is : IsLine n (without_trailing (without_leading l.text)) line
+  pub spelled : SpellsUntil 0 (without_trailing (without_leading l.text)) line.tokens None
+  pub filled : IsFilled line.tokens line.misspelling
+  pub text : line.text ≡ without_trailing (without_leading l.text)
   pub letters : line_letters line ≡ letters_until l.text l.tokens End
 
-from_first : (text : List ℕ) (ts : List Token) → SpellsUntil 0 text ts None → IsFilled ts None → Moved 0 (trimmed_line text) text ts
+from_first : (text : List ℕ) (ts : List Token) → SpellsUntil 0 text ts None → IsFilled ts None → Moved 0 (without_trailing (without_leading text)) text ts
 from_first text [] h f = absurd f
 from_first text (t ∷ ts) h f =
     let c = h.1 in
@@ -189,10 +190,10 @@ pub reads_again : (n : ℕ) (l : LineView) → IsWhole l → ReadsAgain n l
 reads_again n l h =
     let m = from_first l.text l.tokens h.spelled h.filled in
     record {
-      line = record { number = n; text = trimmed_line l.text; tokens = m.tokens; misspelling = None };
-      is = record { number = refl; text = sym (plain_same (trimmed_line l.text) (spelled_plain 0 (trimmed_line l.text) m.tokens m.spelled)); spelled = m.spelled };
+      line = record { number = n; text = without_trailing (without_leading l.text); tokens = m.tokens; misspelling = None };
+      is = record { number = refl; text = sym (plain_same (without_trailing (without_leading l.text)) (spelled_plain 0 (without_trailing (without_leading l.text)) m.tokens m.spelled)); spelled = m.spelled };
       spelled = m.spelled;
       filled = m.filled h.filled;
       text = refl;
-      letters = m.same (trimmed_line l.text) [] refl refl;
+      letters = m.same (without_trailing (without_leading l.text)) [] refl refl;
     }

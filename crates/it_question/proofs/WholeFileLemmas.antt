@@ -1,9 +1,10 @@
 -- A file says one thing in a form or has one first fault, if the next letter tells what goes on, and whole lines and the file's end are written; how the file's letters are read tells which.
+use Rattle.std.specs.Prelude.{None, flat_map}
 use Rattle.std.proofs.Common.{◌≡◌, ℕ, zero, suc, ◌-◌, ◌<◌, ◌≤◌, ◌^◌, List, [], ◌∷◌, ◌++◌, length, get_or, Some, Ok, Err, refl, sym, ap, ◌∙◌, subst, inl, inr, ◌⊎◌, append_assoc, length-append, arith}
 use Rattle.std.proofs.lemmas.List.{append-nil}
 use Rattle.std.proofs.lemmas.Option.{slice_get-get_or}
 use Rattle.it_forms.specs.declared.types.Code.{Code}
-use Rattle.it_forms.specs.Letters.{Letter, End, Bad, FlaggedLetters, without_flag, letters, without_flags}
+use Rattle.it_forms.specs.Letters.{Letter, End, Bad, FlaggedLetters, letters, without_flags}
 use Rattle.it_forms.specs.FirstFault.{FirstFault}
 use Rattle.it_forms.specs.Forms.{Form, Spells}
 use Rattle.it_forms.specs.FormReading.{read}
@@ -21,7 +22,7 @@ use Rattle.it_syntax.specs.declared.rest.Stop.TheVariants as stops
 use Rattle.it_syntax.specs.Gives.{StopsAs}
 use Rattle.it_question.specs.declared.types.FileFault.{FileFault}
 use Rattle.it_question.specs.declared.types.FileFault.TheVariants.{Memory, Fault}
-use Rattle.it_question.specs.Lines.{LineView, AreLinesOf, split_lines, file_end, letters_of_lines, places_of_lines}
+use Rattle.it_question.specs.Lines.{LineView, AreLinesOf, split_lines, file_end, letters_of_lines, line_places}
 use Rattle.it_question.specs.Stops.{IsLeft, IfFault, IsStopAt}
 use Rattle.it_question.specs.WholeFiles.{SaysWhole, place_of, WholeFaultAt}
 use Rattle.it_question.specs.WholeForms.{SaysInForm, FormFaultAt, IsFirstFormFault}
@@ -33,7 +34,7 @@ use Rattle.it_question.proofs.Puts.{HasLines, Puts}
 
 -- the file's end, as the last letter
 abbrev pub the_end : FlaggedLetters
-the_end = without_flag file_end ∷ []
+the_end = (file_end, None) ∷ []
 
 abbrev pub EndsFile : {A : Type 0} → Form A → Type 0
 EndsFile {A} f = (y : A) (m : FlaggedLetters) → Spells f y m [] → (n : ℕ) × Puts (HasLines n) m the_end
@@ -120,9 +121,9 @@ module _ {A : Type 0} (f : Form A) (o : Outline) (h : Has f o) (ends : EndsFile 
   fault_there bytes lines c (l ∷ r) cut e =
       let w = first_fault f o h (letters_of_lines lines) c (l ∷ r) e in
       let i = length (letters_of_lines lines) - length (l ∷ r) in
-      let within : i < length (places_of_lines lines) = omega (arith, places_length lines, ap length w.parts, length-append w.prefix (l ∷ r)) in
-      let place : ℕ × ℕ = get_or (places_of_lines lines) i (0, 0) in
-      (place.0, place.1, c, record { lines = lines; cut = cut; left = l ∷ r; first = w; place = slice_get-get_or (places_of_lines lines) i (0, 0) within })
+      let within : i < length (flat_map line_places lines) = omega (arith, places_length lines, ap length w.parts, length-append w.prefix (l ∷ r)) in
+      let place : ℕ × ℕ = get_or (flat_map line_places lines) i (0, 0) in
+      (place.0, place.1, c, record { lines = lines; cut = cut; left = l ∷ r; first = w; place = slice_get-get_or (flat_map line_places lines) i (0, 0) within })
 
   -- ---- one reading, and one of the two; `value` tells what is made of what the form says in these lines
 

@@ -1,10 +1,9 @@
 -- What a file asks, and the first fault of one that has no reading.
-use Rattle.std.specs.Prelude.{◌≡◌, ℕ, List, [], ◌∷◌, ◌++◌, ◌⊎◌}
+use Rattle.std.specs.Prelude.{◌≡◌, ℕ, List, [], ◌∷◌, ◌++◌, ◌⊎◌, codes, None}
 use Rattle.it_forms.specs.declared.types.Code.{Code}
 use Rattle.it_forms.specs.Forms.{Spells}
-use Rattle.it_forms.specs.Letters.{Word, FlaggedLetters, without_flag}
+use Rattle.it_forms.specs.Letters.{Word, FlaggedLetters}
 use Rattle.it_question.specs.declared.types.FileFault.{FileFault}
-use Rattle.it_question.specs.Keywords.{vars_keyword}
 use Rattle.it_question.specs.Lines.{file_end}
 use Rattle.it_question.specs.Questions.{BodyView, QuestionView}
 use Rattle.it_question.specs.QuestionForms.{question, file}
@@ -46,4 +45,4 @@ TextReadsBack = (bytes : List ℕ) (qs rs : List QuestionView) (q : QuestionView
 -- What says a question says that question alone, between `vars` and the file's end.
 abbrev pub QuestionStandsAlone : Type 0
 QuestionStandsAlone = (q : BodyView) (m k : FlaggedLetters) → Spells question q m k
-    → (prefix : FlaggedLetters) × ((m ≡ prefix ++ k) × Spells file (q ∷ []) (without_flag (Word vars_keyword) ∷ (prefix ++ without_flag file_end ∷ [])) [])
+    → (prefix : FlaggedLetters) × ((m ≡ prefix ++ k) × Spells file (q ∷ []) ((Word (codes "vars"), None) ∷ (prefix ++ (file_end, None) ∷ [])) [])

@@ -2,7 +2,6 @@ pub mod Lines
 pub mod Cursors
 pub mod Bodies
 pub mod Questions
-pub mod Keywords
 pub mod Tables
 pub mod NewNames
 pub mod Sorts
@@ -15,6 +14,5 @@ pub mod Stops
 pub mod ReaderSteps
 pub mod QuestionLimits
 pub mod TrySets
-pub mod RateNames
 pub mod QuestionForms
 pub mod WholeForms

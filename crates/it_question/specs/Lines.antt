@@ -2,7 +2,7 @@
 -- line feed; a last piece without one is a line if it has a byte. A carriage return directly before the line feed or the file's
 -- end counts for nothing, `#` begins a comment up to the line's end, and a tab is read as a space. A line without tokens is
 -- passed over.
-use Rattle.std.specs.Prelude.{◌≡◌, ℕ, ◌+◌, ◌==◌, List, [], ◌∷◌, ◌++◌, map, Option, Some, None, if◌then◌else◌, ◌⊎◌}
+use Rattle.std.specs.Prelude.{◌≡◌, ℕ, ◌+◌, ◌==◌, List, [], ◌∷◌, ◌++◌, map, flat_map, Option, Some, None, if◌then◌else◌, ◌⊎◌}
 use Rattle.it_syntax.specs.declared.types.Token.{Token}
 use Rattle.it_syntax.specs.declared.types.Misspelling.{Misspelling}
 use Rattle.it_forms.specs.Letters.{Letter, Bad}
@@ -66,16 +66,12 @@ pub record IsLine (n : ℕ) (bytes : List ℕ) (l : LineView) : Type 0 where
   pub text : l.text ≡ plain_text bytes
   pub spelled : SpellsUntil 0 l.text l.tokens l.misspelling
 
--- something stands in it: a token or a misspelling
-abbrev pub HasTokens : LineView → Type 0
-HasTokens l = IsFilled l.tokens l.misspelling
-
 -- The lines from number n on that have tokens, and the file's end.
 abbrev pub AreLines : ℕ → List (List ℕ) → List LineView → Type 0
 AreLines n [] lines = lines ≡ end_line n ∷ []
 AreLines n (bytes ∷ more) lines =
     (SpellsUntil 0 (plain_text bytes) [] None × AreLines (n + 1) more lines)
-    ⊎ ((l : LineView) × (rest : List LineView) × (lines ≡ l ∷ rest) × IsLine n bytes l × HasTokens l × AreLines (n + 1) more rest)
+    ⊎ ((l : LineView) × (rest : List LineView) × (lines ≡ l ∷ rest) × IsLine n bytes l × IsFilled l.tokens l.misspelling × AreLines (n + 1) more rest)
 
 -- these are the lines of a file that have tokens, and its end
 abbrev pub AreLinesOf : List ℕ → List LineView → Type 0
@@ -87,14 +83,8 @@ line_letters l = letters_until l.text l.tokens (last_letter l.misspelling)
 
 -- the letters of lines, one line after the other
 abbrev pub letters_of_lines : List LineView → List Letter
-letters_of_lines [] = []
-letters_of_lines (l ∷ ls) = line_letters l ++ letters_of_lines ls
+letters_of_lines ls = flat_map line_letters ls
 
 -- where each letter stands: its line, and its column counted from 1
 abbrev pub line_places : LineView → List (ℕ × ℕ)
 line_places l = map (λ (t : Token). (l.number, t.start + 1)) l.tokens ++ ((l.number, column_after l.tokens l.misspelling) ∷ [])
-
--- the places of the letters of lines, one line after the other
-abbrev pub places_of_lines : List LineView → List (ℕ × ℕ)
-places_of_lines [] = []
-places_of_lines (l ∷ ls) = line_places l ++ places_of_lines ls

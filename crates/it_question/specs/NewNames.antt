@@ -1,7 +1,9 @@
--- The names that a question declares. `Word` stands against H or I in the place of a name, `Twice` against a new name that is
--- taken, `Many` against the first letter past a limit.
-use Rattle.std.specs.Prelude.{ℕ, zero, suc, Bool, true, false, ◌||◌, List, [], ◌∷◌, ◌++◌, is_some, Option, Some, None}
+-- The names that a question declares, and what is said against a name. `Word` stands against H or I in the place of a name,
+-- `Twice` against a new name that is taken and against one that was named before, `Name` against one that is unknown, `Many`
+-- against the first letter past a limit.
+use Rattle.std.specs.Prelude.{ℕ, Bool, true, false, ◌||◌, List, [], ◌∷◌, ◌++◌, is_some, Option, Some, None, if◌then◌else◌}
 use Rattle.it_forms.specs.declared.types.Code.{Code}
+use Rattle.it_forms.specs.Words.{limit_flag}
 use Rattle.it_syntax.specs.NamesViews.{NamesView, index_of}
 use Rattle.it_forms.specs.declared.types.Code.TheVariants as codes
 
@@ -27,5 +29,10 @@ is_taken v w = is_some (index_of v.variables w) || is_some (index_of v.rates w)
 abbrev pub new_flag : Bool → Bool → ℕ → Option Code
 new_flag true taken n = Some codes.Word
 new_flag false true n = Some codes.Twice
-new_flag false false zero = Some codes.Many
-new_flag false false (suc n) = None
+new_flag false false n = limit_flag n
+
+-- against a name by its number: it may be no name, be unknown, or have been named before
+abbrev pub once_flag : Bool → (ℕ → Bool) → Option ℕ → Option Code
+once_flag true named o = Some codes.Word
+once_flag false named None = Some codes.Name
+once_flag false named (Some i) = if named i then Some codes.Twice else None

@@ -1,22 +1,21 @@
 -- The grammar of question files. `Word` stands against H or I in the place of a name, `Twice` against a name that is taken
 -- or was named before, `Name` against one that is unknown, `Many` against the first letter past a limit, `Large` against the
 -- word of a verb whose question's table is too large.
-use Rattle.std.specs.Prelude.{ℕ, ◌+◌, ◌-◌, Bool, true, false, List, [], ◌∷◌, ◌++◌, length, Option, if◌then◌else◌}
+use Rattle.std.specs.Prelude.{ℕ, ◌+◌, ◌-◌, ◌==◌, Bool, true, false, List, [], ◌∷◌, ◌++◌, length, is_some, Option, Some, None, if◌then◌else◌, codes, unwrap_or, map}
+use Rattle.std.specs.List.{list_all, list_any}
 use Rattle.it_forms.specs.declared.types.Symbol.TheVariants.{Comma, Semicolon, Assign}
 use Rattle.it_forms.specs.declared.types.Code.{Code}
+use Rattle.it_forms.specs.declared.types.Code.TheVariants as codes
 use Rattle.it_forms.specs.Letters.{Letter}
-use Rattle.it_syntax.specs.NameFlags.{is_measure, index_or}
-use Rattle.it_question.specs.RateNames.{once_flag, rates_env}
-use Rattle.it_question.specs.TrySets.{Sets, unnamed_sets, with_set, is_whole, sets_view, part_flag, try_end_flag, try_flag, auxiliary_env}
+use Rattle.it_syntax.specs.MeasureWords.{is_measure}
+use Rattle.it_question.specs.TrySets.{Sets, unnamed_sets, is_named, with_set, auxiliary_env}
 use Rattle.it_question.specs.QuestionLimits.{auxiliaries_left, givens_left, rows_left, most_questions, most_variables, most_rates, most_lines}
 use Rattle.it_syntax.specs.LineForms.{names, relation, given}
-use Rattle.it_syntax.specs.NamesViews.{NamesView}
+use Rattle.it_syntax.specs.NamesViews.{NamesView, index_of}
 use Rattle.it_syntax.specs.Scopes.{env_of, scope_of, Environment}
-use Rattle.it_question.specs.Keywords.{vars_keyword, rates_keyword, given_keyword, row_keyword, region_keyword, aux_keyword, try_keyword, prove_keyword, eliminate_keyword, contain_keyword}
 use Rattle.it_question.specs.Questions.{OwnLinesView, RegionView, VerbView, BodyView, Prove, Eliminate, Contain, no_lines}
-use Rattle.it_question.specs.Bodies.{with_given_line, with_row_line}
-use Rattle.it_question.specs.NewNames.{NameSortView, Variable, Rate, with_name, no_names, is_taken, new_flag}
-use Rattle.it_question.specs.Tables.{givens_alone, size_flag, contain_flag}
+use Rattle.it_question.specs.NewNames.{NameSortView, Variable, Rate, with_name, no_names, is_taken, new_flag, once_flag}
+use Rattle.it_question.specs.Tables.{givens_alone, lines_with, size_flag}
 use Rattle.it_forms.specs.Forms.{Kind, Keyword, LineEnd, is_of, Terminal, Form, Give, Take, If, While}
 use Rattle.it_forms.specs.Words.{◌>>=◌, ◌>>◌, word, flagged_word, any_word, symbol, each_after, each_flagged, zero_alone, line_end, to_end, file_end, limit_flag}
 
@@ -53,22 +52,18 @@ names_line sort most keyword v = If (word keyword) (λ u. new_names sort most v)
 unfoldable pub own_line : NamesView → OwnLinesView → Bool → Form OwnLinesView
 own_line v own true = do
   x ← to_end (given (scope_of v false))
-  Give (with_given_line own x)
+  Give (record own { givens = own.givens ++ x ∷ [] })
 own_line v own false = do
   x ← to_end (relation (scope_of v true))
-  Give (with_row_line own x)
+  Give (record own { rows = own.rows ++ x ∷ [] })
 
 -- `given` and `row`
 abbrev pub own_words : List Kind
-own_words = Keyword given_keyword ∷ Keyword row_keyword ∷ []
-
--- how many more lines of a kind are allowed
-abbrev pub lines_left : ℕ → ℕ → OwnLinesView → Bool → ℕ
-lines_left g r own is_given = if is_given then givens_left g own else rows_left r own
+own_words = Keyword (codes "given") ∷ Keyword (codes "row") ∷ []
 
 -- `given` or `row`, where g and r of them are allowed
 abbrev pub own_keyword : ℕ → ℕ → OwnLinesView → Letter → Option Code × Bool
-own_keyword g r own l = let is_given = is_of (Keyword given_keyword) l in (limit_flag (lines_left g r own is_given), is_given)
+own_keyword g r own l = let is_given = is_of (Keyword (codes "given")) l in (limit_flag (if is_given then givens_left g own else rows_left r own), is_given)
 
 -- own lines in any order, after others
 unfoldable pub more_own_lines : ℕ → ℕ → NamesView → OwnLinesView → Form OwnLinesView
@@ -82,7 +77,7 @@ own_lines g r v = more_own_lines g r v no_lines
 
 -- a rate that isn't among these
 unfoldable pub once : Environment → List ℕ → Form ℕ
-once env seen = Take (any_word (λ w. (once_flag (is_measure w) seen (env w), index_or (env w))))
+once env seen = Take (any_word (λ w. (once_flag (is_measure w) (λ i. list_any (λ j. j == i) seen) (env w), unwrap_or (env w) 0)))
 
 -- further rates, each after a comma
 unfoldable pub more_once : Environment → List ℕ → Form (List ℕ)
@@ -98,7 +93,7 @@ distinct env = do
 
 -- an auxiliary that has no set yet
 unfoldable pub auxiliary : Environment → Sets → Form ℕ
-auxiliary aux sets = Take (any_word (λ w. (part_flag (is_measure w) sets (aux w), index_or (aux w))))
+auxiliary aux sets = Take (any_word (λ w. (once_flag (is_measure w) (is_named sets) (aux w), unwrap_or (aux w) 0)))
 
 -- `0`, or names
 unfoldable pub set : Environment → Form ℕ
@@ -118,7 +113,7 @@ more_parts aux env sets = each_after Semicolon (part aux env) (λ sets more. mor
 
 -- the line's end, where each auxiliary must have its set
 abbrev pub try_end : Sets → Terminal (Unit {0})
-try_end sets = record { kinds = LineEnd ∷ []; says = λ l. (try_end_flag (is_whole sets), tt) }
+try_end sets = record { kinds = LineEnd ∷ []; says = λ l. (if list_all is_some sets then None else Some codes.Word, tt) }
 
 -- after `try`
 unfoldable pub try_line : Environment → Environment → Sets → Form (List ℕ)
@@ -126,11 +121,13 @@ try_line aux env sets = do
   first ← part aux env sets
   all ← more_parts aux env first
   Take (try_end all)
-  Give (sets_view all)
+  Give (map (λ s. unwrap_or s 0) all)
 
 -- `try` lines, after others, of which a region without auxiliaries has none
 unfoldable pub more_tries : Environment → Environment → Sets → List (List ℕ) → Form (List (List ℕ))
-more_tries aux env sets ts = each_flagged try_keyword (λ ts. try_flag (is_whole sets) (most_lines - length ts)) (λ ts. try_line aux env sets) (λ ts t. ts ++ t ∷ []) ts
+more_tries aux env sets ts =
+    each_flagged (codes "try") (λ ts. if list_all is_some sets then Some codes.Word else limit_flag (most_lines - length ts))
+    (λ ts. try_line aux env sets) (λ ts t. ts ++ t ∷ []) ts
 
 -- ---- regions
 
@@ -138,7 +135,7 @@ more_tries aux env sets ts = each_flagged try_keyword (λ ts. try_flag (is_whole
 unfoldable pub region : ℕ → ℕ → NamesView → Form RegionView
 region g r v = do
   line_end
-  names ← names_line Variable (length v.variables + auxiliaries_left v) aux_keyword v
+  names ← names_line Variable (length v.variables + auxiliaries_left v) (codes "aux") v
   own ← own_lines g r names
   Give (record { names = names; auxiliaries = length names.variables - length v.variables; lines = own })
 
@@ -146,10 +143,10 @@ region g r v = do
 unfoldable pub containment : OwnLinesView → NamesView → Form VerbView
 containment own v = do
   first ← region (givens_left most_lines own) (rows_left most_lines own) v
-  Take (word region_keyword)
+  Take (word (codes "region"))
   second ← region (givens_left (givens_left most_lines own) first.lines) (rows_left (rows_left most_lines own) first.lines) v
   tries ← more_tries (auxiliary_env v second.names) (env_of first.names) (unnamed_sets second.auxiliaries) []
-  Take (flagged_word contain_keyword (contain_flag own first))
+  Take (flagged_word (codes "contain") (size_flag first.names (lines_with own first)))
   line_end
   Give (Contain first second tries)
 
@@ -158,26 +155,26 @@ containment own v = do
 -- `prove`, `eliminate` or regions, in a question with these own lines
 unfoldable pub verb : OwnLinesView → NamesView → Form VerbView
 verb own v =
-    If (flagged_word prove_keyword (size_flag v own)) (λ u. do
+    If (flagged_word (codes "prove") (size_flag v own)) (λ u. do
       x ← to_end (relation (scope_of v true))
       Give (Prove x))
-    (If (flagged_word eliminate_keyword (size_flag v (givens_alone own))) (λ u. do
-      rates ← to_end (distinct (rates_env v))
+    (If (flagged_word (codes "eliminate") (size_flag v (givens_alone own))) (λ u. do
+      rates ← to_end (distinct (index_of v.rates))
       Give (Eliminate rates))
-    (Take (word region_keyword) >> containment own v))
+    (Take (word (codes "region")) >> containment own v))
 
 -- after `vars`
 unfoldable pub question : Form BodyView
 question = do
   variables ← new_names Variable most_variables no_names
-  names ← names_line Rate most_rates rates_keyword variables
+  names ← names_line Rate most_rates (codes "rates") variables
   own ← own_lines most_lines most_lines names
   aim ← verb own names
   Give (record { names = names; lines = own; verb = aim })
 
 -- questions, after others
 unfoldable pub more_questions : List BodyView → Form (List BodyView)
-more_questions qs = each_flagged vars_keyword (λ qs. limit_flag (most_questions - length qs)) (λ qs. question) (λ qs q. qs ++ q ∷ []) qs
+more_questions qs = each_flagged (codes "vars") (λ qs. limit_flag (most_questions - length qs)) (λ qs. question) (λ qs q. qs ++ q ∷ []) qs
 
 -- questions up to the file's end
 unfoldable pub file : Form (List BodyView)

@@ -1,11 +1,10 @@
 -- What the readers' own functions say of their steps. No public clause cites it.
-use Rattle.std.specs.Prelude.{◌≡◌, ℕ, ◌≤◌, List, ◌++◌, length, ◌==◌, Bool, not, [], ◌∷◌, Option, Some, None, ◌⊎◌, if◌then◌else◌}
+use Rattle.std.specs.Prelude.{◌≡◌, ℕ, ◌≤◌, List, ◌++◌, length, ◌==◌, Bool, not, [], ◌∷◌, Option, Some, None, ◌⊎◌, if◌then◌else◌, codes}
 use Rattle.it_forms.specs.declared.types.Code.{Code}
 use Rattle.it_forms.specs.declared.types.Code.TheVariants as codes
 use Rattle.it_question.specs.Questions.{OwnLinesView, VerbView, Prove, Eliminate, Contain}
 use Rattle.it_syntax.specs.Misspellings.{SpellsUntil}
-use Rattle.it_question.specs.Lines.{plain_text, LineView, IsLine, HasTokens}
-use Rattle.it_question.specs.Keywords.{given_keyword}
+use Rattle.it_question.specs.Lines.{plain_text, LineView, IsLine, IsFilled}
 use Rattle.it_question.specs.QuestionForms.{own_words}
 use Rattle.it_forms.specs.Forms.{Keyword, is_of, Terminal}
 
@@ -27,7 +26,7 @@ is_other stop b = not (b == stop)
 abbrev pub IsLineAdded : ℕ → List ℕ → List LineView → List LineView → Type 0
 IsLineAdded n bytes old new =
     (SpellsUntil 0 (plain_text bytes) [] None × (new ≡ old))
-    ⊎ ((l : LineView) × (new ≡ old ++ l ∷ []) × IsLine n bytes l × HasTokens l)
+    ⊎ ((l : LineView) × (new ≡ old ++ l ∷ []) × IsLine n bytes l × IsFilled l.tokens l.misspelling)
 
 -- against the word of a verb whose question's table is too large
 abbrev pub flag_if_large : Bool → Option Code
@@ -35,4 +34,4 @@ flag_if_large large = if large then Some codes.Large else None
 
 -- the word of an own line, and whether it is `given`
 abbrev pub own_word : Terminal Bool
-own_word = record { kinds = own_words; says = λ l. (None, is_of (Keyword given_keyword) l) }
+own_word = record { kinds = own_words; says = λ l. (None, is_of (Keyword (codes "given")) l) }

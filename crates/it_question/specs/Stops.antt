@@ -1,17 +1,17 @@
 -- What the code tells where reading stopped. No public clause cites it.
-use Rattle.std.specs.Prelude.{◌≡◌, ℕ, ◌-◌, ◌<◌, ◌≤◌, List, length, Option, Some}
+use Rattle.std.specs.Prelude.{◌≡◌, ℕ, ◌-◌, ◌<◌, ◌≤◌, List, length, Option, Some, flat_map}
 use Rattle.it_forms.specs.declared.types.Code.{Code}
 use Rattle.it_syntax.specs.declared.rest.Stop.{Stop}
 use Rattle.it_syntax.specs.declared.rest.Stop.TheVariants as stops
 use Rattle.it_forms.specs.Letters.{Letter}
 use Rattle.it_question.specs.declared.types.FileFault.{FileFault}
 use Rattle.it_question.specs.declared.types.FileFault.TheVariants.{Memory, Fault}
-use Rattle.it_question.specs.Lines.{LineView, letters_of_lines, places_of_lines}
+use Rattle.it_question.specs.Lines.{LineView, letters_of_lines, line_places}
 
 -- no more letters are left than there are, and at least one
 pub record IsLeft (lines : List LineView) (left : List Letter) : Type 0 where
   pub within : length left ≤ length (letters_of_lines lines)
-  pub some : length (letters_of_lines lines) - length left < length (places_of_lines lines)
+  pub some : length (letters_of_lines lines) - length left < length (flat_map line_places lines)
 
 -- p is so, unless memory ran out
 abbrev pub IfFault : Stop → Type 0 → Type 0

@@ -62,10 +62,6 @@ most_entries = 4000000
 unfoldable pub size_flag : NamesView → OwnLinesView → Option Code
 size_flag v own = if nat_lt most_entries (table_size (problem_of_lines v own)) then Some codes.Large else None
 
--- the same against `contain`, in a question with these own lines about this first region
-abbrev pub contain_flag : OwnLinesView → RegionView → Option Code
-contain_flag own first = size_flag first.names (lines_with own first)
-
 -- the table of the problem that a question poses isn't too large
 abbrev pub HasSmallTable : BodyView → Type 0
 HasSmallTable q = table_size (problem_of_lines (problem_names q) (problem_lines q)) ≤ most_entries

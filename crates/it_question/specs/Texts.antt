@@ -1,5 +1,5 @@
 -- The text of a question: its lines from `vars` to the verb, each without blanks at both ends and with a line feed after it.
-use Rattle.std.specs.Prelude.{ℕ, ◌+◌, ◌==◌, List, [], ◌∷◌, ◌++◌, length, take, drop, if◌then◌else◌}
+use Rattle.std.specs.Prelude.{ℕ, ◌+◌, ◌==◌, List, [], ◌∷◌, ◌++◌, length, take, drop, if◌then◌else◌, min}
 use Rattle.it_question.specs.Lines.{LineView}
 use Rattle.it_question.specs.Questions.{OwnLinesView, RegionView, VerbView, Prove, Eliminate, Contain, BodyView, QuestionView}
 
@@ -18,33 +18,20 @@ abbrev pub without_trailing : List ℕ → List ℕ
 without_trailing [] = []
 without_trailing (b ∷ bytes) = unless_blank b (without_trailing bytes)
 
--- a line without the spaces at both ends
-abbrev pub trimmed_line : List ℕ → List ℕ
-trimmed_line line = without_trailing (without_leading line)
-
 -- the text of lines, each without spaces at both ends and with a line feed after it
 abbrev pub text_of_lines : List LineView → List ℕ
 text_of_lines [] = []
-text_of_lines (l ∷ ls) = trimmed_line l.text ++ 10 ∷ text_of_lines ls
+text_of_lines (l ∷ ls) = without_trailing (without_leading l.text) ++ 10 ∷ text_of_lines ls
 
 -- ---- how many lines a question has
-
--- a line of names stands where there are names
-abbrev pub one_if_some : {X : Type 0} → List X → ℕ
-one_if_some [] = 0
-one_if_some (x ∷ xs) = 1
 
 -- how many `given` and `row` lines there are
 abbrev pub own_line_count : OwnLinesView → ℕ
 own_line_count own = length own.givens + length own.rows
 
--- a line of names stands where their number isn't 0
-abbrev pub one_unless_zero : ℕ → ℕ
-one_unless_zero n = if n == 0 then 0 else 1
-
 -- with its `region` line
 abbrev pub region_line_count : RegionView → ℕ
-region_line_count r = 1 + one_unless_zero r.auxiliaries + own_line_count r.lines
+region_line_count r = 1 + min 1 r.auxiliaries + own_line_count r.lines
 
 -- with the verb's line
 abbrev pub verb_line_count : VerbView → ℕ
@@ -54,7 +41,7 @@ verb_line_count (Contain first second tries) = region_line_count first + region_
 
 -- how many lines a question has, from `vars` to the verb
 abbrev pub question_line_count : BodyView → ℕ
-question_line_count q = 1 + one_if_some q.names.rates + own_line_count q.lines + verb_line_count q.verb
+question_line_count q = 1 + min 1 (length q.names.rates) + own_line_count q.lines + verb_line_count q.verb
 
 -- the questions of these lines, one after the other, with their texts
 abbrev pub with_texts : List LineView → List BodyView → List QuestionView

@@ -9,12 +9,12 @@ ghost use Rattle.it_syntax.specs.Gives.{Gives, GivesBy};
 ghost use Rattle.it_syntax.specs.RelationLines.{relation_line};
 ghost use Rattle.it_space.specs.Spaces.{IsSpace};
 ghost use Rattle.it_demand.specs.LineDemands.{space_of};
+ghost use Rattle.it_syntax.specs.NamesViews.{index_of};
 ghost use Rattle.it_question.specs.Limits.{AreLinesOver};
 ghost use Rattle.it_question.specs.Bodies.{body_view};
 ghost use Rattle.it_question.specs.Cursors.{letters_left};
 ghost use Rattle.it_question.specs.QuestionForms as forms;
 ghost use Rattle.it_question.specs.Questions.{own_lines_view, verb_view, Prove, Eliminate};
-ghost use Rattle.it_question.specs.RateNames.{rates_env};
 
 use crate::bodies::Body;
 use crate::cursor::Cursor;
@@ -50,7 +50,7 @@ fn proof(alloc: Global, cursor: &mut Cursor<'_>, names: &Names) -> Result<Verb, 
 /// The rates to be eliminated, after `eliminate`.
 #[tactic(auto, unfolding(it_forms::specs::FormReading::read))]
 fn elimination(alloc: Global, cursor: &mut Cursor<'_>, names: &Names) -> Result<Verb, Stop>
-    ensures { GivesBy verb_view result (letters_left cursor.new) (read (Then (words.to_end (forms.distinct (rates_env names.now))) (λ x. Give (Eliminate x))) (letters_left cursor.old)) }
+    ensures { GivesBy verb_view result (letters_left cursor.new) (read (Then (words.to_end (forms.distinct (index_of names.now.rates))) (λ x. Give (Eliminate x))) (letters_left cursor.old)) }
 {
     let rates = rates(alloc, cursor, names)?;
     Ok(Verb::Eliminate(rates))

@@ -3,7 +3,7 @@
 ghost use Rattle.std.specs.Bool.{OnTrue, OnFalse};
 ghost use Rattle.std.specs.Prelude.{◌≡◌, ◌≤◌, [], length, map, None, IfOk, OnOk};
 ghost use Rattle.it_question.specs.Cursors.{line_view};
-ghost use Rattle.it_question.specs.Lines.{AreLinesOf, IsLine, HasTokens, end_line};
+ghost use Rattle.it_question.specs.Lines.{AreLinesOf, IsLine, end_line, IsFilled};
 ghost use Rattle.it_question.specs.ReaderSteps.{IsLineAdded};
 
 use crate::cursor::Line;
@@ -28,7 +28,7 @@ fn line_of(alloc: Global, number: u32, bytes: &[u8]) -> Result<Line, AllocError>
 
 /// Whether there is a token or a misspelling.
 fn has_tokens(line: &Line) -> bool
-    ensures filled { OnTrue result (HasTokens (line_view line.now)) }
+    ensures filled { OnTrue result (IsFilled (line_view line.now).tokens (line_view line.now).misspelling) }
     ensures no_tokens { OnFalse result (line.now.tokens.tokens.items ≡ []) }
     ensures no_misspelling { OnFalse result (line.now.tokens.misspelling ≡ None) }
 {

@@ -1,13 +1,12 @@
 //! The reader of `given` and `row` lines.
 //! A reader's result is matched where `?` would do: so each case is a goal of its own, with the reading's equation at hand.
 //! The result of `push` is matched, since `?` makes no `Stop` of its error.
-ghost use Rattle.std.specs.Prelude.{◌≡◌, Some, None, IfSome, IfNone, OnOk, IfErr};
+ghost use Rattle.std.specs.Prelude.{◌≡◌, Some, None, IfSome, IfNone, OnOk, IfErr, ◌++◌, ◌∷◌, [], if◌then◌else◌};
 ghost use Rattle.it_forms.specs.FormReading.{read, after};
 ghost use Rattle.it_syntax.specs.declared.rest.Stop.TheVariants.{Memory};
 ghost use Rattle.it_syntax.specs.Givens.{given_view};
 ghost use Rattle.it_syntax.specs.Gives.{GivesBy};
 ghost use Rattle.it_syntax.specs.Meaning.{relation_view};
-ghost use Rattle.it_question.specs.Bodies.{with_given_line, with_row_line};
 ghost use Rattle.it_question.specs.Cursors.{letters_left};
 ghost use Rattle.it_question.specs.Questions.{own_lines_view};
 ghost use Rattle.it_question.specs.QuestionForms as forms;
@@ -41,7 +40,7 @@ impl OwnLines {
 
 /// Puts the constraint of a `given` line after the others.
 fn add_given(own: &mut OwnLines, given: Given) -> Result<(), Stop>
-    ensures added { OnOk result (own_lines_view own.new ≡ with_given_line (own_lines_view own.old) (given_view given)) }
+    ensures added { OnOk result (own_lines_view own.new ≡ record (own_lines_view own.old) { givens = (own_lines_view own.old).givens ++ given_view given ∷ [] }) }
     ensures memory { IfErr result (λ e. e ≡ Memory) }
 {
     match own.givens.push(given) {
@@ -55,7 +54,7 @@ fn add_given(own: &mut OwnLines, given: Given) -> Result<(), Stop>
 
 /// Puts the relation of a `row` line after the others.
 fn add_row(own: &mut OwnLines, row: Relation) -> Result<(), Stop>
-    ensures added { OnOk result (own_lines_view own.new ≡ with_row_line (own_lines_view own.old) (relation_view row)) }
+    ensures added { OnOk result (own_lines_view own.new ≡ record (own_lines_view own.old) { rows = (own_lines_view own.old).rows ++ relation_view row ∷ [] }) }
     ensures memory { IfErr result (λ e. e ≡ Memory) }
 {
     match own.rows.push(row) {
@@ -85,7 +84,7 @@ fn own_word(cursor: Cursor<'_>) -> Option<(bool, Cursor<'_>)>
 
 /// How many more lines of a kind may follow these.
 fn lines_left(own: &OwnLines, is_given: bool, most_givens: usize, most_rows: usize) -> usize
-    ensures { result ≡ forms.lines_left most_givens most_rows (own_lines_view own.now) is_given }
+    ensures { result ≡ (if is_given then givens_left most_givens (own_lines_view own.now) else rows_left most_rows (own_lines_view own.now)) }
 {
     if is_given {
         own.givens_left(most_givens)

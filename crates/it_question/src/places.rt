@@ -1,7 +1,7 @@
 //! Where the letters of a file stand.
-ghost use Rattle.std.specs.Prelude.{◌≡◌, ◌≤◌, ◌^◌, length, map, slice_get, Some};
+ghost use Rattle.std.specs.Prelude.{◌≡◌, ◌≤◌, ◌^◌, length, map, slice_get, Some, flat_map};
 ghost use Rattle.it_question.specs.Cursors.{line_view, letters_left};
-ghost use Rattle.it_question.specs.Lines.{letters_of_lines, line_places, places_of_lines};
+ghost use Rattle.it_question.specs.Lines.{letters_of_lines, line_places};
 
 use crate::cursor::{Cursor, Line};
 use it_syntax::rest::Rest;
@@ -45,7 +45,7 @@ fn place_in(line: &Line, at: usize) -> (u32, u32)
 
 /// The line and the column, counted from 1, of the letter number `at`; None where there is none.
 pub fn place(lines: &[Line], at: usize) -> Option<(u32, u32)>
-    ensures { result ≡ slice_get (places_of_lines (map line_view lines.now)) at }
+    ensures { result ≡ slice_get (flat_map line_places (map line_view lines.now)) at }
 {
     let mut rest = at;
     for line in lines {

@@ -5,7 +5,7 @@ ghost use Rattle.it_forms.specs.FormReading.{read};
 ghost use Rattle.it_forms.specs.Words.{to_end};
 ghost use Rattle.it_syntax.specs.declared.rest.Stop.TheVariants.{Memory};
 ghost use Rattle.it_syntax.specs.Gives.{Gives, GivesBy};
-ghost use Rattle.it_question.specs.RateNames.{rates_env};
+ghost use Rattle.it_syntax.specs.NamesViews.{index_of};
 ghost use Rattle.it_question.specs.Cursors.{letters_left};
 ghost use Rattle.it_question.specs.QuestionForms as forms;
 
@@ -17,9 +17,8 @@ use it_syntax::{Names, is_measure};
 use std::alloc::Global;
 
 /// The name of a rate that wasn't named before, by the rate's number.
-#[tactic(auto, unfolding(crate::specs::RateNames::rates_env))]
 fn rate(names: &Names, name: &[u8]) -> Option<u8>
-    ensures { result ≡ rates_env names.now name.now }
+    ensures { result ≡ index_of names.now.rates name.now }
 {
     names.rate(name)
 }
@@ -27,7 +26,7 @@ fn rate(names: &Names, name: &[u8]) -> Option<u8>
 /// A rate that isn't among these.
 #[tactic(auto, unfolding(crate::specs::QuestionForms::once, it_forms::specs::FormReading::read))]
 fn new_rate(cursor: &mut Cursor<'_>, names: &Names, seen: &[u8]) -> Result<u8, Stop>
-    ensures { Gives result (letters_left cursor.new) (read (forms.once (rates_env names.now) seen.now) (letters_left cursor.old)) }
+    ensures { Gives result (letters_left cursor.new) (read (forms.once (index_of names.now.rates) seen.now) (letters_left cursor.old)) }
 {
     match cursor.front() {
         Some((Piece::Word(word), after)) => {
@@ -62,7 +61,7 @@ fn add(rates: &mut Vec<u8>, rate: u8) -> Result<(), Stop>
 
 /// The first rates and further ones, each after a comma.
 fn more_rates(first: Vec<u8>, cursor: &mut Cursor<'_>, names: &Names) -> Result<Vec<u8>, Stop>
-    ensures { GivesBy (λ x. x.items) result (letters_left cursor.new) (read (forms.more_once (rates_env names.now) first.items) (letters_left cursor.old)) }
+    ensures { GivesBy (λ x. x.items) result (letters_left cursor.new) (read (forms.more_once (index_of names.now.rates) first.items) (letters_left cursor.old)) }
 {
     let mut found = first;
     while comma(cursor) {
@@ -78,7 +77,7 @@ fn more_rates(first: Vec<u8>, cursor: &mut Cursor<'_>, names: &Names) -> Result<
 /// One rate or more, none twice.
 #[tactic(auto, unfolding(crate::specs::QuestionForms::distinct, it_forms::specs::FormReading::read))]
 fn distinct_rates(alloc: Global, cursor: &mut Cursor<'_>, names: &Names) -> Result<Vec<u8>, Stop>
-    ensures { GivesBy (λ x. x.items) result (letters_left cursor.new) (read (forms.distinct (rates_env names.now)) (letters_left cursor.old)) }
+    ensures { GivesBy (λ x. x.items) result (letters_left cursor.new) (read (forms.distinct (index_of names.now.rates)) (letters_left cursor.old)) }
 {
     let first = new_rate(cursor, names, &[])?;
     match Vec::from_slice(alloc, &[first]) {
@@ -90,7 +89,7 @@ fn distinct_rates(alloc: Global, cursor: &mut Cursor<'_>, names: &Names) -> Resu
 /// The rates, each once, with the line's end.
 #[tactic(auto, unfolding(it_forms::specs::FormReading::read))]
 pub fn rates(alloc: Global, cursor: &mut Cursor<'_>, names: &Names) -> Result<Vec<u8>, Stop>
-    ensures { GivesBy (λ x. x.items) result (letters_left cursor.new) (read (to_end (forms.distinct (rates_env names.now))) (letters_left cursor.old)) }
+    ensures { GivesBy (λ x. x.items) result (letters_left cursor.new) (read (to_end (forms.distinct (index_of names.now.rates))) (letters_left cursor.old)) }
 {
     let rates = distinct_rates(alloc, cursor, names)?;
     line_end(cursor)?;

@@ -1,17 +1,16 @@
 //! Readers of regions, and of the question whether one lies in the other.
-ghost use Rattle.std.specs.Prelude.{◌≡◌, ◌≤◌, ◌+◌, ◌-◌, length, IfOk, IfErr};
+ghost use Rattle.std.specs.Prelude.{◌≡◌, ◌≤◌, ◌+◌, ◌-◌, length, IfOk, IfErr, codes};
 ghost use Rattle.it_forms.specs.Forms.{Take, Then};
 ghost use Rattle.it_forms.specs.FormReading.{read};
 ghost use Rattle.it_forms.specs.Words.{flagged_word, line_end};
 ghost use Rattle.it_syntax.specs.declared.rest.Stop.TheVariants.{Memory};
 ghost use Rattle.it_syntax.specs.Gives.{Gives, GivesBy};
-ghost use Rattle.it_question.specs.Keywords.{aux_keyword, contain_keyword};
 ghost use Rattle.it_question.specs.Cursors.{letters_left};
 ghost use Rattle.it_question.specs.Questions.{own_lines_view, verb_view, region_view};
 ghost use Rattle.it_space.specs.Spaces.{IsSpace};
 ghost use Rattle.it_demand.specs.LineDemands.{space_of};
 ghost use Rattle.it_question.specs.Limits.{AreLinesOver, IsRegionOf};
-ghost use Rattle.it_question.specs.Tables.{contain_flag};
+ghost use Rattle.it_question.specs.Tables.{lines_with, size_flag};
 ghost use Rattle.it_question.specs.QuestionForms as forms;
 ghost use Rattle.it_question.specs.NewNames.{Variable};
 ghost use Rattle.it_question.specs.QuestionLimits.{auxiliaries_left};
@@ -71,7 +70,7 @@ fn copy_of(names: &Names) -> Result<Names, Stop>
 
 /// The variables of a region of a question with these names.
 fn region_names(cursor: &mut Cursor<'_>, names: &Names) -> Result<Names, Stop>
-    ensures { GivesBy (λ x. x) result (letters_left cursor.new) (read (forms.names_line Variable (length names.now.variables + auxiliaries_left names.now) aux_keyword names.now) (letters_left cursor.old)) }
+    ensures { GivesBy (λ x. x) result (letters_left cursor.new) (read (forms.names_line Variable (length names.now.variables + auxiliaries_left names.now) (codes "aux") names.now) (letters_left cursor.old)) }
 {
     let mut inside = copy_of(names)?;
     names_line(
@@ -120,7 +119,7 @@ fn contain(
     requires region { IsRegionOf names.now (region_view first.now) }
     requires few_givens { length lines.now.givens.items + length first.now.lines.givens.items ≤ 64 }
     requires few_rows { length lines.now.rows.items + length first.now.lines.rows.items ≤ 64 }
-    ensures { Gives result (letters_left cursor.new) (read (Then (Take (flagged_word contain_keyword (contain_flag (own_lines_view lines.now) (region_view first.now)))) (λ u. line_end)) (letters_left cursor.old)) }
+    ensures { Gives result (letters_left cursor.new) (read (Then (Take (flagged_word (codes "contain") (size_flag (region_view first.now).names (lines_with (own_lines_view lines.now) (region_view first.now))))) (λ u. line_end)) (letters_left cursor.old)) }
 {
     match after_word(*cursor, CONTAIN) {
         Some(after) => {

@@ -10,7 +10,7 @@ ghost use Rattle.it_demand.specs.LineDemands.{space_of};
 ghost use Rattle.it_question.specs.Limits.{AreLinesOver, IsRegionOf};
 ghost use Rattle.it_question.specs.Questions.{own_lines_view, region_view};
 ghost use Rattle.it_question.specs.ReaderSteps.{flag_if_large};
-ghost use Rattle.it_question.specs.Tables.{line_demands, givens_alone, lines_with, most_entries, size_flag, contain_flag};
+ghost use Rattle.it_question.specs.Tables.{line_demands, givens_alone, lines_with, most_entries, size_flag};
 
 use crate::types::{OwnLines, Region};
 use it_closure::size;
@@ -138,7 +138,7 @@ pub fn containment_is_large(
     requires region { IsRegionOf names.now (region_view first.now) }
     requires few_givens { length lines.now.givens.items + length first.now.lines.givens.items ≤ 64 }
     requires few_rows { length lines.now.rows.items + length first.now.lines.rows.items ≤ 64 }
-    ensures large { IfOk result (λ large. contain_flag (own_lines_view lines.now) (region_view first.now) ≡ flag_if_large large) }
+    ensures large { IfOk result (λ large. size_flag (region_view first.now).names (lines_with (own_lines_view lines.now) (region_view first.now)) ≡ flag_if_large large) }
     ensures memory { IfErr result (λ e. e ≡ Memory) }
 {
     let space = first.names.space();

@@ -6,7 +6,7 @@ ghost use Rattle.it_question.specs.Cursors.{line_view};
 ghost use Rattle.it_question.specs.Limits.{IsQuestion};
 ghost use Rattle.it_question.specs.ReaderSteps.{FewLines, FewLinesOf};
 ghost use Rattle.it_question.specs.Questions.{verb_view, question_view, region_view};
-ghost use Rattle.it_question.specs.Texts.{without_leading, without_trailing, trimmed_line, text_of_lines, region_line_count, verb_line_count, question_line_count, with_texts};
+ghost use Rattle.it_question.specs.Texts.{without_leading, without_trailing, text_of_lines, region_line_count, verb_line_count, question_line_count, with_texts};
 
 use crate::bodies::Body;
 use crate::cursor::Line;
@@ -43,7 +43,7 @@ fn without_trailing(line: &[u8]) -> &[u8]
 
 /// Without blanks at both ends.
 fn trim(line: &[u8]) -> &[u8]
-    ensures { result.now ≡ trimmed_line line.now }
+    ensures { result.now ≡ without_trailing (without_leading line.now) }
 {
     without_trailing(without_leading(line))
 }

@@ -1,7 +1,8 @@
 //! Readers of `try` lines.
 //! A reader's result is matched where `?` would do: so each case is a goal of its own, with the reading's equation at hand.
+ghost use Rattle.std.specs.List.{list_all};
 ghost use Rattle.std.specs.Bool.{OnTrue, OnFalse};
-ghost use Rattle.std.specs.Prelude.{◌≡◌, ◌++◌, [], ◌∷◌, Some, None, OnOk, IfErr};
+ghost use Rattle.std.specs.Prelude.{◌≡◌, ◌++◌, [], ◌∷◌, Some, None, OnOk, IfErr, unwrap_or, map, is_some};
 ghost use Rattle.it_forms.specs.declared.types.Symbol.TheVariants as symbols;
 ghost use Rattle.it_forms.specs.Forms.{Take};
 ghost use Rattle.it_forms.specs.FormReading.{read, after};
@@ -11,7 +12,7 @@ ghost use Rattle.it_syntax.specs.Gives.{Gives, GivesBy};
 ghost use Rattle.it_syntax.specs.Scopes.{env_of};
 ghost use Rattle.it_question.specs.Cursors.{letters_left};
 ghost use Rattle.it_question.specs.QuestionForms as forms;
-ghost use Rattle.it_question.specs.TrySets.{auxiliary_env, is_named, with_set, is_whole, set_or, sets_view, unnamed_sets};
+ghost use Rattle.it_question.specs.TrySets.{auxiliary_env, is_named, with_set, unnamed_sets};
 
 use crate::cursor::Cursor;
 use crate::parts::names_set;
@@ -64,7 +65,7 @@ fn is_named(sets: &Sets, i: u8) -> bool
 /// Whether each auxiliary has a set.
 #[tactic(auto, using(crate::proofs::SetLemmas::set_lemmas))]
 fn is_whole(sets: &Sets) -> bool
-    ensures { result ≡ is_whole sets.now }
+    ensures { result ≡ list_all is_some sets.now }
 {
     for set in sets.iter() {
         if set.is_none() {
@@ -194,7 +195,7 @@ fn try_end(cursor: &mut Cursor<'_>, sets: &Sets) -> Result<(), Stop>
 
 /// The set of an auxiliary, empty where it has none.
 fn set_or_empty(set: &Option<VarSet>) -> VarSet
-    ensures { result ≡ set_or set.now }
+    ensures { result ≡ unwrap_or set.now 0 }
 {
     match set {
         Some(set) => *set,
@@ -204,7 +205,7 @@ fn set_or_empty(set: &Option<VarSet>) -> VarSet
 
 /// The sets of the auxiliaries in order.
 fn sets_of(sets: &Sets) -> [VarSet; 4]
-    ensures { result ≡ sets_view sets.now }
+    ensures { result ≡ map (λ s. unwrap_or s 0) sets.now }
 {
     [
         set_or_empty(&sets[0]),
@@ -222,6 +223,7 @@ fn filled_place() -> Option<VarSet>
 }
 
 /// No set yet for each of so many auxiliaries.
+#[tactic(auto, using(crate::proofs::SetLemmas::all_unnamed))]
 fn unnamed_sets(auxiliaries: u8) -> Sets
     ensures { result ≡ unnamed_sets auxiliaries }
 {

@@ -12,7 +12,7 @@ pub struct OwnLines {
     pub rows: Vec<Relation>,
 }
 
-// written out, so that letting an own lines go is one call
+// written out, so that letting the lines go is one call
 impl Drop for OwnLines {
     fn drop(self) {
         let OwnLines { givens: _, rows: _ } = self;

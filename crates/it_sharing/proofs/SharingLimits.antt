@@ -1,8 +1,9 @@
 -- A sharing file that is read keeps the limits.
-use Rattle.std.proofs.Common.{◌≡◌, ℕ, zero, suc, ◌+◌, ◌-◌, ◌<◌, ◌≤◌, ◌^◌, Bool, true, false, cond, bit_or, List, [], ◌∷◌, ◌++◌, length, Option, Some, None, Ok, refl, ap, ◌∙◌, subst, arith, length-append, All}
-use Rattle.std.specs.Prelude.{bytes_eq, nat_eq}
+use Rattle.std.proofs.Common.{◌≡◌, inl, inr, ℕ, zero, suc, ◌+◌, ◌-◌, ◌<◌, ◌≤◌, ◌^◌, Bool, true, false, cond, bit_or, List, [], ◌∷◌, ◌++◌, length, Option, Some, None, Ok, refl, ap, ◌∙◌, subst, arith, length-append, All}
+use Rattle.std.specs.Prelude.{bytes_eq, nat_eq, codes, unwrap_or, option_and_then, if◌then◌else◌}
 use Rattle.std.specs.Int.{bit_at}
 use Rattle.std.proofs.Math.Pow.{pow-lt}
+use Rattle.std.proofs.lemmas.Bool.Decides.{eqb_tells}
 use Rattle.std.proofs.lemmas.Nat.{or_lt, pow_pos, le_or_l}
 use Rattle.std.proofs.lemmas.Nat.Bits.{bit_at_or, bit_at_lowest}
 use Rattle.std.proofs.lemmas.List.Elements.{All-nil, All-cons, All-append, All-weaker}
@@ -12,14 +13,14 @@ use Rattle.it_forms.specs.declared.types.Code.TheVariants as codes
 use Rattle.it_forms.specs.Letters.{Letter}
 use Rattle.it_forms.specs.Forms.{Keyword, Punctuation, Form, Give, Take}
 use Rattle.it_forms.specs.FormReading.{read}
-use Rattle.it_forms.specs.Words.{◌>>=◌, ◌>>◌, word, text_of, limit_flag, to_end, file_end}
+use Rattle.it_forms.specs.Words.{◌>>=◌, ◌>>◌, word, text_of, limit_flag, to_end, file_end, missing_flag}
 use Rattle.it_forms.proofs.FormParts.{Always, always_weaker, each_keeps, line_keeps, value_read}
 use Rattle.it_syntax.specs.declared.types.Sign.TheVariants.{AtLeast}
 use Rattle.it_syntax.specs.Givens.{IsRelationOf}
 use Rattle.it_syntax.specs.LineForms.{variable, more_names, names, sum, relation}
 use Rattle.it_syntax.specs.Meaning.{RelationView, multiple_from}
 use Rattle.it_syntax.specs.Multiples.{most_terms}
-use Rattle.it_syntax.specs.NameFlags.{is_measure, unknown_flag, index_or}
+use Rattle.it_syntax.specs.MeasureWords.{is_measure}
 use Rattle.it_syntax.specs.NamesViews.{NamesView, index_of}
 use Rattle.it_syntax.specs.Scopes.{scope_of}
 use Rattle.it_question.specs.NewNames.{Variable, no_names, is_taken, new_flag}
@@ -28,8 +29,8 @@ use Rattle.it_syntax.proofs.FormLimits.{sum_keeps, relation_keeps, scope_covers}
 use Rattle.it_syntax.proofs.MultipleLemmas.{one_is_multiple}
 use Rattle.it_sharing.specs.AccessStructures.{IsPartySet}
 use Rattle.it_sharing.specs.Sharings.{SharingView, IsSharing, IsBoundWhereBest}
-use Rattle.it_sharing.specs.SharingForms.{Aim, more_lists, bound, aim, sharing}
-use Rattle.it_sharing.specs.SharingWords.{parties_keyword, qualified_keyword, most_parties, most_qualified, unless_secret, party_env}
+use Rattle.it_sharing.specs.SharingForms.{more_lists, bound, aim, sharing}
+use Rattle.it_sharing.specs.Parties.{most_parties, most_qualified, party_env}
 
 -- ---- names
 
@@ -84,12 +85,18 @@ knows_parties : (v : NamesView) (w : List ℕ) (i : ℕ) → party_env v w ≡ S
 unfolding party_env
 knows_parties v w i e = by_option (index_of v.variables w) refl e
   where
-    by_option : (o : Option ℕ) → index_of v.variables w ≡ o → unless_secret o ≡ Some i → IsParty (length v.variables) i
+    by_option : (o : Option ℕ) → index_of v.variables w ≡ o → option_and_then (λ j. if nat_eq j 0 then None else Some j) o ≡ Some i → IsParty (length v.variables) i
     by_option None h e = absurd cc
-    by_option (Some zero) h e = absurd cc
-    by_option (Some (suc j)) h e = let same : suc j ≡ i = cc in (omega (arith, same), omega (arith, same, (position-Some (bytes_eq w) v.variables (suc j) [] h).0))
+    by_option (Some j) h e =
+        elim (eqb_tells j 0) [
+          | inl t ↦ let none : None ≡ Some i = subst (λ (b : Bool). cond b None (Some j) ≡ Some i) t.0 e in absurd cc
+          | inr t ↦
+              let found : Some j ≡ Some i = subst (λ (b : Bool). cond b None (Some j) ≡ Some i) t.0 e in
+              let same : j ≡ i = cc in
+              (omega (arith, same, t.1), omega (arith, same, (position-Some (bytes_eq w) v.variables j [] h).0))
+        ]
 
-named : (n : ℕ) (measure : Bool) (o : Option ℕ) → cond measure (Some codes.Word) (unknown_flag o) ≡ None → ((i : ℕ) → o ≡ Some i → IsParty n i) → IsParty n (index_or o)
+named : (n : ℕ) (measure : Bool) (o : Option ℕ) → cond measure (Some codes.Word) (missing_flag codes.Name o) ≡ None → ((i : ℕ) → o ≡ Some i → IsParty n i) → IsParty n (unwrap_or o 0)
 named n true o e k = absurd cc
 named n false None e k = absurd cc
 named n false (Some i) e k = k i refl
@@ -139,7 +146,7 @@ more_lists_keep : (v : NamesView) (sets : List ℕ) → AreListed (length v.vari
 unfolding more_lists
 more_lists_keep v =
     let n = length v.variables in
-    each_keeps (Keyword qualified_keyword ∷ []) (λ s l. (limit_flag (most_qualified - length s), tt {0})) (λ s u. to_end (names (party_env v))) (λ s set. s ++ set ∷ []) (AreListed n)
+    each_keeps (Keyword (codes "qualified") ∷ []) (λ s l. (limit_flag (most_qualified - length s), tt {0})) (λ s u. to_end (names (party_env v))) (λ s set. s ++ set ∷ []) (AreListed n)
     (λ s h l e m. always_weaker (to_end (names (party_env v))) (λ q set. IsListed n set) _
     (λ q set k. let long = length-append s (set ∷ []) in (omega (arith, long), omega (arith, long, few_lists (length s) m), All-append (IsListed n) s (set ∷ []) h.2 (All-cons (IsListed n) set [] k (All-nil (IsListed n)))))
     (line_keeps (names (party_env v)) (IsListed n) (parties_keep v)))
@@ -147,7 +154,7 @@ more_lists_keep v =
 -- ---- what is asked
 
 -- a relation of the variables and rates, with `>=` where the least factor is asked for
-abbrev IsAsked : NamesView → Aim → Type 0
+abbrev IsAsked : NamesView → (Bool × RelationView) → Type 0
 IsAsked v x = IsRelationOf (length v.variables) (length v.rates) x.1 × (x.0 ≡ true → x.1.sign ≡ AtLeast)
 
 abbrev IsBound : NamesView → RelationView → Type 0
@@ -180,7 +187,7 @@ even_party n s h = (h.0.0, ap (λ (b : ℕ). nat_eq b 1) h.0.1)
 abbrev Keeps : SharingView → Type 0
 Keeps y = IsSharing y × IsBoundWhereBest y
 
-keeps_all : (secret all : NamesView) (sets : List ℕ) (asked : Aim) → IsOne secret → HasGrown (length secret.variables + most_parties) secret all → AreListed (length all.variables) sets → IsAsked all asked → Keeps (record { names = all; qualified = sets; best = asked.0; relation = asked.1 })
+keeps_all : (secret all : NamesView) (sets : List ℕ) (asked : (Bool × RelationView)) → IsOne secret → HasGrown (length secret.variables + most_parties) secret all → AreListed (length all.variables) sets → IsAsked all asked → Keeps (record { names = all; qualified = sets; best = asked.0; relation = asked.1 })
 keeps_all secret all sets asked one grown listed asks =
     let n = length all.variables in
     let none : all.rates ≡ [] = grown.2 ∙ one.1 in (
@@ -205,10 +212,10 @@ abbrev after_first : NamesView → ℕ → Form SharingView
 after_first all set = more_lists (party_env all) (set ∷ []) >>= after_lists all
 
 abbrev after_names : NamesView → Form SharingView
-after_names all = Take (word qualified_keyword) >> (to_end (names (party_env all)) >>= after_first all)
+after_names all = Take (word (codes "qualified")) >> (to_end (names (party_env all)) >>= after_first all)
 
 abbrev after_secret : NamesView → Form SharingView
-after_secret secret = Take (word parties_keyword) >> (new_names Variable (length secret.variables + most_parties) secret >>= after_names)
+after_secret secret = Take (word (codes "parties")) >> (new_names Variable (length secret.variables + most_parties) secret >>= after_names)
 
 abbrev KeepsAlways : Form SharingView → Type 0
 KeepsAlways f = Always f (λ p y. Keeps y)

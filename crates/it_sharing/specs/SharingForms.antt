@@ -1,17 +1,16 @@
 -- The grammar of sharing files: the secret, the parties, one or more lists of parties who know the secret together, and what
 -- is asked. `Name` stands against the secret in a list, `Many` against a ninth party and against the keyword of a list past
 -- the limit.
-use Rattle.std.specs.Prelude.{ℕ, ◌+◌, ◌-◌, Bool, true, false, List, [], ◌∷◌, ◌++◌, length}
+use Rattle.std.specs.Prelude.{ℕ, ◌+◌, ◌-◌, Bool, true, false, List, [], ◌∷◌, ◌++◌, length, codes}
 use Rattle.it_forms.specs.declared.types.Symbol.TheVariants as symbols
 use Rattle.it_syntax.specs.declared.types.Sign.TheVariants.{AtLeast}
 use Rattle.it_syntax.specs.Meaning.{RelationView, multiple_from}
 use Rattle.it_syntax.specs.NamesViews.{NamesView}
 use Rattle.it_syntax.specs.Scopes.{scope_of, Environment, Scope}
 use Rattle.it_syntax.specs.Multiples.{most_terms}
-use Rattle.it_sharing.specs.SharingWords.{secret_keyword, parties_keyword, qualified_keyword, best_keyword, most_parties, most_qualified, party_env}
+use Rattle.it_sharing.specs.Parties.{most_parties, most_qualified, party_env}
 use Rattle.it_syntax.specs.LineForms.{names, sum, relation}
 use Rattle.it_question.specs.QuestionForms.{new_name, new_names}
-use Rattle.it_question.specs.Keywords.{prove_keyword}
 use Rattle.it_question.specs.NewNames.{Variable, no_names}
 use Rattle.it_sharing.specs.Sharings.{SharingView}
 use Rattle.it_forms.specs.Forms.{Form, Give, Take, If}
@@ -19,7 +18,8 @@ use Rattle.it_forms.specs.Words.{◌>>=◌, ◌>>◌, symbol, word, each_flagged
 
 -- further lists, each after `qualified`, up to so many in all
 unfoldable pub more_lists : Environment → List ℕ → Form (List ℕ)
-more_lists env sets = each_flagged qualified_keyword (λ sets. limit_flag (most_qualified - length sets)) (λ sets. to_end (names env)) (λ sets set. sets ++ set ∷ []) sets
+more_lists env sets =
+    each_flagged (codes "qualified") (λ sets. limit_flag (most_qualified - length sets)) (λ sets. to_end (names env)) (λ sets set. sets ++ set ∷ []) sets
 
 -- two sums with `>=` between them, of at most 256 terms together
 unfoldable pub bound : Scope → Form RelationView
@@ -29,24 +29,20 @@ bound s = do
   right ← sum (most_terms - length left) (multiple_from 1 left) s
   Give (record { left = left; sign = AtLeast; right = right })
 
--- whether the least factor is asked for, and of which relation
-abbrev pub Aim : Type 0
-Aim = Bool × RelationView
-
 -- `prove` and a relation, or `best` (true) and two sums
-unfoldable pub aim : NamesView → Form Aim
+unfoldable pub aim : NamesView → Form (Bool × RelationView)
 aim v =
-    If (word prove_keyword) (λ u. to_end (relation (scope_of v true)) >>= λ x. Give (false, x))
-    (Take (word best_keyword) >> (to_end (bound (scope_of v true)) >>= λ x. Give (true, x)))
+    If (word (codes "prove")) (λ u. to_end (relation (scope_of v true)) >>= λ x. Give (false, x))
+    (Take (word (codes "best")) >> (to_end (bound (scope_of v true)) >>= λ x. Give (true, x)))
 
 -- a sharing file, up to its end
 unfoldable pub sharing : Form SharingView
 sharing = do
-  Take (word secret_keyword)
+  Take (word (codes "secret"))
   secret ← to_end (new_name Variable 1 no_names)
-  Take (word parties_keyword)
+  Take (word (codes "parties"))
   all ← new_names Variable (length secret.variables + most_parties) secret
-  Take (word qualified_keyword)
+  Take (word (codes "qualified"))
   first ← to_end (names (party_env all))
   lists ← more_lists (party_env all) (first ∷ [])
   asked ← aim all

@@ -9,7 +9,7 @@ ghost use Rattle.it_forms.specs.Words.{to_end};
 ghost use Rattle.it_sharing.specs.Sharings.{sharing_view, IsSharing, IsBoundWhereBest};
 ghost use Rattle.it_sharing.specs.SharingFiles.{IsSharingFile, IsFirstSharingFault};
 ghost use Rattle.it_sharing.specs.SharingForms as forms;
-ghost use Rattle.it_sharing.specs.SharingWords.{most_parties};
+ghost use Rattle.it_sharing.specs.Parties.{most_parties};
 
 use crate::aims::aim;
 use crate::lists::{QUALIFIED, list, more_lists};

@@ -1,7 +1,7 @@
 -- What is read keeps the limits: sets of the variables that there are, at most 256 terms, denominators with a least common
 -- multiple within its limit, and no more members than are allowed.
 use Rattle.std.proofs.Common.{◌≡◌, ℕ, ◌-◌, ◌^◌, ◌<◌, ◌≤◌, Bool, true, false, cond, List, [], ◌∷◌, ◌++◌, length, Option, Some, None, Ok, refl, sym, subst, arith}
-use Rattle.std.specs.Prelude.{All, bit_or, bytes_eq}
+use Rattle.std.specs.Prelude.{All, bit_or, bytes_eq, codes, unwrap_or}
 use Rattle.std.proofs.Math.Pow.{pow-lt, ones_lt}
 use Rattle.std.proofs.lemmas.Nat.{or_lt}
 use Rattle.std.proofs.lemmas.List.{length-append}
@@ -10,23 +10,22 @@ use Rattle.std.proofs.lemmas.List.Quantifiers.{position-Some}
 use Rattle.it_number.specs.Gcd.{lcm}
 use Rattle.it_forms.specs.declared.types.Code.TheVariants as codes
 use Rattle.it_forms.specs.declared.types.Symbol.{Symbol}
-use Rattle.it_forms.specs.declared.types.Symbol.TheVariants.{Comma}
+use Rattle.it_forms.specs.declared.types.Symbol.TheVariants.{Comma, Minus}
 use Rattle.it_forms.specs.Letters.{Letter}
-use Rattle.it_forms.specs.Forms.{Punctuation, Form}
+use Rattle.it_forms.specs.Forms.{Punctuation, Form, is_of}
 use Rattle.it_forms.specs.FormReading.{read}
-use Rattle.it_forms.specs.Words.{text_of, number_of, allowed, but}
+use Rattle.it_forms.specs.Words.{text_of, number_of, allowed, but, missing_flag}
 use Rattle.it_forms.proofs.FormParts.{Always, always_weaker, each_keeps, line_keeps, value_read}
 use Rattle.it_forms.proofs.FlaggedParts.{Takes, always_allowed, always_but}
 use Rattle.it_syntax.specs.declared.types.Atom.{Atom}
 use Rattle.it_syntax.specs.declared.types.Term.{Term}
 use Rattle.it_syntax.specs.declared.types.Sign.{Sign}
 use Rattle.it_syntax.specs.GivenLines.{given_line}
-use Rattle.it_syntax.specs.GivenWords.{markov_text, indep_text, func_text}
 use Rattle.it_syntax.specs.Givens.{GivenView, AreSetsOf, IsRelationOf, IsGivenOf}
-use Rattle.it_syntax.specs.LineForms.{is_minus, variable, more_names, names, given_set, entropy, mutual_information, measure_or, atom, atom_or_nothing, counted, over_or, term, signs, more_terms, terms, sum, compare, relation, more_members, chain, after_bar, independence, function, given}
+use Rattle.it_syntax.specs.LineForms.{variable, more_names, names, given_set, entropy, mutual_information, measure_or, atom, atom_or_nothing, counted, over_or, term, signs, more_terms, terms, sum, compare, relation, more_members, chain, after_bar, independence, function, given}
 use Rattle.it_syntax.specs.Meaning.{RelationView, IsAtomOf, multiple_from}
-use Rattle.it_syntax.specs.Multiples.{most_terms, multiple_with, multiple_flag}
-use Rattle.it_syntax.specs.NameFlags.{is_measure, unknown_flag, index_or}
+use Rattle.it_syntax.specs.Multiples.{most_terms, multiple_with}
+use Rattle.it_syntax.specs.MeasureWords.{is_measure}
 use Rattle.it_syntax.specs.NamesViews.{NamesView, index_of}
 use Rattle.it_syntax.specs.RelationLines.{relation_line}
 use Rattle.it_syntax.specs.Scopes.{Environment, Scope, env_of, scope_of}
@@ -45,11 +44,11 @@ IsSet n s = s < 2 ^ n
 pub empty_is_set : (n : ℕ) → IsSet n 0
 empty_is_set n = omega (arith, ones_lt n)
 
-known_below : (n : ℕ) (o : Option ℕ) → unknown_flag o ≡ None → ((i : ℕ) → o ≡ Some i → i < n) → index_or o < n
+known_below : (n : ℕ) (o : Option ℕ) → missing_flag codes.Name o ≡ None → ((i : ℕ) → o ≡ Some i → i < n) → unwrap_or o 0 < n
 known_below n (Some i) e h = h i refl
 known_below n None e h = absurd cc
 
-named_below : (n : ℕ) (b : Bool) (o : Option ℕ) → cond b (Some codes.Word) (unknown_flag o) ≡ None → ((i : ℕ) → o ≡ Some i → i < n) → index_or o < n
+named_below : (n : ℕ) (b : Bool) (o : Option ℕ) → cond b (Some codes.Word) (missing_flag codes.Name o) ≡ None → ((i : ℕ) → o ≡ Some i → i < n) → unwrap_or o 0 < n
 named_below n true o e h = absurd cc
 named_below n false o e h = known_below n o e h
 
@@ -109,7 +108,7 @@ counted_keeps n m k d minus number f small h = always_weaker f _ _ (λ p a ha. (
 whole_keeps : (n m k : ℕ) (minus : Bool) (number : ℕ) (f : Form Atom) → IsMultiple k → Always f (λ p a. IsAtomOf n m a) → Always (counted minus number 1 f) (λ p t. IsTermOf n m k t)
 whole_keeps n m k minus number f small h = counted_keeps n m k 1 minus number f (subst IsMultiple (sym (lcm_one k)) small) h
 
-multiple_keeps : (k d : ℕ) (o : Option ℕ) → 1 ≤ k → multiple_with k d ≡ o → multiple_flag o ≡ None → IsMultiple (lcm k d)
+multiple_keeps : (k d : ℕ) (o : Option ℕ) → 1 ≤ k → multiple_with k d ≡ o → missing_flag codes.Number o ≡ None → IsMultiple (lcm k d)
 multiple_keeps k d (Some x) h e m = multiple_limited k d x h e
 multiple_keeps k d None h e m = absurd cc
 
@@ -146,7 +145,7 @@ term_takes k s minus = tt
 
 more_terms_keep : (s : Scope) (n m k most : ℕ) → Covers s n m → (ts : List Term) → AreFew n m k most ts → Always (more_terms most k s ts) (λ p ts. AreFew n m k most ts)
 unfolding more_terms
-more_terms_keep s n m k most c = each_keeps signs (λ ts l. (None, is_minus l)) (λ ts minus. allowed (most - length ts) (term (multiple_from k ts) s minus)) (λ ts t. ts ++ t ∷ []) (AreFew n m k most)
+more_terms_keep s n m k most c = each_keeps signs (λ ts l. (None, is_of (Punctuation Minus) l)) (λ ts minus. allowed (most - length ts) (term (multiple_from k ts) s minus)) (λ ts t. ts ++ t ∷ []) (AreFew n m k most)
     (λ ts h l e u. always_allowed _ _ _ (term_takes _ s _) (λ left. always_weaker (term _ s _) _ _ (λ p t ht. one_more_term n m k most ts t left h ht) (term_keeps s n m _ _ c h.2)))
 
 terms_keep : (s : Scope) (n m k most : ℕ) (minus : Bool) → Covers s n m → IsMultiple k → Always (terms most k s minus) (λ p ts. AreFew n m k most ts)
@@ -215,7 +214,7 @@ given_keeps s n c = (
     λ l e u. independence_keeps s.variables n c.variables,
     (
       λ l e u. function_keeps s.variables n c.variables,
-      always_weaker (but (markov_text ∷ indep_text ∷ func_text ∷ []) (relation s)) _ _ (λ p r h. h) (always_but _ (relation s) _ (relation_keeps s n 0 c)),
+      always_weaker (but (codes "markov" ∷ codes "indep" ∷ codes "func" ∷ []) (relation s)) _ _ (λ p r h. h) (always_but _ (relation s) _ (relation_keeps s n 0 c)),
     ),
   ),
 )

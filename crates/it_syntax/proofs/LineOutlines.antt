@@ -1,11 +1,10 @@
 -- The outlines of the forms of the grammar: at each place the next letter tells what goes on.
+use Rattle.std.specs.Prelude.{codes}
 use Rattle.std.proofs.Common.{◌≡◌, ℕ, Bool, true, false, List, [], ◌∷◌, ◌++◌, Option, refl, sym, ap, subst}
 use Rattle.it_forms.specs.declared.types.Symbol.{Symbol}
 use Rattle.it_syntax.specs.declared.types.Term.{Term}
-use Rattle.it_syntax.specs.GivenWords.{markov_text, indep_text, func_text, of_text}
 use Rattle.it_forms.specs.Letters.{Word, Number}
 use Rattle.it_syntax.specs.Scopes.{Environment, Scope}
-use Rattle.it_syntax.specs.NameFlags.{entropy_text, mutual_text}
 use Rattle.it_syntax.specs.LineForms.{signs, counted, denominator, over_or, variable, more_names, names, given_set, entropy, mutual_information, measure_or, atom, atom_or_nothing, term, more_terms, terms, sum, compare, relation, more_members, chain, after_bar, independence, function, given}
 use Rattle.it_forms.specs.declared.types.Symbol.TheVariants.{LeftParen, RightParen, Comma, Semicolon, Bar, Plus, Minus, Slash, Arrow, AtLeast, AtMost, Equal}
 use Rattle.it_forms.specs.declared.types.Code.{Code}
@@ -44,10 +43,10 @@ unfolding mutual_information
 mutual_information_has env = has_then _ _ _ _ (has_symbol LeftParen) (λ u. has_then _ _ _ _ (names_has env) (λ a. has_then _ _ _ _ (has_symbol Semicolon) (λ u. has_then _ _ _ _ (names_has env) (λ b. has_then _ _ _ _ (given_set_has env) (λ c. has_give _) refl) refl) refl) refl) refl
 
 abbrev measures : List Kind
-measures = Keyword entropy_text ∷ Keyword mutual_text ∷ []
+measures = Keyword (codes "H") ∷ Keyword (codes "I") ∷ []
 
 abbrev rates_but : List (List ℕ) → Kind
-rates_but ts = WordBut (ts ++ entropy_text ∷ mutual_text ∷ [])
+rates_but ts = WordBut (ts ++ codes "H" ∷ codes "I" ∷ [])
 
 -- an atom in front of which some words don't stand
 abbrev an_atom : List (List ℕ) → Outline
@@ -58,14 +57,14 @@ unfolding atom measure_or
 atom_has s = has_if _ _ _ _ _ (λ u. entropy_has s.variables) (has_if _ _ _ _ _ (λ u. mutual_information_has s.variables) (has_take _ (Word []) refl) refl) refl
 
 abbrev maybe_atom : Outline
-maybe_atom = record { begins = measures ++ rates_but [] ∷ []; skips = true; goes = rates_but [] ∷ Keyword mutual_text ∷ Keyword entropy_text ∷ [] }
+maybe_atom = record { begins = measures ++ rates_but [] ∷ []; skips = true; goes = rates_but [] ∷ Keyword (codes "I") ∷ Keyword (codes "H") ∷ [] }
 
 pub atom_or_nothing_has : (s : Scope) → Has (atom_or_nothing s) maybe_atom
 unfolding atom_or_nothing measure_or
 atom_or_nothing_has s = has_if _ _ _ _ _ (λ u. entropy_has s.variables) (has_if _ _ _ _ _ (λ u. mutual_information_has s.variables) (has_if _ _ _ _ _ (λ a. has_give a) (has_give _) refl) refl) refl
 
 abbrev pub a_term : List (List ℕ) → Outline
-a_term ts = record { begins = Zero ∷ Positive ∷ measures ++ rates_but ts ∷ []; skips = false; goes = rates_but [] ∷ Keyword mutual_text ∷ Keyword entropy_text ∷ Punctuation Slash ∷ [] }
+a_term ts = record { begins = Zero ∷ Positive ∷ measures ++ rates_but ts ∷ []; skips = false; goes = rates_but [] ∷ Keyword (codes "I") ∷ Keyword (codes "H") ∷ Punctuation Slash ∷ [] }
 
 abbrev over_a_number : Outline
 over_a_number = one_then (one_of (Zero ∷ Positive ∷ [])) (one_then (an_atom []) nothing)
@@ -146,12 +145,12 @@ independence_has env =
 
 function_has : (env : Environment) → Has (function env) (a_constraint (Punctuation Comma ∷ []))
 unfolding function
-function_has env = has_then _ _ _ _ (names_has env) (λ value. has_then _ _ _ _ (has_take _ (Word of_text) refl) (λ u. has_then _ _ _ _ (names_has env) (λ argument. has_give _) refl) refl) refl
+function_has env = has_then _ _ _ _ (names_has env) (λ value. has_then _ _ _ _ (has_take _ (Word (codes "of")) refl) (λ u. has_then _ _ _ _ (names_has env) (λ argument. has_give _) refl) refl) refl
 
 -- ---- a relation in front of which `markov`, `indep` and `func` don't stand
 
 abbrev forms : List (List ℕ)
-forms = markov_text ∷ indep_text ∷ func_text ∷ []
+forms = codes "markov" ∷ codes "indep" ∷ codes "func" ∷ []
 
 atom_but : (s : Scope) → Has (but forms (atom s)) (an_atom forms)
 unfolding atom measure_or but
@@ -184,9 +183,9 @@ relation_but s = has_then _ _ _ _ (sum_but _ _ s) (λ left. has_then _ _ _ _ com
 
 abbrev pub a_given : Outline
 a_given =
-    one_or (Keyword markov_text ∷ []) (a_constraint (Punctuation Arrow ∷ Punctuation Comma ∷ Punctuation Comma ∷ []))
-    (one_or (Keyword indep_text ∷ []) (a_constraint (Punctuation Comma ∷ Punctuation Bar ∷ Punctuation Semicolon ∷ Punctuation Comma ∷ Punctuation Comma ∷ []))
-    (one_or (Keyword func_text ∷ []) (a_constraint (Punctuation Comma ∷ [])) (one_then (a_relation forms) nothing)))
+    one_or (Keyword (codes "markov") ∷ []) (a_constraint (Punctuation Arrow ∷ Punctuation Comma ∷ Punctuation Comma ∷ []))
+    (one_or (Keyword (codes "indep") ∷ []) (a_constraint (Punctuation Comma ∷ Punctuation Bar ∷ Punctuation Semicolon ∷ Punctuation Comma ∷ Punctuation Comma ∷ []))
+    (one_or (Keyword (codes "func") ∷ []) (a_constraint (Punctuation Comma ∷ [])) (one_then (a_relation forms) nothing)))
 
 pub given_has : (s : Scope) → Has (given s) a_given
 unfolding given

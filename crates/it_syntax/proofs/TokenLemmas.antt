@@ -1,6 +1,8 @@
 -- The tokens of a line: one token, and no other, stands in front.
 use Rattle.std.proofs.Common.{◌≡◌, ℕ, zero, suc, ◌+◌, ◌-◌, ◌<◌, ◌≤◌, ◌^◌, Bool, true, false, cond, ◌&&◌, List, [], ◌∷◌, ◌++◌, length, take, drop, Some, IsSomeAnd, refl, ap, sym, subst, ◌∙◌, arith, length-take, length-drop, inl, inr, ◌⊎◌, length-append}
-use Rattle.std.specs.Prelude.{◌==◌}
+use Rattle.std.specs.Prelude.{◌==◌, find}
+use Rattle.std.specs.List.{starts_with}
+use Rattle.std.proofs.lemmas.Slice.Eq.{starts_is}
 use Rattle.std.proofs.lemmas.List.{take_at, drop_at, take-append-drop}
 use Rattle.std.proofs.lemmas.Bool.Decides.{Decides-eqb, eqb_tells, nat_tests}
 use Rattle.it_number.specs.Decimals.{value_from}
@@ -10,10 +12,9 @@ use Rattle.it_syntax.specs.declared.types.TokenKind.{TokenKind}
 use Rattle.it_syntax.specs.declared.types.TokenKind.TheVariants as kinds
 use Rattle.it_syntax.specs.declared.types.Token.{Token}
 use Rattle.std.specs.Char.{is_ascii_alphabetic, is_ascii_digit}
-use Rattle.it_space.proofs.BoolLemmas.{both_true}
-use Rattle.it_syntax.specs.Spelling.{is_word_byte, is_space, is_greater, AreAll, StartsWith, Stops, IsText, EndsToken, Cut}
+use Rattle.it_syntax.specs.Spelling.{is_word_byte, is_space, AreAll, StartsWith, Stops, IsText, EndsToken, Cut}
 use Rattle.it_forms.specs.SymbolTexts.{symbol_text}
-use Rattle.it_syntax.specs.Prefixes.{IsLongestRun, symbol_of, starts_with, find_symbol}
+use Rattle.it_syntax.specs.Prefixes.{IsLongestRun, symbol_of}
 use Rattle.it_syntax.specs.ReaderSteps.{IsTokenPrefix}
 use Rattle.it_syntax.proofs.RunLemmas.{value_digits}
 
@@ -84,24 +85,15 @@ no_both b h k = grind (arith, nat_tests)
 
 -- ---- symbols
 
-starts_is : (text bytes : List ℕ) → starts_with text bytes ≡ true → bytes ≡ text ++ drop (length text) bytes
-starts_is [] bytes e = refl
-starts_is (b ∷ text) [] e = absurd cc
-starts_is (b ∷ text) (c ∷ bytes) e =
-    let both = both_true (b == c) (starts_with text bytes) e in
-    let same : b ≡ c = (Decides-eqb b c).0 both.0 in
-    let rest = starts_is text bytes both.1 in
-    rw same (ap (λ (t : List ℕ). c ∷ t) rest)
-
 cond_either : {A : Type 0} (b : Bool) (x y z : A) → cond b x y ≡ z → ((b ≡ true) × (x ≡ z)) ⊎ ((b ≡ false) × (y ≡ z))
 cond_either true x y z e = inl (refl, e)
 cond_either false x y z e = inr (refl, e)
 
-find_is : (ss : List Symbol) (bytes : List ℕ) (s : Symbol) → find_symbol ss bytes ≡ Some s → starts_with (symbol_text s) bytes ≡ true
+find_is : (ss : List Symbol) (bytes : List ℕ) (s : Symbol) → find (λ s. starts_with ◌==◌ bytes (symbol_text s)) ss ≡ Some s → starts_with ◌==◌ bytes (symbol_text s) ≡ true
 find_is [] bytes s e = absurd cc
 find_is (x ∷ ss) bytes s e =
-    elim (cond_either (starts_with (symbol_text x) bytes) (Some x) (find_symbol ss bytes) (Some s) e) [
-      | inl p ↦ let same : x ≡ s = cc in subst (λ (y : Symbol). starts_with (symbol_text y) bytes ≡ true) same p.0
+    elim (cond_either (starts_with ◌==◌ bytes (symbol_text x)) (Some x) (find (λ s. starts_with ◌==◌ bytes (symbol_text s)) ss) (Some s) e) [
+      | inl p ↦ let same : x ≡ s = cc in subst (λ (y : Symbol). starts_with ◌==◌ bytes (symbol_text y) ≡ true) same p.0
       | inr p ↦ find_is ss bytes s p.1
     ]
 
@@ -122,7 +114,7 @@ symbol_spelled Equal rest h = refl
 symbol_spelled Assign rest h = refl
 symbol_spelled Slash rest h = refl
 
-minus_ends : (rest : List ℕ) → symbol_of (45 ∷ rest) ≡ Some Minus → Stops is_greater rest
+minus_ends : (rest : List ℕ) → symbol_of (45 ∷ rest) ≡ Some Minus → Stops (λ b. 62 == b) rest
 unfolding symbol_of
 minus_ends [] e = tt
 minus_ends (c ∷ rest) e = by_test (62 == c) rest e
@@ -133,7 +125,7 @@ minus_ends (c ∷ rest) e = by_test (62 == c) rest e
 
 symbol_is : (s : Symbol) (body : List ℕ) → symbol_of body ≡ Some s → body ≡ symbol_text s ++ drop (length (symbol_text s)) body
 unfolding symbol_of
-symbol_is s body e = starts_is (symbol_text s) body (find_is (Arrow ∷ AtLeast ∷ AtMost ∷ Assign ∷ LeftParen ∷ RightParen ∷ Comma ∷ Semicolon ∷ Bar ∷ Plus ∷ Minus ∷ Equal ∷ Slash ∷ []) body s e)
+symbol_is s body e = (starts_is Decides-eqb body (symbol_text s) true (sym (find_is (Arrow ∷ AtLeast ∷ AtMost ∷ Assign ∷ LeftParen ∷ RightParen ∷ Comma ∷ Semicolon ∷ Bar ∷ Plus ∷ Minus ∷ Equal ∷ Slash ∷ []) body s e))).0 refl
 
 symbol_ends : (s : Symbol) (rest : List ℕ) → symbol_of (symbol_text s ++ rest) ≡ Some s → EndsToken (kinds.Symbol s) rest
 symbol_ends Minus rest e = minus_ends rest e

@@ -3,12 +3,11 @@ pub mod Meaning
 pub mod Spelling
 pub mod Prefixes
 pub mod Spans
-pub mod NameFlags
+pub mod MeasureWords
 pub mod Gives
 pub mod Multiples
 pub mod Lines
 pub mod Scopes
-pub mod GivenWords
 pub mod LineForms
 pub mod RelationLines
 pub mod Givens

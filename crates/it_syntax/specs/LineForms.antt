@@ -1,7 +1,8 @@
 -- The grammar of relations and of the constraints of `given` lines. `Name` stands against a name that is unknown, `Word`
 -- against H or I in its place, `Many` against the first letter past a limit, `Number` against a denominator that is 0 or
 -- with which the least common multiple passes the limit.
-use Rattle.std.specs.Prelude.{ℕ, ◌-◌, ◌^◌, bit_or, Bool, true, false, List, [], ◌∷◌, ◌++◌, length, None}
+use Rattle.it_syntax.specs.MeasureWords.{is_measure}
+use Rattle.std.specs.Prelude.{ℕ, ◌-◌, ◌^◌, bit_or, Bool, true, false, List, [], ◌∷◌, ◌++◌, length, None, codes, unwrap_or, if◌then◌else◌, Some}
 use Rattle.it_forms.specs.declared.types.Symbol.{Symbol}
 use Rattle.it_forms.specs.declared.types.Symbol.TheVariants.{LeftParen, RightParen, Comma, Semicolon, Bar, Plus, Minus, Slash, Arrow, AtLeast, AtMost, Equal}
 use Rattle.it_syntax.specs.declared.types.Atom.{Atom}
@@ -9,21 +10,19 @@ use Rattle.it_syntax.specs.declared.types.Atom.TheVariants.{Nothing, Entropy, Mu
 use Rattle.it_syntax.specs.declared.types.Term.{Term}
 use Rattle.it_syntax.specs.declared.types.Sign.{Sign}
 use Rattle.it_syntax.specs.declared.types.Sign.TheVariants as comparisons
-use Rattle.it_forms.specs.Letters.{Letter, Sym}
+use Rattle.it_forms.specs.declared.types.Code.TheVariants as codes
 use Rattle.it_syntax.specs.Scopes.{Environment, Scope}
-use Rattle.it_syntax.specs.NameFlags.{entropy_text, mutual_text, unknown_flag, name_flag, index_or}
-use Rattle.it_syntax.specs.Multiples.{most_terms, multiple_with, multiple_flag}
-use Rattle.it_syntax.specs.GivenWords.{markov_text, indep_text, func_text, of_text}
+use Rattle.it_syntax.specs.Multiples.{most_terms, multiple_with}
 use Rattle.it_syntax.specs.Meaning.{RelationView, multiple_from}
 use Rattle.it_syntax.specs.Givens.{GivenView, Relation, Markov, Independent, Function}
-use Rattle.it_forms.specs.Forms.{Kind, Terminal, Punctuation, Form, Give, Take, If}
-use Rattle.it_forms.specs.Words.{◌>>=◌, ◌>>◌, symbol, word, any_word, word_but, number, each, each_after, zero_alone, positive, allowed, but}
+use Rattle.it_forms.specs.Forms.{Kind, Terminal, Punctuation, is_of, Form, Give, Take, If}
+use Rattle.it_forms.specs.Words.{◌>>=◌, ◌>>◌, symbol, word, any_word, word_but, number, each, each_after, zero_alone, positive, allowed, but, missing_flag}
 
 -- ---- atoms
 
 -- the name of a variable
 unfoldable pub variable : Environment → Form ℕ
-variable env = Take (any_word (λ w. (name_flag env w, index_or (env w))))
+variable env = Take (any_word (λ w. (if is_measure w then Some codes.Word else missing_flag codes.Name (env w), unwrap_or (env w) 0)))
 
 -- further names, each after a comma, added to a set
 unfoldable pub more_names : Environment → ℕ → Form ℕ
@@ -63,11 +62,11 @@ mutual_information env = do
 
 -- an entropy, a mutual information, or something else
 unfoldable pub measure_or : Environment → Form Atom → Form Atom
-measure_or env other = If (word entropy_text) (λ u. entropy env) (If (word mutual_text) (λ u. mutual_information env) other)
+measure_or env other = If (word (codes "H")) (λ u. entropy env) (If (word (codes "I")) (λ u. mutual_information env) other)
 
 -- the name of a rate: any word but `H` and `I`
 abbrev pub rate : Environment → Terminal Atom
-rate rates = word_but (entropy_text ∷ mutual_text ∷ []) (λ w. (unknown_flag (rates w), Rate (index_or (rates w))))
+rate rates = word_but (codes "H" ∷ codes "I" ∷ []) (λ w. (missing_flag codes.Name (rates w), Rate (unwrap_or (rates w) 0)))
 
 -- an entropy, a mutual information or a rate
 unfoldable pub atom : Scope → Form Atom
@@ -87,7 +86,7 @@ counted minus n d f = do
 
 -- a denominator
 abbrev pub denominator : ℕ → Terminal ℕ
-denominator m = number (λ d. multiple_flag (multiple_with m d))
+denominator m = number (λ d. missing_flag codes.Number (multiple_with m d))
 
 -- after a number n: `/` with a denominator and an atom, or what counts n
 abbrev pub over_or : ℕ → Scope → Bool → ℕ → Form Atom → Form Term
@@ -104,14 +103,11 @@ term m s minus =
 abbrev pub signs : List Kind
 signs = Punctuation Plus ∷ Punctuation Minus ∷ []
 
--- whether a sign is `-`
-abbrev pub is_minus : Letter → Bool
-is_minus (Sym Minus) = true
-is_minus l = false
-
 -- further terms, each after a sign, up to so many in all
 unfoldable pub more_terms : ℕ → ℕ → Scope → List Term → Form (List Term)
-more_terms most m s ts = each signs (λ ts l. (None, is_minus l)) (λ ts minus. allowed (most - length ts) (term (multiple_from m ts) s minus)) (λ ts t. ts ++ t ∷ []) ts
+more_terms most m s ts =
+    each signs (λ ts l. (None, is_of (Punctuation Minus) l))
+    (λ ts minus. allowed (most - length ts) (term (multiple_from m ts) s minus)) (λ ts t. ts ++ t ∷ []) ts
 
 -- at most so many terms, the first under a sign
 unfoldable pub terms : ℕ → ℕ → Scope → Bool → Form (List Term)
@@ -182,14 +178,14 @@ independence env = do
 unfoldable pub function : Environment → Form GivenView
 function env = do
   value ← names env
-  Take (word of_text)
+  Take (word (codes "of"))
   argument ← names env
   Give (Function value argument)
 
 -- the constraint of a `given` line; what begins with one of its words is never a relation
 unfoldable pub given : Scope → Form GivenView
 given s =
-    If (word markov_text) (λ u. chain s.variables)
-    (If (word indep_text) (λ u. independence s.variables)
-    (If (word func_text) (λ u. function s.variables)
-    (but (markov_text ∷ indep_text ∷ func_text ∷ []) (relation s) >>= λ r. Give (Relation r))))
+    If (word (codes "markov")) (λ u. chain s.variables)
+    (If (word (codes "indep")) (λ u. independence s.variables)
+    (If (word (codes "func")) (λ u. function s.variables)
+    (but (codes "markov" ∷ codes "indep" ∷ codes "func" ∷ []) (relation s) >>= λ r. Give (Relation r))))

@@ -1,4 +1,5 @@
 -- The letters of a line from a token on, and its first fault in a form, with the column.
+use Rattle.std.specs.Option.{option_map_or}
 use Rattle.std.specs.Prelude.{◌≡◌, ℕ, ◌+◌, ◌-◌, ◌≤◌, List, [], ◌∷◌, length, drop, Option, Some, None, slice_get}
 use Rattle.it_syntax.specs.declared.types.Token.{Token}
 use Rattle.it_forms.specs.declared.types.Code.{Code}
@@ -16,14 +17,9 @@ use Rattle.it_forms.specs.FormTexts.{spelling}
 abbrev pub letters_from : List ℕ → LineTokens → ℕ → List Letter
 letters_from line ts from = letters_until line (drop from ts.tokens.items) (last_letter ts.misspelling)
 
--- where a token ends, or 0 where there is none
-abbrev pub end_of : Option Token → ℕ
-end_of None = 0
-end_of (Some t) = t.end
-
 -- the column of what stands after the tokens: the misspelling's, or the one after the last token
 abbrev pub column_after : List Token → Option Misspelling → ℕ
-column_after ts None = end_of (slice_get ts (length ts - 1)) + 1
+column_after ts None = option_map_or (λ (t : Token). t.end) (slice_get ts (length ts - 1)) 0 + 1
 column_after ts (Some m) = m.column
 
 -- the column of the first of these tokens, counted from 1, or where there is none the column `after`

@@ -1,8 +1,6 @@
 -- The limits of a relation: of its terms, and of the least common multiple of its denominators.
 use Rattle.std.specs.Prelude.{ℕ, ◌^◌, ◌||◌, nat_eq, nat_lt, Option, Some, None, if◌then◌else◌}
 use Rattle.it_number.specs.Gcd.{lcm}
-use Rattle.it_forms.specs.declared.types.Code.{Code}
-use Rattle.it_forms.specs.declared.types.Code.TheVariants as codes
 
 -- how many terms both sides have together, at most
 abbrev pub most_terms : ℕ
@@ -15,8 +13,3 @@ most_multiple = 2 ^ 32
 -- the least common multiple m of denominators with one more, unless that is 0 or the multiple passes the limit
 unfoldable pub multiple_with : ℕ → ℕ → Option ℕ
 multiple_with m d = if nat_eq d 0 || nat_lt most_multiple (lcm m d) then None else Some (lcm m d)
-
--- against a denominator with which there is no such multiple
-abbrev pub multiple_flag : Option ℕ → Option Code
-multiple_flag (Some m) = None
-multiple_flag None = Some codes.Number

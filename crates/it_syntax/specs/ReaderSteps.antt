@@ -4,7 +4,8 @@ use Rattle.std.specs.Char.{is_ascii_alphabetic, is_ascii_digit}
 use Rattle.it_number.specs.Decimals.{value_from}
 use Rattle.it_forms.specs.Letters.{Letter, Word, Number, Sym, End, Bad}
 use Rattle.it_forms.specs.SymbolTexts.{symbol_text}
-use Rattle.it_forms.specs.Forms.{Terminal, Form, Take, Then}
+use Rattle.it_forms.specs.declared.types.Symbol.TheVariants.{Minus}
+use Rattle.it_forms.specs.Forms.{Punctuation, is_of, Terminal, Form, Take, Then}
 use Rattle.it_syntax.specs.declared.rest.Piece.{Piece}
 use Rattle.it_syntax.specs.declared.rest.Piece.TheVariants as pieces
 use Rattle.it_syntax.specs.declared.types.Atom.{Atom}
@@ -13,7 +14,7 @@ use Rattle.it_syntax.specs.declared.types.Token.{Token}
 use Rattle.it_syntax.specs.declared.types.TokenKind.{TokenKind}
 use Rattle.it_syntax.specs.declared.types.TokenKind.TheVariants as kinds
 use Rattle.it_syntax.specs.Prefixes.{IsLongestRun, symbol_of}
-use Rattle.it_syntax.specs.LineForms.{signs, is_minus, denominator, counted, atom, atom_or_nothing}
+use Rattle.it_syntax.specs.LineForms.{signs, denominator, counted, atom, atom_or_nothing}
 use Rattle.it_syntax.specs.Scopes.{Scope}
 use Rattle.it_syntax.specs.Spelling.{is_word_byte, StartsWith}
 
@@ -42,7 +43,7 @@ token_text line t = take (t.end - t.start) (drop t.start line)
 
 -- `+` or `-`, and whether it is `-`
 abbrev pub sign : Terminal Bool
-sign = record { kinds = signs; says = λ l. (None, is_minus l) }
+sign = record { kinds = signs; says = λ l. (None, is_of (Punctuation Minus) l) }
 
 -- what a number counts, which may be nothing after 0
 abbrev pub counted_by : ℕ → Scope → Form Atom

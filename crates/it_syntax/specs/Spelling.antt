@@ -19,10 +19,6 @@ is_word_byte b = is_ascii_alphabetic b || (is_ascii_digit b || b == 95)
 abbrev pub is_space : ℕ → Bool
 is_space b = b == 32
 
--- `>`, which makes an arrow of a minus
-abbrev pub is_greater : ℕ → Bool
-is_greater b = 62 == b
-
 -- each byte is of this kind
 abbrev pub AreAll : (ℕ → Bool) → List ℕ → Type 0
 AreAll f bytes = AllByRecursion (λ b. f b ≡ true) bytes
@@ -49,7 +45,7 @@ IsText (kinds.Symbol s) text = text ≡ symbol_text s
 abbrev pub EndsToken : TokenKind → List ℕ → Type 0
 EndsToken kinds.Word rest = Stops is_word_byte rest
 EndsToken (kinds.Number n) rest = Stops is_ascii_digit rest
-EndsToken (kinds.Symbol Minus) rest = Stops is_greater rest
+EndsToken (kinds.Symbol Minus) rest = Stops (λ b. 62 == b) rest
 EndsToken (kinds.Symbol s) rest = Unit {0}
 
 -- After spaces, token t is cut off the bytes from column `at` on, and `rest` is after it.

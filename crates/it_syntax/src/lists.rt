@@ -4,7 +4,7 @@ ghost use Rattle.it_forms.specs.FormReading.{read};
 ghost use Rattle.it_forms.specs.Words.{allowed};
 ghost use Rattle.it_syntax.specs.Gives.{Gives, StopsAs, letters_left};
 ghost use Rattle.it_syntax.specs.LineForms as forms;
-ghost use Rattle.it_syntax.specs.NameFlags.{is_measure};
+ghost use Rattle.it_syntax.specs.MeasureWords.{is_measure};
 ghost use Rattle.it_syntax.specs.Scopes.{env_of};
 
 use crate::names::Names;
