@@ -8,7 +8,6 @@ use Rattle.it_number.proofs.Ring as S
 use Rattle.it_number.proofs.Integers.{zring}
 use Rattle.it_rational.specs.Rational.{Rational, integer, times, minus, is_at_least_zero}
 use Rattle.it_rational.proofs.RationalLaws.{ring_ℚ}
-use Rattle.it_rational.proofs.Field.{field_ℚ}
 use Rattle.it_space.specs.declared.problems.Kind.{Kind}
 use Rattle.it_space.specs.declared.problems.Kind.TheVariants.{Inequality, Equation}
 use Rattle.it_space.specs.Problems.{ProblemView, IsProblem, Meets}
@@ -17,6 +16,7 @@ use Rattle.it_space.specs.Spaces.{size_of}
 use Rattle.it_space.proofs.EveryLemmas.{every_of, every-same, every-map, every_mapped, every_all}
 use Rattle.it_space.proofs.TermLemmas.{value-negated_terms}
 use Rattle.it_polymatroid.specs.Elementals.{span}
+use Rattle.it_tableau.specs.Operations.{rationals}
 use Rattle.it_tableau.specs.Problems.{feasibility_problem}
 use Rattle.it_run.specs.Readings.{SumsUp, Separates}
 use Rattle.it_run.specs.RowValues.{rational_value}
@@ -52,7 +52,7 @@ met_by_slack hs Equation row s e i = whole_same (value row (map_of (scaled_point
     (whole_row hs row ∙ ap (times (integer (pos (scale_of hs)))) (e ∙ ap minus i) ∙ ring ring_ℚ (integer (pos (scale_of hs)) ∷ []) (S.times (v 0) (S.minus nil)) nil refl)
 
 module _ (q : ProblemView) (left right : Terms) (k : IsProblem q) (l : IsUpTo (size_of q.space) left) (r : IsUpTo (size_of q.space) right) (ws : List (ℕ × Rational))
-    (s : SumsUp field_ℚ (length (span 1 (right_equation (size_of q.space) (generators q)))) (length (columns (third_phase q.space.variables (size_of q.space) (generators q) left right)))
+    (s : SumsUp rationals (length (span 1 (right_equation (size_of q.space) (generators q)))) (length (columns (third_phase q.space.variables (size_of q.space) (generators q) left right)))
     (feasibility_problem (span 1 (right_equation (size_of q.space) (generators q))) (columns (third_phase q.space.variables (size_of q.space) (generators q) left right)) (third_target (size_of q.space) (generators q) right)) ws) where
   abbrev gs : List Generator
   gs = generators q
@@ -111,7 +111,7 @@ value_at_turned (t ∷ ts) vs = ap₂ (λ y z. t.1 *ℤ y +ℤ z) (turned_map vs
     regroup a y z = omega (arith, zring)
 
 pub never_right : (q : ProblemView) (left right : Terms) (qs : List Rational) → IsProblem q → IsUpTo (size_of q.space) left → IsUpTo (size_of q.space) right
-    → Separates field_ℚ (length (span 1 (size_of q.space))) (length (columns (first_phase (generators q) left))) (feasibility_problem (span 1 (size_of q.space)) (columns (first_phase (generators q) left)) right) qs
+    → Separates rationals (length (span 1 (size_of q.space))) (length (columns (first_phase (generators q) left))) (feasibility_problem (span 1 (size_of q.space)) (columns (first_phase (generators q) left)) right) qs
     → HasNoFactor (ground_of q) (value left) (value right) (map neg_ℤ (scaled_point qs))
 unfolding first_phase
 never_right q left right qs k l r s =

@@ -8,7 +8,6 @@ use Rattle.it_check.specs.Meaning.{PointFits}
 use Rattle.std.proofs.lemmas.List.{length-map, length-append}
 use Rattle.it_number.specs.Limit.{IsWithin}
 use Rattle.it_rational.specs.Rational.{Rational}
-use Rattle.it_rational.proofs.Field.{field_ℚ}
 use Rattle.it_space.specs.declared.problems.Kind.{Kind}
 use Rattle.it_space.specs.declared.problems.Kind.TheVariants.{Inequality, Equation}
 use Rattle.it_space.specs.Problems.{ProblemView, IsProblem}
@@ -37,6 +36,7 @@ use Rattle.it_best.proofs.EndLemmas.{best_is_right}
 use Rattle.it_best.proofs.NumberLemmas.{length-numbers_from}
 use Rattle.it_best.proofs.PhaseLemmas as phases
 use Rattle.it_best.proofs.SystemSteps.{few_equations}
+use Rattle.it_tableau.specs.Operations.{rationals}
 
 -- ---- how many unknowns and columns there are
 
@@ -65,7 +65,7 @@ first_length gs left = ap suc (length-map gs counterweight) ∙ as_sum (length g
     as_sum : (a : ℕ) → suc a ≡ 1 + a
     as_sum a = omega arith
 
-weights_below : (n m from : ℕ) (ws : List (ℕ × Rational)) → n ≤ m → AreWeights field_ℚ n from ws → AreWeights field_ℚ m from ws
+weights_below : (n m from : ℕ) (ws : List (ℕ × Rational)) → n ≤ m → AreWeights rationals n from ws → AreWeights rationals m from ws
 weights_below n m from [] h a = tt
 weights_below n m from (w ∷ ws) h a = (a.0, below w.0 a.1, a.2, weights_below n m (suc w.0) ws h a.3)
   where
@@ -89,7 +89,7 @@ module _ (q : ProblemView) (left right : Terms) (k : IsProblem q) where
   gs_few = omega (arith, few_equations q k)
 
 -- as the code has them
-pub ordered_of : (m : ℕ) (us : List Generator) (target : Terms) (ws : List (ℕ × Rational)) → length us < 2 ^ 23 → PhaseSums m us target ws → AreWeights field_ℚ (2 ^ 63) 0 ws
+pub ordered_of : (m : ℕ) (us : List Generator) (target : Terms) (ws : List (ℕ × Rational)) → length us < 2 ^ 23 → PhaseSums m us target ws → AreWeights rationals (2 ^ 63) 0 ws
 ordered_of m us target ws h s = weights_below (length (columns us)) (2 ^ 63) 0 ws (omega (arith, h, few_columns us)) s.ordered
 
 pub unknowns_few : (unknowns : List Unknown) (us : List Generator) → unknown_views unknowns ≡ us → length us < 2 ^ 23 → length unknowns < 2 ^ 32

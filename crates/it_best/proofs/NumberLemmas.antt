@@ -10,6 +10,7 @@ use Rattle.it_space.specs.declared.problems.Kind.TheVariants.{Inequality, Equati
 use Rattle.it_space.specs.Rows.{Terms, coefficient}
 use Rattle.it_space.proofs.TermLemmas.{coefficient-negated_terms}
 use Rattle.it_polymatroid.specs.Elementals.{span}
+use Rattle.it_tableau.specs.Operations.{rationals}
 use Rattle.it_tableau.specs.Problems.{feasibility_problem}
 use Rattle.it_run.specs.Readings.{AreWeights, SumsUp, ring_combination}
 use Rattle.it_run.proofs.RowValues.{sums_up}
@@ -56,8 +57,8 @@ module _ (c : ℕ) where
       ∙ ring ring_ℚ (integer (coefficient r c) ∷ times x (integer (coefficient (get_or rs i []) c)) ∷ []) (S.plus (S.times nil (v 0)) (v 1)) (v 1) refl
 
   -- a sum over weights is one over all columns
-  weights_total : (n from : ℕ) (cols : List Terms) (ws : List (ℕ × Rational)) → n ≡ length cols → AreWeights field_ℚ n from ws
-      → ring_combination field_ℚ ws (λ j. integer (coefficient (get_or cols j []) c)) ≡ total 0 cols (column_weight ws)
+  weights_total : (n from : ℕ) (cols : List Terms) (ws : List (ℕ × Rational)) → n ≡ length cols → AreWeights rationals n from ws
+      → ring_combination rationals ws (λ j. integer (coefficient (get_or cols j []) c)) ≡ total 0 cols (column_weight ws)
   weights_total n from cols [] e a = sym (total-null 0 cols)
   weights_total n from cols (w ∷ ws) e a =
       ap₂ plus (sym (total-one w.0 0 w.0 w.1 cols (omega (arith, a.1, e)) (omega arith))) (weights_total n (suc w.0) cols ws e a.3)
@@ -82,7 +83,7 @@ module _ (c : ℕ) where
 
 -- at each equation the numbers sum up to the target
 pub numbers_sum_up : (m : ℕ) (us : List Generator) (target : Terms) (ws : List (ℕ × Rational))
-    → SumsUp field_ℚ (length (span 1 m)) (length (columns us)) (feasibility_problem (span 1 m) (columns us) target) ws
+    → SumsUp rationals (length (span 1 m)) (length (columns us)) (feasibility_problem (span 1 m) (columns us) target) ws
     → (c : ℕ) → 1 ≤ c → c ≤ m → number_sum c (numbers us ws) us ≡ integer (coefficient target c)
 numbers_sum_up m us target ws s c h l =
     sym (weights_total c (length (columns us)) 0 (columns us) ws refl s.ordered ∙ total_by_unknowns c us 0 (column_weight ws)) ∙ sums_up (span 1 m) (columns us) target ws s c (in_span m c h l)
@@ -98,7 +99,7 @@ AreNumbers (x ∷ xs) (u ∷ us) = (u.kind ≡ Inequality → is_at_least_zero x
 pub zero_least : is_at_least_zero (integer (pos 0)) ≡ true
 zero_least = ap sign_least (whole_parts (pos 0)).0
 
-weight_least : (n from : ℕ) (ws : List (ℕ × Rational)) → AreWeights field_ℚ n from ws → (j : ℕ) → is_at_least_zero (column_weight ws j) ≡ true
+weight_least : (n from : ℕ) (ws : List (ℕ × Rational)) → AreWeights rationals n from ws → (j : ℕ) → is_at_least_zero (column_weight ws j) ≡ true
 weight_least n from [] a j = zero_least
 weight_least n from (w ∷ ws) a j = field_ℚ.order.add-least (cond (nat_eq w.0 j) w.1 (integer (pos 0))) (column_weight ws j) (by_test (nat_eq w.0 j)) (weight_least n (suc w.0) ws a.3 j)
   where
@@ -127,5 +128,5 @@ unfolding numbers_from
 length-numbers_from [] j f = refl
 length-numbers_from (u ∷ us) j f = ap suc (length-numbers_from us (j + count_by u.kind) f)
 
-pub numbers_signed : (us : List Generator) (n : ℕ) (ws : List (ℕ × Rational)) → AreWeights field_ℚ n 0 ws → AreNumbers (numbers us ws) us
+pub numbers_signed : (us : List Generator) (n : ℕ) (ws : List (ℕ × Rational)) → AreWeights rationals n 0 ws → AreNumbers (numbers us ws) us
 numbers_signed us n ws a = are_numbers us 0 (column_weight ws) (weight_least n 0 ws a)

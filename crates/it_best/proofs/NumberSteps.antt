@@ -6,7 +6,6 @@ use Rattle.it_number.proofs.Ring.{ring, v, nil}
 use Rattle.it_number.proofs.Ring as S
 use Rattle.it_rational.specs.Rational.{Rational, integer, plus, times}
 use Rattle.it_rational.proofs.RationalLaws.{ring_ℚ}
-use Rattle.it_rational.proofs.Field.{field_ℚ}
 use Rattle.it_fraction.specs.Fits.{IsNarrow}
 use Rattle.std.specs.List.{AllByRecursion as Every}
 use Rattle.std.proofs.Common.{All, FitsSigned, ◌-ℤ◌}
@@ -23,6 +22,7 @@ use Rattle.it_best.specs.declared.unknowns.Unknown.{Unknown}
 use Rattle.it_best.specs.Numbers.{DifferencesFit, NumberFits, column_weight, multiples, number_by, numbers, numbers_from}
 use Rattle.it_best.specs.Phases.{unknown_view, unknown_views}
 use Rattle.it_best.proofs.WalkLemmas.{piece_more, piece_end}
+use Rattle.it_tableau.specs.Operations.{rationals}
 use mir.Syntax.{w128}
 
 -- ---- the numbers of unknowns
@@ -67,26 +67,26 @@ null_plus x = ring ring_ℚ (x ∷ []) (S.plus nil (v 0)) (v 0) refl
 plus_null : (x : Rational) → plus x (integer (pos 0)) ≡ x
 plus_null x = ring ring_ℚ (x ∷ []) (S.plus (v 0) nil) (v 0) refl
 
-weights_past : (n from : ℕ) (ws : List (ℕ × Rational)) (j : ℕ) → AreWeights field_ℚ n from ws → j < from → column_weight ws j ≡ integer (pos 0)
+weights_past : (n from : ℕ) (ws : List (ℕ × Rational)) (j : ℕ) → AreWeights rationals n from ws → j < from → column_weight ws j ≡ integer (pos 0)
 weights_past n from [] j a h = refl
 weights_past n from (w ∷ ws) j a h = ap₂ (λ b y. plus (cond b w.1 (integer (pos 0))) y) (ne_eqb w.0 j (λ e. omega (arith, a.0, e))) (weights_past n (suc w.0) ws j a.3 (omega (arith, a.0))) ∙ null_plus (integer (pos 0))
 
 abbrev WeightsFrom : ℕ → List (ℕ × Rational) → Type 0
-WeightsFrom n ws = (from : ℕ) × AreWeights field_ℚ n from ws
+WeightsFrom n ws = (from : ℕ) × AreWeights rationals n from ws
 
 module _ (n : ℕ) (ws : List (ℕ × Rational)) (j i : ℕ) (w : ℕ × Rational) (h : i < length ws) (is : w ≡ get_or ws i w)
-    (inv : ((from : ℕ) × AreWeights field_ℚ n from (drop i ws)) × (column_weight (drop i ws) j ≡ column_weight ws j)) where
+    (inv : ((from : ℕ) × AreWeights rationals n from (drop i ws)) × (column_weight (drop i ws) j ≡ column_weight ws j)) where
   next_weight : drop i ws ≡ w ∷ drop (i + 1) ws
   next_weight = drop_item ws i w h is
 
-  rest_ordered : AreWeights field_ℚ n (suc w.0) (drop (i + 1) ws)
-  rest_ordered = (subst (AreWeights field_ℚ n inv.0.0) next_weight inv.0.1).3
+  rest_ordered : AreWeights rationals n (suc w.0) (drop (i + 1) ws)
+  rest_ordered = (subst (AreWeights rationals n inv.0.0) next_weight inv.0.1).3
 
   pub weight_found : w.0 ≡ j → w.1 ≡ column_weight ws j
   weight_found e = sym (ap₂ (λ b y. plus (cond b w.1 (integer (pos 0))) y) (eq-eqb w.0 j e) (weights_past n (suc w.0) (drop (i + 1) ws) j rest_ordered (omega (arith, e))) ∙ plus_null w.1)
       ∙ sym (ap (λ xs. column_weight xs j) next_weight) ∙ inv.1
 
-  pub weight_passed : (w.0 ≡ j → ⊥) → ((from : ℕ) × AreWeights field_ℚ n from (drop (i + 1) ws)) × (column_weight (drop (i + 1) ws) j ≡ column_weight ws j)
+  pub weight_passed : (w.0 ≡ j → ⊥) → ((from : ℕ) × AreWeights rationals n from (drop (i + 1) ws)) × (column_weight (drop (i + 1) ws) j ≡ column_weight ws j)
   weight_passed d = (
     (suc w.0, rest_ordered),
     sym (ap (λ xs. column_weight xs j) next_weight ∙ ap (λ b. plus (cond b w.1 (integer (pos 0))) (column_weight (drop (i + 1) ws) j)) (ne_eqb w.0 j d) ∙ null_plus (column_weight (drop (i + 1) ws) j)) ∙ inv.1,

@@ -6,7 +6,6 @@ use Rattle.it_number.proofs.Ring.{ring, v, nil}
 use Rattle.it_number.proofs.Ring as S
 use Rattle.it_rational.specs.Rational.{Rational, integer, plus, times, minus}
 use Rattle.it_rational.proofs.RationalLaws.{ring_ℚ}
-use Rattle.it_rational.proofs.Field.{field_ℚ}
 use Rattle.it_space.specs.declared.problems.Kind.TheVariants.{Inequality, Equation}
 use Rattle.it_space.specs.Problems.{ProblemView, IsProblem}
 use Rattle.it_space.specs.Rows.{Terms, IsUpTo, coefficient, value, negated_terms}
@@ -15,6 +14,7 @@ use Rattle.it_space.proofs.EveryLemmas.{all_of, every-same, every-map, every_all
 use Rattle.it_space.proofs.TermLemmas.{coefficient-append, coefficient-negated_terms}
 use Rattle.it_polymatroid.specs.Elementals.{span}
 use Rattle.it_polymatroid.proofs.Spans.{length-span}
+use Rattle.it_tableau.specs.Operations.{rationals}
 use Rattle.it_tableau.specs.Problems.{feasibility_problem}
 use Rattle.it_run.specs.Readings.{SumsUp}
 use Rattle.it_run.specs.RowValues.{rational_value}
@@ -41,7 +41,7 @@ take_all xs n e = ap (λ m. take m xs) (sym e) ∙ Rattle.std.proofs.lemmas.List
 -- ---- the first phase
 
 module _ (q : ProblemView) (left right : Terms) (ws : List (ℕ × Rational))
-    (s : SumsUp field_ℚ (length (span 1 (size_of q.space))) (length (columns (first_phase (generators q) left))) (feasibility_problem (span 1 (size_of q.space)) (columns (first_phase (generators q) left)) right) ws) where
+    (s : SumsUp rationals (length (span 1 (size_of q.space))) (length (columns (first_phase (generators q) left))) (feasibility_problem (span 1 (size_of q.space)) (columns (first_phase (generators q) left)) right) ws) where
   abbrev first_rest : List Rational
   first_rest = numbers_from (0 + count_by Equation) (map counterweight (generators q)) (column_weight ws)
 
@@ -147,7 +147,7 @@ module _ (q : ProblemView) (left right : Terms) (k : IsProblem q) (l : IsUpTo (s
   pub hs_length : length hs ≡ size
   hs_length = length-take size (drop (length gs) rest) ∙ ap (λ m. Rattle.std.proofs.Common.min size m) (length-drop (length gs) rest) ∙ omega (arith, count_rest)
 
-  module _ (s : SumsUp field_ℚ (length equations) (length (columns third)) (feasibility_problem equations (columns third) (third_target size gs right)) ws) where
+  module _ (s : SumsUp rationals (length equations) (length (columns third)) (feasibility_problem equations (columns third) (third_target size gs right)) ws) where
     rest_signed : AreNumbers rest tail
     unfolding third_phase numbers_from
     rest_signed = (numbers_signed third (length (columns third)) ws s.ordered).1

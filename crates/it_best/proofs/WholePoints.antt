@@ -5,7 +5,6 @@ use Rattle.std.specs.List.{AllByRecursion as Every}
 use Rattle.std.proofs.lemmas.List.{get_or_default}
 use Rattle.it_rational.specs.Rational.{Rational, integer, times, is_at_least_zero}
 use Rattle.it_rational.proofs.RationalLaws.{ring_ℚ}
-use Rattle.it_rational.proofs.Field.{field_ℚ}
 use Rattle.it_number.proofs.Ring.{ring, v, nil}
 use Rattle.it_number.proofs.Ring as S
 use Rattle.it_space.specs.Problems.{Meets}
@@ -13,6 +12,7 @@ use Rattle.it_space.specs.Rows.{Terms, IsUpTo, map_of, value}
 use Rattle.it_space.proofs.EveryLemmas.{every_of, all_of, every-same, every_all}
 use Rattle.it_polymatroid.specs.Elementals.{span}
 use Rattle.it_polymatroid.proofs.Spans.{get_or-span, length-span}
+use Rattle.it_tableau.specs.Operations.{rationals}
 use Rattle.it_tableau.specs.Problems.{feasibility_problem}
 use Rattle.it_run.specs.Readings.{Separates}
 use Rattle.it_run.specs.RowValues.{rational_value}
@@ -56,7 +56,7 @@ whole_value l (q ∷ qs) d (suc zero) = whole_scaled l q d.0
 whole_value l (q ∷ qs) d (suc (suc c)) = whole_value l qs d.1 (suc c)
 
 module _ (m : ℕ) (us : List Generator) (target : Terms) (qs : List Rational) (up : Every (λ u. IsUpTo m u.row) us) (t_up : IsUpTo m target)
-    (s : Separates field_ℚ (length (span 1 m)) (length (columns us)) (feasibility_problem (span 1 m) (columns us) target) qs) where
+    (s : Separates rationals (length (span 1 m)) (length (columns us)) (feasibility_problem (span 1 m) (columns us) target) qs) where
   columns_in_span : Every (λ (r : Terms). Every (λ (t : ℕ × ℤ). In (span 1 m) t.0) r) (columns us)
   columns_in_span = columns_keep (In (span 1 m)) us (every-same (λ u. IsUpTo m u.row) (λ u. Every (λ (t : ℕ × ℤ). In (span 1 m) t.0) u.row) us (λ u b. row_in_span m u.row b) up)
 

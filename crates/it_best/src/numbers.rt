@@ -2,7 +2,6 @@
 ghost use Rattle.std.specs.Prelude.{◌≡◌, ◌<◌, ◌^◌, ◌++◌, ◌+◌, ◌∷◌, [], map, neg_ℤ, length, All, IfErr, IfOk, OkIff, OnOk};
 ghost use Rattle.std.specs.List.{AllByRecursion as Every};
 ghost use Rattle.it_number.specs.Limit.{IsWithin};
-ghost use Rattle.it_rational.proofs.Field.{field_ℚ};
 ghost use Rattle.it_rational.specs.Rational.{integer, times};
 ghost use Rattle.it_fraction.specs.Fits.{IsNarrow};
 ghost use Rattle.it_run.specs.Readings.{AreWeights};
@@ -13,6 +12,7 @@ ghost use Rattle.it_columns.specs.Scaling.{NumbersFit, scaled_point};
 ghost use Rattle.it_best.specs.Numbers.{DifferencesFit, NumberFits, WeightsFit, column_weight, factor_of, values_of, weights_of, multiples, number_by, numbers, weights_certificate};
 ghost use Rattle.it_best.specs.Phases.{unknown_views};
 ghost use Rattle.it_columns.specs.Columns.{count_by};
+ghost use Rattle.it_tableau.specs.Operations.{rationals};
 
 use crate::unknowns::Unknown;
 use it_columns::{common_scale, push_some, scaled_values};
@@ -22,7 +22,7 @@ use std::alloc::{AllocError, Global};
 
 /// The weight of a column, 0 where it has none.
 fn column_weight(weights: &[(usize, Fraction)], column: usize) -> Fraction
-    requires { AreWeights field_ℚ (2 ^ 63) 0 weights.now }
+    requires { AreWeights rationals (2 ^ 63) 0 weights.now }
     ensures { result ≡ column_weight weights.now column }
 {
     for weight in weights {
@@ -45,7 +45,7 @@ fn width(kind: Kind) -> usize
 
 /// The number of an unknown whose first column is given: the second column's weight counts against the first one's.
 fn number_of(weights: &[(usize, Fraction)], kind: Kind, column: usize) -> Result<Fraction, Wide>
-    requires ordered { AreWeights field_ℚ (2 ^ 63) 0 weights.now }
+    requires ordered { AreWeights rationals (2 ^ 63) 0 weights.now }
     requires few { column < 2 ^ 62 }
     ensures { OkIff result (NumberFits kind (column_weight weights.now) column) (number_by kind (column_weight weights.now) column) }
 {
@@ -65,7 +65,7 @@ fn push_number(
     kind: Kind,
     column: usize,
 ) -> Result<(), RowFault>
-    requires ordered { AreWeights field_ℚ (2 ^ 63) 0 weights.now }
+    requires ordered { AreWeights rationals (2 ^ 63) 0 weights.now }
     requires few { column < 2 ^ 62 }
     ensures value { OnOk result (numbers.new.items ≡ numbers.old.items ++ number_by kind (column_weight weights.now) column ∷ []) }
     ensures fits { OnOk result (NumberFits kind (column_weight weights.now) column) }
@@ -84,7 +84,7 @@ pub fn numbers(
     unknowns: &[Unknown],
     weights: &[(usize, Fraction)],
 ) -> Result<Vec<Fraction>, RowFault>
-    requires ordered { AreWeights field_ℚ (2 ^ 63) 0 weights.now }
+    requires ordered { AreWeights rationals (2 ^ 63) 0 weights.now }
     requires few { length unknowns.now < 2 ^ 32 }
     ensures value { IfOk result (λ v. v.items ≡ numbers (unknown_views unknowns.now) weights.now) }
     ensures fits { OnOk result (DifferencesFit 0 (unknown_views unknowns.now) (column_weight weights.now)) }

@@ -2,8 +2,8 @@
 use Rattle.std.proofs.Common.{◌≡◌, ℕ, List, Option, Some, None, length, sym, ap, subst, ◌∙◌}
 use Rattle.std.specs.Option.{IfSome}
 use Rattle.it_rational.specs.Rational.{Rational}
-use Rattle.it_rational.proofs.Field.{field_ℚ}
 use Rattle.it_space.specs.Rows.{Terms}
+use Rattle.it_tableau.specs.Operations.{rationals}
 use Rattle.it_tableau.specs.Problems.{feasibility_problem, start_of}
 use Rattle.it_tableau.specs.SimplexTables.{SimplexTable}
 use Rattle.it_run.specs.Answers.{end_of_answer}
@@ -31,14 +31,14 @@ module _ (coordinates : List ℕ) (target : Terms) (columns : List Terms) (limit
       → RunsTo (length basis) (length columns) (feasibility_problem coordinates generators target) budget t (Weights ws)
   by_weights ws f w generators t s = let p = feasibility_problem coordinates generators target in let r = f.runs p t s in
       subst (λ (ws : List (ℕ × Rational)). RunsTo (length basis) (length columns) p budget t (Weights ws))
-      (sym (w p r.0 limit r.1 ∙ ap (λ m. weights field_ℚ m (length columns) r.0) f.height)) (read_run (length basis) (length columns) p budget t (Weights r.0) r.2)
+      (sym (w p r.0 limit r.1 ∙ ap (λ m. weights rationals m (length columns) r.0) f.height)) (read_run (length basis) (length columns) p budget t (Weights r.0) r.2)
 
   pub by_point : (q : List Rational) → IsFinished columns limit old basis budget new new_basis engine_ends.Point → IsPointOf coordinates target new new_basis q
       → (generators : List Terms) (t : SimplexTable Rational) → Represents (feasibility_problem coordinates generators target) t columns limit old basis
       → RunsTo (length basis) (length columns) (feasibility_problem coordinates generators target) budget t (Point q)
   by_point q f w generators t s = let p = feasibility_problem coordinates generators target in let r = f.runs p t s in
       subst (λ (q : List Rational). RunsTo (length basis) (length columns) p budget t (Point q))
-      (sym (w generators r.0 columns limit r.1 ∙ ap (λ m. point field_ℚ m (length columns) p r.0) f.height)) (read_run (length basis) (length columns) p budget t (Point r.0) r.2)
+      (sym (w generators r.0 columns limit r.1 ∙ ap (λ m. point rationals m (length columns) p r.0) f.height)) (read_run (length basis) (length columns) p budget t (Point r.0) r.2)
 
   pub by_budget : (k : ℕ) → IsFinished columns limit old basis budget new new_basis (engine_ends.Pivots k)
       → (generators : List Terms) (t : SimplexTable Rational) → Represents (feasibility_problem coordinates generators target) t columns limit old basis

@@ -3,9 +3,9 @@ use Rattle.std.proofs.Common.{◌≡◌, ◌≢◌, ◌⊎◌, inl, inr, ℕ, �
 use Rattle.std.proofs.lemmas.Bool.{cases_eq, eq-eqb, ne_eqb}
 use Rattle.std.proofs.lemmas.List.{length-set, get_or-set_same, get_or-set_other}
 use Rattle.it_rational.specs.Rational.{Rational}
-use Rattle.it_rational.proofs.Field.{field_ℚ}
 use Rattle.it_space.specs.Rows.{Terms, value}
 use Rattle.it_space.specs.Sums.{number_at}
+use Rattle.it_tableau.specs.Operations.{rationals}
 use Rattle.it_tableau.specs.SimplexTables.{SimplexTable, FeasibilityProblem}
 use Rattle.it_tableau.proofs.ViewLemmas.{same_functions}
 use Rattle.it_run.specs.Choice.{next}
@@ -101,7 +101,7 @@ module _ (columns : List Terms) (limit : ℕ) (old : List WholeRowView) (basis :
       kept = λ i l d f. (a.others i (omega (arith, l, w.same_length)) d).kept (entry_at_row i l
           ∙ ap (λ x. cond (cond x true (has_moved moved i)) (value (slice_index_or columns c []) (number_at (whole_row_at now i).numbers)) (pos 0)) (ne_eqb i r d)
           ∙ ap (λ x. cond x (value (slice_index_or columns c []) (number_at (whole_row_at now i).numbers)) (pos 0)) f) ∙ w.others i d;
-      made = λ p b t s e g m. subst (λ (f : ℕ → Bool). ShowsBehind p b (next field_ℚ (length basis) (length columns) t) columns limit new (slice_set basis r c) f) (same_functions moved_same)
+      made = λ p b t s e g m. subst (λ (f : ℕ → Bool). ShowsBehind p b (next rationals (length basis) (length columns) t) columns limit new (slice_set basis r c) f) (same_functions moved_same)
           (shows_next p b t columns limit old basis (has_moved moved) s c r enters row e g.leaves m g.still now (w.shown p b t s) (number_at (slice_set entries r z))
           (λ i l f. entry_at_row i (omega (arith, l, safe.rows_are)) ∙ ap (λ d. cond d (value (slice_index_or columns c []) (number_at (whole_row_at now i).numbers)) (pos 0)) f)
           (λ i l f. entry_at_row i (omega (arith, l, safe.rows_are)) ∙ ap (λ d. cond d (value (slice_index_or columns c []) (number_at (whole_row_at now i).numbers)) (pos 0)) f)

@@ -10,8 +10,9 @@ use Rattle.it_rational.proofs.RationalLaws.{ring_ℚ}
 use Rattle.it_rational.proofs.Names.{whole_names}
 use Rattle.it_space.specs.Rows.{Terms, value}
 use Rattle.it_space.specs.Sums.{number_at}
-use Rattle.it_tableau.specs.Sums.{sum_to}
-use Rattle.it_tableau.specs.SimplexTables.{SimplexTable, FeasibilityProblem, difference, start_row}
+use Rattle.it_tableau.specs.Operations.{rationals}
+use Rattle.it_tableau.specs.FieldOperations.{sum_to, difference}
+use Rattle.it_tableau.specs.SimplexTables.{SimplexTable, FeasibilityProblem, start_row}
 use Rattle.it_tableau.proofs.Sums.{sum_same, sum_null, sum_add, sum_times}
 use Rattle.it_tableau.proofs.ViewLemmas.{same_functions}
 use Rattle.it_run.proofs.Behind.{row_behind}
@@ -47,7 +48,7 @@ module _ (p : FeasibilityProblem Rational) (b t : SimplexTable Rational) (column
 
   -- the row as the sum of its entries at the artificial columns times the start rows
   abbrev Combines : (ℕ → Rational) → Type 0
-  Combines f = (j : ℕ) → f j ≡ sum_to ring_ℚ m (λ k. Q.times (f (n + k)) (start_row field_ℚ m n p k j))
+  Combines f = (j : ℕ) → f j ≡ sum_to ring_ℚ m (λ k. Q.times (f (n + k)) (start_row rationals m n p k j))
 
   less_combines : (f g : ℕ → Rational) (x : Rational) → Combines f → Combines g → Combines (λ j. difference ring_ℚ (f j) (Q.times (g j) x))
   less_combines f g x hf hg j =
@@ -59,7 +60,7 @@ module _ (p : FeasibilityProblem Rational) (b t : SimplexTable Rational) (column
       (λ k _. ring ring_ℚ (f (n + k) ∷ g (n + k) ∷ S k ∷ x ∷ []) (plus (times (v 0) (v 2)) (times (times (v 1) (v 2)) (minus (v 3)))) (times (plus (v 0) (minus (times (v 1) (v 3)))) (v 2)) refl)
     where
       S : ℕ → Rational
-      S = λ k. start_row field_ℚ m n p k j
+      S = λ k. start_row rationals m n p k j
 
   after_combines : (q : ℕ) → q ≤ m → Combines (entry_after q)
   after_combines zero h = subst Combines (same_functions (λ j. sym (less_nothing (b.entry r j)))) (λ j. s.behind.base.combines r j (omega (arith, row)))

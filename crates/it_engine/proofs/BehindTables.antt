@@ -11,7 +11,8 @@ use Rattle.it_rational.proofs.RationalLaws.{ring_ℚ}
 use Rattle.it_fraction.proofs.ZeroLemmas.{zero_parts}
 use Rattle.it_space.specs.Rows.{Terms, value, row_mass}
 use Rattle.it_space.specs.Sums.{number_at}
-use Rattle.it_tableau.specs.Sums.{sum_to}
+use Rattle.it_tableau.specs.Operations.{rationals}
+use Rattle.it_tableau.specs.FieldOperations.{sum_to}
 use Rattle.it_tableau.specs.SimplexTables.{SimplexTable, FeasibilityProblem, start_row}
 use Rattle.it_tableau.specs.Invariants.{CombinesStart}
 use Rattle.it_run.specs.Choice.{entering_column, leaving_row, is_candidate, IsStuck}
@@ -41,10 +42,10 @@ module _ (p : FeasibilityProblem Rational) (b t : SimplexTable Rational) (column
   abbrev mixed : SimplexTable Rational
   mixed = mixed_table moved b t
 
-  pub mixed_combines : CombinesStart field_ℚ m n p mixed
+  pub mixed_combines : CombinesStart rationals m n p mixed
   mixed_combines i j hi = by_move (moved i)
     where
-      by_move : (d : Bool) → cond d (t.entry i j) (b.entry i j) ≡ sum_to ring_ℚ m (λ k. Q.times (cond d (t.entry i (n + k)) (b.entry i (n + k))) (start_row field_ℚ m n p k j))
+      by_move : (d : Bool) → cond d (t.entry i j) (b.entry i j) ≡ sum_to ring_ℚ m (λ k. Q.times (cond d (t.entry i (n + k)) (b.entry i (n + k))) (start_row rationals m n p k j))
       by_move true = s.behind.holds.combines i j hi
       by_move false = s.behind.base.combines i j hi
 
@@ -87,7 +88,7 @@ module _ (p : FeasibilityProblem Rational) (b t : SimplexTable Rational) (column
       by_cases (inr h) = omega (arith, h, l)
 
   -- the column that enters
-  pub entering_behind : entering_column field_ℚ m n t ≡ first_negative_cost columns (whole_row_at rows m).numbers
+  pub entering_behind : entering_column rationals m n t ≡ first_negative_cost columns (whole_row_at rows m).numbers
   entering_behind = first_false_agrees (λ j. is_at_least_zero (t.entry m j)) (λ j. sign_least (value (slice_index_or columns j []) (number_at (whole_row_at rows m).numbers))) 0 n
       (λ j h k. cost_sign j (omega arith))
     where
@@ -96,10 +97,10 @@ module _ (p : FeasibilityProblem Rational) (b t : SimplexTable Rational) (column
           (subst (λ (d : Bool). IsRatio (cond d (t.entry m j) (b.entry m j)) (value (slice_index_or columns j []) (number_at (whole_row_at rows m).numbers)) (whole_row_at rows m).bottom) s.cost
           (price_named m n limit s.norm p mixed columns rows basis mixed_combines s.shows s.columns_are s.fit s.some m j (omega arith) l))
 
-  pub stuck_behind : first_negative_cost columns (whole_row_at rows m).numbers ≡ n → IsStuck field_ℚ m n t
+  pub stuck_behind : first_negative_cost columns (whole_row_at rows m).numbers ≡ n → IsStuck rationals m n t
   stuck_behind e = stuck_without_entering m n t (entering_behind ∙ e)
 
-  pub moves_behind : (c : ℕ) → c < n → first_negative_cost columns (whole_row_at rows m).numbers ≡ c → ¬ (IsStuck field_ℚ m n t)
+  pub moves_behind : (c : ℕ) → c < n → first_negative_cost columns (whole_row_at rows m).numbers ≡ c → ¬ (IsStuck rationals m n t)
   moves_behind c h e = not_stuck_with_entering m n t c record { within = h; is = entering_behind ∙ e }
 
   module _ (multiple : ℕ) (share : ℕ → ℕ) (whole : 0 < multiple) (e_share : (q : ℕ) → q < m → moved q ≡ true → bottom_now q * share q ≡ multiple) where
@@ -194,10 +195,10 @@ module _ (p : FeasibilityProblem Rational) (b t : SimplexTable Rational) (column
     module _ (c r : ℕ) (enters : c < n) (column_is : first_negative_cost columns (whole_row_at rows m).numbers ≡ c) (row : r < m)
         (still : number_at (whole_row_at rows r).numbers m ≡ pos 0) (above : is_above_zero (true_number r c) ≡ true)
         (first : (i : ℕ) → i < m → number_at (whole_row_at rows i).numbers m ≡ pos 0 → is_above_zero (true_number i c) ≡ true → slice_index_or basis r 0 ≤ slice_index_or basis i 0) where
-      pub column_enters : entering_column field_ℚ m n t ≡ c
+      pub column_enters : entering_column rationals m n t ≡ c
       column_enters = entering_behind ∙ column_is
 
-      above_named : (i : ℕ) → i ≤ m → is_candidate field_ℚ t c i ≡ is_above_zero (true_number i c)
+      above_named : (i : ℕ) → i ≤ m → is_candidate rationals t c i ≡ is_above_zero (true_number i c)
       above_named i hi = ap not (sign_named (Q.minus (t.entry i c)) (neg_ℤ (true_number i c)) (true_bottom i) (true_some i hi)
           (minus_names (t.entry i c) (true_number i c) (true_bottom i) (true_named i c hi (omega (arith, enters)))))
 
@@ -205,7 +206,7 @@ module _ (p : FeasibilityProblem Rational) (b t : SimplexTable Rational) (column
       right_is_null = null_named (t.entry r (n + m)) (bottom_now r) (mixed_is_over.some r (omega (arith, row)))
           (subst (λ (z : ℤ). IsRatio (t.entry r (n + m)) z (bottom_now r)) still (right_named r row))
 
-      pub row_is_candidate : is_candidate field_ℚ t c r ≡ true
+      pub row_is_candidate : is_candidate rationals t c r ≡ true
       row_is_candidate = above_named r (omega (arith, row)) ∙ above
 
       first_still : IsFirstStill field_ℚ m n p t c r s.behind.holds
@@ -218,14 +219,14 @@ module _ (p : FeasibilityProblem Rational) (b t : SimplexTable Rational) (column
             (sym (above_named i (omega (arith, l))) ∙ ap not a)));
       }
 
-      pub row_leaves : leaving_row field_ℚ m n t c ≡ r
+      pub row_leaves : leaving_row rationals m n t c ≡ r
       row_leaves = first_still_leaves field_ℚ m n p t c r s.behind.holds
           (subst (λ (k : ℕ). is_at_least_zero (t.entry m k) ≡ false) column_enters
           (entering_is field_ℚ m n t (some_column field_ℚ m n t (moves_behind c enters column_is))).below)
           first_still
 
-      pub step_is : (P : ℕ → ℕ → Type 0) → P r c → P (leaving_row field_ℚ m n t (entering_column field_ℚ m n t)) (entering_column field_ℚ m n t)
-      step_is P x = subst (λ (y : ℕ). P (leaving_row field_ℚ m n t y) y) (sym column_enters) (subst (λ (x : ℕ). P x c) (sym row_leaves) x)
+      pub step_is : (P : ℕ → ℕ → Type 0) → P r c → P (leaving_row rationals m n t (entering_column rationals m n t)) (entering_column rationals m n t)
+      step_is P x = subst (λ (y : ℕ). P (leaving_row rationals m n t y) y) (sym column_enters) (subst (λ (x : ℕ). P x c) (sym row_leaves) x)
 
       pub step_fits_behind : IsOver m n t true_number true_bottom → StepFits m n t
-      step_fits_behind o = W.step_fits m n t true_number true_bottom o (step_is (λ r c. r < m) row) (step_is (λ r c. c < n) enters) (step_is (λ r c. is_candidate field_ℚ t c r ≡ true) row_is_candidate)
+      step_fits_behind o = W.step_fits m n t true_number true_bottom o (step_is (λ r c. r < m) row) (step_is (λ r c. c < n) enters) (step_is (λ r c. is_candidate rationals t c r ≡ true) row_is_candidate)

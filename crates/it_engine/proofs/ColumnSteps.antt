@@ -10,8 +10,8 @@ use Rattle.it_rational.specs.Rational.{Rational, integer}
 use Rattle.it_rational.specs.Rational as Q
 use Rattle.it_rational.proofs.RationalLaws.{ring_ℚ}
 use Rattle.it_space.specs.Rows.{Terms, coefficient}
+use Rattle.it_tableau.specs.FieldOperations.{sum_to}
 use Rattle.it_tableau.specs.Problems.{IsAscending}
-use Rattle.it_tableau.specs.Sums.{sum_to}
 use Rattle.it_tableau.proofs.Sums.{sum_add, sum_null, sum_one, sum_same}
 use Rattle.it_run.specs.RowValues.{rational_value}
 use Rattle.it_engine.specs.Loading.{keeps_sign, signed, signed_coefficient, IsReadColumn, IsTermPut}

@@ -7,8 +7,8 @@ use Rattle.it_number.proofs.Integers.{zring}
 use Rattle.it_rational.specs.Rational.{Rational, IsRatio}
 use Rattle.it_rational.specs.Rational as Q
 use Rattle.it_rational.proofs.Names.{plus_names, times_names, whole_names, quotient_names}
-use Rattle.it_rational.proofs.Field.{field_ℚ}
 use Rattle.it_space.specs.Rows.{Terms, value, row_mass}
+use Rattle.it_tableau.specs.Operations.{rationals}
 use Rattle.it_tableau.specs.Invariants.{CombinesStart}
 use Rattle.it_tableau.specs.SimplexTables.{SimplexTable, FeasibilityProblem}
 use Rattle.it_run.specs.RowValues.{rational_value}
@@ -63,7 +63,7 @@ value_bounded (t ∷ ts) m f limit a h =
     sum_at_most x y a b l h k = omega (arith, ints, h, k)
 
 module _ (m n limit norm : ℕ) (p : FeasibilityProblem Rational) (t : SimplexTable Rational) (columns : List Terms) (rows : List WholeRowView) (basis : List ℕ)
-    (h : CombinesStart field_ℚ m n p t) (s : ShowsTable m n limit t rows basis) (cs : AreStartColumns m n norm p columns) (fit : norm * limit < 2 ^ 63) (some : 1 ≤ norm) where
+    (h : CombinesStart rationals m n p t) (s : ShowsTable m n limit t rows basis) (cs : AreStartColumns m n norm p columns) (fit : norm * limit < 2 ^ 63) (some : 1 ≤ norm) where
   -- the terms of column j
   abbrev pub column_terms : ℕ → Terms
   column_terms j = slice_index_or columns j []

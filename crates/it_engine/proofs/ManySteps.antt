@@ -6,6 +6,7 @@ use Rattle.it_fraction.proofs.ZeroLemmas.{zero_parts}
 use Rattle.it_rational.specs.Rational.{Rational, IsRatio}
 use Rattle.it_rational.proofs.Field.{field_ℚ}
 use Rattle.it_space.specs.Rows.{Terms}
+use Rattle.it_tableau.specs.Operations.{rationals}
 use Rattle.it_tableau.specs.Invariants.{HasInvariants}
 use Rattle.it_tableau.specs.SimplexTables.{SimplexTable, FeasibilityProblem}
 use Rattle.it_run.specs.Choice.{next, IsDone, IsStuck}
@@ -35,13 +36,13 @@ steps_lead_on m n (suc k) left made t s e h l q = steps_lead_on m n k left made 
     subst (λ (x : ℕ). Reaches m n x (made + k + 1) s e) a (subst (λ (x : ℕ). Reaches m n (left - suc k) x s e) b q)))
 
 -- each of them lowers the number of steps that are left
-pub steps_lead_down : (m n k : ℕ) (p : FeasibilityProblem Rational) (t s : SimplexTable Rational) → HasInvariants field_ℚ m n p t → StepsLead m n k t s → HasInvariants field_ℚ m n p s × (steps_left field_ℚ m n s + k ≤ steps_left field_ℚ m n t)
-steps_lead_down m n zero p t s h l = (subst (HasInvariants field_ℚ m n p) (sym l) h, (let e : steps_left field_ℚ m n s ≡ steps_left field_ℚ m n t = ap (steps_left field_ℚ m n) l in omega (arith, e)))
+pub steps_lead_down : (m n k : ℕ) (p : FeasibilityProblem Rational) (t s : SimplexTable Rational) → HasInvariants rationals m n p t → StepsLead m n k t s → HasInvariants rationals m n p s × (steps_left field_ℚ m n s + k ≤ steps_left field_ℚ m n t)
+steps_lead_down m n zero p t s h l = (subst (HasInvariants rationals m n p) (sym l) h, (let e : steps_left field_ℚ m n s ≡ steps_left field_ℚ m n t = ap (steps_left field_ℚ m n) l in omega (arith, e)))
 steps_lead_down m n (suc k) p t s h l =
     let r = steps_lead_down m n k p t l.0 h l.1 in
     let f = steps_fall field_ℚ m n p l.0 r.0 l.3 in
-    let e : steps_left field_ℚ m n s ≡ steps_left field_ℚ m n (next field_ℚ m n l.0) = ap (steps_left field_ℚ m n) l.5 in
-    (subst (HasInvariants field_ℚ m n p) (sym l.5) (next_holds field_ℚ m n p l.0 r.0 l.3), omega (arith, f, e, r.1))
+    let e : steps_left field_ℚ m n s ≡ steps_left field_ℚ m n (next rationals m n l.0) = ap (steps_left field_ℚ m n) l.5 in
+    (subst (HasInvariants rationals m n p) (sym l.5) (next_holds field_ℚ m n p l.0 r.0 l.3), omega (arith, f, e, r.1))
 
 module _ (columns : List Terms) (limit : ℕ) (old : List WholeRowView) (basis : List ℕ) (moved : List Bool) where
   pub no_steps : IsSafe columns limit old basis → AreStillSteps columns limit old basis moved 0 old basis moved
@@ -61,15 +62,15 @@ module _ (columns : List Terms) (limit : ℕ) (old : List WholeRowView) (basis :
         let moves = T.moves_behind p b u columns limit now now_basis (has_moved now_moved) x.1 c g.column g.column_is in
         let leaves = g.leaves p b u x.1 g.column_is in
         let on : suc k ≡ k + 1 = omega arith in (
-          next field_ℚ (length now_basis) (length columns) u,
+          next rationals (length now_basis) (length columns) u,
           a.made p b u x.1 enters leaves moves,
-          subst (λ (i : ℕ). StepsLead (length basis) (length columns) i t (next field_ℚ (length now_basis) (length columns) u)) on (
+          subst (λ (i : ℕ). StepsLead (length basis) (length columns) i t (next rationals (length now_basis) (length columns) u)) on (
             u,
             x.2,
-            by_same_height (λ m. ¬ (IsDone field_ℚ m (length columns) u)) (not_done p b u x.1),
-            by_same_height (λ m. ¬ (IsStuck field_ℚ m (length columns) u)) moves,
+            by_same_height (λ m. ¬ (IsDone rationals m (length columns) u)) (not_done p b u x.1),
+            by_same_height (λ m. ¬ (IsStuck rationals m (length columns) u)) moves,
             by_same_height (λ m. StepFits m (length columns) u) leaves.fits,
-            ap (λ m. next field_ℚ m (length columns) u) h.height,
+            ap (λ m. next rationals m (length columns) u) h.height,
           ),
         );
   }
@@ -77,7 +78,7 @@ module _ (columns : List Terms) (limit : ℕ) (old : List WholeRowView) (basis :
       by_same_height : (P : ℕ → Type 0) → P (length now_basis) → P (length basis)
       by_same_height P x = subst P h.height x
 
-      not_done : (p : FeasibilityProblem Rational) (b u : SimplexTable Rational) → ShowsBehind p b u columns limit now now_basis (has_moved now_moved) → ¬ (IsDone field_ℚ (length now_basis) (length columns) u)
+      not_done : (p : FeasibilityProblem Rational) (b u : SimplexTable Rational) → ShowsBehind p b u columns limit now now_basis (has_moved now_moved) → ¬ (IsDone rationals (length now_basis) (length columns) u)
       not_done p b u s d = g.not_done (number_null (right_side_of (length now_basis) now (length now_basis)) (u.entry (length now_basis) (length columns + length now_basis)) (whole_row_at now (length now_basis)).bottom
           (subst (λ (x : Bool). IsRatio (cond x (u.entry (length now_basis) (length columns + length now_basis)) (b.entry (length now_basis) (length columns + length now_basis))) (right_side_of (length now_basis) now (length now_basis)) (whole_row_at now (length now_basis)).bottom) s.cost
           ((s.shows.row (length now_basis) (omega arith)).named (length now_basis) (omega arith)))

@@ -8,8 +8,7 @@ use Rattle.it_rational.specs.Rational.{Rational, IsRatio}
 use Rattle.it_rational.specs.Rational as Q
 use Rattle.it_rational.proofs.Names.{times_names}
 use Rattle.it_rational.proofs.RationalLaws.{ring_ℚ}
-use Rattle.it_tableau.specs.Sums.{sum_to}
-use Rattle.it_tableau.specs.SimplexTables.{difference}
+use Rattle.it_tableau.specs.FieldOperations.{sum_to, difference}
 use Rattle.it_engine.specs.Behind.{share_sum}
 use Rattle.it_engine.proofs.Generators.{sum_named, zero_named}
 use Rattle.it_engine.proofs.Names.{minus_names, scaled_name}

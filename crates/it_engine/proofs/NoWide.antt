@@ -7,8 +7,8 @@ use Rattle.it_number.specs.Limit.{IsWithin}
 use Rattle.it_number.proofs.SignLemmas.{size_negated}
 use Rattle.it_rational.specs.Rational.{Rational, sign_least, is_at_least_zero, IsRatio}
 use Rattle.it_rational.specs.Rational as Q
-use Rattle.it_rational.proofs.Field.{field_ℚ}
 use Rattle.it_fraction.specs.Fits.{IsNarrow}
+use Rattle.it_tableau.specs.Operations.{rationals}
 use Rattle.it_tableau.specs.SimplexTables.{SimplexTable, ratio}
 use Rattle.it_tableau.specs.Fits.{QuotientFits, EntryFits, PivotFits}
 use Rattle.it_run.specs.Choice.{entering_column, leaving_row, is_candidate}
@@ -47,8 +47,8 @@ halves_within x y h k = for_each (unsigned_abs x) (unsigned_abs y) (unsigned_abs
 
 module _ (m n : ℕ) (t : SimplexTable Rational) (number : ℕ → ℕ → ℤ) (bottom : ℕ → ℕ) (o : IsOver m n t number bottom) where
   -- the ratio of a row with an entry above 0
-  ratio_fits : (i c p : ℕ) → i ≤ m → c ≤ n + m → 0 < p → number i c ≡ pos p → IsNarrow (ratio field_ℚ m n t c i)
-  ratio_fits i c p hi hc hp e = narrow_by (ratio field_ℚ m n t c i) (number i (n + m)) p hp
+  ratio_fits : (i c p : ℕ) → i ≤ m → c ≤ n + m → 0 < p → number i c ≡ pos p → IsNarrow (ratio rationals m n t c i)
+  ratio_fits i c p hi hc hp e = narrow_by (ratio rationals m n t c i) (number i (n + m)) p hp
       (quotient_in_row (t.entry i (n + m)) (t.entry i c) (number i (n + m)) p (bottom i) (o.some i hi) hp (o.named i (n + m) hi (omega arith))
       (subst (λ (z : ℤ). IsRatio (t.entry i c) z (bottom i)) e (o.named i c hi hc)))
       (short_within (number i (n + m)) (o.short i (n + m) hi (omega arith)))
@@ -99,7 +99,7 @@ module _ (m n : ℕ) (t : SimplexTable Rational) (number : ℕ → ℕ → ℤ) 
           }
 
   -- the sign of an entry is that of its number
-  pub candidate_number : (i c : ℕ) → i ≤ m → c ≤ n + m → is_candidate field_ℚ t c i ≡ true → (p : ℕ) × (0 < p) × (number i c ≡ pos p)
+  pub candidate_number : (i c : ℕ) → i ≤ m → c ≤ n + m → is_candidate rationals t c i ≡ true → (p : ℕ) × (0 < p) × (number i c ≡ pos p)
   candidate_number i c hi hc h = by_sign (number i c) refl
     where
       sign : {z : ℤ} → number i c ≡ z → is_at_least_zero (Q.minus (t.entry i c)) ≡ sign_least (neg_ℤ z)
@@ -111,11 +111,11 @@ module _ (m n : ℕ) (t : SimplexTable Rational) (number : ℕ → ℕ → ℤ) 
       by_sign (negsuc p) e = absurd (true≢false (sym h ∙ ap not (sign e)))
 
   -- a step isn't wide
-  pub step_fits : leaving_row field_ℚ m n t (entering_column field_ℚ m n t) < m → entering_column field_ℚ m n t < n
-      → is_candidate field_ℚ t (entering_column field_ℚ m n t) (leaving_row field_ℚ m n t (entering_column field_ℚ m n t)) ≡ true → StepFits m n t
+  pub step_fits : leaving_row rationals m n t (entering_column rationals m n t) < m → entering_column rationals m n t < n
+      → is_candidate rationals t (entering_column rationals m n t) (leaving_row rationals m n t (entering_column rationals m n t)) ≡ true → StepFits m n t
   step_fits hr hc h =
-      let c = entering_column field_ℚ m n t in
-      let r = leaving_row field_ℚ m n t c in
+      let c = entering_column rationals m n t in
+      let r = leaving_row rationals m n t c in
       let p = candidate_number r c (omega (arith, hr)) (omega (arith, hc)) h in
       record {
         ratios = λ i hi k. let q = candidate_number i c (omega (arith, hi)) (omega (arith, hc)) k in ratio_fits i c q.0 (omega (arith, hi)) (omega (arith, hc)) q.1 q.2;

@@ -5,6 +5,7 @@ use Rattle.it_rational.specs.Rational.{Rational, quotient, integer, times, IsRat
 use Rattle.it_rational.proofs.Names.{quotient_names, same_value}
 use Rattle.it_rational.proofs.Field.{field_ℚ}
 use Rattle.it_space.specs.Rows.{Terms}
+use Rattle.it_tableau.specs.Operations.{rationals}
 use Rattle.it_tableau.specs.Problems.{feasibility_problem}
 use Rattle.it_tableau.specs.SimplexTables.{SimplexTable, FeasibilityProblem, sign}
 use Rattle.it_run.specs.Readings.{weight, weights, weights_from_column, point_value, point_from_row, point}
@@ -19,7 +20,7 @@ pub quotient_named : (q : Rational) (n : ℤ) (d : ℕ) → 0 < d → IsRatio q 
 quotient_named q n d h e = same_value (quotient n d) q n n d d h h (quotient_names n d h) e refl
 
 module _ (p : FeasibilityProblem Rational) (t : SimplexTable Rational) (columns : List Terms) (limit : ℕ) (rows : List WholeRowView) (basis : List ℕ) (s : Represents p t columns limit rows basis) where
-  weight_is : (j : ℕ) (w : Rational) → IsWeightOf rows basis j w → w ≡ weight field_ℚ (length basis) (length columns) t j
+  weight_is : (j : ℕ) (w : Rational) → IsWeightOf rows basis j w → w ≡ weight rationals (length basis) (length columns) t j
   weight_is j w i = i.value_is
       ∙ (let r = s.shows.row i.row (omega (arith, i.within)) in
       quotient_named (t.entry i.row (length columns + length basis)) (right_side_of (length basis) rows i.row) (whole_row_at rows i.row).bottom r.some (r.named (length basis) (omega arith)))
@@ -46,30 +47,30 @@ weights_none columns rows basis out j l n h = λ p t limit s. weights_skip_null 
 abbrev pub PointSoFar : List ℕ → Terms → List WholeRowView → List ℕ → List Rational → ℕ → Type 0
 PointSoFar coordinates target rows basis out k = (generators : List Terms) (t : SimplexTable Rational) (columns : List Terms) (limit : ℕ)
     → Represents (feasibility_problem coordinates generators target) t columns limit rows basis
-    → out ++ point_from_row field_ℚ (length basis) (length columns) (feasibility_problem coordinates generators target) t k (length basis - k) ≡ point field_ℚ (length basis) (length columns) (feasibility_problem coordinates generators target) t
+    → out ++ point_from_row rationals (length basis) (length columns) (feasibility_problem coordinates generators target) t k (length basis - k) ≡ point rationals (length basis) (length columns) (feasibility_problem coordinates generators target) t
 
 pub point_more : (coordinates : List ℕ) (target : Terms) (rows : List WholeRowView) (basis : List ℕ) (out : List Rational) (k : ℕ) (x : Rational) → k < length basis
-    → x ≡ times (sign field_ℚ (feasibility_problem coordinates [] target) k) (quotient (right_side_of k rows (length basis)) (whole_row_at rows (length basis)).bottom)
+    → x ≡ times (sign rationals (feasibility_problem coordinates [] target) k) (quotient (right_side_of k rows (length basis)) (whole_row_at rows (length basis)).bottom)
     → PointSoFar coordinates target rows basis out k → PointSoFar coordinates target rows basis (out ++ x ∷ []) (k + 1)
 point_more coordinates target rows basis out k x l e h = λ generators t columns limit s.
     let p = feasibility_problem coordinates generators target in
     let r = s.shows.row (length basis) (omega arith) in
     let here : length basis - k ≡ suc (length basis - (k + 1)) = omega (arith, l) in
     let there : suc k ≡ k + 1 = omega arith in
-    append_assoc out (x ∷ []) (point_from_row field_ℚ (length basis) (length columns) p t (k + 1) (length basis - (k + 1)))
-    ∙ ap (λ y. out ++ y ∷ point_from_row field_ℚ (length basis) (length columns) p t (k + 1) (length basis - (k + 1)))
-    (e ∙ ap (times (sign field_ℚ p k)) (quotient_named (t.entry (length basis) (length columns + k)) (right_side_of k rows (length basis)) (whole_row_at rows (length basis)).bottom r.some (r.named k (omega (arith, l)))))
-    ∙ ap (λ xs. out ++ xs) (sym (ap (point_from_row field_ℚ (length basis) (length columns) p t k) here
-    ∙ ap (λ i. point_value field_ℚ (length basis) (length columns) p t k ∷ point_from_row field_ℚ (length basis) (length columns) p t i (length basis - (k + 1))) there))
+    append_assoc out (x ∷ []) (point_from_row rationals (length basis) (length columns) p t (k + 1) (length basis - (k + 1)))
+    ∙ ap (λ y. out ++ y ∷ point_from_row rationals (length basis) (length columns) p t (k + 1) (length basis - (k + 1)))
+    (e ∙ ap (times (sign rationals p k)) (quotient_named (t.entry (length basis) (length columns + k)) (right_side_of k rows (length basis)) (whole_row_at rows (length basis)).bottom r.some (r.named k (omega (arith, l)))))
+    ∙ ap (λ xs. out ++ xs) (sym (ap (point_from_row rationals (length basis) (length columns) p t k) here
+    ∙ ap (λ i. point_value rationals (length basis) (length columns) p t k ∷ point_from_row rationals (length basis) (length columns) p t i (length basis - (k + 1))) there))
     ∙ h generators t columns limit s
 
 -- all weights, all values
 pub weights_all : (columns : List Terms) (rows : List WholeRowView) (basis : List ℕ) (out : List (ℕ × Rational)) (j : ℕ) → length columns ≤ j → WeightsSoFar columns rows basis out j
-    → (p : FeasibilityProblem Rational) (t : SimplexTable Rational) (limit : ℕ) → Represents p t columns limit rows basis → out ≡ weights field_ℚ (length basis) (length columns) t
+    → (p : FeasibilityProblem Rational) (t : SimplexTable Rational) (limit : ℕ) → Represents p t columns limit rows basis → out ≡ weights rationals (length basis) (length columns) t
 weights_all columns rows basis out j l h p t limit s = let none : length columns - j ≡ 0 = omega (arith, l) in
-    sym (append-nil out) ∙ ap (λ k. out ++ weights_from_column field_ℚ (length basis) (length columns) t j k) (sym none) ∙ h p t limit s
+    sym (append-nil out) ∙ ap (λ k. out ++ weights_from_column rationals (length basis) (length columns) t j k) (sym none) ∙ h p t limit s
 
 pub point_all : (coordinates : List ℕ) (target : Terms) (rows : List WholeRowView) (basis : List ℕ) (out : List Rational) (k : ℕ) → length basis ≤ k → PointSoFar coordinates target rows basis out k
     → IsPointOf coordinates target rows basis out
 point_all coordinates target rows basis out k l h = λ generators t columns limit s. let none : length basis - k ≡ 0 = omega (arith, l) in
-    sym (append-nil out) ∙ ap (λ i. out ++ point_from_row field_ℚ (length basis) (length columns) (feasibility_problem coordinates generators target) t k i) (sym none) ∙ h generators t columns limit s
+    sym (append-nil out) ∙ ap (λ i. out ++ point_from_row rationals (length basis) (length columns) (feasibility_problem coordinates generators target) t k i) (sym none) ∙ h generators t columns limit s

@@ -14,7 +14,7 @@ use Rattle.it_rational.specs.Rational.{Rational, IsRatio}
 use Rattle.it_rational.specs.Rational as Q
 use Rattle.it_rational.proofs.Names.{same_value, whole_names}
 use Rattle.it_rational.proofs.RationalLaws.{ring_ℚ}
-use Rattle.it_tableau.specs.SimplexTables.{difference}
+use Rattle.it_tableau.specs.FieldOperations.{difference}
 use Rattle.it_engine.specs.Updates.{IsCombined, IsWholeRowDivided, IsWholeRowReduced, IsShortened}
 use Rattle.it_space.specs.Sums.{number_at}
 use Rattle.it_engine.specs.Whole.{WholeRowView, IsRow}

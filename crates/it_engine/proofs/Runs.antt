@@ -1,9 +1,9 @@
 -- A run of the engine under way.
 use Rattle.std.proofs.Common.{◌≡◌, ℕ, ◌+◌, ◌-◌, ◌<◌, ◌≤◌, ℤ, pos, List, length, Some, refl, ap, subst, ◌∙◌, arith}
 use Rattle.it_rational.specs.Rational.{Rational, IsRatio}
-use Rattle.it_rational.proofs.Field.{field_ℚ}
 use Rattle.it_fraction.proofs.ZeroLemmas.{zero_parts}
 use Rattle.it_space.specs.Rows.{Terms}
+use Rattle.it_tableau.specs.Operations.{rationals}
 use Rattle.it_tableau.specs.SimplexTables.{SimplexTable, FeasibilityProblem}
 use Rattle.it_run.specs.Choice.{next, IsDone, IsStuck}
 use Rattle.it_run.specs.Runs.{RunEndView}
@@ -37,11 +37,11 @@ module _ (p : FeasibilityProblem Rational) (t : SimplexTable Rational) (columns 
   cost_named : IsRatio (t.entry (length basis) (length columns + length basis)) (right_side_of (length basis) rows (length basis)) (whole_row_at rows (length basis)).bottom
   cost_named = (s.shows.row (length basis) (omega arith)).named (length basis) (omega arith)
 
-  pub done_here : right_side_of (length basis) rows (length basis) ≡ pos 0 → IsDone field_ℚ (length basis) (length columns) t
+  pub done_here : right_side_of (length basis) rows (length basis) ≡ pos 0 → IsDone rationals (length basis) (length columns) t
   done_here e = null_named (t.entry (length basis) (length columns + length basis)) (whole_row_at rows (length basis)).bottom (s.shows.row (length basis) (omega arith)).some
       (subst (λ (z : ℤ). IsRatio (t.entry (length basis) (length columns + length basis)) z (whole_row_at rows (length basis)).bottom) e cost_named)
 
-  pub not_done_here : ¬ (right_side_of (length basis) rows (length basis) ≡ pos 0) → ¬ (IsDone field_ℚ (length basis) (length columns) t)
+  pub not_done_here : ¬ (right_side_of (length basis) rows (length basis) ≡ pos 0) → ¬ (IsDone rationals (length basis) (length columns) t)
   not_done_here n d = n (number_null (right_side_of (length basis) rows (length basis)) (t.entry (length basis) (length columns + length basis)) (whole_row_at rows (length basis)).bottom cost_named (ap (λ (q : Rational). q.num) d ∙ zero_parts.0))
 
 module _ (columns : List Terms) (limit : ℕ) (old : List WholeRowView) (basis : List ℕ) (budget : ℕ) (now : List WholeRowView) (now_basis : List ℕ) (k : ℕ)
@@ -58,12 +58,12 @@ module _ (columns : List Terms) (limit : ℕ) (old : List WholeRowView) (basis :
       r.0,
       r.1,
       r.2 _ (run_done (length basis) (length columns) (budget - k) k r.0
-          (by_same_height (λ m. IsDone field_ℚ m (length columns) r.0) (done_here p r.0 columns limit now now_basis r.1 e))),
+          (by_same_height (λ m. IsDone rationals m (length columns) r.0) (done_here p r.0 columns limit now now_basis r.1 e))),
     );
   }
 
   pub run_ends_stuck : ¬ (right_side_of (length now_basis) now (length now_basis) ≡ pos 0)
-      → ((p : FeasibilityProblem Rational) (t : SimplexTable Rational) → Represents p t columns limit now now_basis → IsStuck field_ℚ (length now_basis) (length columns) t)
+      → ((p : FeasibilityProblem Rational) (t : SimplexTable Rational) → Represents p t columns limit now now_basis → IsStuck rationals (length now_basis) (length columns) t)
       → IsFinished columns limit old basis (Some budget) now now_basis Point
   run_ends_stuck n u = record {
     engine = w.engine;
@@ -72,13 +72,13 @@ module _ (columns : List Terms) (limit : ℕ) (old : List WholeRowView) (basis :
       r.0,
       r.1,
       r.2 _ (run_stuck (length basis) (length columns) (budget - k) k r.0 r.0
-          (by_same_height (λ m. ¬ (IsDone field_ℚ m (length columns) r.0)) (not_done_here p r.0 columns limit now now_basis r.1 n))
-          (by_same_height (λ m. IsStuck field_ℚ m (length columns) r.0) (u p r.0 r.1)) refl),
+          (by_same_height (λ m. ¬ (IsDone rationals m (length columns) r.0)) (not_done_here p r.0 columns limit now now_basis r.1 n))
+          (by_same_height (λ m. IsStuck rationals m (length columns) r.0) (u p r.0 r.1)) refl),
     );
   }
 
   pub run_ends_at_budget : ¬ (right_side_of (length now_basis) now (length now_basis) ≡ pos 0) → k ≡ budget
-      → ((p : FeasibilityProblem Rational) (t : SimplexTable Rational) → Represents p t columns limit now now_basis → ¬ (IsStuck field_ℚ (length now_basis) (length columns) t))
+      → ((p : FeasibilityProblem Rational) (t : SimplexTable Rational) → Represents p t columns limit now now_basis → ¬ (IsStuck rationals (length now_basis) (length columns) t))
       → IsFinished columns limit old basis (Some budget) now now_basis (Pivots budget)
   run_ends_at_budget n e u = record {
     engine = w.engine;
@@ -88,8 +88,8 @@ module _ (columns : List Terms) (limit : ℕ) (old : List WholeRowView) (basis :
       r.1,
       r.2 _ (subst (λ (x : ℕ). Reaches (length basis) (length columns) (budget - k) k r.0 (Rattle.it_run.specs.Runs.RunEndView.Pivots x)) e
           (run_budget (length basis) (length columns) (budget - k) k r.0 (omega (arith, e))
-          (by_same_height (λ m. ¬ (IsDone field_ℚ m (length columns) r.0)) (not_done_here p r.0 columns limit now now_basis r.1 n))
-          (by_same_height (λ m. ¬ (IsStuck field_ℚ m (length columns) r.0)) (u p r.0 r.1)))),
+          (by_same_height (λ m. ¬ (IsDone rationals m (length columns) r.0)) (not_done_here p r.0 columns limit now now_basis r.1 n))
+          (by_same_height (λ m. ¬ (IsStuck rationals m (length columns) r.0)) (u p r.0 r.1)))),
     );
   }
 
@@ -101,15 +101,15 @@ module _ (columns : List Terms) (limit : ℕ) (old : List WholeRowView) (basis :
     runs = λ p t s.
         let r = w.runs p t s in
         let made = g.made p r.0 r.1 in (
-          next field_ℚ (length now_basis) (length columns) r.0,
+          next rationals (length now_basis) (length columns) r.0,
           made.stands,
           λ e q. r.2 e
-              (run_more (length basis) (length columns) (budget - k) k r.0 (next field_ℚ (length now_basis) (length columns) r.0) e (omega (arith, h))
-              (by_same_height (λ m. ¬ (IsDone field_ℚ m (length columns) r.0)) (not_done_here p r.0 columns limit now now_basis r.1 n))
-              (by_same_height (λ m. ¬ (IsStuck field_ℚ m (length columns) r.0)) made.moves)
+              (run_more (length basis) (length columns) (budget - k) k r.0 (next rationals (length now_basis) (length columns) r.0) e (omega (arith, h))
+              (by_same_height (λ m. ¬ (IsDone rationals m (length columns) r.0)) (not_done_here p r.0 columns limit now now_basis r.1 n))
+              (by_same_height (λ m. ¬ (IsStuck rationals m (length columns) r.0)) made.moves)
               (by_same_height (λ m. Rattle.it_run.specs.Solving.StepFits m (length columns) r.0) made.fits)
-              (ap (λ m. next field_ℚ m (length columns) r.0) w.height)
-              (subst (λ (x : ℕ). Reaches (length basis) (length columns) x (k + 1) (next field_ℚ (length now_basis) (length columns) r.0) e) (one_step_less budget k) q)),
+              (ap (λ m. next rationals m (length columns) r.0) w.height)
+              (subst (λ (x : ℕ). Reaches (length basis) (length columns) x (k + 1) (next rationals (length now_basis) (length columns) r.0) e) (one_step_less budget k) q)),
         );
   }
     where
@@ -137,6 +137,6 @@ module _ (columns : List Terms) (limit : ℕ) (old : List WholeRowView) (basis :
 
 -- where a column has a cost below 0 the run isn't stuck
 pub not_stuck_here : (p : FeasibilityProblem Rational) (t : SimplexTable Rational) (columns : List Terms) (limit : ℕ) (rows : List WholeRowView) (basis : List ℕ) (c : ℕ) → Represents p t columns limit rows basis
-    → c < length columns → first_negative_cost columns (whole_row_at rows (length basis)).numbers ≡ c → ¬ (IsStuck field_ℚ (length basis) (length columns) t)
+    → c < length columns → first_negative_cost columns (whole_row_at rows (length basis)).numbers ≡ c → ¬ (IsStuck rationals (length basis) (length columns) t)
 not_stuck_here p t columns limit rows basis c s h e = Rattle.it_run.proofs.RunSteps.not_stuck_with_entering (length basis) (length columns) t c
     record { within = h; is = entering_same p t columns limit rows basis s ∙ e }

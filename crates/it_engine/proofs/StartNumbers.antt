@@ -8,9 +8,10 @@ use Rattle.it_rational.proofs.Names.{same_value, whole_names}
 use Rattle.it_rational.proofs.RationalLaws.{ring_ℚ}
 use Rattle.it_rational.proofs.Field.{field_ℚ}
 use Rattle.it_space.specs.Rows.{Terms, coefficient}
+use Rattle.it_tableau.specs.Operations.{rationals}
+use Rattle.it_tableau.specs.FieldOperations.{sum_to}
 use Rattle.it_tableau.specs.Problems.{feasibility_problem, start_of}
 use Rattle.it_tableau.specs.SimplexTables.{start_row}
-use Rattle.it_tableau.specs.Sums.{sum_to}
 use Rattle.it_tableau.proofs.StartLemmas.{row_artificial, row_column, row_right, start_cost, start_entry}
 use Rattle.it_tableau.proofs.Sums.{eqb_comm, sum_null, sum_one, sum_same}
 use Rattle.it_engine.specs.Loading.{keeps_sign, right_size, right_sum, signed_coefficient}
@@ -52,7 +53,7 @@ module _ (cs : List ℕ) (generators : List Terms) (target : Terms) where
 
   -- an entry of the start's rows
   abbrev row_entry : ℕ → ℕ → Rational
-  row_entry = start_row field_ℚ m n (feasibility_problem cs generators target)
+  row_entry = start_row rationals m n (feasibility_problem cs generators target)
 
   pub column_entry : (k j : ℕ) → j < n → row_entry k j ≡ integer (signed_coefficient cs target (slice_index_or generators j []) k)
   column_entry k j h = row_column field_ℚ m n (feasibility_problem cs generators target) k j h

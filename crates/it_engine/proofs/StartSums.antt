@@ -5,16 +5,16 @@ use Rattle.it_number.specs.Rings.{Ring}
 use Rattle.it_number.specs.Limit.{IsWithin}
 use Rattle.it_number.proofs.Ring.{mul-null}
 use Rattle.it_rational.specs.Rational.{Rational, integer, IsRatio}
-use Rattle.it_rational.proofs.Field.{field_ℚ}
 use Rattle.it_rational.proofs.Names.{whole_names}
 use Rattle.it_rational.proofs.RationalLaws.{ring_ℚ}
 use Rattle.it_fraction.specs.Fits.{IsNarrow}
 use Rattle.it_fraction.proofs.ZeroLemmas.{whole-narrow}
 use Rattle.it_space.specs.Rows.{Terms, value}
+use Rattle.it_tableau.specs.Operations.{rationals}
+use Rattle.it_tableau.specs.FieldOperations.{sum_to}
 use Rattle.it_tableau.specs.Fits.{StartFits}
 use Rattle.it_tableau.specs.Problems.{feasibility_problem}
 use Rattle.it_tableau.specs.SimplexTables.{start_row}
-use Rattle.it_tableau.specs.Sums.{sum_to}
 use Rattle.it_tableau.proofs.Sums.{sum_same}
 use Rattle.it_engine.specs.Loading.{right_size, right_sum}
 use Rattle.it_engine.specs.Whole.{AreStartColumns, IsStartColumn}
@@ -67,11 +67,11 @@ module _ (cs : List ℕ) (generators : List Terms) (target : Terms) (columns : L
     (are : AreStartColumns (length cs) (length generators) norm (feasibility_problem cs generators target) columns) (rights : right_sum cs target (length cs) < 2 ^ 63) where
   -- the sum of the first k rows at column j
   abbrev partial_sum : ℕ → ℕ → Rational
-  partial_sum k j = sum_to ring_ℚ k (λ i. start_row field_ℚ (length cs) (length generators) (feasibility_problem cs generators target) i j)
+  partial_sum k j = sum_to ring_ℚ k (λ i. start_row rationals (length cs) (length generators) (feasibility_problem cs generators target) i j)
 
   column_narrow : (k j : ℕ) → k ≤ length cs → j < length generators → IsNarrow (partial_sum k j)
   column_narrow k j h l = narrow_by (partial_sum k j) number 1 (omega arith)
-      (subst (λ (q : Rational). IsRatio q number 1) (sym (c.value_is weights) ∙ sum_of_first ring_ℚ (length cs) k (λ i. start_row field_ℚ (length cs) (length generators) (feasibility_problem cs generators target) i j) h)
+      (subst (λ (q : Rational). IsRatio q number 1) (sym (c.value_is weights) ∙ sum_of_first ring_ℚ (length cs) k (λ i. start_row rationals (length cs) (length generators) (feasibility_problem cs generators target) i j) h)
       (value_named terms (length cs) weights (λ i. cond (ltb i k) (pos 1) (pos 0)) 1 (omega arith) c.within (λ i m. by_test (ltb i k))))
       (short_within number (let b = value_bounded terms (length cs) (λ i. cond (ltb i k) (pos 1) (pos 0)) 1 c.within (λ i m. at_most_one (ltb i k)) in omega (arith, b, c.bounded, short)))
       one_is_within
@@ -79,7 +79,7 @@ module _ (cs : List ℕ) (generators : List Terms) (target : Terms) (columns : L
       terms : Terms
       terms = slice_index_or columns j []
 
-      c : IsStartColumn (length cs) norm (λ i. start_row field_ℚ (length cs) (length generators) (feasibility_problem cs generators target) i j) terms
+      c : IsStartColumn (length cs) norm (λ i. start_row rationals (length cs) (length generators) (feasibility_problem cs generators target) i j) terms
       c = are.column j l
 
       weights : ℕ → Rational

@@ -7,6 +7,7 @@ use Rattle.it_rational.proofs.Names.{whole_names}
 use Rattle.it_rational.proofs.RationalLaws.{ring_ℚ}
 use Rattle.it_rational.proofs.Field.{field_ℚ}
 use Rattle.it_space.specs.Rows.{Terms, row_mass}
+use Rattle.it_tableau.specs.Operations.{rationals}
 use Rattle.it_tableau.specs.Invariants.{HasInvariants}
 use Rattle.it_tableau.specs.Problems.{feasibility_problem, start_of}
 use Rattle.it_tableau.specs.SimplexTables.{start_row}
@@ -67,7 +68,7 @@ module _ (cs : List ℕ) (generators : List Terms) (target : Terms) (columns : L
   columns_are_of_start = record {
     count = s.columns_are.0;
     column = λ j l. let c = s.columns_are.1 j l in record {
-      value_is = λ g. sum_same ring_ℚ (length cs) (λ k. Q.times (g k) (start_row field_ℚ (length cs) (length generators) (feasibility_problem cs generators target) k j))
+      value_is = λ g. sum_same ring_ℚ (length cs) (λ k. Q.times (g k) (start_row rationals (length cs) (length generators) (feasibility_problem cs generators target) k j))
           (λ k. Q.times (g k) (integer (signed_coefficient cs target (slice_index_or generators j []) k)))
           (λ k h. ap (Q.times (g k)) (column_entry cs generators target k j l)) ∙ c.value_is g;
       within = c.within;
@@ -80,7 +81,7 @@ module _ (cs : List ℕ) (generators : List Terms) (target : Terms) (columns : L
     norm = norm;
     some = s.norm_is.some;
     fit = s.fit;
-    holds = by_same_sizes (λ m n. HasInvariants field_ℚ m n (feasibility_problem cs generators target) (start_of cs generators target))
+    holds = by_same_sizes (λ m n. HasInvariants rationals m n (feasibility_problem cs generators target) (start_of cs generators target))
         (start_has_invariants field_ℚ (length cs) (length generators) (feasibility_problem cs generators target));
     shows = by_same_sizes (λ m n. ShowsTable m n limit (start_of cs generators target) rows basis) start_is_shown;
     columns_are = by_same_sizes (λ m n. AreStartColumns m n norm (feasibility_problem cs generators target) columns) columns_are_of_start;

@@ -8,8 +8,10 @@ use Rattle.it_rational.specs.Rational as Q
 use Rattle.it_rational.proofs.RationalLaws.{ring_ℚ}
 use Rattle.it_rational.proofs.Field.{field_ℚ}
 use Rattle.it_space.specs.Rows.{Terms, value}
+use Rattle.it_tableau.specs.Operations.{rationals}
+use Rattle.it_tableau.specs.FieldOperations.{difference}
 use Rattle.it_tableau.specs.Invariants.{HasInvariants}
-use Rattle.it_tableau.specs.SimplexTables.{SimplexTable, FeasibilityProblem, difference, pivot}
+use Rattle.it_tableau.specs.SimplexTables.{SimplexTable, FeasibilityProblem, pivot}
 use Rattle.it_run.specs.Choice.{entering_column, leaving_row, is_candidate, next, IsStuck}
 use Rattle.it_run.specs.Solving.{StepFits}
 use Rattle.it_run.proofs.RunLemmas.{next_holds}
@@ -63,16 +65,16 @@ module _ (p : FeasibilityProblem Rational) (t : SimplexTable Rational) (columns 
   entry_named i c l h = price_named (length basis) (length columns) limit s.norm p t columns rows basis s.holds.combines s.shows s.columns_are s.fit s.some i c l h
 
   -- the column that enters
-  pub entering_same : entering_column field_ℚ (length basis) (length columns) t ≡ first_negative_cost columns (whole_row_at rows (length basis)).numbers
+  pub entering_same : entering_column rationals (length basis) (length columns) t ≡ first_negative_cost columns (whole_row_at rows (length basis)).numbers
   entering_same = first_false_agrees (λ j. is_at_least_zero (t.entry (length basis) j)) (λ j. sign_least (value (slice_index_or columns j []) (number_at (whole_row_at rows (length basis)).numbers))) 0 (length columns)
       (λ j a b. cost_sign j (omega arith))
 
-  pub stuck_here : first_negative_cost columns (whole_row_at rows (length basis)).numbers ≡ length columns → IsStuck field_ℚ (length basis) (length columns) t
+  pub stuck_here : first_negative_cost columns (whole_row_at rows (length basis)).numbers ≡ length columns → IsStuck rationals (length basis) (length columns) t
   stuck_here e = stuck_without_entering (length basis) (length columns) t (entering_same ∙ e)
 
   -- the row that leaves
   pub leaving_same : (c r : ℕ) → c < length columns → best_row (slice_index_or columns c []) rows basis (length basis) ≡ Some r
-      → (leaving_row field_ℚ (length basis) (length columns) t c ≡ r) × (r < length basis) × (is_candidate field_ℚ t c r ≡ true)
+      → (leaving_row rationals (length basis) (length columns) t c ≡ r) × (r < length basis) × (is_candidate rationals t c r ≡ true)
   leaving_same c r h e = subst (λ (o : Option ℕ). IsBestRowBelow (length basis) (length columns) t c (length basis) o) e
       (best_row_leaves (length basis) (length columns) t c (entry_of (slice_index_or columns c []) rows) (right_side_of (length basis) rows) (λ i. (whole_row_at rows i).bottom) (basic_column_at basis)
       (λ i l. (s.shows.row i (omega (arith, l))).some)
@@ -81,17 +83,17 @@ module _ (p : FeasibilityProblem Rational) (t : SimplexTable Rational) (columns 
       (λ i l. s.shows.basis_is i l))
 
   module _ (c r : ℕ) (hc : c < length columns) (ec : first_negative_cost columns (whole_row_at rows (length basis)).numbers ≡ c) (er : best_row (slice_index_or columns c []) rows basis (length basis) ≡ Some r) where
-    column_enters : entering_column field_ℚ (length basis) (length columns) t ≡ c
+    column_enters : entering_column rationals (length basis) (length columns) t ≡ c
     column_enters = entering_same ∙ ec
 
-    row_leaves : (leaving_row field_ℚ (length basis) (length columns) t c ≡ r) × (r < length basis) × (is_candidate field_ℚ t c r ≡ true)
+    row_leaves : (leaving_row rationals (length basis) (length columns) t c ≡ r) × (r < length basis) × (is_candidate rationals t c r ≡ true)
     row_leaves = leaving_same c r hc er
 
     -- what is said of the row and the column is said of the step's
-    to_step : (P : ℕ → ℕ → Type 0) → P r c → P (leaving_row field_ℚ (length basis) (length columns) t (entering_column field_ℚ (length basis) (length columns) t)) (entering_column field_ℚ (length basis) (length columns) t)
-    to_step P x = subst (λ (y : ℕ). P (leaving_row field_ℚ (length basis) (length columns) t y) y) (sym column_enters) (subst (λ (x : ℕ). P x c) (sym row_leaves.0) x)
+    to_step : (P : ℕ → ℕ → Type 0) → P r c → P (leaving_row rationals (length basis) (length columns) t (entering_column rationals (length basis) (length columns) t)) (entering_column rationals (length basis) (length columns) t)
+    to_step P x = subst (λ (y : ℕ). P (leaving_row rationals (length basis) (length columns) t y) y) (sym column_enters) (subst (λ (x : ℕ). P x c) (sym row_leaves.0) x)
 
-    pub moves_here : ¬ (IsStuck field_ℚ (length basis) (length columns) t)
+    pub moves_here : ¬ (IsStuck rationals (length basis) (length columns) t)
     moves_here = not_stuck_with_entering (length basis) (length columns) t c record { within = hc; is = column_enters }
 
     pub fits_here : StepFits (length basis) (length columns) t
@@ -99,14 +101,14 @@ module _ (p : FeasibilityProblem Rational) (t : SimplexTable Rational) (columns 
         (number (length basis) (length columns) limit s.norm p t columns rows basis s.holds.combines s.shows s.columns_are s.fit s.some)
         (bottom (length basis) (length columns) limit s.norm p t columns rows basis s.holds.combines s.shows s.columns_are s.fit s.some)
         (table_is_over (length basis) (length columns) limit s.norm p t columns rows basis s.holds.combines s.shows s.columns_are s.fit s.some)
-        (to_step (λ r c. r < length basis) row_leaves.1) (to_step (λ r c. c < length columns) hc) (to_step (λ r c. is_candidate field_ℚ t c r ≡ true) row_leaves.2)
+        (to_step (λ r c. r < length basis) row_leaves.1) (to_step (λ r c. c < length columns) hc) (to_step (λ r c. is_candidate rationals t c r ≡ true) row_leaves.2)
 
-    pub next_is : pivot field_ℚ t r c ≡ next field_ℚ (length basis) (length columns) t
-    next_is = to_step (λ r' c'. pivot field_ℚ t r c ≡ pivot field_ℚ t r' c') refl
+    pub next_is : pivot rationals t r c ≡ next rationals (length basis) (length columns) t
+    next_is = to_step (λ r' c'. pivot rationals t r c ≡ pivot rationals t r' c') refl
 
     -- the new rows show the table after the pivot
     pub shows_pivot : (new : List WholeRowView) → AreWholeRowsPivoted (length rows) limit rows (entry_of (slice_index_or columns c []) rows) r new
-        → ShowsTable (length basis) (length columns) limit (pivot field_ℚ t r c) new (slice_set basis r c)
+        → ShowsTable (length basis) (length columns) limit (pivot rationals t r c) new (slice_set basis r c)
     shows_pivot new a = record {
       rows_are = a.same_length ∙ s.shows.rows_are;
       basis_are = length-set basis r c;
@@ -118,8 +120,8 @@ module _ (p : FeasibilityProblem Rational) (t : SimplexTable Rational) (columns 
         leaving_row_is = s.shows.row r (omega (arith, row_leaves.1))
 
         row_shown : (i : ℕ) → i < length basis + 1 → (i ≡ r) ⊎ (i ≡ r → ⊥)
-            → IsRow (length basis + 1) limit (λ k. (pivot field_ℚ t r c).entry i (length columns + k)) (whole_row_at new i).numbers (whole_row_at new i).bottom
-        row_shown i l (inl e) = subst (λ (x : ℕ). IsRow (length basis + 1) limit (λ k. (pivot field_ℚ t r c).entry x (length columns + k)) (whole_row_at new x).numbers (whole_row_at new x).bottom) (sym e)
+            → IsRow (length basis + 1) limit (λ k. (pivot rationals t r c).entry i (length columns + k)) (whole_row_at new i).numbers (whole_row_at new i).bottom
+        row_shown i l (inl e) = subst (λ (x : ℕ). IsRow (length basis + 1) limit (λ k. (pivot rationals t r c).entry x (length columns + k)) (whole_row_at new x).numbers (whole_row_at new x).bottom) (sym e)
             (subst (λ (b : Bool). IsRow (length basis + 1) limit
             (λ k. cond b (Q.times (t.entry r (length columns + k)) (Q.inverse (t.entry r c))) (difference ring_ℚ (t.entry r (length columns + k)) (Q.times (t.entry r (length columns + k)) (Q.times (t.entry r c) (Q.inverse (t.entry r c))))))
             (whole_row_at new r).numbers (whole_row_at new r).bottom) (sym (eq-eqb r r refl))
@@ -137,7 +139,7 @@ module _ (p : FeasibilityProblem Rational) (t : SimplexTable Rational) (columns 
             (subst (λ (w : ℕ). IsRow w limit (λ k. t.entry r (length columns + k)) (whole_row_at rows r).numbers (whole_row_at rows r).bottom) (sym s.shows.rows_are) leaving_row_is)
             (entry_named i c (omega (arith, l)) hc) (entry_named r c (omega (arith, row_leaves.1)) hc))))
 
-        basis_after : (i : ℕ) → i < length basis → (i ≡ r) ⊎ (i ≡ r → ⊥) → (pivot field_ℚ t r c).basis i ≡ slice_index_or (slice_set basis r c) i 0
+        basis_after : (i : ℕ) → i < length basis → (i ≡ r) ⊎ (i ≡ r → ⊥) → (pivot rationals t r c).basis i ≡ slice_index_or (slice_set basis r c) i 0
         basis_after i l (inl e) = ap (λ b. cond b c (t.basis i)) (eq-eqb i r e) ∙ sym (get_or-set_same basis r c 0 row_leaves.1) ∙ ap (λ x. slice_index_or (slice_set basis r c) x 0) (sym e)
         basis_after i l (inr d) = ap (λ b. cond b c (t.basis i)) (ne_eqb i r d) ∙ s.shows.basis_is i l ∙ sym (get_or-set_other basis r i c 0 d)
 
@@ -149,8 +151,8 @@ module _ (p : FeasibilityProblem Rational) (t : SimplexTable Rational) (columns 
         norm = s.norm;
         some = s.some;
         fit = s.fit;
-        holds = subst (λ (m : ℕ). HasInvariants field_ℚ m (length columns) p (next field_ℚ (length basis) (length columns) t)) (sym same_length) (next_holds field_ℚ (length basis) (length columns) p t s.holds moves_here);
-        shows = subst (λ (m : ℕ). ShowsTable m (length columns) limit (next field_ℚ (length basis) (length columns) t) new (slice_set basis r c)) (sym same_length)
+        holds = subst (λ (m : ℕ). HasInvariants rationals m (length columns) p (next rationals (length basis) (length columns) t)) (sym same_length) (next_holds field_ℚ (length basis) (length columns) p t s.holds moves_here);
+        shows = subst (λ (m : ℕ). ShowsTable m (length columns) limit (next rationals (length basis) (length columns) t) new (slice_set basis r c)) (sym same_length)
             (subst (λ (t : SimplexTable Rational). ShowsTable (length basis) (length columns) limit t new (slice_set basis r c)) next_is (shows_pivot new a));
         columns_are = subst (λ (m : ℕ). AreStartColumns m (length columns) s.norm p columns) (sym same_length) s.columns_are;
       };

@@ -3,6 +3,7 @@ use Rattle.std.proofs.Common.{◌≡◌, ℕ, ◌-◌, ◌<◌, ◌≤◌, ap, a
 use Rattle.it_rational.specs.Rational.{Rational, quotient}
 use Rattle.it_rational.proofs.Field.{field_ℚ}
 use Rattle.it_space.specs.Rows.{Terms, value}
+use Rattle.it_tableau.specs.Operations.{rationals}
 use Rattle.it_tableau.specs.SimplexTables.{SimplexTable, FeasibilityProblem}
 use Rattle.it_run.specs.Choice.{next}
 use Rattle.it_run.proofs.Agreeing.{Agree, steps_left_agrees}
@@ -47,10 +48,10 @@ pub steps_left_falls : (p : FeasibilityProblem Rational) (t : SimplexTable Ratio
     → Represents p t columns limit old basis → IsEngineStep columns limit old basis new new_basis → steps_left_to columns new new_basis < steps_left_to columns old basis
 steps_left_falls p t columns limit old basis new new_basis s g =
     let m = g.made p t s in
-    let after = steps_left_is p (next field_ℚ (length basis) (length columns) t) columns limit new new_basis m.stands in
+    let after = steps_left_is p (next rationals (length basis) (length columns) t) columns limit new new_basis m.stands in
     subst (λ (x : ℕ). x < steps_left_to columns old basis) (sym after)
-    (subst (λ (y : ℕ). steps_left field_ℚ (length new_basis) (length columns) (next field_ℚ (length basis) (length columns) t) < y) (sym (steps_left_is p t columns limit old basis s))
-    (subst (λ (h : ℕ). steps_left field_ℚ h (length columns) (next field_ℚ (length basis) (length columns) t) < steps_left field_ℚ (length basis) (length columns) t) (sym g.height)
+    (subst (λ (y : ℕ). steps_left field_ℚ (length new_basis) (length columns) (next rationals (length basis) (length columns) t) < y) (sym (steps_left_is p t columns limit old basis s))
+    (subst (λ (h : ℕ). steps_left field_ℚ h (length columns) (next rationals (length basis) (length columns) t) < steps_left field_ℚ (length basis) (length columns) t) (sym g.height)
     (steps_fall field_ℚ (length basis) (length columns) p t s.holds m.moves)))
 
 -- several steps don't raise it

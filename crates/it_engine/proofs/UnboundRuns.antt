@@ -1,8 +1,8 @@
 -- A run of the engine without a budget under way.
 use Rattle.std.proofs.Common.{◌≡◌, ℕ, suc, ◌+◌, ◌-◌, ◌<◌, ◌≤◌, pos, List, length, None, refl, subst, ap, ◌∙◌, arith}
 use Rattle.it_rational.specs.Rational.{Rational}
-use Rattle.it_rational.proofs.Field.{field_ℚ}
 use Rattle.it_space.specs.Rows.{Terms}
+use Rattle.it_tableau.specs.Operations.{rationals}
 use Rattle.it_tableau.specs.SimplexTables.{SimplexTable, FeasibilityProblem}
 use Rattle.it_run.specs.Choice.{next, IsDone, IsStuck}
 use Rattle.it_run.specs.Runs.{RunEndView, IsWithinBudget, clip_end}
@@ -57,12 +57,12 @@ module _ (columns : List Terms) (limit : ℕ) (old : List WholeRowView) (basis :
       r.last,
       r.stands,
       run_ends t r.last r.made 0 (Weights r.last) r.serves (run_done (length basis) (length columns) 0 r.made r.last
-          (by_same_height (λ m. IsDone field_ℚ m (length columns) r.last) (done_here p r.last columns limit now now_basis r.stands e))) tt,
+          (by_same_height (λ m. IsDone rationals m (length columns) r.last) (done_here p r.last columns limit now now_basis r.stands e))) tt,
     );
   }
 
   pub unbound_stuck : ¬ (right_side_of (length now_basis) now (length now_basis) ≡ pos 0)
-      → ((p : FeasibilityProblem Rational) (t : SimplexTable Rational) → Represents p t columns limit now now_basis → IsStuck field_ℚ (length now_basis) (length columns) t)
+      → ((p : FeasibilityProblem Rational) (t : SimplexTable Rational) → Represents p t columns limit now now_basis → IsStuck rationals (length now_basis) (length columns) t)
       → IsFinished columns limit old basis None now now_basis engine_ends.Point
   unbound_stuck n u = record {
     engine = w.engine;
@@ -71,8 +71,8 @@ module _ (columns : List Terms) (limit : ℕ) (old : List WholeRowView) (basis :
       r.last,
       r.stands,
       run_ends t r.last r.made 0 (Point r.last) r.serves (run_stuck (length basis) (length columns) 0 r.made r.last r.last
-          (by_same_height (λ m. ¬ (IsDone field_ℚ m (length columns) r.last)) (not_done_here p r.last columns limit now now_basis r.stands n))
-          (by_same_height (λ m. IsStuck field_ℚ m (length columns) r.last) (u p r.last r.stands)) refl) tt,
+          (by_same_height (λ m. ¬ (IsDone rationals m (length columns) r.last)) (not_done_here p r.last columns limit now now_basis r.stands n))
+          (by_same_height (λ m. IsStuck rationals m (length columns) r.last) (u p r.last r.stands)) refl) tt,
     );
   }
 
@@ -81,20 +81,20 @@ module _ (columns : List Terms) (limit : ℕ) (old : List WholeRowView) (basis :
   step_is_made new new_basis n g = record {
     engine = g.engine;
     height = g.height ∙ w.height;
-    some = (let i = w.some in (i.0, next field_ℚ (length now_basis) (length columns) i.1, (g.made i.0 i.1 i.2).stands));
+    some = (let i = w.some in (i.0, next rationals (length now_basis) (length columns) i.1, (g.made i.0 i.1 i.2).stands));
     runs = λ p t s.
         let r = w.runs p t s in
         let made = g.made p r.last r.stands in record {
-          last = next field_ℚ (length now_basis) (length columns) r.last;
+          last = next rationals (length now_basis) (length columns) r.last;
           stands = made.stands;
           made = r.made + 1;
           serves = λ left e q. r.serves (suc left) e
-              (run_more (length basis) (length columns) (suc left) r.made r.last (next field_ℚ (length now_basis) (length columns) r.last) e (omega arith)
-              (by_same_height (λ m. ¬ (IsDone field_ℚ m (length columns) r.last)) (not_done_here p r.last columns limit now now_basis r.stands n))
-              (by_same_height (λ m. ¬ (IsStuck field_ℚ m (length columns) r.last)) made.moves)
+              (run_more (length basis) (length columns) (suc left) r.made r.last (next rationals (length now_basis) (length columns) r.last) e (omega arith)
+              (by_same_height (λ m. ¬ (IsDone rationals m (length columns) r.last)) (not_done_here p r.last columns limit now now_basis r.stands n))
+              (by_same_height (λ m. ¬ (IsStuck rationals m (length columns) r.last)) made.moves)
               (by_same_height (λ m. StepFits m (length columns) r.last) made.fits)
-              (ap (λ m. next field_ℚ m (length columns) r.last) w.height)
-              (subst (λ (x : ℕ). Reaches (length basis) (length columns) x (r.made + 1) (next field_ℚ (length now_basis) (length columns) r.last) e) (one_step_less left) q));
+              (ap (λ m. next rationals m (length columns) r.last) w.height)
+              (subst (λ (x : ℕ). Reaches (length basis) (length columns) x (r.made + 1) (next rationals (length now_basis) (length columns) r.last) e) (one_step_less left) q));
         };
   }
     where

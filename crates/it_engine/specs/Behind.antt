@@ -8,6 +8,7 @@ use Rattle.it_run.specs.Choice.{entering_column, leaving_row, next, IsDone, IsSt
 use Rattle.it_run.specs.Solving.{StepFits}
 use Rattle.it_space.specs.Rows.{Terms, value}
 use Rattle.it_space.specs.Sums.{number_at}
+use Rattle.it_tableau.specs.Operations.{rationals}
 use Rattle.it_tableau.specs.SimplexTables.{SimplexTable, FeasibilityProblem}
 use Rattle.it_engine.specs.Choosing.{entry_of, first_negative_cost, is_above_zero, right_side_of}
 use Rattle.it_engine.specs.Engine.{IsSafe, Represents}
@@ -132,7 +133,7 @@ pub record AreBrought (columns : List Terms) (limit : ℕ) (old : List WholeRowV
 
 -- the row that leaves at a degenerate step by column c, whichever tables the rows show
 pub record IsStillLeaving (p : FeasibilityProblem Rational) (b t : SimplexTable Rational) (columns : List Terms) (basis : List ℕ) (c r : ℕ) : Type 0 where
-  pub leaves : leaving_row field_ℚ (length basis) (length columns) t c ≡ r
+  pub leaves : leaving_row rationals (length basis) (length columns) t c ≡ r
   pub still : t.entry r (length columns + length basis) ≡ integer (pos 0)
   pub fits : StepFits (length basis) (length columns) t
 
@@ -153,14 +154,14 @@ pub record IsStillChoice (columns : List Terms) (limit : ℕ) (rows : List Whole
 pub record IsBehindStep (columns : List Terms) (limit : ℕ) (old : List WholeRowView) (basis : List ℕ) (moved : List Bool) (c r : ℕ) (new : List WholeRowView) : Type 0 where
   pub engine : IsSafe columns limit new (slice_set basis r c)
   pub kept : (i : ℕ) → i < length old → i ≢ r → has_moved moved i ≡ false → whole_row_at new i ≡ whole_row_at old i
-  pub made : (p : FeasibilityProblem Rational) (b t : SimplexTable Rational) → ShowsBehind p b t columns limit old basis (has_moved moved) → entering_column field_ℚ (length basis) (length columns) t ≡ c
-      → IsStillLeaving p b t columns basis c r → ¬ (IsStuck field_ℚ (length basis) (length columns) t)
-      → ShowsBehind p b (next field_ℚ (length basis) (length columns) t) columns limit new (slice_set basis r c) (has_moved (slice_set moved r true))
+  pub made : (p : FeasibilityProblem Rational) (b t : SimplexTable Rational) → ShowsBehind p b t columns limit old basis (has_moved moved) → entering_column rationals (length basis) (length columns) t ≡ c
+      → IsStillLeaving p b t columns basis c r → ¬ (IsStuck rationals (length basis) (length columns) t)
+      → ShowsBehind p b (next rationals (length basis) (length columns) t) columns limit new (slice_set basis r c) (has_moved (slice_set moved r true))
 
 -- so many steps lead from one table to another
 abbrev pub StepsLead : ℕ → ℕ → ℕ → SimplexTable Rational → SimplexTable Rational → Type 0
 StepsLead m n zero t s = s ≡ t
-StepsLead m n (suc k) t s = (u : SimplexTable Rational) × StepsLead m n k t u × ¬ (IsDone field_ℚ m n u) × ¬ (IsStuck field_ℚ m n u) × StepFits m n u × (s ≡ next field_ℚ m n u)
+StepsLead m n (suc k) t s = (u : SimplexTable Rational) × StepsLead m n k t u × ¬ (IsDone rationals m n u) × ¬ (IsStuck rationals m n u) × StepFits m n u × (s ≡ next rationals m n u)
 
 -- so many degenerate steps were made, whichever tables the rows show
 pub record AreStillSteps (columns : List Terms) (limit : ℕ) (old : List WholeRowView) (basis : List ℕ) (moved : List Bool) (k : ℕ) (new : List WholeRowView) (new_basis : List ℕ) (new_moved : List Bool) : Type 0 where

@@ -1,8 +1,8 @@
 -- No public clause cites this module: what is read off the engine at the end of a run.
 use Rattle.std.specs.Prelude.{◌≡◌, ℕ, ◌<◌, List, length, slice_index_or, Option}
 use Rattle.it_rational.specs.Rational.{Rational, quotient}
-use Rattle.it_rational.proofs.Field.{field_ℚ}
 use Rattle.it_space.specs.Rows.{Terms}
+use Rattle.it_tableau.specs.Operations.{rationals}
 use Rattle.it_tableau.specs.Problems.{feasibility_problem}
 use Rattle.it_tableau.specs.SimplexTables.{SimplexTable, FeasibilityProblem}
 use Rattle.it_run.specs.Readings.{weights, point}
@@ -22,12 +22,12 @@ pub record IsWeightOf (rows : List WholeRowView) (basis : List ℕ) (j : ℕ) (w
 
 -- the weights of whichever table the engine shows
 abbrev pub AreWeightsOf : List Terms → List WholeRowView → List ℕ → List (ℕ × Rational) → Type 0
-AreWeightsOf columns rows basis ws = (p : FeasibilityProblem Rational) (t : SimplexTable Rational) (limit : ℕ) → Represents p t columns limit rows basis → ws ≡ weights field_ℚ (length basis) (length columns) t
+AreWeightsOf columns rows basis ws = (p : FeasibilityProblem Rational) (t : SimplexTable Rational) (limit : ℕ) → Represents p t columns limit rows basis → ws ≡ weights rationals (length basis) (length columns) t
 
 -- and its point, whichever columns the table has besides the artificial ones
 abbrev pub IsPointOf : List ℕ → Terms → List WholeRowView → List ℕ → List Rational → Type 0
 IsPointOf coordinates target rows basis q = (generators : List Terms) (t : SimplexTable Rational) (columns : List Terms) (limit : ℕ)
-    → Represents (feasibility_problem coordinates generators target) t columns limit rows basis → q ≡ point field_ℚ (length basis) (length columns) (feasibility_problem coordinates generators target) t
+    → Represents (feasibility_problem coordinates generators target) t columns limit rows basis → q ≡ point rationals (length basis) (length columns) (feasibility_problem coordinates generators target) t
 
 -- the answer to the question whose start the engine shows
 abbrev pub AnswersQuestion : List ℕ → Terms → List Terms → ℕ → List WholeRowView → List ℕ → Option ℕ → Solved → Type 0

@@ -2,8 +2,8 @@
 -- The engine stands for a table of the run: it keeps no table, and its contracts range over all tables that it may stand for.
 use Rattle.std.specs.Prelude.{◌≡◌, ℕ, ◌+◌, ◌*◌, ◌<◌, ◌≤◌, ◌^◌, Bool, true, false, List, [], length, slice_index_or, Option}
 use Rattle.it_rational.specs.Rational.{Rational}
-use Rattle.it_rational.proofs.Field.{field_ℚ}
 use Rattle.it_space.specs.Rows.{Terms}
+use Rattle.it_tableau.specs.Operations.{rationals}
 use Rattle.it_tableau.specs.Invariants.{HasInvariants}
 use Rattle.it_tableau.specs.SimplexTables.{SimplexTable, FeasibilityProblem}
 use Rattle.it_run.specs.Choice.{next, IsStuck}
@@ -33,15 +33,15 @@ pub record Represents (p : FeasibilityProblem Rational) (t : SimplexTable Ration
   pub norm : ℕ
   pub some : 1 ≤ norm
   pub fit : norm * limit < 2 ^ 63
-  pub holds : HasInvariants field_ℚ (length basis) (length columns) p t
+  pub holds : HasInvariants rationals (length basis) (length columns) p t
   pub shows : ShowsTable (length basis) (length columns) limit t rows basis
   pub columns_are : AreStartColumns (length basis) (length columns) norm p columns
 
 -- the step of the run that is made on the table, whichever it shows
 pub record IsStepMade (p : FeasibilityProblem Rational) (t : SimplexTable Rational) (columns : List Terms) (limit : ℕ) (basis : List ℕ) (new : List WholeRowView) (new_basis : List ℕ) : Type 0 where
-  pub moves : ¬ (IsStuck field_ℚ (length basis) (length columns) t)
+  pub moves : ¬ (IsStuck rationals (length basis) (length columns) t)
   pub fits : StepFits (length basis) (length columns) t
-  pub stands : Represents p (next field_ℚ (length basis) (length columns) t) columns limit new new_basis
+  pub stands : Represents p (next rationals (length basis) (length columns) t) columns limit new new_basis
 
 -- a step was made, whichever table the engine showed
 pub record IsEngineStep (columns : List Terms) (limit : ℕ) (old : List WholeRowView) (basis : List ℕ) (new : List WholeRowView) (new_basis : List ℕ) : Type 0 where
@@ -56,7 +56,7 @@ RepresentsSome columns limit rows basis = (p : FeasibilityProblem Rational) × (
 -- no step is left to make, or one is made
 abbrev pub IsEngineStepOrStuck : List Terms → ℕ → List WholeRowView → List ℕ → List WholeRowView → List ℕ → Bool → Type 0
 IsEngineStepOrStuck columns limit old basis new new_basis false = (new ≡ old) × (new_basis ≡ basis)
-    × ((p : FeasibilityProblem Rational) (t : SimplexTable Rational) → Represents p t columns limit old basis → IsStuck field_ℚ (length basis) (length columns) t)
+    × ((p : FeasibilityProblem Rational) (t : SimplexTable Rational) → Represents p t columns limit old basis → IsStuck rationals (length basis) (length columns) t)
 IsEngineStepOrStuck columns limit old basis new new_basis true = IsEngineStep columns limit old basis new new_basis
 
 -- the end of the run that it tells

@@ -3,7 +3,7 @@ use Rattle.std.specs.Prelude.{◌≡◌, ◌≢◌, ℕ, ◌+◌, ◌*◌, ◌+�
 use Rattle.it_rational.specs.Rational.{Rational, times, inverse, IsRatio}
 use Rattle.it_rational.proofs.RationalLaws.{ring_ℚ}
 use Rattle.it_space.specs.Rows.{Terms, value, row_mass}
-use Rattle.it_tableau.specs.SimplexTables.{difference}
+use Rattle.it_tableau.specs.FieldOperations.{difference}
 use Rattle.it_space.specs.Sums.{number_at}
 use Rattle.it_engine.specs.Whole.{AreAtMost, IsShort, whole_row_at, WholeRowView, IsRow}
 use Prim.Native.Nat.{◌∣◌}

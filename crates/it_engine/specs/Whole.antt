@@ -2,10 +2,10 @@
 use Rattle.std.specs.Prelude.{◌≡◌, ℕ, ◌+◌, ◌<◌, ◌≤◌, ◌^◌, ℤ, unsigned_abs, List, [], length, slice_index_or, All}
 use Rattle.it_rational.specs.Rational.{Rational, times, IsRatio}
 use Rattle.it_rational.proofs.RationalLaws.{ring_ℚ}
-use Rattle.it_rational.proofs.Field.{field_ℚ}
 use Rattle.it_space.specs.Rows.{Terms, row_mass}
 use Rattle.it_space.specs.Sums.{number_at}
-use Rattle.it_tableau.specs.Sums.{sum_to}
+use Rattle.it_tableau.specs.Operations.{rationals}
+use Rattle.it_tableau.specs.FieldOperations.{sum_to}
 use Rattle.it_tableau.specs.SimplexTables.{SimplexTable, FeasibilityProblem, start_row}
 use Rattle.it_run.specs.RowValues.{rational_value}
 
@@ -55,7 +55,7 @@ pub record IsStartColumn (m norm : ℕ) (f : ℕ → Rational) (terms : Terms) :
 -- the columns of the start but the artificial ones, none heavier than the norm
 pub record AreStartColumns (m n norm : ℕ) (p : FeasibilityProblem Rational) (columns : List Terms) : Type 0 where
   pub count : length columns ≡ n
-  pub column : (j : ℕ) → j < n → IsStartColumn m norm (λ k. start_row field_ℚ m n p k j) (slice_index_or columns j [])
+  pub column : (j : ℕ) → j < n → IsStartColumn m norm (λ k. start_row rationals m n p k j) (slice_index_or columns j [])
 
 -- what is kept of a table: of each row its entries at the artificial columns and its right side
 pub record ShowsTable (m n limit : ℕ) (t : SimplexTable Rational) (rows : List WholeRowView) (basis : List ℕ) : Type 0 where

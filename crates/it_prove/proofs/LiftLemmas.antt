@@ -4,7 +4,6 @@ use Rattle.std.proofs.lemmas.Int.{ints}
 use Rattle.std.proofs.lemmas.Bool.{eqb-true, false≢true}
 use Rattle.it_number.specs.Limit.{IsWithin}
 use Rattle.it_rational.specs.Rational.{Rational}
-use Rattle.it_rational.proofs.Field.{field_ℚ}
 use Rattle.it_space.specs.declared.problems.Kind.{Kind}
 use Rattle.it_space.specs.declared.problems.Kind.TheVariants.{Inequality, Equation}
 use Rattle.it_space.specs.Problems.{ProblemView, IsProblem}
@@ -28,6 +27,7 @@ use Rattle.it_lift.specs.LiftedCertificates.{WeightsAscend, AreDependencesOf, Is
 use Rattle.it_lift.specs.Lifts.{lifted_weights}
 use Rattle.it_lift.proofs.ReadOf.{reading_gives_dependences}
 use Rattle.it_lift.proofs.Whole.{canonical_lift, canonical_weights_ascend}
+use Rattle.it_tableau.specs.Operations.{rationals}
 use Rattle.it_tableau.specs.Problems.{feasibility_problem}
 use Rattle.it_run.specs.Readings.{AreWeights, SumsUp}
 use Rattle.it_check.specs.Meaning.{CertifiesRow}
@@ -62,8 +62,8 @@ columns_length n ds (g ∷ gs) = by_kind g.kind (columns_length n ds gs)
     by_kind Inequality e = ap suc e
     by_kind Equation e = ap (λ m. suc (suc m)) e
 
-pub ordered_so : (n : ℕ) (ds : List Dependence) (gs : List Generator) (ws : List (ℕ × Rational)) → AreWeights field_ℚ (length (columns (collapsed_generators n ds gs))) 0 ws → AreWeights field_ℚ (length (columns gs)) 0 ws
-ordered_so n ds gs ws a = subst (λ (m : ℕ). AreWeights field_ℚ m 0 ws) (columns_length n ds gs) a
+pub ordered_so : (n : ℕ) (ds : List Dependence) (gs : List Generator) (ws : List (ℕ × Rational)) → AreWeights rationals (length (columns (collapsed_generators n ds gs))) 0 ws → AreWeights rationals (length (columns gs)) 0 ws
+ordered_so n ds gs ws a = subst (λ (m : ℕ). AreWeights rationals m 0 ws) (columns_length n ds gs) a
 
 -- ---- they ascend, none is 0, and all are within the limit
 
@@ -123,7 +123,7 @@ pub read_is : (q : ProblemView) (d : DependencesView) → d.space ≡ q.space �
 read_is q d s l = ap₂ (λ x y. record { space = x; list = y }) (sym s) (sym l)
 
 module _ (q : ProblemView) (target : Terms) (k : IsProblem q) (u : IsUpTo (size_of q.space) target) (ws : List (ℕ × Rational))
-    (a : SumsUp field_ℚ (length (closed_places q)) (length (columns (closed_generators q))) (feasibility_problem (closed_places q) (columns (closed_generators q)) (closed_target q target)) ws) where
+    (a : SumsUp rationals (length (closed_places q)) (length (columns (closed_generators q))) (feasibility_problem (closed_places q) (columns (closed_generators q)) (closed_target q target)) ws) where
   sizes : size_of q.space < 2 ^ q.space.variables + q.space.rates
   sizes = omega (arith, Rattle.std.proofs.lemmas.Nat.pow_pos q.space.variables)
 
@@ -212,7 +212,7 @@ ascends_of from (t ∷ ts) a e w = (
     rest c false q = subst IsWithin (other_is t ts c (λ r. false≢true (sym q ∙ Rattle.std.proofs.Common.eq-eqb t.0 c r))) (w c)
 
 module _ (q : ProblemView) (target : Terms) (k : IsProblem q) (u : IsUpTo (size_of q.space) target) (ws : List (ℕ × Rational))
-    (a : SumsUp field_ℚ (length (closed_places q)) (length (columns (closed_generators q))) (feasibility_problem (closed_places q) (columns (closed_generators q)) (closed_target q target)) ws)
+    (a : SumsUp rationals (length (closed_places q)) (length (columns (closed_generators q))) (feasibility_problem (closed_places q) (columns (closed_generators q)) (closed_target q target)) ws)
     (fit : NumbersFit (numbers_of ws)) where
   is_lifted : (w new : CertificateView) → w ≡ closed_weights q ws → IsLiftOf q (read_of q) target w new → (dependences_of q ≡ [] → new ≡ w) → (dependences_of q ≢ [] → All (λ (p : ℕ × ℤ). p.1 ≢ pos 0) new.weights)
       → (dependences_of q ≢ [] → FitsLift q (read_of q) target w) → IsLifted q target ws new

@@ -10,7 +10,6 @@ use Rattle.std.proofs.lemmas.List.{get_or-map, get_or_default, length-map}
 use Rattle.std.proofs.Math.IntN.{+ℤ_idl, +ℤ_idr}
 use Rattle.it_rational.specs.Rational.{Rational, integer, times, is_at_least_zero}
 use Rattle.it_rational.proofs.RationalLaws.{ring_ℚ}
-use Rattle.it_rational.proofs.Field.{field_ℚ}
 use Rattle.it_space.specs.declared.spaces.Space.{Space}
 use Rattle.it_space.specs.Problems.{ProblemView, IsProblem, Meets}
 use Rattle.it_space.specs.Rows.{Terms, Ascends, IsUpTo, coefficient, map_of, value, single_term}
@@ -18,6 +17,7 @@ use Rattle.it_space.specs.Spaces.{size_of}
 use Rattle.it_space.proofs.EveryLemmas.{every_of, all_of, every-same, every-map, every_mapped, every_all}
 use Rattle.it_polymatroid.specs.Elementals.{span}
 use Rattle.it_polymatroid.proofs.Spans.{get_or-span, length-span}
+use Rattle.it_tableau.specs.Operations.{rationals}
 use Rattle.it_tableau.specs.Problems.{feasibility_problem}
 use Rattle.it_run.specs.Readings.{Separates}
 use Rattle.it_run.specs.RowValues.{rational_value}
@@ -145,7 +145,7 @@ value_spread n ds size at row u = value_of_terms row (every_of (λ (t : ℕ × �
     value_of_terms (t ∷ ts) b = ap₂ (λ x y. t.1 *ℤ x +ℤ y) (value_of_place t.0 b.0.0 b.0.1) (value_of_terms ts b.1)
 
 module _ (q : ProblemView) (target : Terms) (qs : List Rational) (k : IsProblem q) (u : IsUpTo (size_of q.space) target)
-    (s : Separates field_ℚ (length (closed_places q)) (length (columns (closed_generators q))) (feasibility_problem (closed_places q) (columns (closed_generators q)) (closed_target q target)) qs) where
+    (s : Separates rationals (length (closed_places q)) (length (columns (closed_generators q))) (feasibility_problem (closed_places q) (columns (closed_generators q)) (closed_target q target)) qs) where
   abbrev values : Terms
   values = terms_of_places (closed_places q) (scaled_point qs)
 

@@ -15,6 +15,7 @@ use Rattle.it_space.specs.Spaces.{size_of}
 use Rattle.it_polymatroid.specs.Elementals.{elementals}
 use Rattle.std.specs.List.{AllByRecursion as Every}
 use Rattle.it_space.proofs.EveryLemmas.{all_of, every-map}
+use Rattle.it_tableau.specs.Operations.{rationals}
 use Rattle.it_tableau.specs.Problems.{feasibility_problem}
 use Rattle.it_run.specs.Readings.{SumsUp, Separates}
 use Rattle.it_run.specs.Runs.{RunEndView, IsWithinBudget}
@@ -59,7 +60,7 @@ module _ (q : ProblemView) (target : Terms) (k : IsProblem q) (u : IsUpTo (size_
   -- ---- points
 
   module _ (qs : List Rational) (values : List ℤ) (same : values ≡ spread_point q qs) (fit : NumbersFit qs)
-      (s : Separates field_ℚ (length (closed_places q)) (length (columns (closed_generators q))) (feasibility_problem (closed_places q) (columns (closed_generators q)) (closed_target q target)) qs) where
+      (s : Separates rationals (length (closed_places q)) (length (columns (closed_generators q))) (feasibility_problem (closed_places q) (columns (closed_generators q)) (closed_target q target)) qs) where
     values_refute : RefutesRow q target values
     values_refute = subst (RefutesRow q target) (sym same) (point_right q target qs k u s)
 
@@ -104,16 +105,16 @@ module _ (coords : List ℕ) (rs ss : List Terms) (s : SameRows rs ss) (r t : Te
   }
 
   abbrev run_by : Option ℕ → RunEndView (List (ℕ × Rational)) (List Rational) → ℕ → simplex.FeasibilityProblem Rational → Type 0
-  run_by budget end n p = (¬ (StartFits (length coords) n p) × (end ≡ Width zero)) ⊎ (StartFits (length coords) n p × RunsTo (length coords) n p budget (start field_ℚ (length coords) n p) end)
+  run_by budget end n p = (¬ (StartFits (length coords) n p) × (end ≡ Width zero)) ⊎ (StartFits (length coords) n p × RunsTo (length coords) n p budget (start rationals (length coords) n p) end)
 
   pub same_run : (budget : Option ℕ) (end : RunEndView (List (ℕ × Rational)) (List Rational)) → Solves coords rs r budget end → Solves coords ss t budget end
   same_run budget end h = subst₂ (run_by budget end) (same_length rs ss s) same_problem h
 
-  pub same_sums : (ws : List (ℕ × Rational)) → SumsUp field_ℚ (length coords) (length rs) (feasibility_problem coords rs r) ws → SumsUp field_ℚ (length coords) (length ss) (feasibility_problem coords ss t) ws
-  same_sums ws h = subst₂ (λ (n : ℕ) (p : simplex.FeasibilityProblem Rational). SumsUp field_ℚ (length coords) n p ws) (same_length rs ss s) same_problem h
+  pub same_sums : (ws : List (ℕ × Rational)) → SumsUp rationals (length coords) (length rs) (feasibility_problem coords rs r) ws → SumsUp rationals (length coords) (length ss) (feasibility_problem coords ss t) ws
+  same_sums ws h = subst₂ (λ (n : ℕ) (p : simplex.FeasibilityProblem Rational). SumsUp rationals (length coords) n p ws) (same_length rs ss s) same_problem h
 
-  pub same_separates : (qs : List Rational) → Separates field_ℚ (length coords) (length rs) (feasibility_problem coords rs r) qs → Separates field_ℚ (length coords) (length ss) (feasibility_problem coords ss t) qs
-  same_separates qs h = subst₂ (λ (n : ℕ) (p : simplex.FeasibilityProblem Rational). Separates field_ℚ (length coords) n p qs) (same_length rs ss s) same_problem h
+  pub same_separates : (qs : List Rational) → Separates rationals (length coords) (length rs) (feasibility_problem coords rs r) qs → Separates rationals (length coords) (length ss) (feasibility_problem coords ss t) qs
+  same_separates qs h = subst₂ (λ (n : ℕ) (p : simplex.FeasibilityProblem Rational). Separates rationals (length coords) n p qs) (same_length rs ss s) same_problem h
 
 -- the run of the code's rows is that of the problem
 module _ (q : ProblemView) (target : Terms) (coords : List ℕ) (at : coords ≡ closed_places q) (rs : List Terms) (s : SameRows rs (columns (closed_generators q)))
@@ -125,13 +126,13 @@ module _ (q : ProblemView) (target : Terms) (coords : List ℕ) (at : coords ≡
     follows = f;
   }
 
-  pub sums_so : (ws : List (ℕ × Rational)) → SumsUp field_ℚ (length coords) (length rs) (feasibility_problem coords rs r) ws
-      → SumsUp field_ℚ (length (closed_places q)) (length (columns (closed_generators q))) (feasibility_problem (closed_places q) (columns (closed_generators q)) (closed_target q target)) ws
-  sums_so ws h = same_sums (closed_places q) rs (columns (closed_generators q)) s r (closed_target q target) e ws (subst (λ (cs : List ℕ). SumsUp field_ℚ (length cs) (length rs) (feasibility_problem cs rs r) ws) at h)
+  pub sums_so : (ws : List (ℕ × Rational)) → SumsUp rationals (length coords) (length rs) (feasibility_problem coords rs r) ws
+      → SumsUp rationals (length (closed_places q)) (length (columns (closed_generators q))) (feasibility_problem (closed_places q) (columns (closed_generators q)) (closed_target q target)) ws
+  sums_so ws h = same_sums (closed_places q) rs (columns (closed_generators q)) s r (closed_target q target) e ws (subst (λ (cs : List ℕ). SumsUp rationals (length cs) (length rs) (feasibility_problem cs rs r) ws) at h)
 
-  pub separates_so : (qs : List Rational) → Separates field_ℚ (length coords) (length rs) (feasibility_problem coords rs r) qs
-      → Separates field_ℚ (length (closed_places q)) (length (columns (closed_generators q))) (feasibility_problem (closed_places q) (columns (closed_generators q)) (closed_target q target)) qs
-  separates_so qs h = same_separates (closed_places q) rs (columns (closed_generators q)) s r (closed_target q target) e qs (subst (λ (cs : List ℕ). Separates field_ℚ (length cs) (length rs) (feasibility_problem cs rs r) qs) at h)
+  pub separates_so : (qs : List Rational) → Separates rationals (length coords) (length rs) (feasibility_problem coords rs r) qs
+      → Separates rationals (length (closed_places q)) (length (columns (closed_generators q))) (feasibility_problem (closed_places q) (columns (closed_generators q)) (closed_target q target)) qs
+  separates_so qs h = same_separates (closed_places q) rs (columns (closed_generators q)) s r (closed_target q target) e qs (subst (λ (cs : List ℕ). Separates rationals (length cs) (length rs) (feasibility_problem cs rs r) qs) at h)
 
 pub wide_start : (q : ProblemView) (target : Terms) (budget : Option ℕ) → ¬ (CollapsesFit q target) → EndsWith q target budget (Undecided (causes.Width 0))
 wide_start q target budget n = record { end = Width 0; run = inl (n, refl); follows = refl }
@@ -160,11 +161,11 @@ module _ (q : ProblemView) (target : Terms) (coords items : List ℕ) (slice : c
   answer_ends fit budget h end o is f = ends_so q target coords places_are rs rows_are r e fit budget end o (subst (Solves coords rs r budget) is h) f
 
   pub answer_sums : IsRightAnswer coords rs r x → (part : List (ℕ × Rational)) → end_of_answer x ≡ Weights part
-      → SumsUp field_ℚ (length (closed_places q)) (length (columns (closed_generators q))) (feasibility_problem (closed_places q) (columns (closed_generators q)) (closed_target q target)) part
+      → SumsUp rationals (length (closed_places q)) (length (columns (closed_generators q))) (feasibility_problem (closed_places q) (columns (closed_generators q)) (closed_target q target)) part
   answer_sums h part is = sums_so q target coords places_are rs rows_are r e part (subst (IsRightEnd coords rs r) is (right_end coords rs r x h))
 
   pub answer_separates : IsRightAnswer coords rs r x → (part : List Rational) → end_of_answer x ≡ Point part
-      → Separates field_ℚ (length (closed_places q)) (length (columns (closed_generators q))) (feasibility_problem (closed_places q) (columns (closed_generators q)) (closed_target q target)) part
+      → Separates rationals (length (closed_places q)) (length (columns (closed_generators q))) (feasibility_problem (closed_places q) (columns (closed_generators q)) (closed_target q target)) part
   answer_separates h part is = separates_so q target coords places_are rs rows_are r e part (subst (IsRightEnd coords rs r) is (right_end coords rs r x h))
 
 -- ---- one outcome

@@ -20,13 +20,14 @@ use Rattle.it_elemental.proofs.GeneratorLemmas.{every_or}
 use Rattle.it_closure.specs.Collapse.{CollapseFits}
 use Rattle.it_closure.specs.Coordinates.{RiseTo}
 use Rattle.it_closure.specs.Reading.{dependences_of}
+use Rattle.it_tableau.specs.Operations.{rationals}
+use Rattle.it_tableau.specs.FieldOperations.{sum_to}
 use Rattle.it_tableau.specs.Fits.{StartFits}
 use Rattle.it_tableau.specs.Problems.{feasibility_problem, start_of}
 use Rattle.it_tableau.specs.SimplexTables as simplex
 use Rattle.it_run.specs.Choice.{IsDone, IsStuck, next}
 use Rattle.it_run.specs.Readings.{weights, point}
 use Rattle.it_run.specs.Solving.{StepFits, RunsTo}
-use Rattle.it_tableau.specs.Sums.{sum_to}
 use Rattle.it_tableau.specs.SimplexTables.{SimplexTable, start_row, sign}
 use Rattle.it_run.specs.Runs.{RunEndView, EndsAs, clip_end}
 use Rattle.it_run.specs.Runs.RunEndView.{Weights, Point, Pivots, Width}
@@ -88,7 +89,7 @@ rise_length from to [] r = omega (arith, r)
 rise_length from to (x ∷ xs) r = omega (arith, r.0, rise_length (x + 1) to xs r.1)
 
 module _ (coords : List ℕ) (cols : List Terms) (t : Terms) (few : length coords ≤ 1040) (cs : Every SmallRow cols) (ts : SmallRow t) where
-  entry_below : (k j : ℕ) → IsBelow (1040 * 2 ^ 106) (start_row field_ℚ (length coords) (length cols) (feasibility_problem coords cols t) k j)
+  entry_below : (k j : ℕ) → IsBelow (1040 * 2 ^ 106) (start_row rationals (length coords) (length cols) (feasibility_problem coords cols t) k j)
   entry_below k j = by_test (ltb j (length cols)) (eqb j (length cols + length coords)) (eqb j (length cols + k))
     where
       column : IsBelow (1040 * 2 ^ 106) (integer (coefficient (get_or cols j []) (get_or coords k 0)))
@@ -97,16 +98,16 @@ module _ (coords : List ℕ) (cols : List Terms) (t : Terms) (few : length coord
       target_is_small : IsBelow (1040 * 2 ^ 106) (integer (coefficient t (get_or coords k 0)))
       target_is_small = (coefficient t (get_or coords k 0), refl, ts (get_or coords k 0))
 
-      by_test : (a b c : Bool) → IsBelow (1040 * 2 ^ 106) (cond a (times (sign field_ℚ (feasibility_problem coords cols t) k) (integer (coefficient (get_or cols j []) (get_or coords k 0))))
-          (cond b (times (sign field_ℚ (feasibility_problem coords cols t) k) (integer (coefficient t (get_or coords k 0)))) (cond c (integer (pos 1)) (integer (pos 0)))))
+      by_test : (a b c : Bool) → IsBelow (1040 * 2 ^ 106) (cond a (times (sign rationals (feasibility_problem coords cols t) k) (integer (coefficient (get_or cols j []) (get_or coords k 0))))
+          (cond b (times (sign rationals (feasibility_problem coords cols t) k) (integer (coefficient t (get_or coords k 0)))) (cond c (integer (pos 1)) (integer (pos 0)))))
       by_test true b c = below_sign (1040 * 2 ^ 106) (field_ℚ.order.is_least (integer (coefficient t (get_or coords k 0)))) (integer (coefficient (get_or cols j []) (get_or coords k 0))) column
       by_test false true c = below_sign (1040 * 2 ^ 106) (field_ℚ.order.is_least (integer (coefficient t (get_or coords k 0)))) (integer (coefficient t (get_or coords k 0))) target_is_small
       by_test false false true = below_one (1040 * 2 ^ 106) (omega arith)
       by_test false false false = below_null (1040 * 2 ^ 106)
 
   start_fits : StartFits (length coords) (length cols) (feasibility_problem coords cols t)
-  start_fits k j h l = below_is_narrow (pile k) (sum_to ring_ℚ k (λ i. start_row field_ℚ (length coords) (length cols) (feasibility_problem coords cols t) i j)) (omega (arith, pile_is k, h, few))
-      (sum_below k (λ i. start_row field_ℚ (length coords) (length cols) (feasibility_problem coords cols t) i j) (λ i. entry_below i j))
+  start_fits k j h l = below_is_narrow (pile k) (sum_to ring_ℚ k (λ i. start_row rationals (length coords) (length cols) (feasibility_problem coords cols t) i j)) (omega (arith, pile_is k, h, few))
+      (sum_below k (λ i. start_row rationals (length coords) (length cols) (feasibility_problem coords cols t) i j) (λ i. entry_below i j))
 
 -- ---- the run
 
@@ -134,9 +135,9 @@ zero_before_clip (Width k) q = by_number k (same_step (min k 4294967295) q)
 
 never_run : (m n : ℕ) (p : simplex.FeasibilityProblem Rational) (budget : Option ℕ) (t : SimplexTable Rational) (e : RunEndView (List (ℕ × Rational)) (List Rational)) → e ≡ Width zero → RunsTo m n p budget t e → ⊥
 never_run m n p (Some steps) t e z r =
-    never_zero (IsDone field_ℚ m n) (IsStuck field_ℚ m n) (StepFits m n) (next field_ℚ m n) (weights field_ℚ m n) (point field_ℚ m n p) steps zero t (subst (RunsTo m n p (Some steps) t) z r)
+    never_zero (IsDone rationals m n) (IsStuck rationals m n) (StepFits m n) (next rationals m n) (weights rationals m n) (point rationals m n p) steps zero t (subst (RunsTo m n p (Some steps) t) z r)
 never_run m n p None t e z r =
-    never_zero (IsDone field_ℚ m n) (IsStuck field_ℚ m n) (StepFits m n) (next field_ℚ m n) (weights field_ℚ m n) (point field_ℚ m n p) r.budget zero t
+    never_zero (IsDone rationals m n) (IsStuck rationals m n) (StepFits m n) (next rationals m n) (weights rationals m n) (point rationals m n p) r.budget zero t
     (subst (RunsTo m n p (Some r.budget) t) (zero_before_clip r.end (sym z ∙ r.is_clipped)) r.runs)
 
 pub never_at_start : NeverAtStart

@@ -1,6 +1,5 @@
 //! A certificate from the weights of columns.
 ghost use Rattle.std.specs.Prelude.{◌≡◌, ◌<◌, ◌^◌, ℕ, ℤ, pos, ◌≤ℤ◌, length, IfErr, IfOk, OnOk};
-ghost use Rattle.it_rational.proofs.Field.{field_ℚ};
 ghost use Rattle.it_space.specs.Answers.{certificate_view};
 ghost use Rattle.it_space.specs.Problems.{IsProblem, problem_view};
 ghost use Rattle.it_space.specs.Rows.{coefficient};
@@ -9,6 +8,7 @@ ghost use Rattle.it_elemental.specs.Generators.{generators};
 ghost use Rattle.it_columns.specs.Columns.{columns};
 ghost use Rattle.it_columns.specs.Scaling.{NumbersFit};
 ghost use Rattle.it_prove.specs.Weights.{certificate_of, numbers_of, weight_by, weights_from};
+ghost use Rattle.it_tableau.specs.Operations.{rationals};
 
 use crate::scaling::{numbers, terms};
 use it_closure::column_count;
@@ -58,7 +58,7 @@ pub fn certificate(
     weights: &[(usize, Fraction)],
 ) -> Result<Certificate, RowFault>
     requires problem { IsProblem (problem_view problem.now) }
-    requires ordered { AreWeights field_ℚ (length (columns (generators (problem_view problem.now)))) 0 weights.now }
+    requires ordered { AreWeights rationals (length (columns (generators (problem_view problem.now)))) 0 weights.now }
     ensures value { IfOk result (λ c. certificate_view c ≡ certificate_of (generators (problem_view problem.now)) weights.now) }
     ensures fits { OnOk result (NumbersFit (numbers_of weights.now)) }
     ensures wide { IfErr result (λ f. f ≡ RowFault.Wide → ¬ (NumbersFit (numbers_of weights.now))) }

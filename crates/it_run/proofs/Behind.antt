@@ -3,17 +3,17 @@ use Rattle.std.proofs.Common.{◌≡◌, ℕ, ◌+◌, ◌<◌, ◌≤◌, Bool,
 use Rattle.std.proofs.lemmas.Bool.{ne_eqb, true≢false}
 use Rattle.it_number.proofs.Ring.{ring, mul-null, v, plus, minus}
 use Rattle.it_rational.specs.OrderedFields.{OrderedField}
-use Rattle.it_tableau.specs.Sums.{sum_to}
-use Rattle.it_tableau.specs.SimplexTables.{SimplexTable, FeasibilityProblem, difference, start_row}
+use Rattle.it_tableau.specs.FieldOperations.{operations_of, sum_to, difference}
+use Rattle.it_tableau.specs.SimplexTables.{SimplexTable, FeasibilityProblem, start_row}
 use Rattle.it_tableau.specs.Invariants.{HasInvariants}
 use Rattle.it_tableau.proofs.Sums.{eqb_comm, sum_same, sum_add, sum_times, sum_times_left, sum_swap, sum_one}
 
-module _ {A : Type 0} (F : OrderedField A) (m n : ℕ) (p : FeasibilityProblem A) (b t : SimplexTable A) (hb : HasInvariants F m n p b) (ht : HasInvariants F m n p t) where
+module _ {A : Type 0} (F : OrderedField A) (m n : ℕ) (p : FeasibilityProblem A) (b t : SimplexTable A) (hb : HasInvariants (operations_of F) m n p b) (ht : HasInvariants (operations_of F) m n p t) where
   -- a row of one table is the sum of the other's rows, by its own entries at their basic columns
   pub row_by_rows : (i j : ℕ) → i ≤ m → b.entry i j ≡ sum_to F.ring m (λ q. F.ring.mul (b.entry i (t.basis q)) (t.entry q j))
   row_by_rows i j hi =
       hb.combines i j hi
-      ∙ sum_same F.ring m (λ k. F.ring.mul (x k) (start_row F m n p k j)) (λ k. sum_to F.ring m (λ q. F.ring.mul (x k) (F.ring.mul (s k q) (t.entry q j))))
+      ∙ sum_same F.ring m (λ k. F.ring.mul (x k) (start_row (operations_of F) m n p k j)) (λ k. sum_to F.ring m (λ q. F.ring.mul (x k) (F.ring.mul (s k q) (t.entry q j))))
       (λ k l. ap (F.ring.mul (x k)) (ht.spans k j l) ∙ sym (sum_times_left F.ring m (λ q. F.ring.mul (s k q) (t.entry q j)) (x k)))
       ∙ sum_swap F.ring m m (λ k q. F.ring.mul (x k) (F.ring.mul (s k q) (t.entry q j)))
       ∙ sum_same F.ring m (λ q. sum_to F.ring m (λ k. F.ring.mul (x k) (F.ring.mul (s k q) (t.entry q j)))) (λ q. F.ring.mul (b.entry i (t.basis q)) (t.entry q j))
@@ -25,7 +25,7 @@ module _ {A : Type 0} (F : OrderedField A) (m n : ℕ) (p : FeasibilityProblem A
       x = λ k. b.entry i (n + k)
 
       s : ℕ → ℕ → A
-      s = λ k q. start_row F m n p k (t.basis q)
+      s = λ k q. start_row (operations_of F) m n p k (t.basis q)
 
   module _ (moved : ℕ → Bool) (same : (q : ℕ) → q < m → moved q ≡ false → t.basis q ≡ b.basis q) where
     -- what the rows that moved add to row i at column j

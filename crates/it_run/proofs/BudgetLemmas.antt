@@ -1,6 +1,7 @@
 -- A run with a budget or none: what is read off its end, that it has one end, and that it doesn't end for want of steps where it has no budget.
 use Rattle.std.proofs.Common.{List, ◌≡◌, ◌⊎◌, inl, inr, ℕ, zero, suc, ◌+◌, Option, Some, None, refl, sym, ap, ◌∙◌, subst, arith}
 use Rattle.it_rational.specs.OrderedFields.{OrderedField}
+use Rattle.it_tableau.specs.FieldOperations.{operations_of}
 use Rattle.it_tableau.specs.SimplexTables.{SimplexTable, FeasibilityProblem, start}
 use Rattle.it_run.specs.Choice.{next, IsDone, IsStuck}
 use Rattle.it_run.specs.Readings.{weights, point}
@@ -94,6 +95,6 @@ module _ {A : Type 0} (F : OrderedField A) (m n : ℕ) where
 
   -- the end of a run from the start is right
   pub right_by : (Fits : SimplexTable A → Type 0) (p : FeasibilityProblem A) (budget : Option ℕ) (e : RunEndView (List (ℕ × A)) (List A))
-      → EndsBy (IsDone F m n) (IsStuck F m n) Fits (next F m n) (weights F m n) (point F m n p) budget (start F m n p) e → EndIsRight F m n p e
+      → EndsBy (IsDone (operations_of F) m n) (IsStuck (operations_of F) m n) Fits (next (operations_of F) m n) (weights (operations_of F) m n) (point (operations_of F) m n p) budget (start (operations_of F) m n p) e → EndIsRight F m n p e
   right_by Fits p (Some budget) e r = run_right F m n Fits p budget e r
   right_by Fits p None e r = subst (EndIsRight F m n p) (sym r.is_clipped) (clip_keeps_right p r.end (run_right F m n Fits p r.budget r.end r.runs))

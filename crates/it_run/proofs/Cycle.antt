@@ -4,8 +4,8 @@ use Rattle.std.proofs.lemmas.Bool.{cases_eq, cases_lt, lt-ltb, cases_Bool}
 use Rattle.it_number.proofs.Ring.{ring, mul-null, v, plus, times, minus, nil, one}
 use Rattle.it_rational.proofs.Ordered.{null-least, not_both, below-neg, neg-above, above-least, above-apart, below-apart, add-above, mul-above, inv-above, inv-least, above-from}
 use Rattle.it_rational.specs.OrderedFields.{OrderedField, IsAtLeastZero, IsBelowZero, IsAboveZero}
-use Rattle.it_tableau.specs.Sums.{sum_to}
-use Rattle.it_tableau.specs.SimplexTables.{SimplexTable, FeasibilityProblem, difference, ratio}
+use Rattle.it_tableau.specs.FieldOperations.{operations_of, sum_to, difference}
+use Rattle.it_tableau.specs.SimplexTables.{SimplexTable, FeasibilityProblem, ratio}
 use Rattle.it_tableau.specs.Invariants.{cost_of, HasInvariants}
 use Rattle.it_run.specs.Choice.{entering_column, leaving_row, IsStuck}
 use Rattle.it_run.specs.Meetings.{table_after}
@@ -17,53 +17,53 @@ use Rattle.it_run.proofs.RunLemmas.{next_holds}
 use Rattle.it_run.proofs.RowsByBasis.{basic_cost, row_by_basis, same_right}
 
 module _ {A : Type 0} (F : OrderedField A) (m n : ℕ) where
-  module _ (p : FeasibilityProblem A) (t : SimplexTable A) (h : HasInvariants F m n p t) (N : ℕ) (moving : (k : ℕ) → k < N → ¬ (IsStuck F m n (table_after F m n t k))) where
+  module _ (p : FeasibilityProblem A) (t : SimplexTable A) (h : HasInvariants (operations_of F) m n p t) (N : ℕ) (moving : (k : ℕ) → k < N → ¬ (IsStuck (operations_of F) m n (table_after (operations_of F) m n t k))) where
     -- the entering column, the leaving row, the basic columns and the right sides of the table after k steps
     abbrev col : ℕ → ℕ
-    col k = entering_column F m n (table_after F m n t k)
+    col k = entering_column (operations_of F) m n (table_after (operations_of F) m n t k)
 
     abbrev row : ℕ → ℕ
-    row k = leaving_row F m n (table_after F m n t k) (col k)
+    row k = leaving_row (operations_of F) m n (table_after (operations_of F) m n t k) (col k)
 
     abbrev base : ℕ → ℕ → ℕ
-    base k i = (table_after F m n t k).basis i
+    base k i = (table_after (operations_of F) m n t k).basis i
 
     abbrev right : ℕ → ℕ → A
-    right k i = (table_after F m n t k).entry i (n + m)
+    right k i = (table_after (operations_of F) m n t k).entry i (n + m)
 
-    invariants_after : (k : ℕ) → k ≤ N → HasInvariants F m n p (table_after F m n t k)
+    invariants_after : (k : ℕ) → k ≤ N → HasInvariants (operations_of F) m n p (table_after (operations_of F) m n t k)
     invariants_after zero l = h
-    invariants_after (suc k) l = next_holds F m n p (table_after F m n t k) (invariants_after k (omega arith)) (moving k (omega arith))
+    invariants_after (suc k) l = next_holds F m n p (table_after (operations_of F) m n t k) (invariants_after k (omega arith)) (moving k (omega arith))
 
-    column_enters : (k : ℕ) → k < N → Enters F m n (table_after F m n t k) (col k)
-    column_enters k l = entering_is F m n (table_after F m n t k) (some_column F m n (table_after F m n t k) (moving k l))
+    column_enters : (k : ℕ) → k < N → Enters F m n (table_after (operations_of F) m n t k) (col k)
+    column_enters k l = entering_is F m n (table_after (operations_of F) m n t k) (some_column F m n (table_after (operations_of F) m n t k) (moving k l))
 
-    row_leaves : (k : ℕ) → k < N → Leaves F m n (table_after F m n t k) (col k) (row k)
-    row_leaves k l = leaving_is F m n p (table_after F m n t k) (col k) (invariants_after k (omega arith)) (column_enters k l).below
+    row_leaves : (k : ℕ) → k < N → Leaves F m n (table_after (operations_of F) m n t k) (col k) (row k)
+    row_leaves k l = leaving_is F m n p (table_after (operations_of F) m n t k) (col k) (invariants_after k (omega arith)) (column_enters k l).below
 
     entering_becomes_basic : (k : ℕ) → base (suc k) (row k) ≡ col k
-    entering_becomes_basic k = new_basis F m n (table_after F m n t k) (row k) (col k)
+    entering_becomes_basic k = new_basis F m n (table_after (operations_of F) m n t k) (row k) (col k)
 
     other_rows_keep_basis : (k i : ℕ) → i ≢ row k → base (suc k) i ≡ base k i
-    other_rows_keep_basis k i d = old_basis F m n (table_after F m n t k) (row k) (col k) i d
+    other_rows_keep_basis k i d = old_basis F m n (table_after (operations_of F) m n t k) (row k) (col k) i d
 
     -- the entering column isn't basic
     entering_is_not_basic : (k i : ℕ) → k < N → i < m → base k i ≢ col k
     entering_is_not_basic k i l hi e = by_cases (invariants_after k (omega arith)).own (cases_lt (base k i) n)
       where
         by_cases : ((i : ℕ) → i < m → (base k i < n) ⊎ (base k i ≡ n + i)) → (base k i < n) ⊎ (n ≤ base k i) → ⊥
-        by_cases _ (inl q) = below-apart F ((table_after F m n t k).entry m (col k)) (column_enters k l).below
-            (ap ((table_after F m n t k).entry m) (sym e) ∙ basic_cost F m n p (table_after F m n t k) (invariants_after k (omega arith)) i hi ∙ ap (λ b. cond b F.ring.null (F.ring.neg F.ring.unit)) (lt-ltb (base k i) n q))
+        by_cases _ (inl q) = below-apart F ((table_after (operations_of F) m n t k).entry m (col k)) (column_enters k l).below
+            (ap ((table_after (operations_of F) m n t k).entry m) (sym e) ∙ basic_cost F m n p (table_after (operations_of F) m n t k) (invariants_after k (omega arith)) i hi ∙ ap (λ b. cond b F.ring.null (F.ring.neg F.ring.unit)) (lt-ltb (base k i) n q))
         by_cases _ (inr q) = let c : col k < n = (column_enters k l).column in absurd (omega arith)
 
     -- ---- the right sides
     gain : ℕ → A
-    gain k = F.ring.mul (F.ring.neg ((table_after F m n t k).entry m (col k))) (F.order.inv ((table_after F m n t k).entry (row k) (col k)))
+    gain k = F.ring.mul (F.ring.neg ((table_after (operations_of F) m n t k).entry m (col k))) (F.order.inv ((table_after (operations_of F) m n t k).entry (row k) (col k)))
 
     right_side_gains : (k : ℕ) → k < N → right (suc k) m ≡ F.ring.add (right k m) (F.ring.mul (right k (row k)) (gain k))
     unfolding gain
-    right_side_gains k l = other_row F m n (table_after F m n t k) (row k) (col k) m (n + m) (λ e. let r : row k < m = (row_leaves k l).row in omega arith)
-        ∙ ring F.ring (right k m ∷ right k (row k) ∷ (table_after F m n t k).entry m (col k) ∷ F.order.inv ((table_after F m n t k).entry (row k) (col k)) ∷ [])
+    right_side_gains k l = other_row F m n (table_after (operations_of F) m n t k) (row k) (col k) m (n + m) (λ e. let r : row k < m = (row_leaves k l).row in omega arith)
+        ∙ ring F.ring (right k m ∷ right k (row k) ∷ (table_after (operations_of F) m n t k).entry m (col k) ∷ F.order.inv ((table_after (operations_of F) m n t k).entry (row k) (col k)) ∷ [])
         (plus (v 0) (minus (times (v 1) (times (v 2) (v 3))))) (plus (v 0) (times (v 1) (times (minus (v 2)) (v 3)))) refl
 
     inv-positive : (a : A) → IsAboveZero F a → IsAboveZero F (F.order.inv a)
@@ -72,8 +72,8 @@ module _ {A : Type 0} (F : OrderedField A) (m n : ℕ) where
 
     gain-above : (k : ℕ) → k < N → IsAboveZero F (gain k)
     unfolding gain
-    gain-above k l = mul-above F (F.ring.neg ((table_after F m n t k).entry m (col k))) (F.order.inv ((table_after F m n t k).entry (row k) (col k)))
-        (neg-above F ((table_after F m n t k).entry m (col k)) (column_enters k l).below) (inv-positive ((table_after F m n t k).entry (row k) (col k)) (row_leaves k l).above)
+    gain-above k l = mul-above F (F.ring.neg ((table_after (operations_of F) m n t k).entry m (col k))) (F.order.inv ((table_after (operations_of F) m n t k).entry (row k) (col k)))
+        (neg-above F ((table_after (operations_of F) m n t k).entry m (col k)) (column_enters k l).below) (inv-positive ((table_after (operations_of F) m n t k).entry (row k) (col k)) (row_leaves k l).above)
 
     gain-least : (k : ℕ) → k < N → IsAtLeastZero F (F.ring.mul (right k (row k)) (gain k))
     gain-least k l = F.order.mul-least (right k (row k)) (gain k) ((invariants_after k (omega arith)).rights (row k) (row_leaves k l).row) (above-least F (gain k) (gain-above k l))
@@ -101,7 +101,7 @@ module _ {A : Type 0} (F : OrderedField A) (m n : ℕ) where
     module _ (a b : ℕ) (first : a < b) (last : b ≤ N) (again : (i : ℕ) → i < m → base a i ≡ base b i) where
       same_cost : (k : ℕ) → a ≤ k → k ≤ b → right k m ≡ right a m
       same_cost k f g = equal_by_order F m n (right k m) (right a m) (right_side_rises_to a k f (omega arith))
-          (subst (λ (x : A). IsAtLeastZero F (difference F.ring x (right k m))) (sym (same_right F m n p (table_after F m n t a) (table_after F m n t b) (invariants_after a (omega arith)) (invariants_after b last) again)) (right_side_rises_to k b g last))
+          (subst (λ (x : A). IsAtLeastZero F (difference F.ring x (right k m))) (sym (same_right F m n p (table_after (operations_of F) m n t a) (table_after (operations_of F) m n t b) (invariants_after a (omega arith)) (invariants_after b last) again)) (right_side_rises_to k b g last))
 
       -- the leaving row's right side is 0
       right_null : (k : ℕ) → a ≤ k → k < b → right k (row k) ≡ F.ring.null
@@ -122,11 +122,11 @@ module _ {A : Type 0} (F : OrderedField A) (m n : ℕ) where
         where
           by_cases : (i ≡ row k) ⊎ (i ≡ row k → ⊥) → right (suc k) i ≡ right k i
           by_cases (inl e) = subst (λ (x : ℕ). right (suc k) x ≡ right k x) (sym e)
-              (pivot_row F m n (table_after F m n t k) (row k) (col k) (n + m) ∙ ap (λ x. F.ring.mul x (F.order.inv ((table_after F m n t k).entry (row k) (col k)))) (right_null k f g)
-              ∙ F.ring.mul_comm F.ring.null (F.order.inv ((table_after F m n t k).entry (row k) (col k))) ∙ mul-null F.ring (F.order.inv ((table_after F m n t k).entry (row k) (col k))) ∙ sym (right_null k f g))
-          by_cases (inr d) = other_row F m n (table_after F m n t k) (row k) (col k) i (n + m) d
-              ∙ ap (λ x. difference F.ring (right k i) (F.ring.mul x (F.ring.mul ((table_after F m n t k).entry i (col k)) (F.order.inv ((table_after F m n t k).entry (row k) (col k)))))) (right_null k f g)
-              ∙ ring F.ring (right k i ∷ F.ring.mul ((table_after F m n t k).entry i (col k)) (F.order.inv ((table_after F m n t k).entry (row k) (col k))) ∷ []) (plus (v 0) (minus (times nil (v 1)))) (v 0) refl
+              (pivot_row F m n (table_after (operations_of F) m n t k) (row k) (col k) (n + m) ∙ ap (λ x. F.ring.mul x (F.order.inv ((table_after (operations_of F) m n t k).entry (row k) (col k)))) (right_null k f g)
+              ∙ F.ring.mul_comm F.ring.null (F.order.inv ((table_after (operations_of F) m n t k).entry (row k) (col k))) ∙ mul-null F.ring (F.order.inv ((table_after (operations_of F) m n t k).entry (row k) (col k))) ∙ sym (right_null k f g))
+          by_cases (inr d) = other_row F m n (table_after (operations_of F) m n t k) (row k) (col k) i (n + m) d
+              ∙ ap (λ x. difference F.ring (right k i) (F.ring.mul x (F.ring.mul ((table_after (operations_of F) m n t k).entry i (col k)) (F.order.inv ((table_after (operations_of F) m n t k).entry (row k) (col k)))))) (right_null k f g)
+              ∙ ring F.ring (right k i ∷ F.ring.mul ((table_after (operations_of F) m n t k).entry i (col k)) (F.order.inv ((table_after (operations_of F) m n t k).entry (row k) (col k))) ∷ []) (plus (v 0) (minus (times nil (v 1)))) (v 0) refl
 
       right_same : (d i : ℕ) → a + d ≤ b → right (a + d) i ≡ right a i
       right_same zero i l = ap (λ x. right x i) no_steps
@@ -281,10 +281,10 @@ module _ {A : Type 0} (F : OrderedField A) (m n : ℕ) where
         module _ (Q : ℕ) (fQ : a ≤ Q) (gQ : Q < b) (eQ : col Q ≡ top) where
           -- the costs of the table after k steps, and what the column that enters at P has in row i
           abbrev cost : ℕ → ℕ → A
-          cost k j = (table_after F m n t k).entry m j
+          cost k j = (table_after (operations_of F) m n t k).entry m j
 
           abbrev at_entering : ℕ → A
-          at_entering i = (table_after F m n t P).entry i (col P)
+          at_entering i = (table_after (operations_of F) m n t P).entry i (col P)
 
           top_column : top < n
           top_column = subst (λ (x : ℕ). x < n) eQ (column_enters Q (omega arith)).column
@@ -297,7 +297,7 @@ module _ {A : Type 0} (F : OrderedField A) (m n : ℕ) where
 
           -- what row i adds to the cost at Q of the column that enters at P
           abbrev term : ℕ → A
-          term i = F.ring.mul (difference F.ring (cost Q (base P i)) (cost_of F m n (base P i))) (at_entering i)
+          term i = F.ring.mul (difference F.ring (cost Q (base P i)) (cost_of (operations_of F) m n (base P i))) (at_entering i)
 
           sum_neg : (f : ℕ → A) → sum_to F.ring m (λ i. F.ring.neg (f i)) ≡ F.ring.neg (sum_to F.ring m f)
           sum_neg f = sum_same F.ring m (λ i. F.ring.neg (f i)) (λ i. F.ring.mul (F.ring.neg F.ring.unit) (f i)) (λ i _. ring F.ring (f i ∷ []) (minus (v 0)) (times (minus one) (v 0)) refl)
@@ -305,11 +305,11 @@ module _ {A : Type 0} (F : OrderedField A) (m n : ℕ) where
 
           sum_is : sum_to F.ring m term ≡ F.ring.add (cost Q (col P)) (F.ring.neg (cost P (col P)))
           sum_is =
-              sum_same F.ring m term (λ i. F.ring.add (F.ring.mul (cost Q (base P i)) (at_entering i)) (F.ring.neg (F.ring.mul (cost_of F m n (base P i)) (at_entering i))))
-              (λ i _. ring F.ring (cost Q (base P i) ∷ cost_of F m n (base P i) ∷ at_entering i ∷ []) (times (plus (v 0) (minus (v 1))) (v 2)) (plus (times (v 0) (v 2)) (minus (times (v 1) (v 2)))) refl)
-              ∙ sum_add F.ring m (λ i. F.ring.mul (cost Q (base P i)) (at_entering i)) (λ i. F.ring.neg (F.ring.mul (cost_of F m n (base P i)) (at_entering i)))
-              ∙ ap₂ F.ring.add (sym (row_by_basis F m n p (table_after F m n t P) (table_after F m n t Q) (invariants_after P (omega arith)) (invariants_after Q (omega arith)) m (col P) (omega arith)))
-              (sum_neg (λ i. F.ring.mul (cost_of F m n (base P i)) (at_entering i)) ∙ ap F.ring.neg (sym ((invariants_after P (omega arith)).costs (col P))))
+              sum_same F.ring m term (λ i. F.ring.add (F.ring.mul (cost Q (base P i)) (at_entering i)) (F.ring.neg (F.ring.mul (cost_of (operations_of F) m n (base P i)) (at_entering i))))
+              (λ i _. ring F.ring (cost Q (base P i) ∷ cost_of (operations_of F) m n (base P i) ∷ at_entering i ∷ []) (times (plus (v 0) (minus (v 1))) (v 2)) (plus (times (v 0) (v 2)) (minus (times (v 1) (v 2)))) refl)
+              ∙ sum_add F.ring m (λ i. F.ring.mul (cost Q (base P i)) (at_entering i)) (λ i. F.ring.neg (F.ring.mul (cost_of (operations_of F) m n (base P i)) (at_entering i)))
+              ∙ ap₂ F.ring.add (sym (row_by_basis F m n p (table_after (operations_of F) m n t P) (table_after (operations_of F) m n t Q) (invariants_after P (omega arith)) (invariants_after Q (omega arith)) m (col P) (omega arith)))
+              (sum_neg (λ i. F.ring.mul (cost_of (operations_of F) m n (base P i)) (at_entering i)) ∙ ap F.ring.neg (sym ((invariants_after P (omega arith)).costs (col P))))
 
           sum_above : IsAboveZero F (sum_to F.ring m term)
           sum_above = subst (IsAboveZero F) (sym sum_is) (add-above F (cost Q (col P)) (F.ring.neg (cost P (col P))) (lesser_cost_least (col P) entering_less)
@@ -332,7 +332,7 @@ module _ {A : Type 0} (F : OrderedField A) (m n : ℕ) where
               product_neg_right : (x e : A) → IsAtLeastZero F x → IsAtLeastZero F (F.ring.neg e) → IsAboveZero F (F.ring.mul x e) → ⊥
               product_neg_right x e hx he k = not_both F (F.ring.neg (F.ring.mul x e)) k (subst (IsAtLeastZero F) (ring F.ring (x ∷ e ∷ []) (times (v 0) (minus (v 1))) (minus (times (v 0) (v 1))) refl) (F.order.mul-least x (F.ring.neg e) hx he))
 
-              null_ratio : (k : ℕ) → right P k ≡ F.ring.null → ratio F m n (table_after F m n t P) (col P) k ≡ F.ring.null
+              null_ratio : (k : ℕ) → right P k ≡ F.ring.null → ratio (operations_of F) m n (table_after (operations_of F) m n t P) (col P) k ≡ F.ring.null
               null_ratio k e = ap (λ x. F.ring.mul x (F.order.inv (at_entering k))) e ∙ F.ring.mul_comm F.ring.null (F.order.inv (at_entering k)) ∙ mul-null F.ring (F.order.inv (at_entering k))
 
               less_top : base P i < top → right P i ≡ F.ring.null → IsAboveZero F (F.ring.mul (cost Q (base P i)) (at_entering i)) → (IsAtLeastZero F (F.ring.neg (at_entering i))) ⊎ (IsAboveZero F (at_entering i)) → ⊥
@@ -341,13 +341,13 @@ module _ {A : Type 0} (F : OrderedField A) (m n : ℕ) where
                   let w : top ≤ base P i = (row_leaves P (omega arith)).first i hi q (null_ratio i z ∙ sym (null_ratio (row P) (right_null P fP gP))) in absurd (omega arith)
 
               by_cases : ((Goes (base P i)) × (right P i ≡ F.ring.null)) ⊎ ((j : ℕ) → a ≤ j → j ≤ b → base j i ≡ base P i) → ⊥
-              by_cases (inr u) = above-apart F (term i) g (no_product (cost Q (base P i)) (cost_of F m n (base P i)) (at_entering i)
-                  (ap (cost Q) (sym (u Q fQ (omega arith))) ∙ basic_cost F m n p (table_after F m n t Q) (invariants_after Q (omega arith)) i hi ∙ ap (cost_of F m n) (u Q fQ (omega arith))))
+              by_cases (inr u) = above-apart F (term i) g (no_product (cost Q (base P i)) (cost_of (operations_of F) m n (base P i)) (at_entering i)
+                  (ap (cost Q) (sym (u Q fQ (omega arith))) ∙ basic_cost F m n p (table_after (operations_of F) m n t Q) (invariants_after Q (omega arith)) i hi ∙ ap (cost_of (operations_of F) m n) (u Q fQ (omega arith))))
               by_cases (inl s) = by_column (cases_eq (base P i) top) (goes_least (base P i) s.0)
                 where
                   by_column : (base P i ≡ top) ⊎ (base P i ≡ top → ⊥) → base P i ≤ top → ⊥
                   by_column (inl e) l =
-                      let same : i ≡ row P = basic_columns_differ F m n p (table_after F m n t P) (invariants_after P (omega arith)) i (row P) hi row_within e in
+                      let same : i ≡ row P = basic_columns_differ F m n p (table_after (operations_of F) m n t P) (invariants_after P (omega arith)) i (row P) hi row_within e in
                       product_neg (cost Q top) (at_entering (row P)) (below-neg F (cost Q top) top_below) (above-least F (at_entering (row P)) (row_leaves P (omega arith)).above)
                       (subst (λ (k : ℕ). IsAboveZero F (F.ring.mul (cost Q (base P k)) (at_entering k))) same (subst (IsAboveZero F) (term_is_product l) g))
                   by_column (inr d) l = less_top (omega arith) s.1 (subst (IsAboveZero F) (term_is_product l) g) (cases_Bool (F.order.is_least (F.ring.neg (at_entering i))))

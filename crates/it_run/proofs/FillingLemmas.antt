@@ -6,6 +6,7 @@ use Rattle.it_rational.proofs.RationalLaws.{ring_ℚ}
 use Rattle.it_rational.proofs.Field.{rational_strict, field_ℚ}
 use Rattle.it_rational.proofs.Ordered.{null-least}
 use Rattle.it_number.proofs.Ring.{neg-null}
+use Rattle.it_tableau.specs.Operations.{rationals}
 use Rattle.it_tableau.specs.SimplexTables.{SimplexTable, FeasibilityProblem}
 use Rattle.it_tableau.specs.TableauViews.{TableauView, height, table}
 use Rattle.it_run.specs.Readings.{weight, weights_from_column, weights, point_value, point_from_row, point}
@@ -14,15 +15,15 @@ use Rattle.it_run.specs.Answers.{sign_number, HasSigns}
 module _ (m n : ℕ) (t : SimplexTable Rational) where
   -- the weight of a column
   abbrev W : ℕ → Rational
-  W j = weight field_ℚ m n t j
+  W j = weight rationals m n t j
 
   -- the weights that are still to come
   abbrev From : ℕ → ℕ → List (ℕ × Rational)
-  From = weights_from_column field_ℚ m n t
+  From = weights_from_column rationals m n t
 
   -- the list so far with what is still to come is the list of all
   abbrev pub AreWeightsSoFar : List (ℕ × Rational) → ℕ → Type 0
-  AreWeightsSoFar out j = out ++ weights_from_column field_ℚ m n t j (n - j) ≡ weights field_ℚ m n t
+  AreWeightsSoFar out j = out ++ weights_from_column rationals m n t j (n - j) ≡ weights rationals m n t
 
   split_off : (j : ℕ) → j < n → From j (n - j) ≡ cond (is_at_least_zero (W j) && is_at_least_zero (minus (W j))) (From (j + 1) (n - (j + 1))) ((j, W j) ∷ From (j + 1) (n - (j + 1)))
   split_off j l = ap (From j) rest_is_longer ∙ ap (λ (k : ℕ). cond (is_at_least_zero (W j) && is_at_least_zero (minus (W j))) (From k (n - (j + 1))) ((j, W j) ∷ From k (n - (j + 1)))) successor_is_sum
@@ -52,18 +53,18 @@ module _ (m n : ℕ) (t : SimplexTable Rational) where
 -- the values so far with those that are still to come are those of the point
 abbrev pub ValuesSoFar : TableauView → List Rational → ℕ → Type 0
 ValuesSoFar t out k = (p : FeasibilityProblem Rational) → HasSigns t p
-    → out ++ point_from_row field_ℚ (height t) t.generator_columns p (table t) k (height t - k) ≡ point field_ℚ (height t) t.generator_columns p (table t)
+    → out ++ point_from_row rationals (height t) t.generator_columns p (table t) k (height t - k) ≡ point rationals (height t) t.generator_columns p (table t)
 
 pub values_more : (t : TableauView) (out : List Rational) (k : ℕ) (x : Rational) → k < height t → x ≡ times (sign_number t k) ((table t).entry (height t) (t.generator_columns + k))
     → ValuesSoFar t out k → ValuesSoFar t (out ++ x ∷ []) (k + 1)
 values_more t out k x l e h p s =
     append_assoc out (x ∷ []) (rest (k + 1) (height t - (k + 1)))
     ∙ ap (λ y. out ++ y ∷ rest (k + 1) (height t - (k + 1))) (e ∙ ap (λ z. times z ((table t).entry (height t) (t.generator_columns + k))) (s k l))
-    ∙ ap (λ xs. out ++ xs) (sym (ap (rest k) rest_is_longer ∙ ap (λ i. point_value field_ℚ (height t) t.generator_columns p (table t) k ∷ rest i (height t - (k + 1))) successor_is_sum))
+    ∙ ap (λ xs. out ++ xs) (sym (ap (rest k) rest_is_longer ∙ ap (λ i. point_value rationals (height t) t.generator_columns p (table t) k ∷ rest i (height t - (k + 1))) successor_is_sum))
     ∙ h p s
   where
     rest : ℕ → ℕ → List Rational
-    rest = point_from_row field_ℚ (height t) t.generator_columns p (table t)
+    rest = point_from_row rationals (height t) t.generator_columns p (table t)
 
     rest_is_longer : height t - k ≡ suc (height t - (k + 1))
     rest_is_longer = omega arith

@@ -7,10 +7,10 @@ use Rattle.it_rational.specs.Rational.{Rational, is_at_least_zero}
 use Rattle.it_rational.specs.Rational as Q
 use Rattle.it_rational.proofs.RationalLaws.{ring_ℚ}
 use Rattle.it_rational.proofs.Names.{same_value, quotient_names, plus_names}
-use Rattle.it_rational.proofs.Field.{field_ℚ}
 use Rattle.it_space.specs.Rows.{Terms, coefficient}
+use Rattle.it_tableau.specs.Operations.{rationals}
+use Rattle.it_tableau.specs.FieldOperations.{sum_to}
 use Rattle.it_tableau.specs.Problems.{feasibility_problem}
-use Rattle.it_tableau.specs.Sums.{sum_to}
 use Rattle.it_tableau.proofs.Sums.{sum_same, sum_add, sum_null, sum_one}
 use Rattle.it_run.specs.Readings.{ring_combination, SumsUp, Separates}
 use Rattle.it_run.specs.RowValues.{rational_value}
@@ -69,7 +69,7 @@ module _ (coordinates : List ℕ) (apart : AreApart coordinates) where
   -- at an end by a point q, any map h that is q at the coordinates is at least 0 on each column and below 0 on the target
   pub point_separates : (columns : List Terms) (target : Terms) (q : List Rational) (h : ℕ → Rational) → ((j : ℕ) → j < length columns → IsOnCoordinates coordinates (get_or columns j [])) → IsOnCoordinates coordinates target
       → ((k : ℕ) → k < length coordinates → h (get_or coordinates k 0) ≡ get_or q k (Q.integer (pos 0)))
-      → Separates field_ℚ (length coordinates) (length columns) (feasibility_problem coordinates columns target) q
+      → Separates rationals (length coordinates) (length columns) (feasibility_problem coordinates columns target) q
       → ((j : ℕ) → j < length columns → is_at_least_zero (rational_value (get_or columns j []) h) ≡ true) × (is_at_least_zero (rational_value target h) ≡ false)
   point_separates columns target q h oc ot e s = (
     (λ j l. subst (λ (x : Rational). is_at_least_zero x ≡ true) (sym (value_is (get_or columns j []) h (oc j l) ∙ sum_is_value (get_or columns j []))) (s.columns j l)),
@@ -83,8 +83,8 @@ module _ (coordinates : List ℕ) (apart : AreApart coordinates) where
 
 -- at an end by weights they sum to the target at each coordinate of the list
 pub sums_up : (coordinates : List ℕ) (columns : List Terms) (target : Terms) (ws : List (ℕ × Rational))
-    → SumsUp field_ℚ (length coordinates) (length columns) (feasibility_problem coordinates columns target) ws
+    → SumsUp rationals (length coordinates) (length columns) (feasibility_problem coordinates columns target) ws
     → (c : ℕ) → ((k : ℕ) × (k < length coordinates) × (get_or coordinates k 0 ≡ c))
-    → ring_combination field_ℚ ws (λ j. Q.integer (coefficient (get_or columns j []) c)) ≡ Q.integer (coefficient target c)
+    → ring_combination rationals ws (λ j. Q.integer (coefficient (get_or columns j []) c)) ≡ Q.integer (coefficient target c)
 sums_up coordinates columns target ws a c s =
-    subst (λ (x : ℕ). ring_combination field_ℚ ws (λ j. Q.integer (coefficient (get_or columns j []) x)) ≡ Q.integer (coefficient target x)) s.2 (a.sum_is s.0 s.1)
+    subst (λ (x : ℕ). ring_combination rationals ws (λ j. Q.integer (coefficient (get_or columns j []) x)) ≡ Q.integer (coefficient target x)) s.2 (a.sum_is s.0 s.1)

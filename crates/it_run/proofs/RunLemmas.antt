@@ -1,6 +1,7 @@
 -- A run has one end, and what its steps keep holds there.
 use Rattle.std.proofs.Common.{ap, List, ◌≡◌, ◌⊎◌, inl, inr, ℕ, zero, suc, ◌+◌, ◌<◌, ◌≤◌, refl, sym, ◌∙◌, subst, arith}
 use Rattle.it_rational.specs.OrderedFields.{OrderedField}
+use Rattle.it_tableau.specs.FieldOperations.{operations_of}
 use Rattle.it_tableau.specs.SimplexTables.{SimplexTable, FeasibilityProblem, start}
 use Rattle.it_tableau.specs.Invariants.{HasInvariants}
 use Rattle.it_tableau.proofs.Kept.{pivot_keeps_invariants}
@@ -78,11 +79,11 @@ module _ {S W P : Type 0} (IsDone IsStuck Fits : S → Type 0) (next : S → S) 
 
 module _ {A : Type 0} (F : OrderedField A) (m n : ℕ) where
   -- a step of the run keeps what every table keeps
-  pub next_holds : (p : FeasibilityProblem A) (t : SimplexTable A) → HasInvariants F m n p t → ¬ (IsStuck F m n t) → HasInvariants F m n p (next F m n t)
+  pub next_holds : (p : FeasibilityProblem A) (t : SimplexTable A) → HasInvariants (operations_of F) m n p t → ¬ (IsStuck (operations_of F) m n t) → HasInvariants (operations_of F) m n p (next (operations_of F) m n t)
   next_holds p t h s =
       let e = entering_is F m n t (some_column F m n t s) in
-      let l = leaving_is F m n p t (entering_column F m n t) h e.below in
-      pivot_keeps_invariants F m n p t (leaving_row F m n t (entering_column F m n t)) (entering_column F m n t) h (may_enter F m n t (entering_column F m n t) (leaving_row F m n t (entering_column F m n t)) e l)
+      let l = leaving_is F m n p t (entering_column (operations_of F) m n t) h e.below in
+      pivot_keeps_invariants F m n p t (leaving_row (operations_of F) m n t (entering_column (operations_of F) m n t)) (entering_column (operations_of F) m n t) h (may_enter F m n t (entering_column (operations_of F) m n t) (leaving_row (operations_of F) m n t (entering_column (operations_of F) m n t)) e l)
 
 -- what is read off the last table of a run
 module _ {S W P : Type 0} (IsDone IsStuck Fits : S → Type 0) (next : S → S) (weights : S → W) (point : S → P) where
@@ -110,20 +111,20 @@ module _ {S W P : Type 0} (IsDone IsStuck Fits : S → Type 0) (next : S → S) 
 module _ {A : Type 0} (F : OrderedField A) (m n : ℕ) where
   -- weights sum to the target, and a point separates it from the columns
   abbrev pub EndIsRight : FeasibilityProblem A → RunEndView (List (ℕ × A)) (List A) → Type 0
-  EndIsRight p (Weights ws) = SumsUp F m n p ws
-  EndIsRight p (Point q) = Separates F m n p q
+  EndIsRight p (Weights ws) = SumsUp (operations_of F) m n p ws
+  EndIsRight p (Point q) = Separates (operations_of F) m n p q
   EndIsRight p (Pivots j) = Unit {0}
   EndIsRight p (Width j) = Unit {0}
 
   -- the end of a run from the start is right
   pub run_right : (Fits : SimplexTable A → Type 0) (p : FeasibilityProblem A) (budget : ℕ) (e : RunEndView (List (ℕ × A)) (List A))
-      → EndsAs (IsDone F m n) (IsStuck F m n) Fits (next F m n) (weights F m n) (point F m n p) budget zero (start F m n p) e → EndIsRight p e
+      → EndsAs (IsDone (operations_of F) m n) (IsStuck (operations_of F) m n) Fits (next (operations_of F) m n) (weights (operations_of F) m n) (point (operations_of F) m n p) budget zero (start (operations_of F) m n p) e → EndIsRight p e
   run_right Fits p budget e r = for_each e
-      (end_comes_from (IsDone F m n) (IsStuck F m n) Fits (next F m n) (weights F m n) (point F m n p) (HasInvariants F m n p)
-      (λ t h d s. next_holds F m n p t h s) budget zero (start F m n p) e (start_has_invariants F m n p) r)
+      (end_comes_from (IsDone (operations_of F) m n) (IsStuck (operations_of F) m n) Fits (next (operations_of F) m n) (weights (operations_of F) m n) (point (operations_of F) m n p) (HasInvariants (operations_of F) m n p)
+      (λ t h d s. next_holds F m n p t h s) budget zero (start (operations_of F) m n p) e (start_has_invariants F m n p) r)
     where
-      for_each : (e : RunEndView (List (ℕ × A)) (List A)) → EndComesFrom (IsDone F m n) (IsStuck F m n) Fits (next F m n) (weights F m n) (point F m n p) (HasInvariants F m n p) budget zero e → EndIsRight p e
-      for_each (Weights w) c = subst (SumsUp F m n p) (sym c.3) (weights_right F m n p c.0 c.1 c.2)
-      for_each (Point w) c = subst (Separates F m n p) (sym c.4) (point_right F m n p c.0 c.1 c.2 c.3)
+      for_each : (e : RunEndView (List (ℕ × A)) (List A)) → EndComesFrom (IsDone (operations_of F) m n) (IsStuck (operations_of F) m n) Fits (next (operations_of F) m n) (weights (operations_of F) m n) (point (operations_of F) m n p) (HasInvariants (operations_of F) m n p) budget zero e → EndIsRight p e
+      for_each (Weights w) c = subst (SumsUp (operations_of F) m n p) (sym c.3) (weights_right F m n p c.0 c.1 c.2)
+      for_each (Point w) c = subst (Separates (operations_of F) m n p) (sym c.4) (point_right F m n p c.0 c.1 c.2 c.3)
       for_each (Pivots j) c = tt
       for_each (Width j) c = tt

@@ -4,12 +4,13 @@ use Rattle.std.proofs.lemmas.Bool.{cases_eq, eq-eqb, ne_eqb}
 use Rattle.it_number.proofs.Ring.{ring, mul-null, v, times}
 use Rattle.it_rational.specs.OrderedFields.{OrderedField, IsAtLeastZero, IsAboveZero, IsBelowZero}
 use Rattle.it_rational.proofs.Ordered.{inv-above, inv-least}
-use Rattle.it_tableau.specs.SimplexTables.{SimplexTable, FeasibilityProblem, difference, ratio}
+use Rattle.it_tableau.specs.FieldOperations.{operations_of, difference}
+use Rattle.it_tableau.specs.SimplexTables.{SimplexTable, FeasibilityProblem, ratio}
 use Rattle.it_tableau.specs.Invariants.{HasInvariants}
 use Rattle.it_run.specs.Choice.{leaving_row}
 use Rattle.it_run.proofs.BlandRule.{Leaves, leaving_is}
 
-module _ {A : Type 0} (F : OrderedField A) (m n : ℕ) (p : FeasibilityProblem A) (t : SimplexTable A) (c r : ℕ) (h : HasInvariants F m n p t) where
+module _ {A : Type 0} (F : OrderedField A) (m n : ℕ) (p : FeasibilityProblem A) (t : SimplexTable A) (c r : ℕ) (h : HasInvariants (operations_of F) m n p t) where
   -- row r may leave with ratio 0, and no row with right side 0 and an entry above 0 has a lower basic column
   pub record IsFirstStill : Type 0 where
     pub row : r < m
@@ -17,20 +18,20 @@ module _ {A : Type 0} (F : OrderedField A) (m n : ℕ) (p : FeasibilityProblem A
     pub above : IsAboveZero F (t.entry r c)
     pub first : (i : ℕ) → i < m → t.entry i (n + m) ≡ F.ring.null → IsAboveZero F (t.entry i c) → t.basis r ≤ t.basis i
 
-  null_ratio : (i : ℕ) → t.entry i (n + m) ≡ F.ring.null → ratio F m n t c i ≡ F.ring.null
+  null_ratio : (i : ℕ) → t.entry i (n + m) ≡ F.ring.null → ratio (operations_of F) m n t c i ≡ F.ring.null
   null_ratio i e = ap (λ x. F.ring.mul x (F.order.inv (t.entry i c))) e ∙ F.ring.mul_comm F.ring.null (F.order.inv (t.entry i c)) ∙ mul-null F.ring (F.order.inv (t.entry i c))
 
-  pub first_still_leaves : IsBelowZero F (t.entry m c) → IsFirstStill → leaving_row F m n t c ≡ r
+  pub first_still_leaves : IsBelowZero F (t.entry m c) → IsFirstStill → leaving_row (operations_of F) m n t c ≡ r
   first_still_leaves below s = by_cases (cases_eq l r)
     where
       l : ℕ
-      l = leaving_row F m n t c
+      l = leaving_row (operations_of F) m n t c
 
       w : Leaves F m n t c l
       w = leaving_is F m n p t c h below
 
       x : A
-      x = ratio F m n t c l
+      x = ratio (operations_of F) m n t c l
 
       ratio_least : IsAtLeastZero F x
       ratio_least = F.order.mul-least (t.entry l (n + m)) (F.order.inv (t.entry l c)) (h.rights l w.row) (inv-least F (t.entry l c) w.above)

@@ -2,6 +2,7 @@
 use Rattle.std.proofs.Common.{◌≡◌, ℕ, suc, ◌+◌, ◌-◌, ◌<◌, None, refl, sym, subst, arith, min}
 use Rattle.it_rational.specs.Rational.{Rational}
 use Rattle.it_rational.proofs.Field.{field_ℚ}
+use Rattle.it_tableau.specs.Operations.{rationals}
 use Rattle.it_tableau.specs.TableauViews.{TableauView, height, table}
 use Rattle.it_tableau.specs.SimplexTables.{SimplexTable}
 use Rattle.it_run.specs.Choice.{IsDone, IsStuck}
@@ -39,18 +40,18 @@ module _ (from now : TableauView) (number : ℕ) (w : IsRunUnderWay from now num
   run_ends : (left : ℕ) (e : RunEndView (SimplexTable Rational) (SimplexTable Rational)) → ReachesFrom now left w.made e → IsWithinBudget e → EndsWithoutBudget from (clip_end e)
   run_ends left e r i = let b = w.back left e r in record { budget = b.0; end = e; runs = b.1; within = i; is_clipped = refl }
 
-  pub unbound_done : IsDone field_ℚ (height now) now.generator_columns (table now) → EndsWithoutBudget from (Weights (table now))
+  pub unbound_done : IsDone rationals (height now) now.generator_columns (table now) → EndsWithoutBudget from (Weights (table now))
   unbound_done d = run_ends 0 (Weights (table now)) (run_done (height now) now.generator_columns 0 w.made (table now) d) tt
 
-  pub unbound_stuck : (s : SimplexTable Rational) → ¬ (IsDone field_ℚ (height now) now.generator_columns (table now)) → IsStuck field_ℚ (height now) now.generator_columns (table now) → s ≡ table now → EndsWithoutBudget from (Point s)
+  pub unbound_stuck : (s : SimplexTable Rational) → ¬ (IsDone rationals (height now) now.generator_columns (table now)) → IsStuck rationals (height now) now.generator_columns (table now) → s ≡ table now → EndsWithoutBudget from (Point s)
   unbound_stuck s d u e = run_ends 0 (Point s) (run_stuck (height now) now.generator_columns 0 w.made (table now) s d u e) tt
 
-  pub unbound_wide : ¬ (IsDone field_ℚ (height now) now.generator_columns (table now)) → IsWide (height now) now.generator_columns (table now) → EndsWithoutBudget from (Width number)
+  pub unbound_wide : ¬ (IsDone rationals (height now) now.generator_columns (table now)) → IsWide (height now) now.generator_columns (table now) → EndsWithoutBudget from (Width number)
   unbound_wide d u = subst (λ (k : ℕ). EndsWithoutBudget from (Width k)) (sym w.number_is)
       (run_ends 1 (Width (suc w.made)) (run_wide (height now) now.generator_columns 1 w.made (suc w.made) (table now) (omega arith) d u refl) tt)
 
   -- a step further
-  pub step_is_made : (new : TableauView) (k : ℕ) → k ≡ clip_number (number + 1) → ¬ (IsDone field_ℚ (height now) now.generator_columns (table now)) → IsStep now new → IsRunUnderWay from new k
+  pub step_is_made : (new : TableauView) (k : ℕ) → k ≡ clip_number (number + 1) → ¬ (IsDone rationals (height now) now.generator_columns (table now)) → IsStep now new → IsRunUnderWay from new k
   step_is_made new k q d s = record {
     made = suc w.made;
     number_is = (let n : number ≡ min (suc w.made) 4294967295 = w.number_is in let x : k ≡ min (number + 1) 4294967295 = q in omega arith);

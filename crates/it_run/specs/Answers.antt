@@ -1,7 +1,7 @@
 -- What the answer of a run from a start says.
 use Rattle.std.specs.Prelude.{◌≡◌, ℕ, ◌<◌, List, Option}
 use Rattle.it_rational.specs.Rational.{Rational, integer}
-use Rattle.it_rational.proofs.Field.{field_ℚ}
+use Rattle.it_tableau.specs.Operations.{rationals}
 use Rattle.it_tableau.specs.TableauViews.{TableauView, height, row_sign, table}
 use Rattle.it_tableau.specs.SimplexTables.{FeasibilityProblem, sign, start}
 use Rattle.it_run.specs.Runs.{RunEndView}
@@ -23,11 +23,11 @@ sign_number t k = integer (row_sign t k)
 
 -- a problem whose rows were negated as the tableau's
 abbrev pub HasSigns : TableauView → FeasibilityProblem Rational → Type 0
-HasSigns t p = (k : ℕ) → k < height t → sign_number t k ≡ sign field_ℚ p k
+HasSigns t p = (k : ℕ) → k < height t → sign_number t k ≡ sign rationals p k
 
 -- the tableau is the start of the problem
 pub record IsStartOf (p : FeasibilityProblem Rational) (t : TableauView) : Type 0 where
-  pub table_is : table t ≡ start field_ℚ (height t) t.generator_columns p
+  pub table_is : table t ≡ start rationals (height t) t.generator_columns p
   pub signs : HasSigns t p
 
 -- it is the start of some problem

@@ -1,7 +1,7 @@
 -- How a run ends, by the first number of steps at which one of its ends holds.
 use Rattle.std.specs.Prelude.{◌≡◌, ◌≢◌, ◌⊎◌, ℕ, suc, ◌<◌, ◌≤◌, Option, Some, None, List}
 use Rattle.it_rational.specs.Rational.{Rational}
-use Rattle.it_rational.proofs.Field.{field_ℚ}
+use Rattle.it_tableau.specs.Operations.{rationals}
 use Rattle.it_tableau.specs.SimplexTables.{SimplexTable, FeasibilityProblem}
 use Rattle.it_run.specs.Choice.{next, IsDone, IsStuck}
 use Rattle.it_run.specs.Readings.{weights, point}
@@ -33,8 +33,8 @@ IsBudget None = Unit {0}
 
 -- how the run from table t ends
 abbrev pub RunsFirst : (m n : ℕ) → FeasibilityProblem Rational → Option ℕ → SimplexTable Rational → RunEndView (List (ℕ × Rational)) (List Rational) → Type 0
-RunsFirst m n p = EndsFirst (IsDone field_ℚ m n) (IsStuck field_ℚ m n) (StepFits m n) (next field_ℚ m n)
-    (weights field_ℚ m n) (point field_ℚ m n p)
+RunsFirst m n p = EndsFirst (IsDone rationals m n) (IsStuck rationals m n) (StepFits m n) (next rationals m n)
+    (weights rationals m n) (point rationals m n p)
 
 -- both ways to say it say the same
 abbrev pub EndsAreFirst : Type 0

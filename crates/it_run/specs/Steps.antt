@@ -1,7 +1,7 @@
 -- No public clause cites this module: a step of the run on a tableau, and the run to its last table.
 use Rattle.std.specs.Prelude.{◌≡◌, ℕ, ◌<◌, Bool, true, false, cond, ltb, ◌&&◌, Option, Some, None}
 use Rattle.it_rational.specs.Rational.{Rational, plus, minus, is_at_least_zero}
-use Rattle.it_rational.proofs.Field.{field_ℚ}
+use Rattle.it_tableau.specs.Operations.{rationals}
 use Rattle.it_tableau.specs.SimplexTables.{SimplexTable, FeasibilityProblem, ratio}
 use Rattle.it_tableau.specs.Invariants.{HasInvariants}
 use Rattle.it_tableau.specs.TableauViews.{TableauView, height, table, IsPositive, KeepsFrame}
@@ -23,38 +23,38 @@ best_after (Some b) i q basis = cond (ratio_precedes q (basis i) b.1 (basis b.0)
 
 -- it is the best of the rows below i
 abbrev pub IsBestOf : ℕ → ℕ → SimplexTable Rational → ℕ → ℕ → Option (ℕ × Rational) → Type 0
-IsBestOf m n t c i None = leaving_row_of field_ℚ m n t c i ≡ m
-IsBestOf m n t c i (Some b) = (leaving_row_of field_ℚ m n t c i ≡ b.0) × (b.0 < i) × (b.1 ≡ ratio field_ℚ m n t c b.0) × (is_candidate field_ℚ t c b.0 ≡ true)
+IsBestOf m n t c i None = leaving_row_of rationals m n t c i ≡ m
+IsBestOf m n t c i (Some b) = (leaving_row_of rationals m n t c i ≡ b.0) × (b.0 < i) × (b.1 ≡ ratio rationals m n t c b.0) × (is_candidate rationals t c b.0 ≡ true)
 
 -- the row that leaves, or none
 abbrev pub IsLeaving : ℕ → ℕ → SimplexTable Rational → ℕ → Option ℕ → Type 0
-IsLeaving m n t c None = leaving_row field_ℚ m n t c ≡ m
-IsLeaving m n t c (Some r) = (leaving_row field_ℚ m n t c ≡ r) × (r < m) × IsPositive (t.entry r c)
+IsLeaving m n t c None = leaving_row rationals m n t c ≡ m
+IsLeaving m n t c (Some r) = (leaving_row rationals m n t c ≡ r) × (r < m) × IsPositive (t.entry r c)
 
 -- where some column enters, some row leaves
 abbrev pub IsReady : ℕ → ℕ → SimplexTable Rational → Type 0
-IsReady m n t = ¬ (IsStuck field_ℚ m n t) → leaving_row field_ℚ m n t (entering_column field_ℚ m n t) < m
+IsReady m n t = ¬ (IsStuck rationals m n t) → leaving_row rationals m n t (entering_column rationals m n t) < m
 
 -- a step was made
 pub record IsStep (old new : TableauView) : Type 0 where
-  pub moves : ¬ (IsStuck field_ℚ (height old) old.generator_columns (table old))
+  pub moves : ¬ (IsStuck rationals (height old) old.generator_columns (table old))
   pub fits : StepFits (height old) old.generator_columns (table old)
   pub usable : new.spent ≡ false
   pub frame : KeepsFrame old new
-  pub table_is : table new ≡ next field_ℚ (height old) old.generator_columns (table old)
+  pub table_is : table new ≡ next rationals (height old) old.generator_columns (table old)
 
 -- no step was made since none is left to make, or one was
 abbrev pub IsStepOrStuck : TableauView → TableauView → Bool → Type 0
-IsStepOrStuck old new false = IsStuck field_ℚ (height old) old.generator_columns (table old) × (new ≡ old)
+IsStepOrStuck old new false = IsStuck rationals (height old) old.generator_columns (table old) × (new ≡ old)
 IsStepOrStuck old new true = IsStep old new
 
 -- a step is left to make, and a number of it doesn't fit
 abbrev pub IsWide : ℕ → ℕ → SimplexTable Rational → Type 0
-IsWide m n t = ¬ (IsStuck field_ℚ m n t) × ¬ (StepFits m n t)
+IsWide m n t = ¬ (IsStuck rationals m n t) × ¬ (StepFits m n t)
 
 -- the run whose end has its last table
 abbrev pub Reaches : ℕ → ℕ → ℕ → ℕ → SimplexTable Rational → RunEndView (SimplexTable Rational) (SimplexTable Rational) → Type 0
-Reaches m n = EndsAs (IsDone field_ℚ m n) (IsStuck field_ℚ m n) (StepFits m n) (next field_ℚ m n) (λ t. t) (λ t. t)
+Reaches m n = EndsAs (IsDone rationals m n) (IsStuck rationals m n) (StepFits m n) (next rationals m n) (λ t. t) (λ t. t)
 
 -- it from a tableau
 abbrev pub ReachesFrom : TableauView → ℕ → ℕ → RunEndView (SimplexTable Rational) (SimplexTable Rational) → Type 0
@@ -62,7 +62,7 @@ ReachesFrom t left k = Reaches (height t) t.generator_columns left k (table t)
 
 -- the same with a budget or without one
 abbrev pub ReachesBy : ℕ → ℕ → Option ℕ → SimplexTable Rational → RunEndView (SimplexTable Rational) (SimplexTable Rational) → Type 0
-ReachesBy m n = EndsBy (IsDone field_ℚ m n) (IsStuck field_ℚ m n) (StepFits m n) (next field_ℚ m n) (λ t. t) (λ t. t)
+ReachesBy m n = EndsBy (IsDone rationals m n) (IsStuck rationals m n) (StepFits m n) (next rationals m n) (λ t. t) (λ t. t)
 
 -- the end that the code tells, with the last table
 abbrev pub run_end_view : RunEnd → SimplexTable Rational → RunEndView (SimplexTable Rational) (SimplexTable Rational)
@@ -73,7 +73,7 @@ run_end_view (run_ends.Width k) t = Width k
 
 -- the table has the invariants, for some problem
 abbrev pub HasInvariantsForSome : TableauView → Type 0
-HasInvariantsForSome t = (p : FeasibilityProblem Rational) × HasInvariants field_ℚ (height t) t.generator_columns p (table t)
+HasInvariantsForSome t = (p : FeasibilityProblem Rational) × HasInvariants rationals (height t) t.generator_columns p (table t)
 
 -- it can be read, and has the frame of an earlier one
 pub record IsTableauKept (old new : TableauView) : Type 0 where

@@ -1,7 +1,7 @@
 //! The column that enters and the row that leaves.
 ghost use Rattle.std.specs.Prelude.{◌≡◌, ◌<◌, false, IfOk, OnErr, OnOk};
 ghost use Rattle.std.specs.Option.{IfNone, IfSome};
-ghost use Rattle.it_rational.proofs.Field.{field_ℚ};
+ghost use Rattle.it_tableau.specs.Operations.{rationals};
 ghost use Rattle.it_tableau.specs.TableauViews.{height, table};
 ghost use Rattle.it_run.specs.Choice.{entering_column as entering_of};
 ghost use Rattle.it_run.specs.Solving.{RatiosFit};
@@ -16,8 +16,8 @@ use std::cmp::Ordering;
 pub fn entering_column(tableau: &Tableau) -> Option<usize>
     requires { tableau.now.spent ≡ false }
     ensures within { IfSome result (λ c. c < tableau.now.generator_columns) }
-    ensures some { IfSome result (λ c. entering_of field_ℚ (height tableau.now) tableau.now.generator_columns (table tableau.now) ≡ c) }
-    ensures none { IfNone result (entering_of field_ℚ (height tableau.now) tableau.now.generator_columns (table tableau.now) ≡ tableau.now.generator_columns) }
+    ensures some { IfSome result (λ c. entering_of rationals (height tableau.now) tableau.now.generator_columns (table tableau.now) ≡ c) }
+    ensures none { IfNone result (entering_of rationals (height tableau.now) tableau.now.generator_columns (table tableau.now) ≡ tableau.now.generator_columns) }
 {
     for j in 0..tableau.generator_columns() {
         if tableau.cost(j).is_negative() {

@@ -1,8 +1,8 @@
 //! What is read off the last table of a run.
 ghost use Rattle.std.specs.Prelude.{◌≡◌, ◌<◌, ◌+◌, false, pos, IfOk};
 ghost use Rattle.std.specs.Option.{IfNone, IfSome};
-ghost use Rattle.it_rational.proofs.Field.{field_ℚ};
 ghost use Rattle.it_rational.specs.Rational.{Rational, times, integer};
+ghost use Rattle.it_tableau.specs.Operations.{rationals};
 ghost use Rattle.it_tableau.specs.TableauViews.{height, table};
 ghost use Rattle.it_tableau.specs.SimplexTables.{FeasibilityProblem};
 ghost use Rattle.it_run.specs.Readings.{point as point_of, weight, weights as weights_of};
@@ -17,8 +17,8 @@ use std::alloc::{AllocError, Global};
 fn weight_of(tableau: &Tableau, j: usize) -> Option<Fraction>
     requires usable { tableau.now.spent ≡ false }
     requires holds { HasInvariantsForSome tableau.now }
-    ensures some { IfSome result (λ w. w ≡ weight field_ℚ (height tableau.now) tableau.now.generator_columns (table tableau.now) j) }
-    ensures none { IfNone result (weight field_ℚ (height tableau.now) tableau.now.generator_columns (table tableau.now) j ≡ integer (pos 0)) }
+    ensures some { IfSome result (λ w. w ≡ weight rationals (height tableau.now) tableau.now.generator_columns (table tableau.now) j) }
+    ensures none { IfNone result (weight rationals (height tableau.now) tableau.now.generator_columns (table tableau.now) j ≡ integer (pos 0)) }
 {
     for i in 0..tableau.rows() {
         if tableau.basic(i) == j {
@@ -32,7 +32,7 @@ fn weight_of(tableau: &Tableau, j: usize) -> Option<Fraction>
 pub fn weights(alloc: Global, tableau: &Tableau) -> Result<Vec<(usize, Fraction)>, AllocError>
     requires usable { tableau.now.spent ≡ false }
     requires holds { HasInvariantsForSome tableau.now }
-    ensures { IfOk result (λ out. out.items ≡ weights_of field_ℚ (height tableau.now) tableau.now.generator_columns (table tableau.now)) }
+    ensures { IfOk result (λ out. out.items ≡ weights_of rationals (height tableau.now) tableau.now.generator_columns (table tableau.now)) }
 {
     let mut out = Vec::new(alloc);
     for j in 0..tableau.generator_columns() {
@@ -63,7 +63,7 @@ fn value_at(tableau: &Tableau, k: usize) -> Fraction
 /// The point, by rows.
 pub fn point(alloc: Global, tableau: &Tableau) -> Result<Vec<Fraction>, AllocError>
     requires usable { tableau.now.spent ≡ false }
-    ensures { IfOk result (λ out. (p : FeasibilityProblem Rational) → HasSigns tableau.now p → out.items ≡ point_of field_ℚ (height tableau.now) tableau.now.generator_columns p (table tableau.now)) }
+    ensures { IfOk result (λ out. (p : FeasibilityProblem Rational) → HasSigns tableau.now p → out.items ≡ point_of rationals (height tableau.now) tableau.now.generator_columns p (table tableau.now)) }
 {
     let mut out = Vec::with_capacity(alloc, tableau.rows())?;
     for k in 0..tableau.rows() {

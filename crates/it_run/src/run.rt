@@ -1,7 +1,7 @@
 //! The run.
 ghost use Rattle.std.specs.Prelude.{◌≡◌, ◌+◌, ◌<◌, false, IfErr, IfOk, None};
 ghost use Rattle.std.specs.Bool.{OnFalse, OnTrue};
-ghost use Rattle.it_rational.proofs.Field.{field_ℚ};
+ghost use Rattle.it_tableau.specs.Operations.{rationals};
 ghost use Rattle.it_tableau.specs.TableauViews.{height, table};
 ghost use Rattle.it_run.specs.Choice.{IsDone};
 ghost use Rattle.it_run.specs.Runs.{clip_number};
@@ -44,8 +44,8 @@ fn step(tableau: &mut Tableau) -> Result<bool, RowFault>
 /// Whether the target is reached: the cost row's right side is 0.
 fn is_done(tableau: &Tableau) -> bool
     requires { tableau.now.spent ≡ false }
-    ensures yes { OnTrue result (IsDone field_ℚ (height tableau.now) tableau.now.generator_columns (table tableau.now)) }
-    ensures no { OnFalse result (¬ (IsDone field_ℚ (height tableau.now) tableau.now.generator_columns (table tableau.now))) }
+    ensures yes { OnTrue result (IsDone rationals (height tableau.now) tableau.now.generator_columns (table tableau.now)) }
+    ensures no { OnFalse result (¬ (IsDone rationals (height tableau.now) tableau.now.generator_columns (table tableau.now))) }
 {
     tableau.cost_rhs().is_zero()
 }

@@ -4,6 +4,7 @@ use Rattle.std.specs.Option.{IfNone}
 use Rattle.it_rational.specs.Rational.{Rational, integer, minus, is_at_least_zero}
 use Rattle.it_rational.proofs.Field.{field_ℚ}
 use Rattle.it_space.specs.Rows.{Terms, coefficient}
+use Rattle.it_tableau.specs.Operations.{rationals}
 use Rattle.it_tableau.specs.Fits.{StartFits}
 use Rattle.it_tableau.specs.Problems.{feasibility_problem, start_of}
 use Rattle.it_tableau.specs.TableauViews.{TableauView, height, table, IsStart}
@@ -44,7 +45,7 @@ module _ (cs : List ℕ) (columns : List Terms) (target : Terms) (t : TableauVie
   -- the tableau is the start of the question's problem
   pub start_is_of_problem : IsStartOf (feasibility_problem cs columns target) t
   start_is_of_problem = record {
-    table_is = s.table_is ∙ ap₂ (λ m n. start field_ℚ m n (feasibility_problem cs columns target)) (sym s.height_is) (sym s.generator_columns_are);
+    table_is = s.table_is ∙ ap₂ (λ m n. start rationals m n (feasibility_problem cs columns target)) (sym s.height_is) (sym s.generator_columns_are);
     signs = start_signs;
   }
 
@@ -80,7 +81,7 @@ pub ends_within_budget : (cs : List ℕ) (columns : List Terms) (target : Terms)
 ends_within_budget cs columns target e (inl a) = subst IsWithinBudget (sym a.1) tt
 ends_within_budget cs columns target e (inr a) =
     let m = length cs in let n = length columns in
-    within_budget (IsDone field_ℚ m n) (IsStuck field_ℚ m n) (StepFits m n) (next field_ℚ m n) (weights field_ℚ m n) (point field_ℚ m n (feasibility_problem cs columns target))
+    within_budget (IsDone rationals m n) (IsStuck rationals m n) (StepFits m n) (next rationals m n) (weights rationals m n) (point rationals m n (feasibility_problem cs columns target))
     (start_of cs columns target) e a.1
 
 -- the run has one end, and so has the answer
@@ -91,5 +92,5 @@ ends_once cs columns target budget d e (inl a) (inr b) = absurd (a.0 b.0)
 ends_once cs columns target budget d e (inr a) (inl b) = absurd (b.0 a.0)
 ends_once cs columns target budget d e (inr a) (inr b) =
     let m = length cs in let n = length columns in
-    one_end_by (IsDone field_ℚ m n) (IsStuck field_ℚ m n) (StepFits m n) (next field_ℚ m n) (weights field_ℚ m n) (point field_ℚ m n (feasibility_problem cs columns target))
+    one_end_by (IsDone rationals m n) (IsStuck rationals m n) (StepFits m n) (next rationals m n) (weights rationals m n) (point rationals m n (feasibility_problem cs columns target))
     budget (start_of cs columns target) d e a.1 b.1

@@ -1,8 +1,8 @@
 -- What an answer to a question of sparse rows says.
 use Rattle.std.specs.Prelude.{◌≡◌, ◌⊎◌, ℕ, zero, List, length, Option}
 use Rattle.it_rational.specs.Rational.{Rational}
-use Rattle.it_rational.proofs.Field.{field_ℚ}
 use Rattle.it_space.specs.Rows.{Terms}
+use Rattle.it_tableau.specs.Operations.{rationals}
 use Rattle.it_tableau.specs.Fits.{StartFits}
 use Rattle.it_tableau.specs.Problems.{feasibility_problem, start_of}
 use Rattle.it_run.specs.Readings.{SumsUp, Separates}
@@ -23,8 +23,8 @@ Solves coordinates columns target budget e =
 
 -- weights sum to the target, and a point separates it from the columns
 abbrev pub IsRightSolved : List ℕ → List Terms → Terms → Solved → Type 0
-IsRightSolved coordinates columns target (Weights ws) = SumsUp field_ℚ (length coordinates) (length columns) (feasibility_problem coordinates columns target) ws.items
-IsRightSolved coordinates columns target (Point q) = Separates field_ℚ (length coordinates) (length columns) (feasibility_problem coordinates columns target) q.items
+IsRightSolved coordinates columns target (Weights ws) = SumsUp rationals (length coordinates) (length columns) (feasibility_problem coordinates columns target) ws.items
+IsRightSolved coordinates columns target (Point q) = Separates rationals (length coordinates) (length columns) (feasibility_problem coordinates columns target) q.items
 IsRightSolved coordinates columns target (Pivots k) = Unit {0}
 IsRightSolved coordinates columns target (answers.Width k) = Unit {0}
 

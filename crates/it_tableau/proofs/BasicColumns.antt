@@ -3,14 +3,14 @@ use Rattle.std.proofs.Common.{◌≡◌, ℕ, zero, suc, ◌<◌, Bool, true, fa
 use Rattle.std.proofs.lemmas.Bool.{eq-eqb, ne_eqb, cases_eq}
 use Rattle.it_number.proofs.Ring.{ring, v, plus, times, minus, nil, one}
 use Rattle.it_rational.specs.OrderedFields.{OrderedField}
-use Rattle.it_tableau.specs.Sums.{sum_to}
-use Rattle.it_tableau.specs.SimplexTables.{SimplexTable, FeasibilityProblem, difference, pivot}
+use Rattle.it_tableau.specs.FieldOperations.{operations_of, sum_to, difference}
+use Rattle.it_tableau.specs.SimplexTables.{SimplexTable, FeasibilityProblem, pivot}
 use Rattle.it_tableau.specs.Invariants.{HasInvariants}
 use Rattle.it_tableau.proofs.Sums.{sum_same, sum_changed}
 
 module _ {A : Type 0} (F : OrderedField A) (m n : ℕ) where
   -- no two rows have one basic column
-  pub basic_columns_differ : (p : FeasibilityProblem A) (t : SimplexTable A) → HasInvariants F m n p t → (i k : ℕ) → i < m → k < m → t.basis i ≡ t.basis k → i ≡ k
+  pub basic_columns_differ : (p : FeasibilityProblem A) (t : SimplexTable A) → HasInvariants (operations_of F) m n p t → (i k : ℕ) → i < m → k < m → t.basis i ≡ t.basis k → i ≡ k
   basic_columns_differ p t h i k hi hk e = by_cases (cases_eq i k)
     where
       by_cases : (i ≡ k) ⊎ (i ≡ k → ⊥) → i ≡ k
@@ -21,7 +21,7 @@ module _ {A : Type 0} (F : OrderedField A) (m n : ℕ) where
   -- a sum of the rows through a pivot
   pub pivot_sum : (t : SimplexTable A) (r c : ℕ) (f S : ℕ → A) → r < m → F.ring.mul (t.entry r c) (F.order.inv (t.entry r c)) ≡ F.ring.unit
       → ((j : ℕ) → S j ≡ sum_to F.ring m (λ i. F.ring.mul (f i) (t.entry i j)))
-      → (j : ℕ) → S j ≡ sum_to F.ring m (λ i. F.ring.mul (cond (eqb i r) (S c) (f i)) ((pivot F t r c).entry i j))
+      → (j : ℕ) → S j ≡ sum_to F.ring m (λ i. F.ring.mul (cond (eqb i r) (S c) (f i)) ((pivot (operations_of F) t r c).entry i j))
   pivot_sum t r c f S h inverse s j =
       let u : A = F.order.inv (t.entry r c) in
       let X : ℕ → A = λ i. F.ring.mul (f i) (difference F.ring (t.entry i j) (F.ring.mul (t.entry r j) (F.ring.mul (t.entry i c) u))) in
@@ -32,7 +32,7 @@ module _ {A : Type 0} (F : OrderedField A) (m n : ℕ) where
       ring F.ring (f r ∷ t.entry r j ∷ t.entry r c ∷ u ∷ []) (times (v 0) (plus (v 1) (minus (times (v 1) (times (v 2) (v 3)))))) (plus (times (v 0) (v 1)) (minus (times (times (v 0) (v 1)) (times (v 2) (v 3))))) refl
       ∙ ap (λ y. F.ring.add (F.ring.mul (f r) (t.entry r j)) (F.ring.neg (F.ring.mul (F.ring.mul (f r) (t.entry r j)) y))) inverse
       ∙ ring F.ring (f r ∷ t.entry r j ∷ []) (plus (times (v 0) (v 1)) (minus (times (times (v 0) (v 1)) one))) nil refl in
-      sym (sum_same F.ring m (λ i. F.ring.mul (cond (eqb i r) (S c) (f i)) ((pivot F t r c).entry i j)) (λ i. cond (eqb i r) x (X i)) (λ i l. by_test (eqb i r) i)
+      sym (sum_same F.ring m (λ i. F.ring.mul (cond (eqb i r) (S c) (f i)) ((pivot (operations_of F) t r c).entry i j)) (λ i. cond (eqb i r) x (X i)) (λ i l. by_test (eqb i r) i)
       ∙ sum_changed F.ring m X r x h
       ∙ ap₂ (λ a b. F.ring.add a (F.ring.add x (F.ring.neg b))) whole none
       ∙ ring F.ring (S j ∷ x ∷ []) (plus (plus (v 0) (minus (v 1))) (plus (v 1) (minus nil))) (v 0) refl)

@@ -3,8 +3,8 @@
 use Rattle.std.proofs.Common.{◌≡◌, ℕ, ℤ, pos, negsuc, List, [], ◌∷◌, refl}
 use Rattle.it_number.specs.Gcd.{gcd, gcd_within}
 use Rattle.it_rational.specs.Rational.{Rational, quotient}
-use Rattle.it_rational.proofs.Field.{field_ℚ}
 use Rattle.it_space.specs.Rows.{Terms}
+use Rattle.it_tableau.specs.Operations.{rationals}
 use Rattle.it_tableau.specs.SimplexTables.{SimplexTable, pivot}
 use Rattle.it_tableau.specs.Problems.{start_of}
 
@@ -23,10 +23,10 @@ abbrev pub first_table : SimplexTable Rational
 first_table = start_of coordinates elementals target
 
 abbrev second_table : SimplexTable Rational
-second_table = pivot field_ℚ first_table 1 2
+second_table = pivot rationals first_table 1 2
 
 abbrev third_table : SimplexTable Rational
-third_table = pivot field_ℚ second_table 0 0
+third_table = pivot rationals second_table 0 0
 
 -- the numerators of a row at the three columns and the right side
 abbrev tops : SimplexTable Rational → ℕ → List ℤ

@@ -13,6 +13,7 @@ use Rattle.it_fraction.specs.Fits.{IsNarrow}
 use Rattle.it_fraction.proofs.ZeroLemmas.{product-zero, top_of_zero}
 use Rattle.it_space.specs.Rows.{Terms, coefficient, Ascends}
 use Rattle.it_space.proofs.CanonicalRows.{here_is, none_below, other_is}
+use Rattle.it_tableau.specs.Operations.{rationals}
 use Rattle.it_tableau.specs.Gathering.{row_terms_at, start_number, AreAppended, AreGathered, IsEntryPut, IsListTaken}
 use Rattle.it_tableau.specs.Merging.{IsAppended}
 use Rattle.it_tableau.specs.Problems.{feasibility_problem, IsAscending}
@@ -120,7 +121,7 @@ module _ (cs : List ℕ) (columns : List Terms) (target : Terms) where
   -- a column without a term at a coordinate has the entry 0 in its row
   pub no_entry : (j k : ℕ) → j < length columns → coefficient (slice_index_or columns j []) (slice_index_or cs k 0) ≡ pos 0 → start_number cs columns target k j ≡ integer (pos 0)
   no_entry j k h e = row_column field_ℚ (length cs) (length columns) (feasibility_problem cs columns target) k j h
-      ∙ product-zero (sign field_ℚ (feasibility_problem cs columns target) k) (integer (coefficient (slice_index_or columns j []) (slice_index_or cs k 0))) (top_of_zero (integer (coefficient (slice_index_or columns j []) (slice_index_or cs k 0))) (ap integer e))
+      ∙ product-zero (sign rationals (feasibility_problem cs columns target) k) (integer (coefficient (slice_index_or columns j []) (slice_index_or cs k 0))) (top_of_zero (integer (coefficient (slice_index_or columns j []) (slice_index_or cs k 0))) (ap integer e))
 
   pub column_is_gathered : (j : ℕ) (old new : List RowTerms) → AreAppended cs (λ k. start_number cs columns target k j) j old new → AreGathered cs columns target j old → AreGathered cs columns target (j + 1) new
   column_is_gathered j old new a g = record { count = a.count ∙ g.count; rows = λ k l. lists k (terms_are_built k l) }

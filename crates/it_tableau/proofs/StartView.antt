@@ -7,10 +7,10 @@ use Rattle.it_number.proofs.Ring.{ring, minus, nil}
 use Rattle.it_rational.specs.Rational.{Rational}
 use Rattle.it_rational.specs.Rational as Q
 use Rattle.it_rational.proofs.RationalLaws.{ring_ℚ}
-use Rattle.it_rational.proofs.Field.{field_ℚ}
 use Rattle.it_space.specs.Rows.{Terms}
 use Rattle.it_fraction.specs.Fits.{SumFits}
-use Rattle.it_tableau.specs.Sums.{sum_to}
+use Rattle.it_tableau.specs.Operations.{rationals}
+use Rattle.it_tableau.specs.FieldOperations.{sum_to}
 use Rattle.it_tableau.specs.Fits.{StartFits}
 use Rattle.it_tableau.specs.Problems.{feasibility_problem, start_of}
 use Rattle.it_tableau.specs.Entries.{entry_at, row_at}
@@ -32,14 +32,14 @@ module _ (cs : List ℕ) (columns : List Terms) (target : Terms) where
 
   -- entry j of row k of the start
   abbrev entry : ℕ → ℕ → Rational
-  entry k j = start_row field_ℚ (length cs) (length columns) (feasibility_problem cs columns target) k j
+  entry k j = start_row rationals (length cs) (length columns) (feasibility_problem cs columns target) k j
 
   -- past the right side a row of the start has nothing
   entry_past : (k j : ℕ) → k < length cs → length columns + length cs + 1 ≤ j → entry k j ≡ Q.integer (pos 0)
   entry_past k j h l =
       let p : FeasibilityProblem Rational = feasibility_problem cs columns target in
-      ap (λ b. cond b (Q.times (sign field_ℚ p k) (p.column j k)) (cond (eqb j (n + m)) (Q.times (sign field_ℚ p k) (p.target k)) (cond (eqb j (n + k)) (Q.integer (pos 1)) (Q.integer (pos 0))))) (le-ltb j n (omega arith))
-      ∙ ap₂ (λ b d. cond b (Q.times (sign field_ℚ p k) (p.target k)) (cond d (Q.integer (pos 1)) (Q.integer (pos 0)))) (ne_eqb j (n + m) (λ e. omega arith)) (ne_eqb j (n + k) (λ e. omega arith))
+      ap (λ b. cond b (Q.times (sign rationals p k) (p.column j k)) (cond (eqb j (n + m)) (Q.times (sign rationals p k) (p.target k)) (cond (eqb j (n + k)) (Q.integer (pos 1)) (Q.integer (pos 0))))) (le-ltb j n (omega arith))
+      ∙ ap₂ (λ b d. cond b (Q.times (sign rationals p k) (p.target k)) (cond d (Q.integer (pos 1)) (Q.integer (pos 0)))) (ne_eqb j (n + m) (λ e. omega arith)) (ne_eqb j (n + k) (λ e. omega arith))
 
   module _ (rows : List (List Rational)) (a : AreStartRows cs columns target (length cs) rows) where
     sum_is : (k j : ℕ) → k ≤ length cs → j < length columns + length cs + 1 → column_sum rows j k ≡ sum_to ring_ℚ k (λ i. entry i j)

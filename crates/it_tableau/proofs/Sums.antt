@@ -5,7 +5,7 @@ use Rattle.it_number.proofs.Ring.{ring, mul-null, v, plus, times, minus, nil}
 use Rattle.it_number.specs.Rings.{Ring}
 use Rattle.it_rational.proofs.Ordered.{null-least, not_both}
 use Rattle.it_rational.specs.OrderedFields.{OrderedField, IsAtLeastZero, IsBelowZero}
-use Rattle.it_tableau.specs.Sums.{sum_to}
+use Rattle.it_tableau.specs.FieldOperations.{sum_to}
 use native.Mathlib.Nat.{eq-or-lt_of_le, le_of_suc-le-suc}
 
 pub eqb_comm : (a b : ℕ) → eqb a b ≡ eqb b a

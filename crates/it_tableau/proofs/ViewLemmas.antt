@@ -6,7 +6,7 @@ use Rattle.it_number.proofs.Ring.{ring, v, plus, times, minus, nil}
 use Rattle.it_rational.specs.Rational.{Rational}
 use Rattle.it_rational.specs.Rational as Q
 use Rattle.it_rational.proofs.RationalLaws.{ring_ℚ}
-use Rattle.it_rational.proofs.Field.{field_ℚ}
+use Rattle.it_tableau.specs.Operations.{rationals}
 use Rattle.it_tableau.specs.SimplexTables.{SimplexTable, pivot}
 use Rattle.it_tableau.specs.Entries.{entry_at, row_at, zero_rational}
 use Rattle.it_tableau.specs.Rows.{RowsPivotFits, ArePivoted}
@@ -39,7 +39,7 @@ new_shape m n old new basis r c hr s p = record {
     by_cases i l (inr d) = (p.others i (omega (arith, s.rows_are)) d).same_length ∙ s.entries_are i l
 
 pub pivot_is_shown : (m n : ℕ) (old new : List (List Rational)) (basis : List ℕ) (r c : ℕ) → r < m → c < n + m → HasShape m n old basis → ArePivoted old r c new
-    → table_of new (slice_set basis r c) ≡ pivot field_ℚ (table_of old basis) r c
+    → table_of new (slice_set basis r c) ≡ pivot rationals (table_of old basis) r c
 pivot_is_shown m n old new basis r c hr hc s p = ap₂ (λ (e : ℕ → ℕ → Rational) (b : ℕ → ℕ). let t : SimplexTable Rational = record { entry = e; basis = b } in t)
     (same_functions (λ i. same_functions (λ j. entry i j (cases_lt i (m + 1)) (cases_lt j (n + m + 1)) (cases_eq i r))))
     (same_functions (λ i. column i (cases_eq i r)))
@@ -50,11 +50,11 @@ pivot_is_shown m n old new basis r c hr hc s p = ap₂ (λ (e : ℕ → ℕ → 
     new_length : (i : ℕ) → i < m + 1 → length (row_at new i) ≡ n + m + 1
     new_length = (new_shape m n old new basis r c hr s p).entries_are
 
-    own_row_entry : (i j : ℕ) → i ≡ r → (pivot field_ℚ (table_of old basis) r c).entry i j ≡ Q.times (entry_at (row_at old r) j) (Q.inverse (entry_at (row_at old r) c))
+    own_row_entry : (i j : ℕ) → i ≡ r → (pivot rationals (table_of old basis) r c).entry i j ≡ Q.times (entry_at (row_at old r) j) (Q.inverse (entry_at (row_at old r) c))
     own_row_entry i j e = ap (λ b. cond b (Q.times (entry_at (row_at old r) j) (Q.inverse (entry_at (row_at old r) c)))
         (Q.plus (entry_at (row_at old i) j) (Q.minus (Q.times (entry_at (row_at old r) j) (Q.times (entry_at (row_at old i) c) (Q.inverse (entry_at (row_at old r) c))))))) (eq-eqb i r e)
 
-    other_row_entry : (i j : ℕ) → (i ≡ r → ⊥) → (pivot field_ℚ (table_of old basis) r c).entry i j
+    other_row_entry : (i j : ℕ) → (i ≡ r → ⊥) → (pivot rationals (table_of old basis) r c).entry i j
         ≡ Q.plus (entry_at (row_at old i) j) (Q.minus (Q.times (entry_at (row_at old r) j) (Q.times (entry_at (row_at old i) c) (Q.inverse (entry_at (row_at old r) c)))))
     other_row_entry i j d = ap (λ b. cond b (Q.times (entry_at (row_at old r) j) (Q.inverse (entry_at (row_at old r) c)))
         (Q.plus (entry_at (row_at old i) j) (Q.minus (Q.times (entry_at (row_at old r) j) (Q.times (entry_at (row_at old i) c) (Q.inverse (entry_at (row_at old r) c))))))) (ne_eqb i r d)
@@ -68,7 +68,7 @@ pivot_is_shown m n old new basis r c hr hc s p = ap₂ (λ (e : ℕ → ℕ → 
     zero_quotient : (a x y u : Rational) → a ≡ Q.integer (pos 0) → y ≡ Q.integer (pos 0) → Q.plus a (Q.minus (Q.times x (Q.times y u))) ≡ Q.integer (pos 0)
     zero_quotient a x y u e f = ap₂ (λ b z. Q.plus b (Q.minus (Q.times x (Q.times z u)))) e f ∙ ring ring_ℚ (x ∷ u ∷ []) (plus nil (minus (times (v 0) (times nil (v 1))))) nil refl
 
-    entry : (i j : ℕ) → (i < m + 1) ⊎ (m + 1 ≤ i) → (j < n + m + 1) ⊎ (n + m + 1 ≤ j) → (i ≡ r) ⊎ (i ≡ r → ⊥) → entry_at (row_at new i) j ≡ (pivot field_ℚ (table_of old basis) r c).entry i j
+    entry : (i j : ℕ) → (i < m + 1) ⊎ (m + 1 ≤ i) → (j < n + m + 1) ⊎ (n + m + 1 ≤ j) → (i ≡ r) ⊎ (i ≡ r → ⊥) → entry_at (row_at new i) j ≡ (pivot rationals (table_of old basis) r c).entry i j
     entry i j (inl l) (inl k) (inl e) = ap (λ x. entry_at (row_at new x) j) e ∙ p.own.entries j (omega (arith, s.entries_are r (omega arith))) ∙ sym (own_row_entry i j e)
     entry i j (inl l) (inl k) (inr d) = (p.others i (omega (arith, s.rows_are)) d).entries j (omega (arith, s.entries_are i l)) ∙ sym (other_row_entry i j d)
     entry i j (inl l) (inr k) (inl e) = entry_past_end (row_at new i) j (omega (arith, new_length i l))

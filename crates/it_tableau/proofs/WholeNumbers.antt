@@ -8,8 +8,8 @@ use Rattle.it_rational.proofs.Names.{own_parts}
 use Rattle.it_rational.proofs.RationalLaws.{ring_ℚ}
 use Rattle.it_fraction.specs.Fits.{IsNarrow, SumFits}
 use Rattle.it_fraction.proofs.ZeroLemmas.{zero_narrow, zero_parts, minus-narrow, whole-narrow, whole-product, whole-sum, whole-sum-fits}
+use Rattle.it_tableau.specs.FieldOperations.{sum_to}
 use Rattle.it_tableau.specs.Rows.{IsWholeNumber}
-use Rattle.it_tableau.specs.Sums.{sum_to}
 use native.Mathlib.Nat.{one-dvd}
 
 whole_parts : (z : ℤ) → ((integer z).num ≡ z) × ((integer z).den ≡ 1)

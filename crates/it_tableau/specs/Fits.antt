@@ -1,16 +1,15 @@
 -- The numbers that the start and a pivot form, named: an operation is wide where one of them passes the largest number of the
 -- product. No order of the operations is named.
-use Rattle.std.specs.Prelude.{◌≢◌, ℕ, ◌+◌, ◌<◌, ◌≤◌}
-use Rattle.it_rational.specs.Rational.{Rational, times, inverse}
-use Rattle.it_rational.proofs.RationalLaws.{ring_ℚ}
-use Rattle.it_rational.proofs.Field.{field_ℚ}
+use Rattle.std.specs.Prelude.{◌≢◌, ℕ, ◌+◌, ◌<◌, ◌≤◌, pos}
+use Rattle.it_rational.specs.Rational.{Rational, integer, plus, times, inverse}
 use Rattle.it_fraction.specs.Fits.{IsNarrow, DifferenceFits}
-use Rattle.it_tableau.specs.Sums.{sum_to}
+use Rattle.it_tableau.specs.Operations.{rationals}
+use Rattle.it_tableau.specs.Sums.{sum_by}
 use Rattle.it_tableau.specs.SimplexTables.{SimplexTable, FeasibilityProblem, start_row}
 
 -- each partial sum of the cost row, in the order of the rows
 abbrev pub StartFits : ℕ → ℕ → FeasibilityProblem Rational → Type 0
-StartFits m n p = (k j : ℕ) → k ≤ m → j < n + m + 1 → IsNarrow (sum_to ring_ℚ k (λ i. start_row field_ℚ m n p i j))
+StartFits m n p = (k j : ℕ) → k ≤ m → j < n + m + 1 → IsNarrow (sum_by (integer (pos 0)) plus k (λ i. start_row rationals m n p i j))
 
 -- x divided by y is within the limit
 abbrev pub QuotientFits : Rational → Rational → Type 0

@@ -1,8 +1,8 @@
 -- No public clause cites this module: the terms of the start's rows, column after column.
 use Rattle.std.specs.Prelude.{◌≡◌, ◌≢◌, ℕ, ◌<◌, List, [], length, slice_index_or}
 use Rattle.it_rational.specs.Rational.{Rational}
-use Rattle.it_rational.proofs.Field.{field_ℚ}
 use Rattle.it_space.specs.Rows.{Terms}
+use Rattle.it_tableau.specs.Operations.{rationals}
 use Rattle.it_tableau.specs.Merging.{IsAppended}
 use Rattle.it_tableau.specs.Problems.{feasibility_problem}
 use Rattle.it_tableau.specs.SparseRows.{RowTerms, ListsEntries}
@@ -14,7 +14,7 @@ row_terms_at lists k = slice_index_or lists k []
 
 -- the entry of the start in row k and column j
 abbrev pub start_number : List ℕ → List Terms → Terms → ℕ → ℕ → Rational
-start_number coordinates columns target k j = start_row field_ℚ (length coordinates) (length columns) (feasibility_problem coordinates columns target) k j
+start_number coordinates columns target k j = start_row rationals (length coordinates) (length columns) (feasibility_problem coordinates columns target) k j
 
 -- no list but the k-th is changed
 pub record IsListTaken (old : List RowTerms) (k : ℕ) (new : List RowTerms) : Type 0 where

@@ -1,29 +1,29 @@
 -- What every table of the first phase keeps, and which pivots keep it.
-use Rattle.std.specs.Prelude.{◌≡◌, ◌⊎◌, ℕ, ◌+◌, ◌<◌, ◌≤◌, cond, eqb, ltb}
-use Rattle.it_rational.specs.OrderedFields.{OrderedField, IsAtLeastZero, IsAboveZero}
-use Rattle.it_tableau.specs.Sums.{sum_to}
-use Rattle.it_tableau.specs.SimplexTables.{SimplexTable, FeasibilityProblem, difference, start_row, ratio}
+use Rattle.std.specs.Prelude.{◌≡◌, ◌⊎◌, ℕ, ◌+◌, ◌<◌, ◌≤◌, true, false, cond, eqb, ltb}
+use Rattle.it_tableau.specs.Operations.{Operations}
+use Rattle.it_tableau.specs.Sums.{sum_by}
+use Rattle.it_tableau.specs.SimplexTables.{SimplexTable, FeasibilityProblem, start_row, ratio}
 
-module _ {A : Type 0} (F : OrderedField A) (m n : ℕ) where
+module _ {A : Type 0} (K : Operations A) (m n : ℕ) where
   -- the cost of a basic column: 0, and -1 where it is an artificial
   abbrev pub cost_of : ℕ → A
-  cost_of j = cond (ltb j n) F.ring.null (F.ring.neg F.ring.unit)
+  cost_of j = cond (ltb j n) K.null (K.neg K.unit)
 
   -- each row, the cost row too, is the sum of its entries at the artificials times the start rows
   abbrev pub CombinesStart : FeasibilityProblem A → SimplexTable A → Type 0
-  CombinesStart p t = (i j : ℕ) → i ≤ m → t.entry i j ≡ sum_to F.ring m (λ k. F.ring.mul (t.entry i (n + k)) (start_row F m n p k j))
+  CombinesStart p t = (i j : ℕ) → i ≤ m → t.entry i j ≡ sum_by K.null K.add m (λ k. K.mul (t.entry i (n + k)) (start_row K m n p k j))
 
   -- what every table of a run from the start of p keeps
   pub record HasInvariants (p : FeasibilityProblem A) (t : SimplexTable A) : Type 0 where
     pub combines : CombinesStart p t
     -- each start row is the sum of its entries at the basic columns times the rows
-    pub spans : (k j : ℕ) → k < m → start_row F m n p k j ≡ sum_to F.ring m (λ i. F.ring.mul (start_row F m n p k (t.basis i)) (t.entry i j))
+    pub spans : (k j : ℕ) → k < m → start_row K m n p k j ≡ sum_by K.null K.add m (λ i. K.mul (start_row K m n p k (t.basis i)) (t.entry i j))
     -- right sides are at least 0
-    pub rights : (i : ℕ) → i < m → IsAtLeastZero F (t.entry i (n + m))
+    pub rights : (i : ℕ) → i < m → K.is_least (t.entry i (n + m)) ≡ true
     -- the cost row is the negated sum of the rows whose basic column is an artificial
-    pub costs : (j : ℕ) → t.entry m j ≡ sum_to F.ring m (λ i. F.ring.mul (cost_of (t.basis i)) (t.entry i j))
+    pub costs : (j : ℕ) → t.entry m j ≡ sum_by K.null K.add m (λ i. K.mul (cost_of (t.basis i)) (t.entry i j))
     -- a basic column is a unit column
-    pub units : (i k : ℕ) → i < m → k < m → t.entry i (t.basis k) ≡ cond (eqb i k) F.ring.unit F.ring.null
+    pub units : (i k : ℕ) → i < m → k < m → t.entry i (t.basis k) ≡ cond (eqb i k) K.unit K.null
     -- a basic artificial is the row's own: one that has left doesn't come back
     pub own : (k : ℕ) → k < m → (t.basis k < n) ⊎ (t.basis k ≡ n + k)
 
@@ -31,5 +31,5 @@ module _ {A : Type 0} (F : OrderedField A) (m n : ℕ) where
   pub record MayEnter (t : SimplexTable A) (r c : ℕ) : Type 0 where
     pub column : c < n
     pub row : r < m
-    pub above : IsAboveZero F (t.entry r c)
-    pub least : (i : ℕ) → i < m → IsAboveZero F (t.entry i c) → IsAtLeastZero F (difference F.ring (ratio F m n t c i) (ratio F m n t c r))
+    pub above : K.is_least (K.neg (t.entry r c)) ≡ false
+    pub least : (i : ℕ) → i < m → K.is_least (K.neg (t.entry i c)) ≡ false → K.is_least (K.add (ratio K m n t c i) (K.neg (ratio K m n t c r))) ≡ true

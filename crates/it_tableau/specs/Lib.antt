@@ -1,6 +1,8 @@
 pub mod Summing
 pub mod Gathering
+pub mod Operations
 pub mod Sums
+pub mod FieldOperations
 pub mod SimplexTables
 pub mod Invariants
 pub mod Problems

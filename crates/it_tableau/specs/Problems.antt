@@ -1,8 +1,8 @@
 -- The problem of sparse rows: the coordinates are the table's rows, each row of the list is a column.
 use Rattle.std.specs.Prelude.{ℕ, ◌<◌, List, [], length, slice_index_or}
 use Rattle.it_rational.specs.Rational.{Rational, integer}
-use Rattle.it_rational.proofs.Field.{field_ℚ}
 use Rattle.it_space.specs.Rows.{Terms, coefficient}
+use Rattle.it_tableau.specs.Operations.{rationals}
 use Rattle.it_tableau.specs.SimplexTables.{FeasibilityProblem, SimplexTable, start}
 
 -- each coordinate is below all later ones
@@ -18,4 +18,4 @@ feasibility_problem coordinates columns target = record {
 
 -- the start of its first phase
 abbrev pub start_of : List ℕ → List Terms → Terms → SimplexTable Rational
-start_of coordinates columns target = start field_ℚ (length coordinates) (length columns) (feasibility_problem coordinates columns target)
+start_of coordinates columns target = start rationals (length coordinates) (length columns) (feasibility_problem coordinates columns target)

@@ -3,7 +3,7 @@ use Rattle.std.specs.Prelude.{◌≡◌, ◌≢◌, ℕ, zero, suc, ◌<◌, Lis
 use Rattle.it_rational.specs.Rational.{Rational, plus, minus, times, inverse}
 use Rattle.it_rational.proofs.RationalLaws.{ring_ℚ}
 use Rattle.it_fraction.specs.Fits.{IsNarrow, SumFits}
-use Rattle.it_tableau.specs.Sums.{sum_to}
+use Rattle.it_tableau.specs.FieldOperations.{sum_to}
 use Rattle.it_tableau.specs.Entries.{entry_at, row_at}
 use Rattle.it_tableau.specs.SparseRows.{RowTerms, entry_in}
 use Rattle.it_tableau.specs.Fits.{QuotientFits, EntryFits}

@@ -2,7 +2,7 @@
 use Rattle.std.specs.Prelude.{◌≡◌, ℕ, ◌+◌, ◌<◌, List, [], ◌∷◌, ◌++◌, length}
 use Rattle.it_rational.specs.Rational.{Rational, minus}
 use Rattle.it_space.specs.Rows.{Terms}
-use Rattle.it_rational.proofs.Field.{field_ℚ}
+use Rattle.it_tableau.specs.Operations.{rationals}
 use Rattle.it_tableau.specs.SimplexTables.{start_row}
 use Rattle.it_tableau.specs.Entries.{row_at}
 use Rattle.it_tableau.specs.Rows.{column_sum, IsWholeNumber, ListsValues}
@@ -12,9 +12,9 @@ use Rattle.it_tableau.specs.Problems.{feasibility_problem}
 pub record AreStartRows (coordinates : List ℕ) (columns : List Terms) (target : Terms) (k : ℕ) (rows : List (List Rational)) : Type 0 where
   pub rows_are : length rows ≡ k
   pub entries_are : (i : ℕ) → i < k
-      → ListsValues (start_row field_ℚ (length coordinates) (length columns) (feasibility_problem coordinates columns target) i) (length columns + length coordinates + 1) (row_at rows i)
+      → ListsValues (start_row rationals (length coordinates) (length columns) (feasibility_problem coordinates columns target) i) (length columns + length coordinates + 1) (row_at rows i)
   pub wholes : (i j : ℕ) → i < k → j < length columns + length coordinates + 1
-      → IsWholeNumber (start_row field_ℚ (length coordinates) (length columns) (feasibility_problem coordinates columns target) i j)
+      → IsWholeNumber (start_row rationals (length coordinates) (length columns) (feasibility_problem coordinates columns target) i j)
 
 -- the rows of the start, and below them their cost row
 pub record AreAllRows (coordinates : List ℕ) (columns : List Terms) (target : Terms) (all : List (List Rational)) : Type 0 where

@@ -1,9 +1,8 @@
--- Finite sums over a ring, in the order of their terms.
+-- Finite sums, in the order of their terms.
 use Rattle.std.specs.Prelude.{ℕ, zero, suc}
-use Rattle.it_number.specs.Rings.{Ring}
 
-module _ {A : Type 0} (R : Ring A) where
+module _ {A : Type 0} (null : A) (add : A → A → A) where
   -- f 0 + .. + f (n - 1)
-  abbrev pub sum_to : ℕ → (ℕ → A) → A
-  sum_to zero f = R.null
-  sum_to (suc n) f = R.add (f n) (sum_to n f)
+  abbrev pub sum_by : ℕ → (ℕ → A) → A
+  sum_by zero f = null
+  sum_by (suc n) f = add (f n) (sum_by n f)

@@ -1,8 +1,8 @@
 //! The rows of the start.
 ghost use Rattle.std.specs.Prelude.{◌≡◌, ◌+◌, ◌<◌, length, pos, slice_index_or, cond, not, IfOk, IfErr, OnOk, ℕ, ◌^◌, ◌++◌, ◌∷◌, [], false};
 ghost use Rattle.it_rational.specs.Rational.{is_at_least_zero, minus, times, integer};
-ghost use Rattle.it_rational.proofs.Field.{field_ℚ};
 ghost use Rattle.it_space.specs.Rows.{coefficient};
+ghost use Rattle.it_tableau.specs.Operations.{rationals};
 ghost use Rattle.it_tableau.specs.Fits.{StartFits};
 ghost use Rattle.it_tableau.specs.Problems.{feasibility_problem};
 ghost use Rattle.it_tableau.specs.Rows.{IsWholeNumber, ListsValues};
@@ -55,7 +55,7 @@ pub fn start_entry(
     j: usize,
 ) -> Fraction
     requires row { k < length coordinates.now }
-    ensures value { result ≡ entry_of_start field_ℚ (length coordinates.now) (length columns.now) (feasibility_problem coordinates.now columns.now target.now) k j }
+    ensures value { result ≡ entry_of_start rationals (length coordinates.now) (length columns.now) (feasibility_problem coordinates.now columns.now target.now) k j }
     ensures whole_number { IsWholeNumber result }
 {
     let kept = keeps_sign(target, coordinates[k]);
@@ -79,8 +79,8 @@ fn start_row(
     k: usize,
 ) -> Result<SparseRow, AllocError>
     requires row { k < length coordinates.now }
-    ensures shows { IfOk result (λ row. ListsValues (entry_of_start field_ℚ (length coordinates.now) (length columns.now) (feasibility_problem coordinates.now columns.now target.now) k) (length columns.now + length coordinates.now + 1) row) }
-    ensures whole_numbers { OnOk result ((j : ℕ) → j < length columns.now + length coordinates.now + 1 → IsWholeNumber (entry_of_start field_ℚ (length coordinates.now) (length columns.now) (feasibility_problem coordinates.now columns.now target.now) k j)) }
+    ensures shows { IfOk result (λ row. ListsValues (entry_of_start rationals (length coordinates.now) (length columns.now) (feasibility_problem coordinates.now columns.now target.now) k) (length columns.now + length coordinates.now + 1) row) }
+    ensures whole_numbers { OnOk result ((j : ℕ) → j < length columns.now + length coordinates.now + 1 → IsWholeNumber (entry_of_start rationals (length coordinates.now) (length columns.now) (feasibility_problem coordinates.now columns.now target.now) k j)) }
 {
     let width = columns.len() + coordinates.len();
     let mut terms = Vec::new(alloc);

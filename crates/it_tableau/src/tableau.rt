@@ -1,7 +1,7 @@
 //! The tableau.
 ghost use Rattle.std.specs.Prelude.{◌≡◌, ◌+◌, ◌<◌, false, true, length, IfErr, IfOk, OkIff, OnErr, OnOk};
-ghost use Rattle.it_rational.proofs.Field.{field_ℚ};
 ghost use Rattle.it_fraction.specs.Fits.{IsNarrow};
+ghost use Rattle.it_tableau.specs.Operations.{rationals};
 ghost use Rattle.it_tableau.specs.Fits.{PivotFits, StartFits};
 ghost use Rattle.it_tableau.specs.Problems.{feasibility_problem};
 ghost use Rattle.it_tableau.specs.SparseRows.{ListsEntries};
@@ -175,7 +175,7 @@ impl Tableau {
         requires row { row < height self.now }
         requires column { column < width self.now }
         requires positive { IsPositive ((table self.now).entry row column) }
-        ensures { OkIff result (IsNarrow (ratio field_ℚ (height self.now) self.now.generator_columns (table self.now) column row)) (ratio field_ℚ (height self.now) self.now.generator_columns (table self.now) column row) }
+        ensures { OkIff result (IsNarrow (ratio rationals (height self.now) self.now.generator_columns (table self.now) column row)) (ratio rationals (height self.now) self.now.generator_columns (table self.now) column row) }
     {
         self.rhs(row).div(self.entry(row, column))
     }
@@ -187,7 +187,7 @@ impl Tableau {
         requires column { column < width self.old }
         requires positive { IsPositive ((table self.old).entry row column) }
         ensures ok { OnOk result (PivotFits (height self.old) self.old.generator_columns (table self.old) row column) }
-        ensures value { OnOk result (table self.new ≡ pivot field_ℚ (table self.old) row column) }
+        ensures value { OnOk result (table self.new ≡ pivot rationals (table self.old) row column) }
         ensures usable { OnOk result (self.new.spent ≡ false) }
         ensures frame { KeepsFrame self.old self.new }
         ensures wide { IfErr result (λ fault. fault ≡ RowFault.Wide → ¬ (PivotFits (height self.old) self.old.generator_columns (table self.old) row column)) }

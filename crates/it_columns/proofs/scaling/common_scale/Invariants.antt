@@ -1,4 +1,3 @@
-use Rattle.std.proofs.Common.{}
 use Rattle.it_columns.proofs.ScaleSteps.{IsScale}
 use Rattle.it_columns.proofs.scaling.common_scale.Given as goal
 

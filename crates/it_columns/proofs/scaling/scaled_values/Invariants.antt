@@ -1,4 +1,3 @@
-use Rattle.std.proofs.Common.{}
 use Rattle.it_columns.proofs.ScaleSteps.{AreScaled}
 use Rattle.it_columns.proofs.scaling.scaled_values.Given as goal
 

@@ -1,8 +1,8 @@
 use Rattle.std.proofs.Common.{◌≡◌, ◌<◌, ℕ, ◌+◌, true, not, ap, sym, ◌∙◌, subst, arith}
 use Rattle.std.proofs.lemmas.Bool.{true≢false}
-use Rattle.it_rational.proofs.Field.{field_ℚ}
 use Rattle.it_rational.specs.Rational.{minus, is_at_least_zero}
 use Rattle.it_fraction.specs.Fits.{IsNarrow}
+use Rattle.it_tableau.specs.Operations.{rationals}
 use Rattle.it_tableau.specs.TableauViews.{height, table}
 use Rattle.it_tableau.specs.SimplexTables.{ratio}
 use Rattle.it_tableau.proofs.RowsLemmas.{fits_more}
@@ -14,11 +14,11 @@ use Rattle.it_run.proofs.choice.leaving_row.Goals.{Joined-is_positive, then-is_p
 
 -- the entry of row i is above 0
 abbrev Candidate : Joined-is_positive → ℕ → Type 0
-Candidate c i = is_candidate field_ℚ (table c.args.tableau.now) c.args.column i ≡ true
+Candidate c i = is_candidate rationals (table c.args.tableau.now) c.args.column i ≡ true
 
 -- its ratio fits
 abbrev Fit : Joined-is_positive → ℕ → Type 0
-Fit c i = IsNarrow (ratio field_ℚ (height c.args.tableau.now) c.args.tableau.now.generator_columns (table c.args.tableau.now) c.args.column i)
+Fit c i = IsNarrow (ratio rationals (height c.args.tableau.now) c.args.tableau.now.generator_columns (table c.args.tableau.now) c.args.column i)
 
 pub loop-i-preserved : goal.loop-i-preserved
 loop-i-preserved c =

@@ -1,8 +1,8 @@
 use Rattle.std.proofs.Common.{◌≡◌, ◌<◌, ◌+◌, pos, false, List, length, sym, subst, ap, ◌∙◌, arith}
 use Rattle.std.proofs.lemmas.List.{with_items_is}
 use Rattle.std.specs.Vec.{with_items}
-use Rattle.it_rational.proofs.Field.{field_ℚ}
 use Rattle.it_rational.specs.Rational.{Rational}
+use Rattle.it_tableau.specs.Operations.{rationals}
 use Rattle.it_tableau.specs.Fits.{PivotFits}
 use Rattle.it_tableau.specs.Entries.{entry_at, row_at}
 use Rattle.it_tableau.specs.Rows.{ArePivoted, RowsPivotFits}
@@ -63,7 +63,7 @@ returns-in-Ok-clause-value c = let d = (goal.at.returns-in-Ok-clause-value c).Af
     let columns : c.args.column < c.self.inside.generator_columns + m = (let w = ap (λ (s : TableauView). s.generator_columns + length s.basis) c.self.view_is in omega (arith, w, c.requires.column)) in
     pivot_is_shown m c.self.inside.generator_columns c.self.inside.rows.items (with_items c.self.inside.rows c.pivot_rows.new.rows).items c.self.inside.basis.items
     c.args.row c.args.column (row_within d) columns (rows_are_sound d).shape (rows_are_pivoted e c.in-Ok.ensures.value)
-    ∙ ap (λ (s : TableauView). pivot field_ℚ (table s) c.args.row c.args.column) c.self.view_is
+    ∙ ap (λ (s : TableauView). pivot rationals (table s) c.args.row c.args.column) c.self.view_is
 
 pub returns-in-Ok-clause-ok : goal.returns-in-Ok-clause-ok
 returns-in-Ok-clause-ok c = let d = (goal.at.returns-in-Ok-clause-ok c).After-as_mut_slice in
