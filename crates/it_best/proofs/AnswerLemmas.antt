@@ -42,11 +42,11 @@ whole_row : (hs : List Rational) (row : Terms) → integer (value row (map_of (s
 whole_row hs row = value_scaled (scale_of hs) (map_of (scaled_point hs)) (rational_map hs) row (row_scaled hs row)
   where
     row_scaled : (hs : List Rational) (row : Terms) → Every (λ (t : ℕ × ℤ). integer (map_of (scaled_point hs) t.0) ≡ times (integer (pos (scale_of hs))) (rational_map hs t.0)) row
-    row_scaled hs row = every_all (λ (t : ℕ × ℤ). integer (map_of (scaled_point hs) t.0) ≡ times (integer (pos (scale_of hs))) (rational_map hs t.0)) row (λ t. whole_value (scale_of hs) hs (denominators_divide 1 hs) t.0)
+    row_scaled hs row = every_all (λ (t : ℕ × ℤ). integer (map_of (scaled_point hs) t.0) ≡ times (integer (pos (scale_of hs))) (rational_map hs t.0)) row (λ t. whole_value (scale_of hs) hs (denominators_divide hs) t.0)
 
 met_by_slack : (hs : List Rational) (k : Kind) (row : Terms) (s : Rational) → rational_value row (rational_map hs) ≡ minus s → IsSlack k s → Meets k (value row (map_of (scaled_point hs)))
-met_by_slack hs Inequality row s e i = least_scaled (scale_of hs) (map_of (scaled_point hs)) (rational_map hs) (scale_pos 1 hs (omega arith)) row
-    (every_all (λ (t : ℕ × ℤ). integer (map_of (scaled_point hs) t.0) ≡ times (integer (pos (scale_of hs))) (rational_map hs t.0)) row (λ t. whole_value (scale_of hs) hs (denominators_divide 1 hs) t.0))
+met_by_slack hs Inequality row s e i = least_scaled (scale_of hs) (map_of (scaled_point hs)) (rational_map hs) (scale_pos hs) row
+    (every_all (λ (t : ℕ × ℤ). integer (map_of (scaled_point hs) t.0) ≡ times (integer (pos (scale_of hs))) (rational_map hs t.0)) row (λ t. whole_value (scale_of hs) hs (denominators_divide hs) t.0))
     (ap is_at_least_zero e ∙ i)
 met_by_slack hs Equation row s e i = whole_same (value row (map_of (scaled_point hs))) (pos 0)
     (whole_row hs row ∙ ap (times (integer (pos (scale_of hs)))) (e ∙ ap minus i) ∙ ring ring_ℚ (integer (pos (scale_of hs)) ∷ []) (S.times (v 0) (S.minus nil)) nil refl)
@@ -81,7 +81,7 @@ module _ (q : ProblemView) (left right : Terms) (k : IsProblem q) (l : IsUpTo (s
   left_is = whole_same (value left p) (pos big) (whole_row hs left ∙ ap (times (integer (pos big))) (phases.left_value_is q left right k l r ws s) ∙ ring ring_ℚ (integer (pos big) ∷ []) (S.times (v 0) S.one) (v 0) refl)
 
   pub left_some : pos 1 ≤ℤ value left p
-  left_some = subst (λ (z : ℤ). pos 1 ≤ℤ z) (sym left_is) (some big (scale_pos 1 hs (omega arith)))
+  left_some = subst (λ (z : ℤ). pos 1 ≤ℤ z) (sym left_is) (some big (scale_pos hs))
     where
       some : (m : ℕ) → 0 < m → pos 1 ≤ℤ pos m
       some m h = omega (arith, ints)

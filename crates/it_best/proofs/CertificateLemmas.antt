@@ -26,7 +26,7 @@ use Rattle.it_check.proofs.NoMeaning.{met_listed}
 use Rattle.it_columns.specs.Scaling.{scale_of, scaled_number, scaled_point}
 use Rattle.it_columns.proofs.Scales.{scale_pos}
 use Rattle.it_columns.proofs.Wholes.{whole_parts}
-use Rattle.it_best.specs.Factors.{HoldsFactor, IsFactor, factor_form, ground_of}
+use Rattle.it_best.specs.Factors.{HoldsFactor, IsFactor, ground_of}
 use Rattle.it_best.specs.Numbers.{multiples, weights_certificate}
 use Rattle.it_best.specs.Phases.{counterweight}
 use Rattle.it_best.proofs.NumberLemmas.{number_sum, AreNumbers}
@@ -92,7 +92,7 @@ weighted_is gs (w ∷ ws) c = ap₂ (λ x y. w.1 *ℤ x +ℤ y) (value-one_at (g
 pub certifies_form : (size : ℕ) (gs : List Generator) (form : Form) (k : ℕ) (xs : List Rational) → length xs ≡ length gs → AreNumbers xs gs
     → ((c : ℕ) → 1 ≤ c → c ≤ size → number_sum c (multiples (pos k) xs) gs ≡ integer (form (one_at c))) → IsCertificate (size + 1) (forms_of gs) form (weights_certificate (pos k) xs)
 certifies_form size gs form k xs e a s = record {
-  scale_from_one = scale_some (scale_of (multiples (pos k) xs)) (scale_pos 1 (multiples (pos k) xs) (omega arith));
+  scale_from_one = scale_some (scale_of (multiples (pos k) xs)) (scale_pos (multiples (pos k) xs));
   allowed = all_of (IsAllowed (forms_of gs)) (terms_from 0 (scaled_point (multiples (pos k) xs)))
       (terms_allowed (scale_of (multiples (pos k) xs)) 0 gs gs (multiples (pos k) xs) length_is (omega arith) (λ j l. ap (generator_at gs) (zero_plus j)) (multiples_signed k xs gs a));
   adds_up = λ c h l. certificate_sum c gs (multiples (pos k) xs) (form (one_at c)) length_is (s c (omega arith) (omega arith)) ∙ sym (weighted_is gs (terms_from 0 (scaled_point (multiples (pos k) xs))) c);
@@ -114,7 +114,7 @@ pub factor_certified : (q : ProblemView) (left right : Terms) (x : Rational) (xs
 factor_certified q left right x xs e a s = record {
   from_one = some x.den x.positive;
   lowest = x.lowest;
-  certified = certifies_form (size_of q.space) (generators q) (factor_form (value left) (value right) x.num (pos x.den)) x.den xs e (turned_signed xs (generators q) a)
+  certified = certifies_form (size_of q.space) (generators q) (λ p. x.num *ℤ value left p -ℤ (pos x.den) *ℤ value right p) x.den xs e (turned_signed xs (generators q) a)
       (λ c h l. factor_sum c x xs (generators q) (coefficient left c) (coefficient right c) (s c h l)
       ∙ ap₂ (λ y z. integer (x.num *ℤ y -ℤ pos x.den *ℤ z)) (sym (value-one_at left c)) (sym (value-one_at right c)));
 }
@@ -146,7 +146,7 @@ form_is_least q form w k linear c p h m =
     (λ i l e. is_zero (generator_at gs i).kind (value (generator_at gs i).row p) (met i none l) e)
 
 -- the forms that certificates of factors are of are linear
-pub linear-factor : (size : ℕ) (left right : Terms) (num den : ℤ) → IsUpTo size left → IsUpTo size right → IsLinear (size + 1) (factor_form (value left) (value right) num den)
+pub linear-factor : (size : ℕ) (left right : Terms) (num den : ℤ) → IsUpTo size left → IsUpTo size right → IsLinear (size + 1) (λ p. num *ℤ value left p -ℤ den *ℤ value right p)
 linear-factor size left right num den l r =
     linear-sub (size + 1) (λ p. num *ℤ value left p) (λ p. den *ℤ value right p) (linear-scale (size + 1) num (value left) (value_linear size left l)) (linear-scale (size + 1) den (value right) (value_linear size right r))
 
@@ -160,4 +160,4 @@ linear-neg size left l =
 -- so a certified factor holds
 pub factor_holds : (q : ProblemView) (left right : Terms) (num den : ℤ) (w : CertificateView) → IsProblem q → IsUpTo (size_of q.space) left → IsUpTo (size_of q.space) right
     → IsFactor (ground_of q) (value left) (value right) num den w → HoldsFactor (ground_of q) (value left) (value right) num den
-factor_holds q left right num den w k l r f p h = form_is_least q (factor_form (value left) (value right) num den) w k (linear-factor (size_of q.space) left right num den l r) f.certified p h.0 h.1
+factor_holds q left right num den w k l r f p h = form_is_least q (λ p. num *ℤ value left p -ℤ den *ℤ value right p) w k (linear-factor (size_of q.space) left right num den l r) f.certified p h.0 h.1

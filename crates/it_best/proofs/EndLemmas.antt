@@ -1,5 +1,5 @@
 -- What the phases end with is right, is one, and without a budget is never for want of steps; and the third phase never ends by a point.
-use Rattle.std.proofs.Common.{◌≡◌, inl, inr, ℕ, ◌+◌, ℤ, pos, neg_ℤ, ◌≤ℤ◌, List, [], ◌∷◌, length, Option, None, refl, sym, ap, subst, ◌∙◌, arith}
+use Rattle.std.proofs.Common.{◌≡◌, ◌≢◌, inl, inr, ℕ, ◌+◌, ℤ, pos, neg_ℤ, ◌≤ℤ◌, List, [], ◌∷◌, length, Option, None, refl, sym, ap, subst, ◌∙◌, arith, slice_index_or, map}
 use Rattle.std.specs.List.{AllByRecursion as Every}
 use Rattle.std.proofs.lemmas.Int.{ints}
 use Rattle.it_number.proofs.Ring.{ring, v}
@@ -15,7 +15,7 @@ use Rattle.it_polymatroid.specs.Certificates.{IsCertificate}
 use Rattle.it_polymatroid.specs.Elementals.{span}
 use Rattle.it_polymatroid.specs.Polymatroid.{IsPolymatroid}
 use Rattle.it_tableau.specs.Problems.{feasibility_problem}
-use Rattle.it_run.specs.Runs.{RunEndView, IsWithinBudget}
+use Rattle.it_run.specs.Runs.{RunEndView}
 use Rattle.it_run.specs.Runs.RunEndView.{Weights, Point, Pivots, Width}
 use Rattle.it_run.specs.Solving.{StepFits}
 use Rattle.it_run.proofs.BudgetLemmas.{right_by}
@@ -24,14 +24,14 @@ use Rattle.it_simplex.proofs.AnswerLemmas.{ends_within_budget, ends_once}
 use Rattle.it_elemental.specs.Generators.{Generator, generators, generators_of}
 use Rattle.it_elemental.proofs.GeneratorLemmas.{rows_of_space}
 use Rattle.it_check.proofs.NoMeaning.{listed_met}
-use Rattle.it_columns.specs.Columns.{columns}
+use Rattle.it_columns.specs.Columns.{columns, numbers_from}
 use Rattle.it_columns.specs.Scaling.{scaled_point}
 use Rattle.it_best.specs.declared.types.BestCause.TheVariants as causes
 use Rattle.it_best.specs.declared.types.BestCause.TheVariants.{Scale, Size}
-use Rattle.it_best.specs.Numbers.{numbers, numbers_from, weights_certificate, column_weight, factor_of}
+use Rattle.it_best.specs.Numbers.{numbers, weights_certificate, column_weight}
 use Rattle.it_best.specs.Phases.{third_phase, third_target, right_equation}
 use Rattle.it_best.specs.BestViews.{BestView, Undecided, Never, Least, Unbounded}
-use Rattle.it_best.specs.Ends.{PhaseEnds, EndsWith, FirstFollows, SecondFollows, ThirdFollows, OrScale, LeastFits, UnboundedFits, NeverFits, least_view, unbounded_view, never_values, first, third}
+use Rattle.it_best.specs.Ends.{PhaseEnds, EndsWith, FirstFollows, SecondFollows, ThirdFollows, OrScale, LeastFits, UnboundedFits, NeverFits, least_view, unbounded_view, first, third}
 use Rattle.it_best.specs.Factors.{IsRightBest, ground_of}
 use Rattle.it_best.specs.Theorems.{BestIsRight, OneBest, BestNeverOutOfSteps}
 use Rattle.it_best.proofs.NumberLemmas.{numbers_sum_up, numbers_signed, length-numbers_from}
@@ -95,7 +95,7 @@ module _ (q : ProblemView) (left right : Terms) (k : IsProblem q) (l : IsUpTo (s
       let t_up : IsUpTo (right_equation size gs) (third_target size gs right) = third_target_up size gs right r in
       no_third_point q left right k l r (map_of (scaled_point ps)) refl
       (unknowns_met (right_equation size gs) (third q left right) (third_target size gs right) ps up t_up c) (target_below (right_equation size gs) (third q left right) (third_target size gs right) ps up t_up c)
-      (factor_of (numbers (first q left right) ws)).num (pos (factor_of (numbers (first q left right) ws)).den) one.from_one (factor_holds q left right _ _ _ k l r one)
+      (slice_index_or (numbers (first q left right) ws) 0 (integer (pos 0))).num (pos (slice_index_or (numbers (first q left right) ws) 0 (integer (pos 0))).den) one.from_one (factor_holds q left right _ _ _ k l r one)
       (map_of (scaled_point qs)) refl two.0.0 two.0.1 two.1
 
   -- ---- the answers are right
@@ -119,14 +119,14 @@ module _ (q : ProblemView) (left right : Terms) (k : IsProblem q) (l : IsUpTo (s
 
   second_is_right : (budget : Option ℕ) (ws : List (ℕ × Rational)) (e : End) (o : BestView) → IsRightEnd size (first q left right) right (Weights ws) → IsRightEnd size gs (negated_terms left) e → SecondFollows q left right budget ws e o → Right o
   second_is_right budget ws (Weights below) o a s f = or_scale_right (UnboundedFits q left right ws below) (unbounded_view q left right ws below) o
-      (record { factor = phases.first_right q left right ws a; at_most_zero = second_certifies below s }) f
+      (phases.first_right q left right ws a, second_certifies below s) f
   second_is_right budget ws (Point qs) o a s f = third_is_right f.0 o (right_end (right_equation size gs) (third q left right) (third_target size gs right) budget f.0 f.1) f.2
   second_is_right budget ws (Pivots j) o a s f = subst Right (sym f) tt
   second_is_right budget ws (Width j) o a s f = subst Right (sym f) tt
 
   first_is_right : (budget : Option ℕ) (e : End) (o : BestView) → IsRightEnd size (first q left right) right e → FirstFollows q left right budget e o → Right o
   first_is_right budget (Weights ws) o s f = second_is_right budget ws f.0 o s (right_end size gs (negated_terms left) budget f.0 f.1) f.2
-  first_is_right budget (Point qs) o s f = or_scale_right (NeverFits q left right qs) (Never (never_values q left right qs)) o (never_right q left right qs k l r s) f
+  first_is_right budget (Point qs) o s f = or_scale_right (NeverFits q left right qs) (Never (map neg_ℤ (scaled_point qs))) o (never_right q left right qs k l r s) f
   first_is_right budget (Pivots j) o s f = subst Right (sym f) tt
   first_is_right budget (Width j) o s f = subst Right (sym f) tt
 
@@ -165,7 +165,7 @@ module _ (q : ProblemView) (left right : Terms) where
   first_once : (budget : Option ℕ) (e : End) (o p : BestView) → FirstFollows q left right budget e o → FirstFollows q left right budget e p → o ≡ p
   first_once budget (Weights ws) o p a b = second_once budget ws b.0 o p
       (subst (λ (e : End). SecondFollows q left right budget ws e o) (phase_once (size_of q.space) (generators q) (negated_terms left) budget a.0 b.0 a.1 b.1) a.2) b.2
-  first_once budget (Point qs) o p a b = or_scale_once (NeverFits q left right qs) (Never (never_values q left right qs)) o p a b
+  first_once budget (Point qs) o p a b = or_scale_once (NeverFits q left right qs) (Never (map neg_ℤ (scaled_point qs))) o p a b
   first_once budget (Pivots j) o p a b = a ∙ sym b
   first_once budget (Width j) o p a b = a ∙ sym b
 
@@ -188,29 +188,29 @@ IsNotForSteps (Undecided Scale) = Unit {0}
 IsNotForSteps (Undecided Size) = Unit {0}
 
 module _ (q : ProblemView) (left right : Terms) where
-  phase_within : (m : ℕ) (us : List Generator) (target : Terms) (e : End) → PhaseEnds m us target None e → IsWithinBudget e
+  phase_within : (m : ℕ) (us : List Generator) (target : Terms) (e : End) → PhaseEnds m us target None e → (k : ℕ) → e ≢ Pivots k
   phase_within m us target e a = ends_within_budget (span 1 m) (columns us) target e a
 
   or_scale_steps : (Fits : Type 0) (answer o : BestView) → IsNotForSteps answer → OrScale q left right Fits answer o → IsNotForSteps o
   or_scale_steps Fits answer o h (inl a) = subst IsNotForSteps (sym a.1) h
   or_scale_steps Fits answer o h (inr a) = subst IsNotForSteps (sym a.1) tt
 
-  third_steps : (e : End) (o : BestView) → IsWithinBudget e → ThirdFollows q left right e o → IsNotForSteps o
+  third_steps : (e : End) (o : BestView) → ((k : ℕ) → e ≢ Pivots k) → ThirdFollows q left right e o → IsNotForSteps o
   third_steps (Weights ws) o w f = or_scale_steps (LeastFits q left right ws) (least_view q left right ws) o tt f
   third_steps (Point ps) o w f = absurd f
-  third_steps (Pivots j) o w f = absurd w
+  third_steps (Pivots j) o w f = absurd (w j refl)
   third_steps (Width j) o w f = subst IsNotForSteps (sym f) tt
 
-  second_steps : (ws : List (ℕ × Rational)) (e : End) (o : BestView) → IsWithinBudget e → SecondFollows q left right None ws e o → IsNotForSteps o
+  second_steps : (ws : List (ℕ × Rational)) (e : End) (o : BestView) → ((k : ℕ) → e ≢ Pivots k) → SecondFollows q left right None ws e o → IsNotForSteps o
   second_steps ws (Weights below) o w f = or_scale_steps (UnboundedFits q left right ws below) (unbounded_view q left right ws below) o tt f
   second_steps ws (Point qs) o w f = third_steps f.0 o (phase_within (right_equation (size_of q.space) (generators q)) (third q left right) (third_target (size_of q.space) (generators q) right) f.0 f.1) f.2
-  second_steps ws (Pivots j) o w f = absurd w
+  second_steps ws (Pivots j) o w f = absurd (w j refl)
   second_steps ws (Width j) o w f = subst IsNotForSteps (sym f) tt
 
-  first_steps : (e : End) (o : BestView) → IsWithinBudget e → FirstFollows q left right None e o → IsNotForSteps o
+  first_steps : (e : End) (o : BestView) → ((k : ℕ) → e ≢ Pivots k) → FirstFollows q left right None e o → IsNotForSteps o
   first_steps (Weights ws) o w f = second_steps ws f.0 o (phase_within (size_of q.space) (generators q) (negated_terms left) f.0 f.1) f.2
-  first_steps (Point qs) o w f = or_scale_steps (NeverFits q left right qs) (Never (never_values q left right qs)) o tt f
-  first_steps (Pivots j) o w f = absurd w
+  first_steps (Point qs) o w f = or_scale_steps (NeverFits q left right qs) (Never (map neg_ℤ (scaled_point qs))) o tt f
+  first_steps (Pivots j) o w f = absurd (w j refl)
   first_steps (Width j) o w f = subst IsNotForSteps (sym f) tt
 
   not_for_steps : (o : BestView) → EndsWith q left right None o → IsNotForSteps o

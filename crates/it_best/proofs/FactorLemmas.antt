@@ -98,7 +98,7 @@ pub certificate_sum : (c : ℕ) (gs : List Generator) (xs : List Rational) (t : 
     → pos (scale_of xs) *ℤ t ≡ value (terms_from 0 (scaled_point xs)) (column gs c)
 certificate_sum c gs xs t e s = whole_same (pos (scale_of xs) *ℤ t) (value (terms_from 0 (scaled_point xs)) (column gs c))
     (whole_times (pos (scale_of xs)) t ∙ ap (times (integer (pos (scale_of xs)))) (sym s)
-    ∙ sym (weighted_terms c (scale_of xs) 0 gs gs xs e (λ k h. ap (generator_at gs) (zero_plus k)) (denominators_divide 1 xs)))
+    ∙ sym (weighted_terms c (scale_of xs) 0 gs gs xs e (λ k h. ap (generator_at gs) (zero_plus k)) (denominators_divide xs)))
   where
     zero_plus : (k : ℕ) → 0 + k ≡ k
     zero_plus k = omega arith

@@ -1,5 +1,5 @@
 -- From the ends of the phases' runs to the answer, step by step as the code goes.
-use Rattle.std.proofs.Common.{◌≡◌, ℕ, suc, ◌+◌, ◌^◌, ◌<◌, ◌≤◌, ℤ, pos, ◌*ℤ◌, ◌≤ℤ◌, List, [], ◌∷◌, ◌++◌, length, map, Option, Result, Ok, Err, inr, refl, sym, ap, ap₂, subst, subst₂, ◌∙◌, arith}
+use Rattle.std.proofs.Common.{◌≡◌, ℕ, suc, ◌+◌, ◌^◌, ◌<◌, ◌≤◌, ℤ, pos, ◌*ℤ◌, ◌≤ℤ◌, List, [], ◌∷◌, ◌++◌, length, map, Option, Result, Ok, Err, inr, refl, sym, ap, ap₂, subst, subst₂, ◌∙◌, arith, take, drop, slice_index_or}
 use Rattle.std.specs.Result.{IfOk}
 use Rattle.std.proofs.Common.{◌↔◌, Bool, true, false}
 use Rattle.std.specs.Bool.{IsTrue}
@@ -7,7 +7,7 @@ use Rattle.it_space.specs.Rows.{ValueFits}
 use Rattle.it_check.specs.Meaning.{PointFits}
 use Rattle.std.proofs.lemmas.List.{length-map, length-append}
 use Rattle.it_number.specs.Limit.{IsWithin}
-use Rattle.it_rational.specs.Rational.{Rational}
+use Rattle.it_rational.specs.Rational.{Rational, integer}
 use Rattle.it_space.specs.declared.problems.Kind.{Kind}
 use Rattle.it_space.specs.declared.problems.Kind.TheVariants.{Inequality, Equation}
 use Rattle.it_space.specs.Problems.{ProblemView, IsProblem}
@@ -29,7 +29,7 @@ use Rattle.it_best.specs.BestViews.{BestView, best_view}
 use Rattle.it_best.specs.Ends.{EndsWith, FirstFollows, IsLarge, LeastPointFits, PhaseEnds, SidesFit, first, third}
 use Rattle.it_best.specs.PhaseSteps.{PhaseSums}
 use Rattle.it_best.specs.Factors.{IsRightBest, IsFactor, IsPoint, ground_of}
-use Rattle.it_best.specs.Numbers.{column_weight, factor_of, numbers, values_of, weights_certificate, weights_of}
+use Rattle.it_best.specs.Numbers.{column_weight, numbers, weights_certificate}
 use Rattle.it_best.specs.Phases.{counterweight, coordinate_unknown, first_phase, right_equation, slack_by, slacks, third_phase, third_target, unknown_view, unknown_views}
 use Rattle.it_best.proofs.AnswerLemmas.{third_meets, left_some}
 use Rattle.it_best.proofs.EndLemmas.{best_is_right}
@@ -108,17 +108,17 @@ module _ (q : ProblemView) (left right : Terms) (k : IsProblem q) (l : IsUpTo (s
   pub third_long : (xs : List Rational) → xs ≡ ns → length (generators q) + size_of q.space < length xs
   third_long xs e = omega (arith, ap length e, numbers_length (third q left right) ws, third_length q.space.variables (size_of q.space) (generators q) left right)
 
-  pub third_factor_is : (x : Rational) (xs : List Rational) → x ≡ factor_of ns → xs ≡ weights_of (length (generators q)) ns → IsFactor (ground_of q) (value left) (value right) x.num (pos x.den) (weights_certificate (pos x.den) xs)
+  pub third_factor_is : (x : Rational) (xs : List Rational) → x ≡ slice_index_or ns 0 (integer (pos 0)) → xs ≡ take (length (generators q)) (drop 1 ns) → IsFactor (ground_of q) (value left) (value right) x.num (pos x.den) (weights_certificate (pos x.den) xs)
   third_factor_is x xs e f = subst₂ (λ (x : Rational) (xs : List Rational). IsFactor (ground_of q) (value left) (value right) x.num (pos x.den) (weights_certificate (pos x.den) xs))
       (sym (e ∙ phases.factor_is q left right k l r ws)) (sym (f ∙ phases.weights_are q left right k l r ws)) (phases.third_factor_right q left right k l r ws s)
 
-  pub third_values_length : (vs : List Rational) → vs ≡ values_of (length (generators q)) (size_of q.space) ns → length vs ≡ size_of q.space
+  pub third_values_length : (vs : List Rational) → vs ≡ take (size_of q.space) (drop (length (generators q)) (drop 1 ns)) → length vs ≡ size_of q.space
   third_values_length vs e = ap length (e ∙ phases.values_are q left right k l r ws) ∙ phases.hs_length q left right k l r ws
 
-  pub third_point_meets : (vs : List Rational) → vs ≡ values_of (length (generators q)) (size_of q.space) ns → IsPoint (ground_of q) (scaled_point vs)
+  pub third_point_meets : (vs : List Rational) → vs ≡ take (size_of q.space) (drop (length (generators q)) (drop 1 ns)) → IsPoint (ground_of q) (scaled_point vs)
   third_point_meets vs e = subst (λ (vs : List Rational). IsPoint (ground_of q) (scaled_point vs)) (sym (e ∙ phases.values_are q left right k l r ws)) (third_meets q left right k l r ws s)
 
-  pub third_left_some : (vs : List Rational) → vs ≡ values_of (length (generators q)) (size_of q.space) ns → pos 1 ≤ℤ value left (map_of (scaled_point vs))
+  pub third_left_some : (vs : List Rational) → vs ≡ take (size_of q.space) (drop (length (generators q)) (drop 1 ns)) → pos 1 ≤ℤ value left (map_of (scaled_point vs))
   third_left_some vs e = subst (λ (vs : List Rational). pos 1 ≤ℤ value left (map_of (scaled_point vs))) (sym (e ∙ phases.values_are q left right k l r ws)) (left_some q left right k l r ws s)
 
 -- ---- the first phase's
@@ -130,7 +130,7 @@ module _ (q : ProblemView) (left right : Terms) (ws : List (ℕ × Rational)) (s
   pub first_long : (xs : List Rational) → xs ≡ first_ns → length (generators q) < length xs
   first_long xs e = omega (arith, ap length e, numbers_length (first q left right) ws, first_length (generators q) left)
 
-  pub first_factor_is : (x : Rational) (xs : List Rational) → x ≡ factor_of first_ns → xs ≡ weights_of (length (generators q)) first_ns → IsFactor (ground_of q) (value left) (value right) x.num (pos x.den) (weights_certificate (pos x.den) xs)
+  pub first_factor_is : (x : Rational) (xs : List Rational) → x ≡ slice_index_or first_ns 0 (integer (pos 0)) → xs ≡ take (length (generators q)) (drop 1 first_ns) → IsFactor (ground_of q) (value left) (value right) x.num (pos x.den) (weights_certificate (pos x.den) xs)
   first_factor_is x xs e f = subst₂ (λ (x : Rational) (xs : List Rational). IsFactor (ground_of q) (value left) (value right) x.num (pos x.den) (weights_certificate (pos x.den) xs)) (sym e) (sym f) (phases.first_right q left right ws s)
 
 pub gs_numbers_few : (q : ProblemView) (k : IsProblem q) (ws : List (ℕ × Rational)) (xs : List Rational) → xs ≡ numbers (generators q) ws → length xs < 2 ^ 32

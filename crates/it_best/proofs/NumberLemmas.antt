@@ -1,6 +1,8 @@
 -- The numbers of unknowns, by the weights of their columns: they sum up to the target as the weights do.
 use Rattle.std.proofs.Common.{◌≡◌, ℕ, zero, suc, ◌+◌, ◌<◌, ◌≤◌, pos, ◌*ℤ◌, ◌≤ℤ◌, List, [], ◌∷◌, ◌++◌, length, get_or, Bool, true, false, cond, nat_eq, eq-eqb, ne_eqb, refl, sym, ap, ap₂, ◌∙◌, arith}
 use Rattle.it_number.proofs.Ring.{ring, v, nil}
+use Rattle.it_closure.specs.Sizes.{column_count}
+use Rattle.it_best.proofs.UnknownNumbers.{unknown_number, unknown_numbers}
 use Rattle.it_number.proofs.Ring as S
 use Rattle.it_rational.specs.Rational.{Rational, integer, plus, times, minus, sign_least, is_at_least_zero}
 use Rattle.it_rational.proofs.RationalLaws.{ring_ℚ}
@@ -15,9 +17,9 @@ use Rattle.it_tableau.specs.Problems.{feasibility_problem}
 use Rattle.it_run.specs.Readings.{AreWeights, SumsUp, ring_combination}
 use Rattle.it_run.proofs.RowValues.{sums_up}
 use Rattle.it_elemental.specs.Generators.{Generator}
-use Rattle.it_columns.specs.Columns.{columns, columns_by, count_by}
+use Rattle.it_columns.specs.Columns.{columns, columns_by, numbers_from}
 use Rattle.it_columns.proofs.Wholes.{whole_minus, whole_parts}
-use Rattle.it_best.specs.Numbers.{column_weight, number_by, numbers_from, numbers}
+use Rattle.it_best.specs.Numbers.{column_weight, numbers}
 use Rattle.it_best.proofs.WholePoints.{in_span}
 
 -- the sum of numbers times the coefficients of rows at a coordinate
@@ -65,7 +67,7 @@ module _ (c : ℕ) where
       ∙ sym (total-add 0 cols (λ k. cond (nat_eq w.0 k) w.1 (integer (pos 0))) (column_weight ws))
 
   one_unknown : (k : Kind) (r : Terms) (j : ℕ) (cols : List Terms) (f : ℕ → Rational)
-      → total j (columns_by k r ++ cols) f ≡ plus (times (number_by k f j) (integer (coefficient r c))) (total (j + count_by k) cols f)
+      → total j (columns_by k r ++ cols) f ≡ plus (times (unknown_number k f j) (integer (coefficient r c))) (total (j + column_count k) cols f)
   one_unknown Inequality r j cols f = refl
   one_unknown Equation r j cols f =
       ap₂ (λ x y. plus (times (f j) (integer (coefficient r c))) (plus (times (f (j + 1)) x) y)) (ap integer (coefficient-negated_terms c r) ∙ whole_minus (coefficient r c)) (ap (λ m. total m cols f) plus_two)
@@ -76,10 +78,10 @@ module _ (c : ℕ) where
       plus_two = omega arith
 
   -- the sum over columns is that over unknowns
-  total_by_unknowns : (us : List Generator) (j : ℕ) (f : ℕ → Rational) → total j (columns us) f ≡ number_sum c (numbers_from j us f) us
+  total_by_unknowns : (us : List Generator) (j : ℕ) (f : ℕ → Rational) → total j (columns us) f ≡ number_sum c (unknown_numbers j us f) us
   unfolding columns numbers_from
   total_by_unknowns [] j f = refl
-  total_by_unknowns (u ∷ us) j f = one_unknown u.kind u.row j (columns us) f ∙ ap (plus (times (number_by u.kind f j) (integer (coefficient u.row c)))) (total_by_unknowns us (j + count_by u.kind) f)
+  total_by_unknowns (u ∷ us) j f = one_unknown u.kind u.row j (columns us) f ∙ ap (plus (times (unknown_number u.kind f j) (integer (coefficient u.row c)))) (total_by_unknowns us (j + column_count u.kind) f)
 
 -- at each equation the numbers sum up to the target
 pub numbers_sum_up : (m : ℕ) (us : List Generator) (target : Terms) (ws : List (ℕ × Rational))
@@ -114,19 +116,19 @@ weight_least n from (w ∷ ws) a j = field_ℚ.order.add-least (cond (nat_eq w.0
     by_test true = positive
     by_test false = zero_least
 
-pub are_numbers : (us : List Generator) (j : ℕ) (f : ℕ → Rational) → ((k : ℕ) → is_at_least_zero (f k) ≡ true) → AreNumbers (numbers_from j us f) us
+pub are_numbers : (us : List Generator) (j : ℕ) (f : ℕ → Rational) → ((k : ℕ) → is_at_least_zero (f k) ≡ true) → AreNumbers (unknown_numbers j us f) us
 unfolding numbers_from
 are_numbers [] j f h = tt
-are_numbers (u ∷ us) j f h = (by_kind u.kind, are_numbers us (j + count_by u.kind) f h)
+are_numbers (u ∷ us) j f h = (by_kind u.kind, are_numbers us (j + column_count u.kind) f h)
   where
-    by_kind : (k : Kind) → k ≡ Inequality → is_at_least_zero (number_by k f j) ≡ true
+    by_kind : (k : Kind) → k ≡ Inequality → is_at_least_zero (unknown_number k f j) ≡ true
     by_kind Inequality e = h j
     by_kind Equation e = absurd (cc)
 
-pub length-numbers_from : (us : List Generator) (j : ℕ) (f : ℕ → Rational) → length (numbers_from j us f) ≡ length us
+pub length-numbers_from : (us : List Generator) (j : ℕ) (f : ℕ → Rational) → length (unknown_numbers j us f) ≡ length us
 unfolding numbers_from
 length-numbers_from [] j f = refl
-length-numbers_from (u ∷ us) j f = ap suc (length-numbers_from us (j + count_by u.kind) f)
+length-numbers_from (u ∷ us) j f = ap suc (length-numbers_from us (j + column_count u.kind) f)
 
 pub numbers_signed : (us : List Generator) (n : ℕ) (ws : List (ℕ × Rational)) → AreWeights rationals n 0 ws → AreNumbers (numbers us ws) us
 numbers_signed us n ws a = are_numbers us 0 (column_weight ws) (weight_least n 0 ws a)

@@ -3,6 +3,9 @@ use Rattle.std.proofs.Common.{◌≡◌, ◌↔◌, ℕ, suc, ◌+◌, ◌*◌, 
 use Rattle.std.proofs.lemmas.Int.{ints}
 use Rattle.std.proofs.lemmas.List.{drop_all}
 use Rattle.it_number.proofs.Ring.{ring, v, nil}
+use Rattle.it_closure.specs.Sizes.{column_count}
+use Rattle.it_columns.specs.Columns.{numbers_from}
+use Rattle.it_best.proofs.UnknownNumbers.{unknown_number, unknown_numbers}
 use Rattle.it_number.proofs.Ring as S
 use Rattle.it_rational.specs.Rational.{Rational, integer, plus, times}
 use Rattle.it_rational.proofs.RationalLaws.{ring_ℚ}
@@ -12,14 +15,13 @@ use Rattle.std.proofs.Common.{All, FitsSigned, ◌-ℤ◌}
 use Rattle.it_number.specs.Limit.{IsWithin}
 use Rattle.it_number.proofs.SignLemmas.{size_negated}
 use Rattle.it_space.proofs.EveryLemmas.{all_of, every_of, every-map, every-same}
-use Rattle.it_columns.specs.Scaling.{EachFits, scale_of, scaled_number, scaled_point}
+use Rattle.it_columns.specs.Scaling.{scale_of, scaled_number, scaled_point}
 use Rattle.it_space.specs.declared.problems.Kind.{Kind}
 use Rattle.it_space.proofs.ListLemmas.{drop_item}
 use Rattle.it_run.specs.Readings.{AreWeights}
 use Rattle.it_elemental.specs.Generators.{Generator}
-use Rattle.it_columns.specs.Columns.{count_by}
 use Rattle.it_best.specs.declared.unknowns.Unknown.{Unknown}
-use Rattle.it_best.specs.Numbers.{DifferencesFit, NumberFits, column_weight, multiples, number_by, numbers, numbers_from}
+use Rattle.it_best.specs.Numbers.{DifferencesFit, NumberFits, column_weight, multiples, numbers}
 use Rattle.it_best.specs.Phases.{unknown_view, unknown_views}
 use Rattle.it_best.proofs.WalkLemmas.{piece_more, piece_end}
 use Rattle.it_tableau.specs.Operations.{rationals}
@@ -32,7 +34,7 @@ abbrev pub MultiplesFit : ℤ → List Rational → Type 0
 MultiplesFit k qs = Every IsNarrow (multiples k qs)
 
 pub record AreNumbersSoFar (us : List Generator) (ws : List (ℕ × Rational)) (i column : ℕ) (out : List Rational) : Type 0 where
-  pub same : out ++ numbers_from column (drop i us) (column_weight ws) ≡ numbers us ws
+  pub same : out ++ unknown_numbers column (drop i us) (column_weight ws) ≡ numbers us ws
   pub fits : DifferencesFit column (drop i us) (column_weight ws) ↔ DifferencesFit 0 us (column_weight ws)
   pub few : column ≤ 2 * i
 
@@ -101,20 +103,20 @@ module _ (us : List Unknown) (ws : List (ℕ × Rational)) (i column : ℕ) (u :
   next_unknown : drop i (unknown_views us) ≡ unknown_view u ∷ drop (i + 1) (unknown_views us)
   next_unknown = drop_views us i ∙ ap unknown_views (drop_item us i u h is) ∙ ap (λ xs. unknown_view u ∷ xs) (sym (drop_views us (i + 1)))
 
-  pub numbers_more : (kind : Kind) (width : ℕ) (new : List Rational) → kind ≡ u.kind → width ≡ count_by kind → new ≡ old ++ number_by kind (column_weight ws) column ∷ [] → NumberFits kind (column_weight ws) column
+  pub numbers_more : (kind : Kind) (width : ℕ) (new : List Rational) → kind ≡ u.kind → width ≡ column_count kind → new ≡ old ++ unknown_number kind (column_weight ws) column ∷ [] → NumberFits kind (column_weight ws) column
       → AreNumbersSoFar (unknown_views us) ws (i + 1) (column + width) new
   unfolding numbers_from DifferencesFit
   numbers_more kind width new k w e f =
       let here : NumberFits u.kind (column_weight ws) column = subst (λ m. NumberFits m (column_weight ws) column) k f in
-      let after : column + count_by u.kind ≡ column + width = ap (λ n. column + n) (sym (w ∙ ap count_by k)) in
+      let after : column + column_count u.kind ≡ column + width = ap (λ n. column + n) (sym (w ∙ ap column_count k)) in
       subst (λ n. AreNumbersSoFar (unknown_views us) ws (i + 1) n new) after (record {
-        same = piece_more old new (number_by u.kind (column_weight ws) column ∷ []) (numbers_from (column + count_by u.kind) (drop (i + 1) (unknown_views us)) (column_weight ws)) (numbers (unknown_views us) ws)
-            (e ∙ ap (λ m. old ++ number_by m (column_weight ws) column ∷ []) k) (ap (λ xs. old ++ numbers_from column xs (column_weight ws)) (sym next_unknown) ∙ a.same);
+        same = piece_more old new (unknown_number u.kind (column_weight ws) column ∷ []) (unknown_numbers (column + column_count u.kind) (drop (i + 1) (unknown_views us)) (column_weight ws)) (numbers (unknown_views us) ws)
+            (e ∙ ap (λ m. old ++ unknown_number m (column_weight ws) column ∷ []) k) (ap (λ xs. old ++ unknown_numbers column xs (column_weight ws)) (sym next_unknown) ∙ a.same);
         fits = (λ g. a.fits.0 (subst (λ xs. DifferencesFit column xs (column_weight ws)) (sym next_unknown) (here, g)), λ g. (subst (λ xs. DifferencesFit column xs (column_weight ws)) next_unknown (a.fits.1 g)).1);
         few = omega (arith, a.few, few_columns u.kind);
       })
     where
-      few_columns : (m : Kind) → count_by m ≤ 2
+      few_columns : (m : Kind) → column_count m ≤ 2
       few_columns Rattle.it_space.specs.declared.problems.Kind.TheVariants.Inequality = omega arith
       few_columns Rattle.it_space.specs.declared.problems.Kind.TheVariants.Equation = omega arith
 
@@ -127,18 +129,14 @@ pub numbers_done : (us : List Unknown) (ws : List (ℕ × Rational)) (i column :
 unfolding numbers_from DifferencesFit
 numbers_done us ws i column out h a =
     let none : drop i (unknown_views us) ≡ [] = drop_all i (unknown_views us) (omega (arith, h, Rattle.std.proofs.lemmas.List.length-map us unknown_view)) in (
-      piece_end out (numbers_from column (drop i (unknown_views us)) (column_weight ws)) (numbers (unknown_views us) ws) (ap (λ xs. numbers_from column xs (column_weight ws)) none) a.same,
+      piece_end out (unknown_numbers column (drop i (unknown_views us)) (column_weight ws)) (numbers (unknown_views us) ws) (ap (λ xs. unknown_numbers column xs (column_weight ws)) none) a.same,
       a.fits.0 (subst (λ xs. DifferencesFit column xs (column_weight ws)) (sym none) tt),
     )
 
 -- ---- numbers within the limit
 
-each_within : (l : ℕ) (qs : List Rational) → EachFits l qs → Every (λ q. IsWithin (scaled_number l q)) qs
-each_within l [] f = tt
-each_within l (q ∷ qs) f = (f.0, each_within l qs f.1)
-
-pub scaled_point_within : (l : ℕ) (qs : List Rational) → l ≡ scale_of qs → EachFits l qs → All IsWithin (scaled_point qs)
-scaled_point_within l qs e f = subst (λ n. All IsWithin (map (scaled_number n) qs)) e (all_of IsWithin (map (scaled_number l) qs) (every-map IsWithin (scaled_number l) qs (each_within l qs f)))
+pub scaled_point_within : (l : ℕ) (qs : List Rational) → l ≡ scale_of qs → Every (λ q. IsWithin (scaled_number l q)) qs → All IsWithin (scaled_point qs)
+scaled_point_within l qs e f = subst (λ n. All IsWithin (map (scaled_number n) qs)) e (all_of IsWithin (map (scaled_number l) qs) (every-map IsWithin (scaled_number l) qs f))
 
 pub turned_within : (xs : List ℤ) → All IsWithin xs → All IsWithin (map neg_ℤ xs)
 turned_within xs w = all_of IsWithin (map neg_ℤ xs) (every-map IsWithin neg_ℤ xs (every-same IsWithin (λ x. IsWithin (neg_ℤ x)) xs (λ x h. omega (arith, size_negated x, h)) (every_of IsWithin xs w)))

@@ -1,8 +1,10 @@
 -- What the ends of the three phases by weights and by points show.
-use Rattle.std.proofs.Common.{◌≡◌, ℕ, ◌+◌, ◌-◌, ◌^◌, ◌<◌, ◌≤◌, ℤ, pos, neg_ℤ, ◌+ℤ◌, ◌*ℤ◌, ◌≤ℤ◌, List, [], ◌∷◌, ◌++◌, length, map, take, drop, Bool, true, false, cond, nat_eq, eq-eqb, ne_eqb, refl, sym, ap, ap₂, subst, ◌∙◌, arith}
+use Rattle.std.proofs.Common.{◌≡◌, ℕ, ◌+◌, ◌-◌, ◌^◌, ◌<◌, ◌≤◌, ℤ, pos, neg_ℤ, ◌+ℤ◌, ◌*ℤ◌, ◌≤ℤ◌, List, [], ◌∷◌, ◌++◌, length, map, take, drop, Bool, true, false, cond, nat_eq, eq-eqb, ne_eqb, refl, sym, ap, ap₂, subst, ◌∙◌, arith, slice_index_or}
 use Rattle.std.proofs.lemmas.List.{length-map, length-take, length-drop, length-append}
 use Rattle.std.proofs.Math.IntN.{+ℤ_idl, +ℤ_idr}
 use Rattle.it_number.proofs.Ring.{ring, v, nil}
+use Rattle.it_closure.specs.Sizes.{column_count}
+use Rattle.it_best.proofs.UnknownNumbers.{unknown_number, unknown_numbers}
 use Rattle.it_number.proofs.Ring as S
 use Rattle.it_rational.specs.Rational.{Rational, integer, plus, times, minus}
 use Rattle.it_rational.proofs.RationalLaws.{ring_ℚ}
@@ -20,9 +22,9 @@ use Rattle.it_run.specs.Readings.{SumsUp}
 use Rattle.it_run.specs.RowValues.{rational_value}
 use Rattle.it_elemental.specs.Generators.{Generator, generators, generator_at}
 use Rattle.it_elemental.proofs.GeneratorLemmas.{rows_of_space, no_coefficient_beyond}
-use Rattle.it_columns.specs.Columns.{columns, count_by}
+use Rattle.it_columns.specs.Columns.{columns, numbers_from}
 use Rattle.it_best.specs.Factors.{IsFactor, ground_of}
-use Rattle.it_best.specs.Numbers.{column_weight, factor_of, numbers, number_by, numbers_from, values_of, weights_certificate, weights_of}
+use Rattle.it_best.specs.Numbers.{column_weight, numbers, weights_certificate}
 use Rattle.it_best.specs.Phases.{counterweight, coordinate_unknown, coordinate_row, first_phase, slacks, third_phase, third_target, left_equation, right_equation}
 use Rattle.it_best.proofs.NumberLemmas.{number_sum, numbers_sum_up, AreNumbers, numbers_signed, length-numbers_from}
 use Rattle.it_best.proofs.CertificateLemmas.{factor_certified}
@@ -43,35 +45,35 @@ take_all xs n e = ap (λ m. take m xs) (sym e) ∙ Rattle.std.proofs.lemmas.List
 module _ (q : ProblemView) (left right : Terms) (ws : List (ℕ × Rational))
     (s : SumsUp rationals (length (span 1 (size_of q.space))) (length (columns (first_phase (generators q) left))) (feasibility_problem (span 1 (size_of q.space)) (columns (first_phase (generators q) left)) right) ws) where
   abbrev first_rest : List Rational
-  first_rest = numbers_from (0 + count_by Equation) (map counterweight (generators q)) (column_weight ws)
+  first_rest = unknown_numbers (0 + column_count Equation) (map counterweight (generators q)) (column_weight ws)
 
-  first_numbers : numbers (first_phase (generators q) left) ws ≡ number_by Equation (column_weight ws) 0 ∷ first_rest
+  first_numbers : numbers (first_phase (generators q) left) ws ≡ unknown_number Equation (column_weight ws) 0 ∷ first_rest
   unfolding first_phase numbers_from
   first_numbers = refl
 
   rest_length : length first_rest ≡ length (generators q)
-  rest_length = length-numbers_from (map counterweight (generators q)) (0 + count_by Equation) (column_weight ws) ∙ length-map (generators q) counterweight
+  rest_length = length-numbers_from (map counterweight (generators q)) (0 + column_count Equation) (column_weight ws) ∙ length-map (generators q) counterweight
 
-  rest_is : weights_of (length (generators q)) (numbers (first_phase (generators q) left) ws) ≡ first_rest
-  rest_is = ap (weights_of (length (generators q))) first_numbers ∙ take_all first_rest (length (generators q)) rest_length
+  rest_is : take (length (generators q)) (drop 1 (numbers (first_phase (generators q) left) ws)) ≡ first_rest
+  rest_is = ap (λ (xs : List Rational). take (length (generators q)) (drop 1 xs)) first_numbers ∙ take_all first_rest (length (generators q)) rest_length
 
   first_signed : AreNumbers first_rest (map counterweight (generators q))
   unfolding first_phase numbers_from
   first_signed = (numbers_signed (first_phase (generators q) left) (length (columns (first_phase (generators q) left))) ws s.ordered).1
 
-  first_sum : (c : ℕ) → 1 ≤ c → c ≤ size_of q.space → plus (times (number_by Equation (column_weight ws) 0) (integer (coefficient left c))) (number_sum c first_rest (map counterweight (generators q))) ≡ integer (coefficient right c)
+  first_sum : (c : ℕ) → 1 ≤ c → c ≤ size_of q.space → plus (times (unknown_number Equation (column_weight ws) 0) (integer (coefficient left c))) (number_sum c first_rest (map counterweight (generators q))) ≡ integer (coefficient right c)
   unfolding first_phase numbers_from
   first_sum c h l = numbers_sum_up (size_of q.space) (first_phase (generators q) left) right ws s c h l
 
   abbrev first_ns : List Rational
   first_ns = numbers (first_phase (generators q) left) ws
 
-  pub first_right : IsFactor (ground_of q) (value left) (value right) (factor_of first_ns).num (pos (factor_of first_ns).den)
-      (weights_certificate (pos (factor_of first_ns).den) (weights_of (length (generators q)) first_ns))
-  first_right = subst (λ (ns : List Rational). IsFactor (ground_of q) (value left) (value right) (factor_of ns).num (pos (factor_of ns).den) (weights_certificate (pos (factor_of ns).den) (weights_of (length (generators q)) ns))) (sym first_numbers)
-      (subst (λ (xs : List Rational). IsFactor (ground_of q) (value left) (value right) (number_by Equation (column_weight ws) 0).num (pos (number_by Equation (column_weight ws) 0).den) (weights_certificate (pos (number_by Equation (column_weight ws) 0).den) xs))
+  pub first_right : IsFactor (ground_of q) (value left) (value right) (slice_index_or first_ns 0 (integer (pos 0))).num (pos (slice_index_or first_ns 0 (integer (pos 0))).den)
+      (weights_certificate (pos (slice_index_or first_ns 0 (integer (pos 0))).den) (take (length (generators q)) (drop 1 first_ns)))
+  first_right = subst (λ (ns : List Rational). IsFactor (ground_of q) (value left) (value right) (slice_index_or ns 0 (integer (pos 0))).num (pos (slice_index_or ns 0 (integer (pos 0))).den) (weights_certificate (pos (slice_index_or ns 0 (integer (pos 0))).den) (take (length (generators q)) (drop 1 ns)))) (sym first_numbers)
+      (subst (λ (xs : List Rational). IsFactor (ground_of q) (value left) (value right) (unknown_number Equation (column_weight ws) 0).num (pos (unknown_number Equation (column_weight ws) 0).den) (weights_certificate (pos (unknown_number Equation (column_weight ws) 0).den) xs))
       (sym (take_all first_rest (length (generators q)) rest_length))
-      (factor_certified q left right (number_by Equation (column_weight ws) 0) first_rest rest_length first_signed first_sum))
+      (factor_certified q left right (unknown_number Equation (column_weight ws) 0) first_rest rest_length first_signed first_sum))
 
 -- ---- the third phase
 
@@ -104,10 +106,10 @@ module _ (q : ProblemView) (left right : Terms) (k : IsProblem q) (l : IsUpTo (s
   ns = numbers third ws
 
   abbrev pub x : Rational
-  x = number_by Equation (column_weight ws) 0
+  x = unknown_number Equation (column_weight ws) 0
 
   abbrev pub rest : List Rational
-  rest = numbers_from (0 + count_by Equation) tail (column_weight ws)
+  rest = unknown_numbers (0 + column_count Equation) tail (column_weight ws)
 
   abbrev pub xs : List Rational
   xs = take (length gs) rest
@@ -122,14 +124,14 @@ module _ (q : ProblemView) (left right : Terms) (k : IsProblem q) (l : IsUpTo (s
   unfolding third_phase numbers_from
   third_numbers = refl
 
-  pub factor_is : factor_of ns ≡ x
-  factor_is = ap factor_of third_numbers
+  pub factor_is : slice_index_or ns 0 (integer (pos 0)) ≡ x
+  factor_is = ap (λ (xs : List Rational). slice_index_or xs 0 (integer (pos 0))) third_numbers
 
-  pub weights_are : weights_of (length gs) ns ≡ xs
-  weights_are = ap (weights_of (length gs)) third_numbers
+  pub weights_are : take (length gs) (drop 1 ns) ≡ xs
+  weights_are = ap (λ (xs : List Rational). take (length gs) (drop 1 xs)) third_numbers
 
-  pub values_are : values_of (length gs) size ns ≡ hs
-  values_are = ap (values_of (length gs) size) third_numbers
+  pub values_are : take size (drop (length gs) (drop 1 ns)) ≡ hs
+  values_are = ap (λ (xs : List Rational). take size (drop (length gs) (drop 1 xs))) third_numbers
 
   count_weights : length weights_of_gs ≡ length gs
   count_weights = length-map gs counterweight
@@ -138,7 +140,7 @@ module _ (q : ProblemView) (left right : Terms) (k : IsProblem q) (l : IsUpTo (s
   count_values = length-map (span 1 size) (coordinate_unknown q.space.variables size gs left right) ∙ length-span 1 size
 
   count_rest : length rest ≡ length gs + (size + length (slacks (size + 1) gs))
-  count_rest = length-numbers_from tail (0 + count_by Equation) (column_weight ws) ∙ length-append weights_of_gs (values_of_gs ++ slacks (size + 1) gs)
+  count_rest = length-numbers_from tail (0 + column_count Equation) (column_weight ws) ∙ length-append weights_of_gs (values_of_gs ++ slacks (size + 1) gs)
       ∙ ap₂ (λ (a b : ℕ). a + b) count_weights (length-append values_of_gs (slacks (size + 1) gs) ∙ ap (λ a. a + length (slacks (size + 1) gs)) count_values)
 
   pub xs_length : length xs ≡ length gs

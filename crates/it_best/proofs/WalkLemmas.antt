@@ -6,7 +6,7 @@ use Rattle.it_space.specs.Rows.{Terms, single_term}
 use Rattle.it_space.specs.Sums.{terms_from}
 use Rattle.it_polymatroid.specs.Elementals.{span}
 use Rattle.it_elemental.specs.Generators.{Generator, generator_at}
-use Rattle.it_columns.specs.Columns.{columns, columns_of, columns_by}
+use Rattle.it_columns.specs.Columns.{columns, columns_by}
 use Rattle.it_space.proofs.ListLemmas.{drop_item}
 use Rattle.it_best.specs.Phases.{unknown_view, unknown_views, slacks, slack_by}
 use Rattle.it_best.specs.declared.unknowns.Unknown.{Unknown}
@@ -63,7 +63,7 @@ pub columns_more : (us : List Unknown) (i : ℕ) (u : Unknown) (kind : Kind) (ro
     → old ++ columns (unknown_views (drop i us)) ≡ whole → new ++ columns (unknown_views (drop (i + 1) us)) ≡ whole
 unfolding columns
 columns_more us i u kind row old new whole h is k r e inv =
-    piece_more old new (columns_of (unknown_view u)) (columns (unknown_views (drop (i + 1) us))) whole
+    piece_more old new (columns_by u.kind u.row) (columns (unknown_views (drop (i + 1) us))) whole
     (e ∙ ap (λ ys. old ++ ys) (Rattle.std.proofs.Common.ap₂ columns_by k r))
     (ap (λ ys. old ++ columns (unknown_views ys)) (sym (drop_item us i u h is)) ∙ inv)
 

@@ -72,12 +72,12 @@ module _ (m : ℕ) (us : List Generator) (target : Terms) (qs : List Rational) (
       (all_of (λ (t : ℕ × ℤ). In (span 1 m) t.0) target (row_in_span m target t_up)) map_at s
 
   scaled_row : (row : Terms) → Every (λ (t : ℕ × ℤ). integer (map_of (scaled_point qs) t.0) ≡ times (integer (pos (scale_of qs))) (rational_map qs t.0)) row
-  scaled_row row = every_all (λ (t : ℕ × ℤ). integer (map_of (scaled_point qs) t.0) ≡ times (integer (pos (scale_of qs))) (rational_map qs t.0)) row (λ t. whole_value (scale_of qs) qs (denominators_divide 1 qs) t.0)
+  scaled_row row = every_all (λ (t : ℕ × ℤ). integer (map_of (scaled_point qs) t.0) ≡ times (integer (pos (scale_of qs))) (rational_map qs t.0)) row (λ t. whole_value (scale_of qs) qs (denominators_divide qs) t.0)
 
   pub unknowns_met : Every (λ u. Meets u.kind (value u.row (map_of (scaled_point qs)))) us
   unknowns_met = columns_met us (map_of (scaled_point qs)) (every_of (λ r. pos 0 ≤ℤ value r (map_of (scaled_point qs))) (columns us)
       (λ j d l. subst (λ r. pos 0 ≤ℤ value r (map_of (scaled_point qs))) (get_or_default (columns us) j [] d l)
-      (least_scaled (scale_of qs) (map_of (scaled_point qs)) (rational_map qs) (scale_pos 1 qs (omega arith)) (get_or (columns us) j []) (scaled_row (get_or (columns us) j [])) (apart.0 j l))))
+      (least_scaled (scale_of qs) (map_of (scaled_point qs)) (rational_map qs) (scale_pos qs) (get_or (columns us) j []) (scaled_row (get_or (columns us) j [])) (apart.0 j l))))
 
   pub target_below : value target (map_of (scaled_point qs)) ≤ℤ neg_ℤ (pos 1)
-  target_below = below_scaled (scale_of qs) (map_of (scaled_point qs)) (rational_map qs) (scale_pos 1 qs (omega arith)) target (scaled_row target) apart.1
+  target_below = below_scaled (scale_of qs) (map_of (scaled_point qs)) (rational_map qs) (scale_pos qs) target (scaled_row target) apart.1

@@ -1,8 +1,8 @@
 -- How the search for the best factor ends: by the ends of the three phases' runs, each made exactly where the phases before it leave it to
 -- be made, and by the numbers of the scaled answer.
-use Rattle.std.specs.Prelude.{◌≡◌, ◌⊎◌, ℕ, ◌+◌, ◌*◌, ◌<◌, ◌≤◌, ℤ, pos, neg_ℤ, ◌-ℤ◌, ◌*ℤ◌, List, length, map, All, Option}
+use Rattle.std.specs.Prelude.{◌≡◌, ◌⊎◌, ℕ, ◌+◌, ◌*◌, ◌<◌, ◌≤◌, ℤ, pos, neg_ℤ, ◌-ℤ◌, ◌*ℤ◌, List, length, map, take, drop, slice_index_or, All, Option}
 use Rattle.it_number.specs.Limit.{IsWithin}
-use Rattle.it_rational.specs.Rational.{Rational}
+use Rattle.it_rational.specs.Rational.{Rational, integer}
 use Rattle.it_space.specs.Problems.{ProblemView}
 use Rattle.it_space.specs.Rows.{Terms, ValueFits, coefficient, value, map_of, negated_terms}
 use Rattle.it_space.specs.Spaces.{size_of}
@@ -18,7 +18,7 @@ use Rattle.it_columns.specs.Scaling.{NumbersFit, scaled_point}
 use Rattle.it_best.specs.declared.types.BestCause.TheVariants as causes
 use Rattle.it_best.specs.declared.types.BestCause.TheVariants.{Scale, Size}
 use Rattle.it_best.specs.BestViews.{BestView, Least, Never, Unbounded, Undecided}
-use Rattle.it_best.specs.Numbers.{DifferencesFit, WeightsFit, column_weight, factor_of, numbers, values_of, weights_certificate, weights_of}
+use Rattle.it_best.specs.Numbers.{DifferencesFit, WeightsFit, column_weight, numbers, weights_certificate}
 use Rattle.it_best.specs.Phases.{first_phase, third_phase, third_target, right_equation}
 
 -- ---- the size
@@ -38,13 +38,9 @@ IsLarge q = 4000000 < third_rows q * third_columns q
 
 -- ---- the scaled answers
 
--- the coefficient of num times the left side less den times the right one
-abbrev pub factor_coefficient : Terms → Terms → ℤ → ℤ → ℕ → ℤ
-factor_coefficient left right num den c = num *ℤ coefficient left c -ℤ den *ℤ coefficient right c
-
--- their row over so many coordinates
+-- the row of num times the left side less den times the right one, over so many coordinates
 unfoldable pub factor_row : ℕ → Terms → Terms → ℤ → ℤ → Terms
-factor_row size left right num den = terms_from 1 (map (factor_coefficient left right num den) (span 1 size))
+factor_row size left right num den = terms_from 1 (map (λ c. num *ℤ coefficient left c -ℤ den *ℤ coefficient right c) (span 1 size))
 
 -- two products and their difference are within the limit
 pub record DifferenceOfProductsFits (a x b y : ℤ) : Type 0 where
@@ -57,11 +53,6 @@ pub record FactorFits (q : ProblemView) (left right : Terms) (factor : Rational)
   pub scaled : WeightsFit (pos factor.den) weights
   pub row : (c : ℕ) → 1 ≤ c → c ≤ size_of q.space → DifferenceOfProductsFits factor.num (coefficient left c) (pos factor.den) (coefficient right c)
   pub check : CertificateFits q (factor_row (size_of q.space) left right factor.num (pos factor.den)) (weights_certificate (pos factor.den) weights)
-
--- those of the certificate that the left side is at most 0
-pub record BelowFits (q : ProblemView) (left : Terms) (weights : List Rational) : Type 0 where
-  pub scaled : WeightsFit (pos 1) weights
-  pub check : CertificateFits q (negated_terms left) (weights_certificate (pos 1) weights)
 
 -- the values of each generator and of both sides at a point are formed within the limit
 pub record SidesFit (q : ProblemView) (left right : Terms) (values : List ℤ) : Type 0 where
@@ -96,47 +87,45 @@ module _ (q : ProblemView) (left right : Terms) where
   abbrev pub third : List Generator
   third = third_phase q.space.variables size (generators q) left right
 
-  -- the factor, by the weights of the first phase or of the third
+  -- the factor, which is the first number, by the weights of the first phase or of the third
   abbrev pub factor_by : List Generator → List (ℕ × Rational) → Rational
-  factor_by unknowns ws = factor_of (numbers unknowns ws)
+  factor_by unknowns ws = slice_index_or (numbers unknowns ws) 0 (integer (pos 0))
 
-  -- the weights of its certificate
+  -- the weights of its certificate, which come next
   abbrev pub weights_by : List Generator → List (ℕ × Rational) → List Rational
-  weights_by unknowns ws = weights_of (length (generators q)) (numbers unknowns ws)
+  weights_by unknowns ws = take (length (generators q)) (drop 1 (numbers unknowns ws))
 
-  -- the values of the point, made whole
-  abbrev pub third_values : List (ℕ × Rational) → List ℤ
-  third_values ws = scaled_point (values_of (length (generators q)) size (numbers third ws))
+  -- the values of the point, after these
+  abbrev pub third_values : List (ℕ × Rational) → List Rational
+  third_values ws = take size (drop (length (generators q)) (drop 1 (numbers third ws)))
 
   -- the numbers of the least factor are within the limit
   pub record LeastFits (ws : List (ℕ × Rational)) : Type 0 where
     pub differences : DifferencesFit 0 third (column_weight ws)
     pub factor : FactorFits q left right (factor_by third ws) (weights_by third ws)
-    pub point : LeastPointFits q left right (factor_by third ws) (values_of (length (generators q)) size (numbers third ws))
+    pub point : LeastPointFits q left right (factor_by third ws) (third_values ws)
 
   -- the least factor, its certificate and its point
   abbrev pub least_view : List (ℕ × Rational) → BestView
-  least_view ws = Least (factor_by third ws).num (pos (factor_by third ws).den) (weights_certificate (pos (factor_by third ws).den) (weights_by third ws)) (third_values ws)
+  least_view ws = Least (factor_by third ws).num (pos (factor_by third ws).den)
+      (weights_certificate (pos (factor_by third ws).den) (weights_by third ws)) (scaled_point (third_values ws))
 
   -- the numbers of a factor and of both certificates are within the limit
   pub record UnboundedFits (ws below : List (ℕ × Rational)) : Type 0 where
     pub differences : DifferencesFit 0 first (column_weight ws)
     pub factor : FactorFits q left right (factor_by first ws) (weights_by first ws)
     pub below_differences : DifferencesFit 0 (generators q) (column_weight below)
-    pub below_proof : BelowFits q left (numbers (generators q) below)
+    pub below_scaled : WeightsFit (pos 1) (numbers (generators q) below)
+    pub below_check : CertificateFits q (negated_terms left) (weights_certificate (pos 1) (numbers (generators q) below))
 
   -- the factor and both certificates, by the weights of the first phase and of the second
   abbrev pub unbounded_view : List (ℕ × Rational) → List (ℕ × Rational) → BestView
   unbounded_view ws below = Unbounded (factor_by first ws).num (pos (factor_by first ws).den) (weights_certificate (pos (factor_by first ws).den) (weights_by first ws)) (weights_certificate (pos 1) (numbers (generators q) below))
 
-  -- the point at which no factor holds: the first phase's, made whole and turned
-  abbrev pub never_values : List Rational → List ℤ
-  never_values qs = map neg_ℤ (scaled_point qs)
-
-  -- its numbers are within the limit
+  -- the numbers of the point at which no factor holds, the first phase's made whole and turned, are within the limit
   pub record NeverFits (qs : List Rational) : Type 0 where
     pub point : NumbersFit qs
-    pub values : SidesFit q left right (never_values qs)
+    pub values : SidesFit q left right (map neg_ℤ (scaled_point qs))
 
   -- the answer, where its numbers fit; else it is undecided for the scale
   abbrev pub OrScale : Type 0 → BestView → BestView → Type 0
@@ -159,7 +148,7 @@ module _ (q : ProblemView) (left right : Terms) where
   -- by that of the first
   abbrev pub FirstFollows : Option ℕ → RunEndView (List (ℕ × Rational)) (List Rational) → BestView → Type 0
   FirstFollows budget (Weights ws) o = (e : RunEndView (List (ℕ × Rational)) (List Rational)) × PhaseEnds size (generators q) (negated_terms left) budget e × SecondFollows budget ws e o
-  FirstFollows budget (Point qs) o = OrScale (NeverFits qs) (Never (never_values qs)) o
+  FirstFollows budget (Point qs) o = OrScale (NeverFits qs) (Never (map neg_ℤ (scaled_point qs))) o
   FirstFollows budget (Pivots k) o = o ≡ Undecided (causes.Pivots k 1)
   FirstFollows budget (Width k) o = o ≡ Undecided (causes.Width k 1)
 

@@ -1,5 +1,5 @@
 -- The numbers that weights of columns give to unknowns, and what is made of them: each number so many times, and all of them whole.
-use Rattle.std.specs.Prelude.{ℕ, ◌+◌, ℤ, pos, List, [], ◌∷◌, map, cond, nat_eq, drop, take, slice_index_or}
+use Rattle.std.specs.Prelude.{ℕ, ◌+◌, ℤ, pos, List, [], ◌∷◌, map, cond, nat_eq}
 use Rattle.std.specs.List.{AllByRecursion as Every}
 use Rattle.it_rational.specs.Rational.{Rational, integer, plus, times, minus}
 use Rattle.it_fraction.specs.Fits.{IsNarrow, DifferenceFits}
@@ -8,7 +8,8 @@ use Rattle.it_space.specs.declared.problems.Kind.TheVariants.{Inequality, Equati
 use Rattle.it_space.specs.Answers.{CertificateView}
 use Rattle.it_space.specs.Sums.{terms_from}
 use Rattle.it_elemental.specs.Generators.{Generator}
-use Rattle.it_columns.specs.Columns.{count_by}
+use Rattle.it_closure.specs.Sizes.{column_count}
+use Rattle.it_columns.specs.Columns.{numbers_from}
 use Rattle.it_columns.specs.Scaling.{NumbersFit, scale_of, scaled_point}
 
 -- the weight of a column: the sum of those that have its number, 0 where none does
@@ -16,19 +17,9 @@ abbrev pub column_weight : List (ℕ × Rational) → ℕ → Rational
 column_weight [] j = integer (pos 0)
 column_weight (w ∷ ws) j = plus (cond (nat_eq w.0 j) w.1 (integer (pos 0))) (column_weight ws j)
 
--- the number of an unknown whose first column is column j: the weight of the second counts against it
-abbrev pub number_by : Kind → (ℕ → Rational) → ℕ → Rational
-number_by Inequality f j = f j
-number_by Equation f j = plus (f j) (minus (f (j + 1)))
-
--- those of unknowns, the first of which has column j
-unfoldable pub numbers_from : ℕ → List Generator → (ℕ → Rational) → List Rational
-numbers_from j [] f = []
-numbers_from j (u ∷ us) f = number_by u.kind f j ∷ numbers_from (j + count_by u.kind) us f
-
--- those of all, by the weights of columns
+-- the numbers of unknowns, by the weights of columns
 abbrev pub numbers : List Generator → List (ℕ × Rational) → List Rational
-numbers us ws = numbers_from 0 us (column_weight ws)
+numbers us ws = numbers_from (λ a b. plus a (minus b)) 0 us (column_weight ws)
 
 -- the difference of the two columns' weights of an unknown fits; one with one column has none
 abbrev pub NumberFits : Kind → (ℕ → Rational) → ℕ → Type 0
@@ -38,7 +29,7 @@ NumberFits Equation f j = DifferenceFits (f j) (f (j + 1))
 -- those of unknowns fit, the first of which has column j
 unfoldable pub DifferencesFit : ℕ → List Generator → (ℕ → Rational) → Type 0
 DifferencesFit j [] f = Unit {0}
-DifferencesFit j (u ∷ us) f = NumberFits u.kind f j × DifferencesFit (j + count_by u.kind) us f
+DifferencesFit j (u ∷ us) f = NumberFits u.kind f j × DifferencesFit (j + column_count u.kind) us f
 
 -- each number k times
 abbrev pub multiples : ℤ → List Rational → List Rational
@@ -55,15 +46,3 @@ weights_certificate k qs = record {
 pub record WeightsFit (k : ℤ) (qs : List Rational) : Type 0 where
   pub each : Every IsNarrow (multiples k qs)
   pub scaled : NumbersFit (multiples k qs)
-
--- the factor, which is the first number
-abbrev pub factor_of : List Rational → Rational
-factor_of qs = slice_index_or qs 0 (integer (pos 0))
-
--- the weights of so many generators after it
-abbrev pub weights_of : ℕ → List Rational → List Rational
-weights_of count qs = take count (drop 1 qs)
-
--- the values of so many coordinates after these
-abbrev pub values_of : ℕ → ℕ → List Rational → List Rational
-values_of count size qs = take size (drop count (drop 1 qs))

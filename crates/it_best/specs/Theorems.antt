@@ -1,5 +1,5 @@
 -- What follows of the answers about factors.
-use Rattle.std.specs.Prelude.{◌≡◌, ℕ, ◌+◌, ℤ, pos, ◌*ℤ◌, ◌≤ℤ◌, List, length, Option, None}
+use Rattle.std.specs.Prelude.{◌≡◌, ℕ, ◌+◌, ℤ, pos, neg_ℤ, ◌*ℤ◌, ◌≤ℤ◌, List, length, Option, None}
 use Rattle.it_space.specs.Answers.{CertificateView}
 use Rattle.it_space.specs.Problems.{ProblemView, IsProblem}
 use Rattle.it_space.specs.Rows.{Terms, IsUpTo, value}
@@ -9,7 +9,7 @@ use Rattle.it_columns.specs.Columns.{columns}
 use Rattle.it_best.specs.declared.types.BestCause.TheVariants as causes
 use Rattle.it_best.specs.BestViews.{BestView, Undecided}
 use Rattle.it_best.specs.Ends.{EndsWith, third, third_columns, third_rows}
-use Rattle.it_best.specs.Factors.{HasNoFactor, HasNoLeastFactor, HoldsFactor, IsLeastFactor, IsRightBest, ground_of}
+use Rattle.it_best.specs.Factors.{HasNoFactor, HoldsFactor, IsFactor, IsLeastFactor, IsRightBest, ground_of}
 
 -- what the phases end with is right
 abbrev pub BestIsRight : Type 0
@@ -40,7 +40,7 @@ NeverIsNever = (q : ProblemView) (left right : Form) (values : List ℤ) → Has
 -- where the left side is at most 0, a factor that holds and all smaller ones do
 abbrev pub UnboundedIsUnbounded : Type 0
 UnboundedIsUnbounded = (q : ProblemView) (left right : Terms) (num den : ℤ) (proof below : CertificateView) → IsProblem q → IsUpTo (size_of q.space) left → IsUpTo (size_of q.space) right
-    → HasNoLeastFactor (ground_of q) (value left) (value right) num den proof below
+    → IsFactor (ground_of q) (value left) (value right) num den proof → (ground_of q).Certifies (λ p. neg_ℤ (value left p)) below
     → (a b : ℤ) → pos 1 ≤ℤ b → (a *ℤ den) ≤ℤ (num *ℤ b) → HoldsFactor (ground_of q) (value left) (value right) a b
 
 -- that number of columns is that of the third phase's columns and of one artificial column for each equation

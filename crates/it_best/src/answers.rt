@@ -1,11 +1,12 @@
 //! The answers by the numbers of the phases, where these fit.
-ghost use Rattle.std.specs.Prelude.{◌≡◌, IfErr, IfOk, OnOk};
+ghost use Rattle.std.specs.Prelude.{◌≡◌, IfErr, IfOk, OnOk, map, neg_ℤ};
 ghost use Rattle.it_space.specs.Problems.{IsProblem, problem_view};
 ghost use Rattle.it_space.specs.Rows.{IsUpTo, negated_terms};
 ghost use Rattle.it_space.specs.Spaces.{size_of};
 ghost use Rattle.it_elemental.specs.Generators.{generators};
+ghost use Rattle.it_columns.specs.Scaling.{scaled_point};
 ghost use Rattle.it_best.specs.BestViews.{Never, best_view};
-ghost use Rattle.it_best.specs.Ends.{LeastFits, NeverFits, OrScale, UnboundedFits, first, least_view, never_values, third, unbounded_view};
+ghost use Rattle.it_best.specs.Ends.{LeastFits, NeverFits, OrScale, UnboundedFits, first, least_view, third, unbounded_view};
 ghost use Rattle.it_best.specs.Phases.{right_equation, third_target, unknown_views};
 ghost use Rattle.it_best.specs.PhaseSteps.{PhaseSeparates, PhaseSums};
 
@@ -30,7 +31,7 @@ pub fn never(
     requires left { IsUpTo (size_of problem.now.space) left.now }
     requires right { IsUpTo (size_of problem.now.space) right.now }
     requires separates { PhaseSeparates (size_of problem.now.space) (first (problem_view problem.now) left.now right.now) right.now values.now }
-    ensures { IfOk result (λ b. OrScale (problem_view problem.now) left.now right.now (NeverFits (problem_view problem.now) left.now right.now values.now) (Never (never_values (problem_view problem.now) left.now right.now values.now)) (best_view b)) }
+    ensures { IfOk result (λ b. OrScale (problem_view problem.now) left.now right.now (NeverFits (problem_view problem.now) left.now right.now values.now) (Never (map neg_ℤ (scaled_point values.now))) (best_view b)) }
 {
     match never_point(alloc, problem, left, right, values) {
         Ok(point) => Ok(Best::Never(point)),

@@ -3,15 +3,15 @@ ghost use Rattle.std.specs.Prelude.{◌≡◌, ◌<◌, ◌≤◌, ◌^◌, ◌+
 ghost use Rattle.it_number.specs.Limit.{IsWithin};
 ghost use Rattle.it_space.specs.Answers.{certificate_view};
 ghost use Rattle.it_space.specs.Problems.{IsProblem, problem_view};
-ghost use Rattle.it_space.specs.Rows.{IsUpTo, ValueFits, coefficient, map_of, single_term, value};
+ghost use Rattle.it_space.specs.Rows.{IsUpTo, ValueFits, coefficient, map_of, single_term, value, negated_terms};
 ghost use Rattle.it_space.specs.Spaces.{size_of};
 ghost use Rattle.it_polymatroid.specs.Certificates.{IsCertificate};
 ghost use Rattle.it_elemental.specs.Generators.{generators, generators_of};
 ghost use Rattle.it_check.specs.Meaning.{CertificateFits, CertifiesRow, PointFits};
 ghost use Rattle.it_columns.specs.Scaling.{scaled_point};
-ghost use Rattle.it_best.specs.Ends.{BelowFits, DifferenceOfProductsFits, FactorFits, LeastPointFits, NeverFits, factor_coefficient, factor_row};
+ghost use Rattle.it_best.specs.Ends.{DifferenceOfProductsFits, FactorFits, LeastPointFits, NeverFits, factor_row};
 ghost use Rattle.it_best.specs.Factors.{HasNoFactor, IsFactor, IsPoint, ground_of};
-ghost use Rattle.it_best.specs.Numbers.{weights_certificate};
+ghost use Rattle.it_best.specs.Numbers.{weights_certificate, WeightsFit};
 
 use crate::numbers::{certificate, turned_point, whole_point};
 use it_check::{Verdict, check_no, check_yes};
@@ -28,7 +28,7 @@ fn factor_coefficient(
     den: i128,
     coordinate: u32,
 ) -> Result<i128, Wide>
-    ensures { OkIff result (DifferenceOfProductsFits num (coefficient left.now coordinate) den (coefficient right.now coordinate)) (factor_coefficient left.now right.now num den coordinate) }
+    ensures { OkIff result (DifferenceOfProductsFits num (coefficient left.now coordinate) den (coefficient right.now coordinate)) (num *ℤ coefficient left.now coordinate -ℤ den *ℤ coefficient right.now coordinate) }
 {
     let above = signed_product(num, left.coefficient(coordinate))?;
     let below = signed_product(den, right.coefficient(coordinate))?;
@@ -43,7 +43,7 @@ fn push_coefficient(
     factor: &Fraction,
     coordinate: u32,
 ) -> Result<(), RowFault>
-    ensures value { OnOk result (terms.new.items ≡ terms.old.items ++ single_term coordinate (factor_coefficient left.now right.now factor.now.num (pos factor.now.den) coordinate)) }
+    ensures value { OnOk result (terms.new.items ≡ terms.old.items ++ single_term coordinate (factor.now.num *ℤ coefficient left.now coordinate -ℤ (pos factor.now.den) *ℤ coefficient right.now coordinate)) }
     ensures fits { OnOk result (DifferenceOfProductsFits factor.now.num (coefficient left.now coordinate) (pos factor.now.den) (coefficient right.now coordinate)) }
     ensures wide { IfErr result (λ f. f ≡ RowFault.Wide → ¬ (DifferenceOfProductsFits factor.now.num (coefficient left.now coordinate) (pos factor.now.den) (coefficient right.now coordinate))) }
 {
@@ -124,8 +124,8 @@ pub fn below_proof(
     requires few { length weights.now < 2 ^ 32 }
     requires certified { IsCertificate (size_of problem.now.space + 1) (generators_of (problem_view problem.now)) (λ p. neg_ℤ (value left.now p)) (weights_certificate (pos 1) weights.now) }
     ensures value { IfOk result (λ c. certificate_view c ≡ weights_certificate (pos 1) weights.now) }
-    ensures fits { OnOk result (BelowFits (problem_view problem.now) left.now weights.now) }
-    ensures wide { IfErr result (λ f. f ≡ RowFault.Wide → ¬ (BelowFits (problem_view problem.now) left.now weights.now)) }
+    ensures fits { OnOk result (WeightsFit (pos 1) weights.now × CertificateFits (problem_view problem.now) (negated_terms left.now) (weights_certificate (pos 1) weights.now)) }
+    ensures wide { IfErr result (λ f. f ≡ RowFault.Wide → ¬ (WeightsFit (pos 1) weights.now × CertificateFits (problem_view problem.now) (negated_terms left.now) (weights_certificate (pos 1) weights.now))) }
 {
     let proof = certificate(alloc, weights, 1)?;
     let row = opposite_row(alloc, left)?;

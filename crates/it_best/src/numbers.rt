@@ -1,20 +1,21 @@
 //! The numbers that weights of columns give to the unknowns, and these made whole.
-ghost use Rattle.std.specs.Prelude.{◌≡◌, ◌<◌, ◌^◌, ◌++◌, ◌+◌, ◌∷◌, [], map, neg_ℤ, length, All, IfErr, IfOk, OkIff, OnOk};
+ghost use Rattle.std.specs.Prelude.{◌≡◌, ◌<◌, ◌^◌, ◌++◌, ◌+◌, ◌∷◌, [], map, neg_ℤ, length, All, IfErr, IfOk, OkIff, OnOk, take, drop, slice_index_or, pos};
 ghost use Rattle.std.specs.List.{AllByRecursion as Every};
 ghost use Rattle.it_number.specs.Limit.{IsWithin};
-ghost use Rattle.it_rational.specs.Rational.{integer, times};
+ghost use Rattle.it_rational.specs.Rational.{integer, minus, plus, times};
 ghost use Rattle.it_fraction.specs.Fits.{IsNarrow};
 ghost use Rattle.it_run.specs.Readings.{AreWeights};
 ghost use Rattle.it_space.specs.Answers.{certificate_view};
 ghost use Rattle.it_space.specs.Spaces.{IsSpace, size_of};
 ghost use Rattle.it_space.specs.Sums.{terms_from};
 ghost use Rattle.it_columns.specs.Scaling.{NumbersFit, scaled_point};
-ghost use Rattle.it_best.specs.Numbers.{DifferencesFit, NumberFits, WeightsFit, column_weight, factor_of, values_of, weights_of, multiples, number_by, numbers, weights_certificate};
+ghost use Rattle.it_best.specs.Numbers.{DifferencesFit, NumberFits, WeightsFit, column_weight, multiples, numbers, weights_certificate};
 ghost use Rattle.it_best.specs.Phases.{unknown_views};
-ghost use Rattle.it_columns.specs.Columns.{count_by};
+ghost use Rattle.it_columns.specs.Columns.{number_by};
 ghost use Rattle.it_tableau.specs.Operations.{rationals};
 
 use crate::unknowns::Unknown;
+use it_closure::column_count;
 use it_columns::{common_scale, push_some, scaled_values};
 use it_fraction::{Fraction, Wide};
 use it_space::{Certificate, Kind, Point, RowFault, Space};
@@ -33,21 +34,11 @@ fn column_weight(weights: &[(usize, Fraction)], column: usize) -> Fraction
     Fraction::whole(0)
 }
 
-/// How many columns an unknown has.
-fn width(kind: Kind) -> usize
-    ensures { result ≡ count_by kind }
-{
-    match kind {
-        Kind::Inequality => 1,
-        Kind::Equation => 2,
-    }
-}
-
 /// The number of an unknown whose first column is given: the second column's weight counts against the first one's.
 fn number_of(weights: &[(usize, Fraction)], kind: Kind, column: usize) -> Result<Fraction, Wide>
     requires ordered { AreWeights rationals (2 ^ 63) 0 weights.now }
     requires few { column < 2 ^ 62 }
-    ensures { OkIff result (NumberFits kind (column_weight weights.now) column) (number_by kind (column_weight weights.now) column) }
+    ensures { OkIff result (NumberFits kind (column_weight weights.now) column) (number_by (λ a b. plus a (minus b)) kind (column_weight weights.now) column) }
 {
     match kind {
         Kind::Inequality => Ok(column_weight(weights, column)),
@@ -67,7 +58,7 @@ fn push_number(
 ) -> Result<(), RowFault>
     requires ordered { AreWeights rationals (2 ^ 63) 0 weights.now }
     requires few { column < 2 ^ 62 }
-    ensures value { OnOk result (numbers.new.items ≡ numbers.old.items ++ number_by kind (column_weight weights.now) column ∷ []) }
+    ensures value { OnOk result (numbers.new.items ≡ numbers.old.items ++ number_by (λ a b. plus a (minus b)) kind (column_weight weights.now) column ∷ []) }
     ensures fits { OnOk result (NumberFits kind (column_weight weights.now) column) }
     ensures wide { IfErr result (λ f. f ≡ RowFault.Wide → ¬ (NumberFits kind (column_weight weights.now) column)) }
 {
@@ -94,7 +85,7 @@ pub fn numbers(
     let mut column = 0;
     for unknown in unknowns {
         push_number(&mut numbers, weights, unknown.kind, column)?;
-        column += width(unknown.kind);
+        column += column_count(unknown.kind) as usize;
     }
     Ok(numbers)
 }
@@ -217,7 +208,7 @@ pub fn turned_point(alloc: Global, space: Space, numbers: &[Fraction]) -> Result
 /// The factor: the first number.
 pub fn factor_of(numbers: &[Fraction]) -> Fraction
     requires { 0 < length numbers.now }
-    ensures { result ≡ factor_of numbers.now }
+    ensures { result ≡ slice_index_or numbers.now 0 (integer (pos 0)) }
 {
     numbers[0]
 }
@@ -225,7 +216,7 @@ pub fn factor_of(numbers: &[Fraction]) -> Fraction
 /// The weights of so many generators: the numbers after the factor.
 pub fn weights_of(numbers: &[Fraction], count: usize) -> &[Fraction]
     requires { count < length numbers.now }
-    ensures { result.now ≡ weights_of count numbers.now }
+    ensures { result.now ≡ take count (drop 1 numbers.now) }
 {
     let others = &numbers[1..];
     &others[..count]
@@ -234,7 +225,7 @@ pub fn weights_of(numbers: &[Fraction], count: usize) -> &[Fraction]
 /// The values of a point at so many coordinates: the numbers after those.
 pub fn values_of(numbers: &[Fraction], count: usize, size: usize) -> &[Fraction]
     requires { count + size < length numbers.now }
-    ensures { result.now ≡ values_of count size numbers.now }
+    ensures { result.now ≡ take size (drop count (drop 1 numbers.now)) }
 {
     let others = &numbers[1..];
     let values = &others[count..];

@@ -76,7 +76,7 @@ use Rattle.it_cli.specs.Accepted.{ReportsAreAccepted}
 -- ---- certificates and points of the run are valid
 
 certificate_fits : (p : ProblemView) (t : Terms) (w : CertificateView) (e : RunEndView (List (ℕ × Rational)) (List Rational)) → Follows p t e (proof_views.Yes w) → CertificateFits p t w
-certificate_fits p t w (Weights ws) (inl h) = subst (CertificateFits p t) (yes_same h.0 w (sym h.3)) h.2.check
+certificate_fits p t w (Weights ws) (inl h) = subst (CertificateFits p t) (yes_same h.0 w (sym h.3)) h.2.1
 certificate_fits p t w (Weights ws) (inr h) = let e = h.1 in absurd (cc)
 certificate_fits p t w (Point qs) (inl h) = let e = h.1 in absurd (cc)
 certificate_fits p t w (Point qs) (inr h) = let e = h.1 in absurd (cc)
@@ -86,7 +86,7 @@ certificate_fits p t w (Width k) e = absurd (cc)
 point_fits : (p : ProblemView) (t : Terms) (values : List ℤ) (e : RunEndView (List (ℕ × Rational)) (List Rational)) → Follows p t e (proof_views.No values) → PointFits p t values
 point_fits p t values (Weights ws) (inl h) = let e = h.3 in absurd (cc)
 point_fits p t values (Weights ws) (inr h) = let e = h.1 in absurd (cc)
-point_fits p t values (Point qs) (inl h) = subst (PointFits p t) (no_same (spread_point p qs) values (sym h.1)) h.0.check
+point_fits p t values (Point qs) (inl h) = subst (PointFits p t) (no_same (spread_point p qs) values (sym h.1)) h.0.1
 point_fits p t values (Point qs) (inr h) = let e = h.1 in absurd (cc)
 point_fits p t values (Pivots k) e = absurd (cc)
 point_fits p t values (Width k) e = absurd (cc)

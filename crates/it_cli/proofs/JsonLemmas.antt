@@ -1,5 +1,5 @@
 -- A right answer fits its question, so that what is written of it reads back as it.
-use Rattle.std.proofs.Common.{◌≡◌, ◌⊎◌, inl, inr, ℕ, zero, suc, ◌+◌, ◌<◌, ◌≤◌, ◌^◌, min, ℤ, List, [], ◌∷◌, map, filter, length, All, Bool, true, false, Option, Some, None, IfSome, refl, sym, ap, subst, ◌∙◌, arith, lit≤, cond}
+use Rattle.std.proofs.Common.{◌≡◌, ◌≢◌, ◌⊎◌, inl, inr, ℕ, zero, suc, ◌+◌, ◌<◌, ◌≤◌, ◌^◌, min, ℤ, List, [], ◌∷◌, map, filter, length, All, Bool, true, false, Option, Some, None, IfSome, refl, sym, ap, subst, ◌∙◌, arith, lit≤, cond}
 use Rattle.std.proofs.lemmas.List.{length-append, length-map}
 use Rattle.std.proofs.lemmas.List.Elements.{All-nil, All-cons, All-head, All-tail}
 use Rattle.it_number.specs.Limit.{IsWithin}
@@ -10,16 +10,17 @@ use Rattle.it_space.specs.declared.spaces.Space.{Space}
 use Rattle.it_space.specs.Answers.{AnswerView, CertificateView, is_nonzero_weight}
 use Rattle.it_space.specs.Answers.AnswerView.{Yes, No, Undecided, Region, Contained, Open}
 use Rattle.it_space.specs.Problems.{ProblemView, IsProblem}
-use Rattle.it_space.specs.Rows.{Terms, Ascends, IsCanonical}
+use Rattle.it_space.specs.Rows.{Terms, Ascends, IsCanonical, coefficient}
 use Rattle.it_space.specs.Spaces.{size_of}
 use Rattle.it_polymatroid.specs.Certificates.{Form}
-use Rattle.it_polymatroid.specs.Elementals.{elementals}
+use Rattle.it_polymatroid.specs.Elementals.{elementals, span}
 use Rattle.it_elemental.proofs.GeneratorLemmas.{few_elementals}
 use Rattle.it_closure.specs.Reading.{dependences_of}
-use Rattle.it_run.specs.Runs.{RunEndView, EndsAs, EndsBy, IsWithinBudget, clip_end}
+use Rattle.it_run.specs.Runs.{RunEndView, EndsAs, EndsBy, clip_number}
 use Rattle.it_run.specs.Runs.RunEndView.{Weights, Point, Pivots, Width}
 use Rattle.it_simplex.specs.Answers.{Solves}
-use Rattle.it_prove.specs.Closed.{closed_places, spread_point, spread_values}
+use Rattle.it_prove.specs.Closed.{closed_places, spread_point}
+use Rattle.it_closure.specs.Collapse.{spread_out}
 use Rattle.it_columns.specs.Scaling.{NumbersFit, scale_of, scaled_point}
 use Rattle.it_prove.specs.Steps.{terms_of_places}
 use Rattle.it_prove.specs.ProofViews as proof_views
@@ -73,7 +74,7 @@ pub record IsScaled (w : CertificateView) : Type 0 where
 module _ (q : ProblemView) (target : Terms) where
   scaled_by_end : (w : CertificateView) (e : RunEndView (List (ℕ × Rational)) (List Rational)) → Follows q target e (proof_views.Yes w) → IsScaled w
   scaled_by_end w (Weights ws) (inl h) =
-      subst IsScaled (yes_same h.0 w (sym h.3)) (record { scale = subst IsWithin (sym h.1.scale) h.2.lifted.numbers.scale; canonical = h.1.canonical })
+      subst IsScaled (yes_same h.0 w (sym h.3)) (record { scale = subst IsWithin (sym h.1.scale) h.2.0.numbers.scale; canonical = h.1.canonical })
   scaled_by_end w (Weights ws) (inr h) = let e = h.1 in absurd (cc)
   scaled_by_end w (Point qs) (inl h) = let e = h.1 in absurd (cc)
   scaled_by_end w (Point qs) (inr h) = let e = h.1 in absurd (cc)
@@ -86,46 +87,47 @@ module _ (q : ProblemView) (target : Terms) where
       let cs = closed_places q in
       let row = terms_of_places (closed_places q) (scaled_point qs) in
       let canonical : IsCanonical row = pairs_canonical cs (scaled_point qs) row refl (places_rise q cs limits refl) (scaled_within (scale_of qs) qs (scaled_point qs) refl fit.numbers) in
-      let values = spread_values q.space.variables (dependences_of q) (size_of q.space) row in
+      let values = map (spread_out q.space.variables (dependences_of q) (coefficient row)) (span 1 (size_of q.space)) in
       subst (All IsWithin) (point_spread q q.space (dependences_of q) cs qs row values refl refl refl refl refl) (spread_within q.space.variables (dependences_of q) (size_of q.space) row canonical)
 
   values_by_end : IsProblem q → (values : List ℤ) (e : RunEndView (List (ℕ × Rational)) (List Rational)) → Follows q target e (proof_views.No values) → All IsWithin values
   values_by_end limits values (Weights ws) (inl h) = let e = h.3 in absurd (cc)
   values_by_end limits values (Weights ws) (inr h) = let e = h.1 in absurd (cc)
-  values_by_end limits values (Point qs) (inl h) = subst (All IsWithin) (no_same (spread_point q qs) values (sym h.1)) (spread_fits qs limits h.0.numbers)
+  values_by_end limits values (Point qs) (inl h) = subst (All IsWithin) (no_same (spread_point q qs) values (sym h.1)) (spread_fits qs limits h.0.0)
   values_by_end limits values (Point qs) (inr h) = let e = h.1 in absurd (cc)
   values_by_end limits values (Pivots k) e = absurd (cc)
   values_by_end limits values (Width k) e = absurd (cc)
 
 -- ---- numbers of steps that are told
 
--- the number of a step is at most this
+-- the greatest number of a step that is told
+abbrev last_step : ℕ
+last_step = 4294967295
+
+-- a budget that is used up is at most this, and the number of a step that doesn't fit is told
 abbrev IsUpToStep : {W P : Type 0} → ℕ → RunEndView W P → Type 0
 IsUpToStep most (Weights ws) = Unit {0}
 IsUpToStep most (Point qs) = Unit {0}
 IsUpToStep most (Pivots j) = j ≤ most
-IsUpToStep most (Width j) = j ≤ most
-
--- the greatest number of a step that is told
-abbrev last_step : ℕ
-last_step = 4294967295
+IsUpToStep most (Width j) = j ≤ last_step
 
 up_to_more : {W P : Type 0} (few most : ℕ) (e : RunEndView W P) → few ≤ most → IsUpToStep few e → IsUpToStep most e
 up_to_more few most (Weights ws) l h = tt
 up_to_more few most (Point qs) l h = tt
 up_to_more few most (Pivots j) l h = omega (arith, l, h)
-up_to_more few most (Width j) l h = omega (arith, l, h)
+up_to_more few most (Width j) l h = h
 
-clipped_up_to : {W P : Type 0} (e : RunEndView W P) → IsWithinBudget e → IsUpToStep last_step (clip_end e)
-clipped_up_to (Weights ws) h = tt
-clipped_up_to (Point qs) h = tt
-clipped_up_to (Pivots j) h = absurd h
-clipped_up_to (Width j) h = let l : min j 4294967295 ≤ 4294967295 = omega arith in l
+-- without a budget none is used up
+unbound_up_to : {W P : Type 0} (budget : ℕ) (e : RunEndView W P) → ((k : ℕ) → e ≢ Pivots k) → IsUpToStep budget e → IsUpToStep last_step e
+unbound_up_to budget (Weights ws) w h = tt
+unbound_up_to budget (Point qs) w h = tt
+unbound_up_to budget (Pivots j) w h = absurd (w j refl)
+unbound_up_to budget (Width j) w h = h
 
 module _ {S W P : Type 0} (IsDone IsStuck Fits : S → Type 0) (next : S → S) (weights : S → W) (point : S → P) where
   by_step : (left k : ℕ) (s : S) (e : RunEndView W P) → (EndsAs IsDone IsStuck Fits next weights point left (suc k) (next s) e → IsUpToStep (suc k + left) e)
-      → (¬ (Fits s) × (e ≡ Width (suc k))) ⊎ (Fits s × EndsAs IsDone IsStuck Fits next weights point left (suc k) (next s) e) → IsUpToStep (k + suc left) e
-  by_step left k s e more (inl g) = subst (IsUpToStep (k + suc left)) (sym g.1) (let l : suc k ≤ k + suc left = omega arith in l)
+      → (¬ (Fits s) × (e ≡ Width (clip_number (suc k)))) ⊎ (Fits s × EndsAs IsDone IsStuck Fits next weights point left (suc k) (next s) e) → IsUpToStep (k + suc left) e
+  by_step left k s e more (inl g) = subst (IsUpToStep (k + suc left)) (sym g.1) (let l : min (suc k) 4294967295 ≤ last_step = omega arith in l)
   by_step left k s e more (inr g) = let same : suc k + left ≡ k + suc left = omega arith in subst (λ n. IsUpToStep n e) same (more g.1)
 
   in_budget : (left k : ℕ) (s : S) (e : RunEndView W P) → EndsAs IsDone IsStuck Fits next weights point left k s e → IsUpToStep (k + left) e
@@ -139,7 +141,7 @@ module _ {S W P : Type 0} (IsDone IsStuck Fits : S → Type 0) (next : S → S) 
   -- with a budget of 32 bits, or without one
   ends_told : (budget : Option ℕ) (s : S) (e : RunEndView W P) → IfSome budget (λ n. n < 2 ^ 32) → EndsBy IsDone IsStuck Fits next weights point budget s e → IsUpToStep last_step e
   ends_told (Some most) s e few h = up_to_more (0 + most) last_step e (omega (arith, few)) (in_budget most 0 s e h)
-  ends_told None s e few h = subst (IsUpToStep last_step) (sym h.is_clipped) (clipped_up_to h.end h.within)
+  ends_told None s e few h = unbound_up_to (0 + h.0) e h.2 (in_budget h.0 0 s e h.1)
 
 start_up_to : {W P : Type 0} (e : RunEndView W P) → e ≡ Width 0 → IsUpToStep last_step e
 start_up_to e is = subst (IsUpToStep last_step) (sym is) (let l : 0 ≤ last_step = omega arith in l)

@@ -1,9 +1,10 @@
 //! Fractions made whole by the least common multiple of their denominators.
 //! The result of `push` is matched, since `?` makes no `RowFault` of its error.
 ghost use Rattle.std.specs.Prelude.{◌≡◌, ◌<◌, ◌^◌, ◌++◌, ◌∷◌, [], pos, map, IfErr, IfOk, OkIff, OnOk};
+ghost use Rattle.std.specs.List.{AllByRecursion as Every};
 ghost use Rattle.it_number.specs.Gcd.{lcm};
 ghost use Rattle.it_number.specs.Limit.{IsWithin};
-ghost use Rattle.it_columns.specs.Scaling.{EachFits, scale_of, scaled_number};
+ghost use Rattle.it_columns.specs.Scaling.{scale_of, scaled_number};
 
 use it_fraction::{Fraction, Wide, lcm, signed_product};
 use it_space::RowFault;
@@ -64,8 +65,8 @@ pub fn scaled_values(
 ) -> Result<Vec<i128>, RowFault>
     requires { scale < 2 ^ 127 }
     ensures value { IfOk result (λ v. v.items ≡ map (scaled_number scale) numbers.now) }
-    ensures fits { OnOk result (EachFits scale numbers.now) }
-    ensures wide { IfErr result (λ f. f ≡ RowFault.Wide → ¬ (EachFits scale numbers.now)) }
+    ensures fits { OnOk result (Every (λ q. IsWithin (scaled_number scale q)) numbers.now) }
+    ensures wide { IfErr result (λ f. f ≡ RowFault.Wide → ¬ (Every (λ q. IsWithin (scaled_number scale q)) numbers.now)) }
 {
     let mut values = Vec::with_capacity(alloc, numbers.len())?;
     for number in numbers {

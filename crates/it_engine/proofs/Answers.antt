@@ -3,8 +3,9 @@ use Rattle.std.proofs.Common.{◌≡◌, ℕ, List, Option, Some, None, length, 
 use Rattle.std.specs.Option.{IfSome}
 use Rattle.it_rational.specs.Rational.{Rational}
 use Rattle.it_space.specs.Rows.{Terms}
+use Rattle.it_tableau.specs.TableauViews.{start_of}
 use Rattle.it_tableau.specs.Operations.{rationals}
-use Rattle.it_tableau.specs.Problems.{feasibility_problem, start_of}
+use Rattle.it_tableau.specs.Problems.{feasibility_problem}
 use Rattle.it_tableau.specs.SimplexTables.{SimplexTable}
 use Rattle.it_run.specs.Answers.{end_of_answer}
 use Rattle.it_run.specs.Readings.{weights, point}

@@ -10,7 +10,7 @@ use Rattle.it_rational.specs.Rational as Q
 use Rattle.it_fraction.specs.Fits.{IsNarrow}
 use Rattle.it_tableau.specs.Operations.{rationals}
 use Rattle.it_tableau.specs.SimplexTables.{SimplexTable, ratio}
-use Rattle.it_tableau.specs.Fits.{QuotientFits, EntryFits, PivotFits}
+use Rattle.it_tableau.specs.Fits.{EntryFits, PivotFits}
 use Rattle.it_run.specs.Choice.{entering_column, leaving_row, is_candidate}
 use Rattle.it_run.specs.Solving.{StepFits}
 use Rattle.it_engine.specs.Whole.{IsShort, IsOver}
@@ -76,7 +76,7 @@ module _ (m n : ℕ) (t : SimplexTable Rational) (number : ℕ → ℕ → ℤ) 
       over_within : (i : ℕ) → i ≤ m → IsWithin (pos (bottom i * p))
       over_within i hi = half_within (pos (bottom i * p)) (half_product (pos (bottom i)) (pos p) (o.low i hi) p_short)
 
-      quotient_fits : (i : ℕ) → i ≤ m → QuotientFits (t.entry i c) (t.entry r c)
+      quotient_fits : (i : ℕ) → i ≤ m → IsNarrow (Q.times (t.entry i c) (Q.inverse (t.entry r c)))
       quotient_fits i hi = narrow_by (Q.times (t.entry i c) (Q.inverse (t.entry r c))) (number i c *ℤ pos (bottom r)) (bottom i * p) (product_above_zero i hi)
           (quotient_of_names (t.entry i c) (t.entry r c) (number i c) p (bottom i) (bottom r) (o.some i hi) (o.some r hr) hp (o.named i c hi hc) own_entry)
           (half_within (number i c *ℤ pos (bottom r)) (half_product (number i c) (pos (bottom r)) (o.short i c hi hc) (o.low r hr)))

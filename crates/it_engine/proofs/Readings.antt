@@ -8,7 +8,8 @@ use Rattle.it_space.specs.Rows.{Terms}
 use Rattle.it_tableau.specs.Operations.{rationals}
 use Rattle.it_tableau.specs.Problems.{feasibility_problem}
 use Rattle.it_tableau.specs.SimplexTables.{SimplexTable, FeasibilityProblem, sign}
-use Rattle.it_run.specs.Readings.{weight, weights, weights_from_column, point_value, point_from_row, point}
+use Rattle.it_run.specs.Readings.{weight, weights, point}
+use Rattle.it_run.proofs.ReadingLists.{weights_from_column, point_from_row}
 use Rattle.it_run.proofs.FillingLemmas.{AreWeightsSoFar, weights_skip_null, weights_with_next}
 use Rattle.it_run.proofs.Reading.{weight_found, weight_none}
 use Rattle.it_engine.specs.Choosing.{right_side_of}
@@ -56,12 +57,10 @@ point_more coordinates target rows basis out k x l e h = λ generators t columns
     let p = feasibility_problem coordinates generators target in
     let r = s.shows.row (length basis) (omega arith) in
     let here : length basis - k ≡ suc (length basis - (k + 1)) = omega (arith, l) in
-    let there : suc k ≡ k + 1 = omega arith in
     append_assoc out (x ∷ []) (point_from_row rationals (length basis) (length columns) p t (k + 1) (length basis - (k + 1)))
     ∙ ap (λ y. out ++ y ∷ point_from_row rationals (length basis) (length columns) p t (k + 1) (length basis - (k + 1)))
     (e ∙ ap (times (sign rationals p k)) (quotient_named (t.entry (length basis) (length columns + k)) (right_side_of k rows (length basis)) (whole_row_at rows (length basis)).bottom r.some (r.named k (omega (arith, l)))))
-    ∙ ap (λ xs. out ++ xs) (sym (ap (point_from_row rationals (length basis) (length columns) p t k) here
-    ∙ ap (λ i. point_value rationals (length basis) (length columns) p t k ∷ point_from_row rationals (length basis) (length columns) p t i (length basis - (k + 1))) there))
+    ∙ ap (λ xs. out ++ xs) (sym (ap (point_from_row rationals (length basis) (length columns) p t k) here))
     ∙ h generators t columns limit s
 
 -- all weights, all values

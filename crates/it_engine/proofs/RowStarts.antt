@@ -6,7 +6,7 @@ use Rattle.std.proofs.lemmas.List.{length-replicate, length-set, get_or-replicat
 use Rattle.it_rational.specs.Rational.{Rational, integer}
 use Rattle.it_space.specs.Rows.{Terms}
 use Rattle.it_space.specs.Sums.{number_at}
-use Rattle.it_tableau.specs.Problems.{start_of}
+use Rattle.it_tableau.specs.TableauViews.{start_of}
 use Rattle.it_engine.specs.Loading.{right_size, right_sum, IsReadRow, IsShortWhole}
 use Rattle.it_engine.specs.Whole.{WholeRowView}
 use Rattle.it_engine.proofs.StartNumbers.{cost_right_side, row_right_side, unit_cost, unit_entry}

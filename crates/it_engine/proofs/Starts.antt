@@ -7,9 +7,10 @@ use Rattle.it_rational.proofs.Names.{whole_names}
 use Rattle.it_rational.proofs.RationalLaws.{ring_ℚ}
 use Rattle.it_rational.proofs.Field.{field_ℚ}
 use Rattle.it_space.specs.Rows.{Terms, row_mass}
+use Rattle.it_tableau.specs.TableauViews.{start_of}
 use Rattle.it_tableau.specs.Operations.{rationals}
 use Rattle.it_tableau.specs.Invariants.{HasInvariants}
-use Rattle.it_tableau.specs.Problems.{feasibility_problem, start_of}
+use Rattle.it_tableau.specs.Problems.{feasibility_problem}
 use Rattle.it_tableau.specs.SimplexTables.{start_row}
 use Rattle.it_tableau.proofs.StartLemmas.{start_basis, start_has_invariants}
 use Rattle.it_tableau.proofs.Sums.{sum_same}

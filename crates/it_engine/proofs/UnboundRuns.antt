@@ -1,12 +1,12 @@
 -- A run of the engine without a budget under way.
-use Rattle.std.proofs.Common.{◌≡◌, ℕ, suc, ◌+◌, ◌-◌, ◌<◌, ◌≤◌, pos, List, length, None, refl, subst, ap, ◌∙◌, arith}
+use Rattle.std.proofs.Common.{◌≡◌, ◌≢◌, ℕ, suc, ◌+◌, ◌-◌, ◌<◌, ◌≤◌, pos, List, length, None, refl, subst, ap, ◌∙◌, arith}
 use Rattle.it_rational.specs.Rational.{Rational}
 use Rattle.it_space.specs.Rows.{Terms}
 use Rattle.it_tableau.specs.Operations.{rationals}
 use Rattle.it_tableau.specs.SimplexTables.{SimplexTable, FeasibilityProblem}
 use Rattle.it_run.specs.Choice.{next, IsDone, IsStuck}
-use Rattle.it_run.specs.Runs.{RunEndView, IsWithinBudget, clip_end}
-use Rattle.it_run.specs.Runs.RunEndView.{Weights, Point}
+use Rattle.it_run.specs.Runs.{RunEndView}
+use Rattle.it_run.specs.Runs.RunEndView.{Weights, Point, Pivots}
 use Rattle.it_run.specs.Solving.{StepFits}
 use Rattle.it_run.specs.Steps.{Reaches, ReachesBy}
 use Rattle.it_run.proofs.RunSteps.{run_done, run_stuck, run_more}
@@ -45,9 +45,9 @@ module _ (columns : List Terms) (limit : ℕ) (old : List WholeRowView) (basis :
   by_same_height : (P : ℕ → Type 0) → P (length now_basis) → P (length basis)
   by_same_height P x = subst P w.height x
 
-  run_ends : (t s : SimplexTable Rational) (made left : ℕ) (e : RunEndView (SimplexTable Rational) (SimplexTable Rational)) → RunsOnFrom (length basis) (length columns) t made s → Reaches (length basis) (length columns) left made s e → IsWithinBudget e
-      → ReachesBy (length basis) (length columns) None t (clip_end e)
-  run_ends t s made left e f r i = let b = f left e r in record { budget = b.0; end = e; runs = b.1; within = i; is_clipped = refl }
+  run_ends : (t s : SimplexTable Rational) (made left : ℕ) (e : RunEndView (SimplexTable Rational) (SimplexTable Rational)) → RunsOnFrom (length basis) (length columns) t made s → Reaches (length basis) (length columns) left made s e → ((k : ℕ) → e ≢ Pivots k)
+      → ReachesBy (length basis) (length columns) None t e
+  run_ends t s made left e f r i = let b = f left e r in (b.0, b.1, i)
 
   pub unbound_done : right_side_of (length now_basis) now (length now_basis) ≡ pos 0 → IsFinished columns limit old basis None now now_basis engine_ends.Weights
   unbound_done e = record {
@@ -57,7 +57,7 @@ module _ (columns : List Terms) (limit : ℕ) (old : List WholeRowView) (basis :
       r.last,
       r.stands,
       run_ends t r.last r.made 0 (Weights r.last) r.serves (run_done (length basis) (length columns) 0 r.made r.last
-          (by_same_height (λ m. IsDone rationals m (length columns) r.last) (done_here p r.last columns limit now now_basis r.stands e))) tt,
+          (by_same_height (λ m. IsDone rationals m (length columns) r.last) (done_here p r.last columns limit now now_basis r.stands e))) (λ k q. cc),
     );
   }
 
@@ -72,7 +72,7 @@ module _ (columns : List Terms) (limit : ℕ) (old : List WholeRowView) (basis :
       r.stands,
       run_ends t r.last r.made 0 (Point r.last) r.serves (run_stuck (length basis) (length columns) 0 r.made r.last r.last
           (by_same_height (λ m. ¬ (IsDone rationals m (length columns) r.last)) (not_done_here p r.last columns limit now now_basis r.stands n))
-          (by_same_height (λ m. IsStuck rationals m (length columns) r.last) (u p r.last r.stands)) refl) tt,
+          (by_same_height (λ m. IsStuck rationals m (length columns) r.last) (u p r.last r.stands)) refl) (λ k q. cc),
     );
   }
 

@@ -1,8 +1,9 @@
 -- What an answer of the run on whole numbers says.
 use Rattle.std.specs.Prelude.{ℕ, List, length, Option}
 use Rattle.it_space.specs.Rows.{Terms}
+use Rattle.it_tableau.specs.TableauViews.{start_of}
 use Rattle.it_tableau.specs.Fits.{StartFits}
-use Rattle.it_tableau.specs.Problems.{feasibility_problem, start_of}
+use Rattle.it_tableau.specs.Problems.{feasibility_problem}
 use Rattle.it_run.specs.Answers.{end_of_answer}
 use Rattle.it_run.specs.Solving.{RunsTo}
 use Rattle.it_run.specs.declared.answering.Solved.{Solved}

@@ -3,8 +3,8 @@ use Rattle.std.specs.Prelude.{◌≡◌, ◌≢◌, ◌⊎◌, ℕ, zero, suc, �
 use Rattle.it_rational.specs.Rational.{Rational, is_at_least_zero, times, integer}
 use Rattle.it_rational.proofs.RationalLaws.{ring_ℚ}
 use Rattle.it_space.specs.Rows.{Terms, coefficient, row_mass}
+use Rattle.it_tableau.specs.TableauViews.{start_of}
 use Rattle.it_tableau.specs.FieldOperations.{sum_to}
-use Rattle.it_tableau.specs.Problems.{start_of}
 use Rattle.it_run.specs.RowValues.{rational_value}
 use Rattle.it_space.specs.Sums.{number_at}
 use Rattle.it_engine.specs.Whole.{whole_row_at, WholeRowView}

@@ -63,7 +63,7 @@ module _ (q : BodyView) (m : ℕ) (count : m ≡ length (question_demands q)) wh
       by_best : (best : Best) → ShowsFactor q r (best_view best) → IsBestPrintable (problem_names q) m best
       by_best (answers.Least num den proof point) s = (generators_there _ proof s.factor.certified, values_of_names point few few_rates s.point)
       by_best (answers.Never point) s = values_of_names point few few_rates s.point
-      by_best (answers.Unbounded num den proof below) s = (generators_there _ proof s.factor.certified, generators_there _ below s.at_most_zero)
+      by_best (answers.Unbounded num den proof below) s = (generators_there _ proof s.0.certified, generators_there _ below s.1)
       by_best (answers.Undecided cause) s = tt
 
   -- what is printed of a reply is there

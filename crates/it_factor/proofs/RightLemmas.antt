@@ -24,7 +24,7 @@ use Rattle.it_canon.proofs.ProblemLemmas.{question_met}
 use Rattle.it_answer.specs.Forms.{Certifies, CertifiesForm, all_demands}
 use Rattle.it_answer.proofs.FormLemmas.{by_forms, generators_speak}
 use Rattle.it_best.specs.BestViews.{BestView, Least, Never, Unbounded, Undecided}
-use Rattle.it_best.specs.Factors.{IsRightBest, IsFactor, IsPoint, factor_form, ground_of}
+use Rattle.it_best.specs.Factors.{IsRightBest, IsFactor, IsPoint, ground_of}
 use Rattle.it_best.proofs.CertificateLemmas.{linear-factor, linear-neg}
 use Rattle.it_factor.specs.Replies.{ReplyView, Found, Other}
 use Rattle.it_factor.specs.RightReplies.{IsRightFactor, IsRightReply, asked_by, at_least, question_ground}
@@ -61,7 +61,7 @@ module _ (q : BodyView) (p : ProblemView) (posed : IsProblemOf q p) where
     factor_by_text num den w f = record {
       from_one = f.from_one;
       lowest = f.lowest;
-      certified = certificate_by_text (factor_form (value l) (value r) num den) (factor_form left right num den) w (λ x e. ap₂ (λ y z. num *ℤ y -ℤ den *ℤ z) (left_is.same x e) (right_is.same x e))
+      certified = certificate_by_text (λ p. num *ℤ value l p -ℤ den *ℤ value r p) (λ p. num *ℤ left p -ℤ den *ℤ right p) w (λ x e. ap₂ (λ y z. num *ℤ y -ℤ den *ℤ z) (left_is.same x e) (right_is.same x e))
           (linear-factor (size_of p.space) l r num den left_is.coordinates right_is.coordinates) f.certified;
     }
 
@@ -77,10 +77,10 @@ module _ (q : BodyView) (p : ProblemView) (posed : IsProblemOf q p) where
       zero = sym (left_is.same (map_of values) refl) ∙ i.zero;
       above = subst (λ (x : ℤ). pos 1 ≤ℤ x) (right_is.same (map_of values) refl) i.above;
     }
-    best_by_text (Unbounded num den w below) i = record {
-      factor = factor_by_text num den w i.factor;
-      at_most_zero = certificate_by_text (λ x. neg_ℤ (value l x)) (λ x. neg_ℤ (left x)) below (λ x e. ap neg_ℤ (left_is.same x e)) (linear-neg (size_of p.space) l left_is.coordinates) i.at_most_zero;
-    }
+    best_by_text (Unbounded num den w below) i = (
+      factor_by_text num den w i.0,
+      certificate_by_text (λ x. neg_ℤ (value l x)) (λ x. neg_ℤ (left x)) below (λ x e. ap neg_ℤ (left_is.same x e)) (linear-neg (size_of p.space) l left_is.coordinates) i.1,
+    )
     best_by_text (Undecided cause) i = tt
 
   -- what is found by rows is right by the text, and due

@@ -1,5 +1,5 @@
 -- What it means that a reply shows what it says.
-use Rattle.std.proofs.Common.{◌≡◌, ℤ, neg_ℤ, ◌≤ℤ◌}
+use Rattle.std.proofs.Common.{◌≡◌, ℤ, neg_ℤ, ◌≤ℤ◌, ◌*ℤ◌, ◌-ℤ◌}
 use Rattle.it_space.specs.Answers.{CertificateView}
 use Rattle.it_space.specs.Rows.{map_of}
 use Rattle.it_polymatroid.specs.Certificates.{Form}
@@ -7,13 +7,13 @@ use Rattle.it_question.specs.Questions.{BodyView}
 use Rattle.it_canon.specs.QuestionDemands.{variables_of}
 use Rattle.it_canon.specs.Sides.{left_form, right_form}
 use Rattle.it_answer.proofs.TruthLemmas.{form_at_least_zero}
-use Rattle.it_best.specs.Factors.{HoldsFactor, IsFactor, factor_form}
+use Rattle.it_best.specs.Factors.{HoldsFactor, IsFactor}
 use Rattle.it_best.proofs.TheoremLemmas.{all_smaller, no_smaller, none_at_zero}
 use Rattle.it_factor.specs.RightReplies.{LeastIsTrue, NeverIsTrue, UnboundedIsTrue, question_ground}
 
 -- a certified factor holds
 certified_holds : (q : BodyView) (left right : Form) (num den : ℤ) (w : CertificateView) → IsFactor (question_ground q) left right num den w → HoldsFactor (question_ground q) left right num den
-certified_holds q left right num den w f p together = form_at_least_zero q p together (factor_form left right num den) w f.certified
+certified_holds q left right num den w f p together = form_at_least_zero q p together (λ p. num *ℤ left p -ℤ den *ℤ right p) w f.certified
 
 pub least_is_true : LeastIsTrue
 least_is_true q r num den proof values s =
@@ -30,5 +30,5 @@ pub unbounded_is_true : UnboundedIsTrue
 unbounded_is_true q r num den proof below s a b one smaller p together =
     let left = left_form (variables_of q) r in
     let right = right_form (variables_of q) r in
-    all_smaller num den a b (left p) (right p) s.factor.from_one one smaller (certified_holds q left right num den proof s.factor p together)
-    (form_at_least_zero q p together (λ x. neg_ℤ (left x)) below s.at_most_zero)
+    all_smaller num den a b (left p) (right p) s.0.from_one one smaller (certified_holds q left right num den proof s.0 p together)
+    (form_at_least_zero q p together (λ x. neg_ℤ (left x)) below s.1)

@@ -1,5 +1,5 @@
 -- Rows over closed sets.
-use Rattle.std.proofs.Common.{◌≡◌, ◌≢◌, ◌⊎◌, inl, inr, ℕ, zero, suc, ◌+◌, ◌^◌, ◌<◌, ◌≤◌, ℤ, pos, ◌+ℤ◌, ◌*ℤ◌, List, [], ◌∷◌, length, get_or, Bool, true, false, not, cond, nat_eq, nat_lt, eq-eqb, ne_eqb, refl, sym, ap, ◌∙◌, arith}
+use Rattle.std.proofs.Common.{◌≡◌, ◌≢◌, ◌⊎◌, inl, inr, ℕ, zero, suc, ◌+◌, ◌^◌, ◌<◌, ◌≤◌, ℤ, pos, ◌+ℤ◌, ◌*ℤ◌, List, [], ◌∷◌, length, get_or, Bool, true, false, not, cond, nat_eq, nat_lt, eq-eqb, ne_eqb, refl, sym, ap, ◌∙◌, arith, map}
 use Rattle.std.specs.List.{filter, AllByRecursion as Every}
 use Rattle.std.proofs.lemmas.Int.{ints}
 use Rattle.std.proofs.lemmas.Bool.{eqb-true, false≢true, true≢false}
@@ -17,7 +17,7 @@ use Rattle.it_closure.proofs.Places.{value-placed}
 use Rattle.it_closure.proofs.Serving.{coordinates_serve}
 use Rattle.it_run.proofs.RowValues.{AreApart}
 use Rattle.it_columns.proofs.ColumnLemmas.{In}
-use Rattle.it_prove.specs.Closed.{collapsed_row, collapsed_generator, collapsed_generators}
+use Rattle.it_prove.specs.Closed.{collapsed_row, collapsed_generator}
 
 -- ---- terms with a coordinate
 
@@ -81,7 +81,7 @@ module _ (n : ℕ) (ds : List Dependence) where
   collapse_same size old new k u (suc c) =
       sym (value-one_at new (suc c)) ∙ k (one_at (suc c)) (one_at-zero (suc c) (omega arith)) ∙ collapsed_at old (suc c) (omega arith)
 
-  pub collapsed_generator_at : (gs : List Generator) (i : ℕ) → generator_at (collapsed_generators n ds gs) i ≡ collapsed_generator n ds (generator_at gs i)
+  pub collapsed_generator_at : (gs : List Generator) (i : ℕ) → generator_at (map (collapsed_generator n ds) gs) i ≡ collapsed_generator n ds (generator_at gs i)
   collapsed_generator_at [] i = refl
   collapsed_generator_at (g ∷ gs) zero = refl
   collapsed_generator_at (g ∷ gs) (suc i) = collapsed_generator_at gs i

@@ -1,5 +1,5 @@
 -- Columns and the weights of generators, step by step as the code forms them.
-use Rattle.std.proofs.Common.{◌≡◌, ◌⊎◌, inl, inr, ℕ, zero, suc, ◌+◌, ◌*◌, ◌<◌, ◌≤◌, ◌^◌, ℤ, neg_ℤ, List, [], ◌∷◌, ◌++◌, length, drop, take, refl, sym, ap, ap₂, subst, All, ◌∙◌, arith, append_assoc, append-nil}
+use Rattle.std.proofs.Common.{◌≡◌, ◌⊎◌, inl, inr, ℕ, zero, suc, ◌+◌, ◌*◌, ◌<◌, ◌≤◌, ◌^◌, ℤ, neg_ℤ, List, [], ◌∷◌, ◌++◌, length, drop, take, refl, sym, ap, ap₂, subst, All, ◌∙◌, arith, append_assoc, append-nil, map}
 use Rattle.std.specs.List.{flat_map}
 use Rattle.std.proofs.lemmas.Bool.{cases_lt}
 use Rattle.std.proofs.lemmas.List.{drop_more, drop_all, take_all, map-append, get_or_default}
@@ -17,11 +17,11 @@ use Rattle.it_closure.specs.DependencesViews.{DependencesView}
 use Rattle.it_closure.specs.Reading.{dependences_of}
 use Rattle.it_lift.proofs.GeneratorLemmas.{row_of_space}
 use Rattle.it_prove.proofs.ClosedRows.{collapse_same}
-use Rattle.it_prove.specs.Closed.{collapsed_row, collapsed_generator, collapsed_generators, closed_target}
+use Rattle.it_prove.specs.Closed.{collapsed_row, collapsed_generator, closed_target}
 use Rattle.it_space.proofs.TermLemmas.{coefficient-negated_terms}
 use Rattle.it_closure.specs.Sizes.{column_count}
-use Rattle.it_columns.specs.Columns.{columns_by, columns_of, columns}
-use Rattle.it_prove.specs.Weights.{weight_by, weights_from}
+use Rattle.it_columns.specs.Columns.{columns_by, columns, numbers_from}
+use Rattle.it_prove.proofs.GeneratorWeights.{weight_by, weights_from}
 use Rattle.it_prove.specs.ClosedProblems.{SameRows, AreColumns}
 
 -- ---- columns
@@ -55,11 +55,11 @@ take_more (g ∷ gs) (suc i) h = ap (λ xs. g ∷ xs) (take_more gs i (omega ari
 columns-append : (gs hs : List Generator) → columns (gs ++ hs) ≡ columns gs ++ columns hs
 unfolding columns
 columns-append [] hs = refl
-columns-append (g ∷ gs) hs = ap (λ xs. columns_of g ++ xs) (columns-append gs hs) ∙ sym (append_assoc (columns_of g) (flat_map columns_of gs) (flat_map columns_of hs))
+columns-append (g ∷ gs) hs = ap (λ xs. columns_by g.kind g.row ++ xs) (columns-append gs hs) ∙ sym (append_assoc (columns_by g.kind g.row) (flat_map (λ (g : Generator). columns_by g.kind g.row) gs) (flat_map (λ (g : Generator). columns_by g.kind g.row) hs))
 
-columns-one : (g : Generator) → columns (g ∷ []) ≡ columns_of g
+columns-one : (g : Generator) → columns (g ∷ []) ≡ columns_by g.kind g.row
 unfolding columns
-columns-one g = append-nil (columns_of g)
+columns-one g = append-nil (columns_by g.kind g.row)
 
 module _ (n : ℕ) (ds : List Dependence) (gs : List Generator) where
   pub columns_start : AreColumns n ds gs 0 []
@@ -67,52 +67,52 @@ module _ (n : ℕ) (ds : List Dependence) (gs : List Generator) where
   columns_start = record { same = tt; fits = λ j h. absurd (omega arith) }
 
   pub columns_more : (i : ℕ) (old new : List Terms) → i < length gs
-      → ((xs : List Terms) → SameRows old xs → SameRows new (xs ++ columns_of (collapsed_generator n ds (generator_at gs i))))
+      → ((xs : List Terms) → SameRows old xs → SameRows new (xs ++ columns_by (generator_at gs i).kind (collapsed_row n ds (generator_at gs i).row)))
       → CollapseFits n ds (generator_at gs i).row → AreColumns n ds gs i old → AreColumns n ds gs (i + 1) new
   columns_more i old new h add fit a = record {
-    same = subst (SameRows new) (sym columns_with_next) (add (columns (collapsed_generators n ds (take i gs))) a.same);
+    same = subst (SameRows new) (sym columns_with_next) (add (columns (map (collapsed_generator n ds) (take i gs))) a.same);
     fits = λ j l. by_cases j l (cases_lt j i);
   }
     where
       plus_one : i + 1 ≡ suc i
       plus_one = omega arith
 
-      columns_with_next : columns (collapsed_generators n ds (take (i + 1) gs)) ≡ columns (collapsed_generators n ds (take i gs)) ++ columns_of (collapsed_generator n ds (generator_at gs i))
-      columns_with_next = ap (λ k. columns (collapsed_generators n ds (take k gs))) plus_one ∙ ap (λ hs. columns (collapsed_generators n ds hs)) (take_more gs i h)
+      columns_with_next : columns (map (collapsed_generator n ds) (take (i + 1) gs)) ≡ columns (map (collapsed_generator n ds) (take i gs)) ++ columns_by (generator_at gs i).kind (collapsed_row n ds (generator_at gs i).row)
+      columns_with_next = ap (λ k. columns (map (collapsed_generator n ds) (take k gs))) plus_one ∙ ap (λ hs. columns (map (collapsed_generator n ds) hs)) (take_more gs i h)
           ∙ ap columns (map-append (collapsed_generator n ds) (take i gs) (generator_at gs i ∷ []))
-          ∙ columns-append (collapsed_generators n ds (take i gs)) (collapsed_generator n ds (generator_at gs i) ∷ [])
-          ∙ ap (λ xs. columns (collapsed_generators n ds (take i gs)) ++ xs) (columns-one (collapsed_generator n ds (generator_at gs i)))
+          ∙ columns-append (map (collapsed_generator n ds) (take i gs)) (collapsed_generator n ds (generator_at gs i) ∷ [])
+          ∙ ap (λ xs. columns (map (collapsed_generator n ds) (take i gs)) ++ xs) (columns-one (collapsed_generator n ds (generator_at gs i)))
 
       by_cases : (j : ℕ) → j < i + 1 → (j < i) ⊎ (i ≤ j) → CollapseFits n ds (generator_at gs j).row
       by_cases j l (inl k) = a.fits j k
       by_cases j l (inr k) = let e : i ≡ j = omega arith in subst (λ (m : ℕ). CollapseFits n ds (generator_at gs m).row) e fit
 
-  pub columns_done : (i : ℕ) (old : List Terms) → length gs ≤ i → AreColumns n ds gs i old → SameRows old (columns (collapsed_generators n ds gs)) × All (λ g. CollapseFits n ds g.row) gs
+  pub columns_done : (i : ℕ) (old : List Terms) → length gs ≤ i → AreColumns n ds gs i old → SameRows old (columns (map (collapsed_generator n ds) gs)) × All (λ g. CollapseFits n ds g.row) gs
   columns_done i old h a = (
-    subst (λ hs. SameRows old (columns (collapsed_generators n ds hs))) (take_all i gs h) a.same,
+    subst (λ hs. SameRows old (columns (map (collapsed_generator n ds) hs))) (take_all i gs h) a.same,
     λ j d l. subst (λ (g : Generator). CollapseFits n ds g.row) (get_or_default gs j (record { kind = Inequality; row = [] }) d l) (a.fits j (omega arith)),
   )
 
   -- the same where the dependences are those of a problem
   pub columns_more_by : (es : List Dependence) (i : ℕ) (old new : List Terms) → es ≡ ds → i < length gs
-      → ((xs : List Terms) → SameRows old xs → SameRows new (xs ++ columns_of (collapsed_generator n es (generator_at gs i))))
+      → ((xs : List Terms) → SameRows old xs → SameRows new (xs ++ columns_by (generator_at gs i).kind (collapsed_row n es (generator_at gs i).row)))
       → CollapseFits n es (generator_at gs i).row → AreColumns n ds gs i old → AreColumns n ds gs (i + 1) new
   columns_more_by es i old new e h add fit = columns_more i old new h
-      (subst (λ (x : List Dependence). (xs : List Terms) → SameRows old xs → SameRows new (xs ++ columns_of (collapsed_generator n x (generator_at gs i)))) e add)
+      (subst (λ (x : List Dependence). (xs : List Terms) → SameRows old xs → SameRows new (xs ++ columns_by (generator_at gs i).kind (collapsed_row n x (generator_at gs i).row))) e add)
       (subst (λ (x : List Dependence). CollapseFits n x (generator_at gs i).row) e fit)
 
 -- ---- weights
 
 pub weights_more : (gs : List Generator) (f : ℕ → ℤ) (i j next : ℕ) (k : Kind) (w : ℤ) (old new : List (ℕ × ℤ)) → i < length gs → k ≡ (generator_at gs i).kind → w ≡ weight_by k f j → next ≡ j + column_count k → new ≡ old ++ single_term i w
     → old ++ weights_from i j (drop i gs) f ≡ weights_from 0 0 gs f → new ++ weights_from (i + 1) next (drop (i + 1) gs) f ≡ weights_from 0 0 gs f
-unfolding weights_from
+unfolding numbers_from
 weights_more gs f i j next k w old new h same weight step e inv =
     ap₂ (λ xs n. xs ++ weights_from (i + 1) n (drop (i + 1) gs) f) (e ∙ ap (λ x. old ++ single_term i x) (weight ∙ ap (λ k. weight_by k f j) same)) (step ∙ ap (λ k. j + column_count k) same)
     ∙ append_assoc old (single_term i (weight_by (generator_at gs i).kind f j)) (weights_from (i + 1) (j + column_count (generator_at gs i).kind) (drop (i + 1) gs) f)
     ∙ ap (λ xs. old ++ weights_from i j xs f) (sym (generator_split gs i h)) ∙ inv
 
 pub weights_done : (gs : List Generator) (f : ℕ → ℤ) (i j : ℕ) (old : List (ℕ × ℤ)) → length gs ≤ i → old ++ weights_from i j (drop i gs) f ≡ weights_from 0 0 gs f → old ≡ weights_from 0 0 gs f
-unfolding weights_from
+unfolding numbers_from
 weights_done gs f i j old h inv = sym (append-nil old) ∙ ap (λ xs. old ++ weights_from i j xs f) (sym (drop_all i gs h)) ∙ inv
 
 -- ---- rows as the code has them

@@ -13,8 +13,8 @@ use Rattle.it_space.proofs.EveryLemmas.{every-append}
 use Rattle.it_elemental.specs.Generators.{Generator, generator_at, forms_of, is_equation}
 use Rattle.it_check.specs.Verdicts.{column}
 use Rattle.it_closure.specs.Sizes.{column_count}
-use Rattle.it_columns.specs.Columns.{columns_by, columns}
-use Rattle.it_prove.specs.Weights.{weight_by, weights_from}
+use Rattle.it_columns.specs.Columns.{columns_by, columns, numbers_from}
+use Rattle.it_prove.proofs.GeneratorWeights.{weight_by, weights_from}
 
 -- ---- the sum over columns from number j on of f of the number times the coefficient at a coordinate
 
@@ -75,7 +75,7 @@ module _ (c : ℕ) where
   -- the sum over the columns is that over the generators with their weights
   pub total_by_generators : (all gs : List Generator) (i j : ℕ) (f : ℕ → ℤ) → ((k : ℕ) → k < length gs → generator_at all (i + k) ≡ generator_at gs k)
       → total j (columns gs) f ≡ value (weights_from i j gs f) (column all c)
-  unfolding columns weights_from
+  unfolding columns numbers_from
   total_by_generators all [] i j f h = refl
   total_by_generators all (g ∷ gs) i j f h =
       let here : generator_at all i ≡ g = ap (generator_at all) (same_index i) ∙ h zero (omega arith) in
@@ -96,7 +96,7 @@ least_weight Equation f j h e = absurd (cc)
 
 pub weights_allowed : (all gs : List Generator) (i j : ℕ) (f : ℕ → ℤ) → ((n : ℕ) → pos 0 ≤ℤ f n) → i + length gs ≤ length all → ((k : ℕ) → k < length gs → generator_at all (i + k) ≡ generator_at gs k)
     → Every (IsAllowed (forms_of all)) (weights_from i j gs f)
-unfolding weights_from
+unfolding numbers_from
 weights_allowed all [] i j f p b h = tt
 weights_allowed all (g ∷ gs) i j f p b h =
     let here : generator_at all i ≡ g = ap (generator_at all) (same_index i) ∙ h zero (omega arith) in

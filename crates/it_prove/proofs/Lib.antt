@@ -1,3 +1,4 @@
+pub mod GeneratorWeights
 pub mod GroupLemmas
 pub mod ClosedRows
 pub mod WeightLemmas

@@ -1,5 +1,5 @@
 -- Weights over closed sets that sum to the collapsed target are what a lift is given, and what it gives certifies the target.
-use Rattle.std.proofs.Common.{◌≡◌, ◌≢◌, ◌⊎◌, inl, inr, ℕ, suc, ◌+◌, ◌^◌, ◌<◌, ◌≤◌, ℤ, pos, ◌+ℤ◌, ◌-ℤ◌, ◌*ℤ◌, ◌≤ℤ◌, List, [], ◌∷◌, ◌++◌, length, Bool, true, false, cond, nat_eq, refl, sym, ap, ap₂, subst, ◌∙◌, arith, All}
+use Rattle.std.proofs.Common.{◌≡◌, ◌≢◌, ◌⊎◌, inl, inr, ℕ, suc, ◌+◌, ◌^◌, ◌<◌, ◌≤◌, ℤ, pos, ◌+ℤ◌, ◌-ℤ◌, ◌*ℤ◌, ◌≤ℤ◌, List, [], ◌∷◌, ◌++◌, length, Bool, true, false, cond, nat_eq, refl, sym, ap, ap₂, subst, ◌∙◌, arith, All, map}
 use Rattle.std.proofs.lemmas.Int.{ints}
 use Rattle.std.proofs.lemmas.Bool.{eqb-true, false≢true}
 use Rattle.it_number.specs.Limit.{IsWithin}
@@ -32,13 +32,14 @@ use Rattle.it_tableau.specs.Problems.{feasibility_problem}
 use Rattle.it_run.specs.Readings.{AreWeights, SumsUp}
 use Rattle.it_check.specs.Meaning.{CertifiesRow}
 use Rattle.it_check.specs.Verdicts.{column}
-use Rattle.it_prove.specs.Closed.{collapsed_row, collapsed_generators, closed_places, closed_generators, closed_target}
+use Rattle.it_prove.specs.Closed.{collapsed_generator, collapsed_row, closed_places, closed_generators, closed_target}
 use Rattle.it_closure.specs.Sizes.{column_count}
-use Rattle.it_columns.specs.Columns.{columns, columns_by, columns_of}
-use Rattle.it_prove.specs.Weights.{weight_by, weights_from}
+use Rattle.it_columns.specs.Columns.{columns, columns_by, numbers_from}
+use Rattle.it_prove.specs.Weights.{certificate_of}
+use Rattle.it_prove.proofs.GeneratorWeights.{weight_by, weights_from}
 use Rattle.it_columns.specs.Scaling.{NumbersFit, scale_of}
-use Rattle.it_prove.specs.Weights.{numbers_of, scaled_weights}
-use Rattle.it_prove.specs.ProofViews.{IsLifted, closed_weights}
+use Rattle.it_prove.specs.Weights.{numbers_of, scaled_by}
+use Rattle.it_prove.specs.ProofViews.{IsLifted}
 use Rattle.it_columns.proofs.ColumnLemmas.{In}
 use Rattle.it_prove.proofs.ClosedRows.{listed_or_absent, collapsed_at, collapsed_generator_at, collapsed_none}
 use Rattle.it_prove.proofs.GroupLemmas.{weights_allowed}
@@ -47,22 +48,22 @@ use Rattle.it_space.proofs.TermLemmas.{ascends-single_term}
 
 -- ---- the weights go by the kinds alone
 
-pub weights_same : (n : ℕ) (ds : List Dependence) (gs : List Generator) (i j : ℕ) (f : ℕ → ℤ) → weights_from i j (collapsed_generators n ds gs) f ≡ weights_from i j gs f
-unfolding weights_from
+pub weights_same : (n : ℕ) (ds : List Dependence) (gs : List Generator) (i j : ℕ) (f : ℕ → ℤ) → weights_from i j (map (collapsed_generator n ds) gs) f ≡ weights_from i j gs f
+unfolding numbers_from
 weights_same n ds [] i j f = refl
 weights_same n ds (g ∷ gs) i j f = ap (λ xs. single_term i (weight_by g.kind f j) ++ xs) (weights_same n ds gs (i + 1) (j + column_count g.kind) f)
 
-columns_length : (n : ℕ) (ds : List Dependence) (gs : List Generator) → length (columns (collapsed_generators n ds gs)) ≡ length (columns gs)
+columns_length : (n : ℕ) (ds : List Dependence) (gs : List Generator) → length (columns (map (collapsed_generator n ds) gs)) ≡ length (columns gs)
 unfolding columns
 columns_length n ds [] = refl
 columns_length n ds (g ∷ gs) = by_kind g.kind (columns_length n ds gs)
   where
-    by_kind : (k : Kind) → length (flat_map columns_of (collapsed_generators n ds gs)) ≡ length (flat_map columns_of gs)
-        → length (columns_by k (collapsed_row n ds g.row) ++ flat_map columns_of (collapsed_generators n ds gs)) ≡ length (columns_by k g.row ++ flat_map columns_of gs)
+    by_kind : (k : Kind) → length (flat_map (λ (g : Generator). columns_by g.kind g.row) (map (collapsed_generator n ds) gs)) ≡ length (flat_map (λ (g : Generator). columns_by g.kind g.row) gs)
+        → length (columns_by k (collapsed_row n ds g.row) ++ flat_map (λ (g : Generator). columns_by g.kind g.row) (map (collapsed_generator n ds) gs)) ≡ length (columns_by k g.row ++ flat_map (λ (g : Generator). columns_by g.kind g.row) gs)
     by_kind Inequality e = ap suc e
     by_kind Equation e = ap (λ m. suc (suc m)) e
 
-pub ordered_so : (n : ℕ) (ds : List Dependence) (gs : List Generator) (ws : List (ℕ × Rational)) → AreWeights rationals (length (columns (collapsed_generators n ds gs))) 0 ws → AreWeights rationals (length (columns gs)) 0 ws
+pub ordered_so : (n : ℕ) (ds : List Dependence) (gs : List Generator) (ws : List (ℕ × Rational)) → AreWeights rationals (length (columns (map (collapsed_generator n ds) gs))) 0 ws → AreWeights rationals (length (columns gs)) 0 ws
 ordered_so n ds gs ws a = subst (λ (m : ℕ). AreWeights rationals m 0 ws) (columns_length n ds gs) a
 
 -- ---- they ascend, none is 0, and all are within the limit
@@ -83,7 +84,7 @@ weight_within Equation f j p w = difference_within (f j) (f (j + 1)) (p j) (p (j
     difference_within x y h k u v = omega (arith, ints, h, k, u, v)
 
 weights_ascend : (gs : List Generator) (i j : ℕ) (f : ℕ → ℤ) → ((n : ℕ) → pos 0 ≤ℤ f n) → ((n : ℕ) → IsWithin (f n)) → Ascends i (weights_from i j gs f)
-unfolding weights_from
+unfolding numbers_from
 weights_ascend [] i j f p w = tt
 weights_ascend (g ∷ gs) i j f p w = ascends-single_term i i (weight_by g.kind f j) (weights_from (i + 1) (j + column_count g.kind) gs f) (omega arith) (weight_within g.kind f j p w) (weights_ascend gs (i + 1) (j + column_count g.kind) f p w)
 
@@ -134,36 +135,36 @@ module _ (q : ProblemView) (target : Terms) (k : IsProblem q) (u : IsUpTo (size_
 
   -- at each coordinate, a place of the run or not
   closed_sum : (c : ℕ) → In (closed_places q) c ⊎ Every (λ x. x ≢ c) (closed_places q)
-      → pos (scale_of (numbers_of ws)) *ℤ coefficient (closed_target q target) c ≡ value (weights_from 0 0 (closed_generators q) (coefficient (scaled_weights ws))) (column (closed_generators q) c)
+      → pos (scale_of (numbers_of ws)) *ℤ coefficient (closed_target q target) c ≡ value (weights_from 0 0 (closed_generators q) (coefficient (scaled_by (scale_of (numbers_of ws)) ws))) (column (closed_generators q) c)
   closed_sum c (inl i) = adds_up (closed_generators q) (closed_places q) (closed_target q target) ws a c i
   closed_sum c (inr e) =
       ap (λ x. pos (scale_of (numbers_of ws)) *ℤ x) (collapsed_none q.space.variables q.space.rates (dependences_of q) (dependences_sound q k) target c (below_size (size_of q.space) (2 ^ q.space.variables + q.space.rates) target sizes u) e)
       ∙ *ℤ-zero (pos (scale_of (numbers_of ws)))
-      ∙ sym (value_null (weights_from 0 0 (closed_generators q) (coefficient (scaled_weights ws))) (column (closed_generators q) c)
+      ∙ sym (value_null (weights_from 0 0 (closed_generators q) (coefficient (scaled_by (scale_of (numbers_of ws)) ws))) (column (closed_generators q) c)
       (λ i. ap (λ (g : Generator). coefficient g.row c) (collapsed_generator_at q.space.variables (dependences_of q) (generators q) i)
       ∙ collapsed_none q.space.variables q.space.rates (dependences_of q) (dependences_sound q k) (generator_at (generators q) i).row c (row_up_to i) e))
 
   spread_sum : (c : ℕ) → 0 < c → c < size_of q.space + 1
       → pos (scale_of (numbers_of ws)) *ℤ value target (spread_out q.space.variables (dependences_of q) (one_at c))
-      ≡ combination (weights_from 0 0 (generators q) (coefficient (scaled_weights ws))) (λ i. value (generator_at (generators q) i).row (spread_out q.space.variables (dependences_of q) (one_at c)))
+      ≡ combination (weights_from 0 0 (generators q) (coefficient (scaled_by (scale_of (numbers_of ws)) ws))) (λ i. value (generator_at (generators q) i).row (spread_out q.space.variables (dependences_of q) (one_at c)))
   spread_sum c h l =
       ap (λ x. pos (scale_of (numbers_of ws)) *ℤ x) (collapsed_at q.space.variables (dependences_of q) target c h)
       ∙ closed_sum c (listed_or_absent (closed_places q) c)
-      ∙ ap (λ ts. value ts (column (closed_generators q) c)) (weights_same q.space.variables (dependences_of q) (generators q) 0 0 (coefficient (scaled_weights ws)))
-      ∙ sym (weighted_value (generators q) (weights_from 0 0 (generators q) (coefficient (scaled_weights ws))) (spread_out q.space.variables (dependences_of q) (one_at c)) (column (closed_generators q) c)
+      ∙ ap (λ ts. value ts (column (closed_generators q) c)) (weights_same q.space.variables (dependences_of q) (generators q) 0 0 (coefficient (scaled_by (scale_of (numbers_of ws)) ws)))
+      ∙ sym (weighted_value (generators q) (weights_from 0 0 (generators q) (coefficient (scaled_by (scale_of (numbers_of ws)) ws))) (spread_out q.space.variables (dependences_of q) (one_at c)) (column (closed_generators q) c)
       (λ i. collapsed_at q.space.variables (dependences_of q) (generator_at (generators q) i).row c h ∙ sym (ap (λ (g : Generator). coefficient g.row c) (collapsed_generator_at q.space.variables (dependences_of q) (generators q) i))))
 
   module _ (fit : NumbersFit (numbers_of ws)) where
-    pub weights_canonical : Ascends 0 (closed_weights q ws).weights
-    weights_canonical = weights_ascend (generators q) 0 0 (coefficient (scaled_weights ws)) (scaled_positive (closed_generators q) (closed_places q) (closed_target q target) ws a)
-        (coefficients_within 0 (scaled_weights ws) (scaled_canonical (closed_generators q) (closed_places q) (closed_target q target) ws a fit.numbers))
+    pub weights_canonical : Ascends 0 (certificate_of (generators q) ws).weights
+    weights_canonical = weights_ascend (generators q) 0 0 (coefficient (scaled_by (scale_of (numbers_of ws)) ws)) (scaled_positive (closed_generators q) (closed_places q) (closed_target q target) ws a)
+        (coefficients_within 0 (scaled_by (scale_of (numbers_of ws)) ws) (scaled_canonical (closed_generators q) (closed_places q) (closed_target q target) ws a fit.numbers))
 
-    closed_certificate : IsCertificateOverClosed q (read_of q) target (closed_weights q ws)
+    closed_certificate : IsCertificateOverClosed q (read_of q) target (certificate_of (generators q) ws)
     closed_certificate = record {
-      order = canonical_weights_ascend 0 (closed_weights q ws).weights weights_canonical;
-      allowed = all_of (IsAllowed (generators_of q)) (closed_weights q ws).weights
-          (weights_allowed (generators q) (generators q) 0 0 (coefficient (scaled_weights ws)) (scaled_positive (closed_generators q) (closed_places q) (closed_target q target) ws a) (omega arith) (λ i l. ap (generator_at (generators q)) (zero_plus i)));
-      within = all_of (λ (t : ℕ × ℤ). IsWithin t.1) (closed_weights q ws).weights (each_within 0 (closed_weights q ws).weights weights_canonical);
+      order = canonical_weights_ascend 0 (certificate_of (generators q) ws).weights weights_canonical;
+      allowed = all_of (IsAllowed (generators_of q)) (certificate_of (generators q) ws).weights
+          (weights_allowed (generators q) (generators q) 0 0 (coefficient (scaled_by (scale_of (numbers_of ws)) ws)) (scaled_positive (closed_generators q) (closed_places q) (closed_target q target) ws a) (omega arith) (λ i l. ap (generator_at (generators q)) (zero_plus i)));
+      within = all_of (λ (t : ℕ × ℤ). IsWithin t.1) (certificate_of (generators q) ws).weights (each_within 0 (certificate_of (generators q) ws).weights weights_canonical);
       sums = spread_sum;
     }
       where
@@ -171,11 +172,11 @@ module _ (q : ProblemView) (target : Terms) (k : IsProblem q) (u : IsUpTo (size_
         zero_plus i = omega arith
 
     -- as the code has it
-    pub lift_given : (d : DependencesView) (w : CertificateView) → read_of q ≡ d → w ≡ closed_weights q ws → IsCertificateOverClosed q d target w
+    pub lift_given : (d : DependencesView) (w : CertificateView) → read_of q ≡ d → w ≡ certificate_of (generators q) ws → IsCertificateOverClosed q d target w
     lift_given d w e s = subst (λ (x : DependencesView). IsCertificateOverClosed q x target w) e (subst (IsCertificateOverClosed q (read_of q) target) (sym s) closed_certificate)
 
     -- what it gives certifies the target
-    pub lift_certifies : (d : DependencesView) (w new : CertificateView) → w ≡ closed_weights q ws → IsLiftOf q d target w new → CertifiesRow q target new
+    pub lift_certifies : (d : DependencesView) (w new : CertificateView) → w ≡ certificate_of (generators q) ws → IsLiftOf q d target w new → CertifiesRow q target new
     lift_certifies d w new s i = record {
       scale_from_one = subst (λ (x : ℤ). pos 1 ≤ℤ x) (sym (i.scale ∙ ap (λ (x : CertificateView). x.scale) s)) (scale_least (closed_generators q) (closed_places q) (closed_target q target) ws a);
       allowed = i.allowed;
@@ -184,7 +185,7 @@ module _ (q : ProblemView) (target : Terms) (k : IsProblem q) (u : IsUpTo (size_
 
     -- so does whatever is the lift by its coefficients
     pub lifted_certifies : (w : CertificateView) → IsLifted q target ws w → CertifiesRow q target w
-    lifted_certifies w l = lift_certifies (read_of q) (closed_weights q ws) w refl (canonical_lift q (read_of q) target (closed_weights q ws) k (are_dependences_of q k) u closed_certificate w l.scale l.canonical l.weights)
+    lifted_certifies w l = lift_certifies (read_of q) (certificate_of (generators q) ws) w refl (canonical_lift q (read_of q) target (certificate_of (generators q) ws) k (are_dependences_of q k) u closed_certificate w l.scale l.canonical l.weights)
 
 -- ---- what it gives is the lift
 
@@ -214,7 +215,7 @@ ascends_of from (t ∷ ts) a e w = (
 module _ (q : ProblemView) (target : Terms) (k : IsProblem q) (u : IsUpTo (size_of q.space) target) (ws : List (ℕ × Rational))
     (a : SumsUp rationals (length (closed_places q)) (length (columns (closed_generators q))) (feasibility_problem (closed_places q) (columns (closed_generators q)) (closed_target q target)) ws)
     (fit : NumbersFit (numbers_of ws)) where
-  is_lifted : (w new : CertificateView) → w ≡ closed_weights q ws → IsLiftOf q (read_of q) target w new → (dependences_of q ≡ [] → new ≡ w) → (dependences_of q ≢ [] → All (λ (p : ℕ × ℤ). p.1 ≢ pos 0) new.weights)
+  is_lifted : (w new : CertificateView) → w ≡ certificate_of (generators q) ws → IsLiftOf q (read_of q) target w new → (dependences_of q ≡ [] → new ≡ w) → (dependences_of q ≢ [] → All (λ (p : ℕ × ℤ). p.1 ≢ pos 0) new.weights)
       → (dependences_of q ≢ [] → FitsLift q (read_of q) target w) → IsLifted q target ws new
   is_lifted w new s i same some fits = record {
     scale = i.scale ∙ ap (λ (x : CertificateView). x.scale) s;
@@ -231,7 +232,7 @@ module _ (q : ProblemView) (target : Terms) (k : IsProblem q) (u : IsUpTo (size_
           let more : dependences_of q ≢ [] = λ f. list_not_empty d ds (sym e ∙ f) in
           ascends_of 0 new.weights i.order (every_of (λ (p : ℕ × ℤ). p.1 ≢ pos 0) new.weights (some more)) (λ c. subst IsWithin (sym (i.weights c)) ((fits more).weights c))
 
-  pub lift_is : (d : DependencesView) (w new : CertificateView) → read_of q ≡ d → w ≡ closed_weights q ws → IsLiftOf q d target w new → (d.list ≡ [] → new ≡ w) → (d.list ≢ [] → All (λ (p : ℕ × ℤ). p.1 ≢ pos 0) new.weights)
+  pub lift_is : (d : DependencesView) (w new : CertificateView) → read_of q ≡ d → w ≡ certificate_of (generators q) ws → IsLiftOf q d target w new → (d.list ≡ [] → new ≡ w) → (d.list ≢ [] → All (λ (p : ℕ × ℤ). p.1 ≢ pos 0) new.weights)
       → (d.list ≢ [] → FitsLift q d target w) → IsLifted q target ws new
   lift_is d w new e s = subst (λ (x : DependencesView). IsLiftOf q x target w new → (x.list ≡ [] → new ≡ w) → (x.list ≢ [] → All (λ (p : ℕ × ℤ). p.1 ≢ pos 0) new.weights) → (x.list ≢ [] → FitsLift q x target w) → IsLifted q target ws new) e (is_lifted w new s)
 

@@ -31,7 +31,7 @@ use Rattle.it_closure.specs.Collapse.{place, spread_out}
 use Rattle.it_closure.specs.Coordinates.{RiseTo}
 use Rattle.it_closure.specs.Reading.{dependences_of}
 use Rattle.it_columns.specs.Columns.{columns}
-use Rattle.it_prove.specs.Closed.{collapsed_row, collapsed_generator, closed_places, closed_generators, closed_target, spread_values, spread_point}
+use Rattle.it_prove.specs.Closed.{collapsed_row, collapsed_generator, closed_places, closed_generators, closed_target, spread_point}
 use Rattle.it_prove.specs.Steps.{terms_of_places}
 use Rattle.it_columns.specs.Scaling.{scale_of, scaled_number, scaled_point}
 use Rattle.it_columns.proofs.Scales.{scale_pos, denominators_divide}
@@ -68,11 +68,11 @@ spread_more F size c old new h is inv =
     ap (λ xs. xs ++ map F (span (c + 1) (size + 1 - (c + 1)))) is ∙ append_assoc old (F c ∷ []) (map F (span (c + 1) (size + 1 - (c + 1)))) ∙ ap (λ n. old ++ map F (span c n)) (sym one) ∙ inv
 
 -- the spread values are of the point
-pub spread_length : (n : ℕ) (ds : List Dependence) (size : ℕ) (row : Terms) → length (spread_values n ds size row) ≡ size
+pub spread_length : (n : ℕ) (ds : List Dependence) (size : ℕ) (row : Terms) → length (map (spread_out n ds (coefficient row)) (span 1 size)) ≡ size
 spread_length n ds size row = length-map (span 1 size) (λ c. coefficient row (place n ds c)) ∙ length-span 1 size
 
-pub spread_within : (n : ℕ) (ds : List Dependence) (size : ℕ) (row : Terms) → Ascends 0 row → All IsWithin (spread_values n ds size row)
-spread_within n ds size row a = all_of IsWithin (spread_values n ds size row) (every-map IsWithin (λ c. coefficient row (place n ds c)) (span 1 size) (every_all (λ c. IsWithin (coefficient row (place n ds c))) (span 1 size) (λ c. coefficients_within 0 row a (place n ds c))))
+pub spread_within : (n : ℕ) (ds : List Dependence) (size : ℕ) (row : Terms) → Ascends 0 row → All IsWithin (map (spread_out n ds (coefficient row)) (span 1 size))
+spread_within n ds size row a = all_of IsWithin (map (spread_out n ds (coefficient row)) (span 1 size)) (every-map IsWithin (λ c. coefficient row (place n ds c)) (span 1 size) (every_all (λ c. IsWithin (coefficient row (place n ds c))) (span 1 size) (λ c. coefficients_within 0 row a (place n ds c))))
 
 -- zeros left in or out, the values at the places are the same
 pairs_same : (cs : List ℕ) (vs : List ℤ) (c : ℕ) → coefficient (terms_of_places cs vs) c ≡ coefficient (zip cs vs) c
@@ -80,15 +80,15 @@ pairs_same [] vs c = refl
 pairs_same (x ∷ xs) [] c = refl
 pairs_same (x ∷ xs) (y ∷ vs) c = coefficient_some x y (terms_of_places xs vs) c ∙ ap (λ z. cond (nat_eq x c) y (pos 0) +ℤ z) (pairs_same xs vs c)
 
-spread_same : (n : ℕ) (ds : List Dependence) (size : ℕ) (cs : List ℕ) (vs : List ℤ) → spread_values n ds size (terms_of_places cs vs) ≡ spread_values n ds size (zip cs vs)
+spread_same : (n : ℕ) (ds : List Dependence) (size : ℕ) (cs : List ℕ) (vs : List ℤ) → map (spread_out n ds (coefficient (terms_of_places cs vs))) (span 1 size) ≡ map (spread_out n ds (coefficient (zip cs vs))) (span 1 size)
 spread_same n ds size cs vs = ap (λ (f : ℕ → ℤ). map (spread_out n ds f) (span 1 size)) (λ i c. pairs_same cs vs c i)
 
 -- as the code has them
 pub point_spread : (q : ProblemView) (s : Space) (ds : List Dependence) (cs : List ℕ) (qs : List Rational) (row : Terms) (values : List ℤ)
-    → s ≡ q.space → ds ≡ dependences_of q → cs ≡ closed_places q → row ≡ terms_of_places cs (scaled_point qs) → values ≡ spread_values s.variables ds (size_of s) row → values ≡ spread_point q qs
+    → s ≡ q.space → ds ≡ dependences_of q → cs ≡ closed_places q → row ≡ terms_of_places cs (scaled_point qs) → values ≡ map (spread_out s.variables ds (coefficient row)) (span 1 (size_of s)) → values ≡ spread_point q qs
 point_spread q s ds cs qs row values space list places is e =
-    e ∙ ap₂ (λ (t : Space) (es : List Dependence). spread_values t.variables es (size_of t) row) space list
-    ∙ ap (spread_values q.space.variables (dependences_of q) (size_of q.space)) (is ∙ ap (λ (xs : List ℕ). terms_of_places xs (scaled_point qs)) places)
+    e ∙ ap₂ (λ (t : Space) (es : List Dependence). map (spread_out t.variables es (coefficient row)) (span 1 (size_of t))) space list
+    ∙ ap (λ (at : Terms). map (spread_out q.space.variables (dependences_of q) (coefficient at)) (span 1 (size_of q.space))) (is ∙ ap (λ (xs : List ℕ). terms_of_places xs (scaled_point qs)) places)
     ∙ spread_same q.space.variables (dependences_of q) (size_of q.space) (closed_places q) (scaled_point qs)
 
 abbrev rational_at : List ℕ → List Rational → ℕ → Rational
@@ -128,10 +128,10 @@ every_at : {X : Type 0} (P : X → Type 0) (xs : List X) (i : ℕ) (d : X) → E
 every_at P xs i d e h = all_of P xs e i d h
 
 -- the values at all coordinates are those at their places
-value_spread : (n : ℕ) (ds : List Dependence) (size : ℕ) (at : Terms) (row : Terms) → IsUpTo size row → value row (map_of (spread_values n ds size at)) ≡ value row (spread_out n ds (coefficient at))
+value_spread : (n : ℕ) (ds : List Dependence) (size : ℕ) (at : Terms) (row : Terms) → IsUpTo size row → value row (map_of (map (spread_out n ds (coefficient at)) (span 1 size))) ≡ value row (spread_out n ds (coefficient at))
 value_spread n ds size at row u = value_of_terms row (every_of (λ (t : ℕ × ℤ). (1 ≤ t.0) × (t.0 ≤ size)) row u)
   where
-    value_of_place : (c : ℕ) → 1 ≤ c → c ≤ size → map_of (spread_values n ds size at) c ≡ coefficient at (place n ds c)
+    value_of_place : (c : ℕ) → 1 ≤ c → c ≤ size → map_of (map (spread_out n ds (coefficient at)) (span 1 size)) c ≡ coefficient at (place n ds c)
     value_of_place zero h l = absurd (omega arith)
     value_of_place (suc c) h l =
         get_or-map (λ c. coefficient at (place n ds c)) (span 1 size) c 0 (pos 0) (omega (arith, length-span 1 size))
@@ -140,7 +140,7 @@ value_spread n ds size at row u = value_of_terms row (every_of (λ (t : ℕ × �
         one_plus : (c : ℕ) → 1 + c ≡ suc c
         one_plus c = omega arith
 
-    value_of_terms : (ts : Terms) → Every (λ (t : ℕ × ℤ). (1 ≤ t.0) × (t.0 ≤ size)) ts → value ts (map_of (spread_values n ds size at)) ≡ value ts (spread_out n ds (coefficient at))
+    value_of_terms : (ts : Terms) → Every (λ (t : ℕ × ℤ). (1 ≤ t.0) × (t.0 ≤ size)) ts → value ts (map_of (map (spread_out n ds (coefficient at)) (span 1 size))) ≡ value ts (spread_out n ds (coefficient at))
     value_of_terms [] b = refl
     value_of_terms (t ∷ ts) b = ap₂ (λ x y. t.1 *ℤ x +ℤ y) (value_of_place t.0 b.0.0 b.0.1) (value_of_terms ts b.1)
 
@@ -156,7 +156,7 @@ module _ (q : ProblemView) (target : Terms) (qs : List Rational) (k : IsProblem 
   closed_places_rise = coords_rise q.space.variables q.space.rates (dependences_of q) (dependences_sound q k)
 
   whole_at : (c : ℕ) → integer (coefficient values c) ≡ times (integer (pos (scale_of qs))) (rational_at (closed_places q) qs c)
-  whole_at = whole_found (scale_of qs) 1 (2 ^ q.space.variables + q.space.rates) (closed_places q) qs closed_places_rise (denominators_divide 1 qs)
+  whole_at = whole_found (scale_of qs) 1 (2 ^ q.space.variables + q.space.rates) (closed_places q) qs closed_places_rise (denominators_divide qs)
 
   rows : Every (λ g. IsUpTo (size_of q.space) g.row) (generators q)
   rows = rows_of_space q.space.variables (size_of q.space) q.constraints (omega arith) k.rows
@@ -186,7 +186,7 @@ module _ (q : ProblemView) (target : Terms) (qs : List Rational) (k : IsProblem 
   closed_met : Every (λ g. Meets g.kind (value g.row (coefficient values))) (closed_generators q)
   closed_met = columns_met (closed_generators q) (coefficient values) (every_of (λ r. pos 0 ≤ℤ value r (coefficient values)) (columns (closed_generators q))
       (λ j d l. subst (λ r. pos 0 ≤ℤ value r (coefficient values)) (get_or_default (columns (closed_generators q)) j [] d l)
-      (least_scaled (scale_of qs) (coefficient values) (rational_at (closed_places q) qs) (scale_pos 1 qs (omega arith)) (get_or (columns (closed_generators q)) j [])
+      (least_scaled (scale_of qs) (coefficient values) (rational_at (closed_places q) qs) (scale_pos qs) (get_or (columns (closed_generators q)) j [])
       (scaled_row (get_or (columns (closed_generators q)) j [])) (values_separate.0 j l))))
 
   value_same : (row : Terms) → IsUpTo (size_of q.space) row → value (collapsed_row q.space.variables (dependences_of q) row) (coefficient values) ≡ value row (map_of (spread_point q qs))
@@ -206,7 +206,7 @@ module _ (q : ProblemView) (target : Terms) (qs : List Rational) (k : IsProblem 
         polymatroid = both.0;
         met = both.1;
         violated = subst (λ (z : ℤ). z ≤ℤ neg_ℤ (pos 1)) (value_same target u)
-            (below_scaled (scale_of qs) (coefficient values) (rational_at (closed_places q) qs) (scale_pos 1 qs (omega arith)) (closed_target q target) (scaled_row (closed_target q target)) values_separate.1);
+            (below_scaled (scale_of qs) (coefficient values) (rational_at (closed_places q) qs) (scale_pos qs) (closed_target q target) (scaled_row (closed_target q target)) values_separate.1);
       }
 
 -- the coordinates as the code has them

@@ -18,7 +18,7 @@ use Rattle.it_space.proofs.EveryLemmas.{all_of, every-map}
 use Rattle.it_tableau.specs.Operations.{rationals}
 use Rattle.it_tableau.specs.Problems.{feasibility_problem}
 use Rattle.it_run.specs.Readings.{SumsUp, Separates}
-use Rattle.it_run.specs.Runs.{RunEndView, IsWithinBudget}
+use Rattle.it_run.specs.Runs.{RunEndView}
 use Rattle.it_run.specs.Runs.RunEndView.{Weights, Point, Pivots, Width}
 use Rattle.it_run.specs.Solving.{RunsTo}
 use Rattle.it_run.proofs.RunLemmas.{EndIsRight}
@@ -38,7 +38,7 @@ use Rattle.it_check.proofs.Truth.{valid_yes_is, valid_no_is}
 use Rattle.it_columns.specs.Columns.{columns}
 use Rattle.it_prove.specs.ClosedProblems.{SameRows}
 use Rattle.it_prove.specs.Closed.{closed_places, closed_generators, closed_target, CollapsesFit, spread_point}
-use Rattle.it_columns.specs.Scaling.{EachFits, NumbersFit, scaled_number}
+use Rattle.it_columns.specs.Scaling.{NumbersFit, scaled_number}
 use Rattle.it_prove.specs.ProofViews.{ProofView, Yes, No, Undecided, IsLifted, LiftedFit, Follows, Runs, EndsWith, NeverOutOfSteps, OneProofView, ProvenAscends, proof_view}
 use Rattle.it_prove.specs.declared.types.Proof.{Proof}
 use Rattle.it_prove.proofs.PointLemmas.{point_right}
@@ -49,11 +49,11 @@ module _ (q : ProblemView) (target : Terms) (k : IsProblem q) (u : IsUpTo (size_
 
   module _ (ws : List (ℕ × Rational)) (w : CertificateView) (lift : IsLifted q target ws w) (certifies : CertifiesRow q target w) where
     pub proven_follows : LiftedFit q target ws → Valid ≡ yes_verdict (generators q) (size_of q.space) target w → Follows q target (Weights ws) (Yes w)
-    proven_follows fit e = inl (w, lift, record { lifted = fit; check = ((valid_yes_is q target w k u).0 (sym e)).1 }, refl)
+    proven_follows fit e = inl (w, lift, (fit, ((valid_yes_is q target w k u).0 (sym e)).1), refl)
 
     pub wide_certificate : (yes_verdict (generators q) (size_of q.space) target w ≡ Valid → ⊥) → Follows q target (Weights ws) (Undecided Scale)
     wide_certificate n = inr (
-      (λ v l f. n ((valid_yes_is q target w k u).1 (certifies, subst (CertificateFits q target) (one_lift q target ws v w l lift) f.check))),
+      (λ v l f. n ((valid_yes_is q target w k u).1 (certifies, subst (CertificateFits q target) (one_lift q target ws v w l lift) f.1))),
       refl,
     )
 
@@ -65,21 +65,17 @@ module _ (q : ProblemView) (target : Terms) (k : IsProblem q) (u : IsUpTo (size_
     values_refute = subst (RefutesRow q target) (sym same) (point_right q target qs k u s)
 
     pub refuted_follows : Valid ≡ no_verdict (length (elementals q.space.variables)) (generators q) target (map_of values) → Follows q target (Point qs) (No values)
-    refuted_follows e = inl (record { numbers = fit; check = subst (PointFits q target) same ((valid_no_is q target values k u values_refute.complete).0 (sym e)).1 }, ap No same)
+    refuted_follows e = inl ((fit, subst (PointFits q target) same ((valid_no_is q target values k u values_refute.complete).0 (sym e)).1), ap No same)
 
     pub wide_point : (no_verdict (length (elementals q.space.variables)) (generators q) target (map_of values) ≡ Valid → ⊥) → Follows q target (Point qs) (Undecided Scale)
-    wide_point n = inr ((λ f. n ((valid_no_is q target values k u values_refute.complete).1 (values_refute, subst (PointFits q target) (sym same) f.check))), refl)
+    wide_point n = inr ((λ f. n ((valid_no_is q target values k u values_refute.complete).1 (values_refute, subst (PointFits q target) (sym same) f.1))), refl)
 
     pub point_size : length values ≡ size_of q.space
     point_size = values_refute.complete
 
 -- scaled numbers that fit are within the limit
-pub scaled_within : (l : ℕ) (qs : List Rational) (values : List ℤ) → values ≡ map (scaled_number l) qs → EachFits l qs → All IsWithin values
-scaled_within l qs values e f = subst (All IsWithin) (sym e) (all_of IsWithin (map (scaled_number l) qs) (every-map IsWithin (scaled_number l) qs (numbers_within qs f)))
-  where
-    numbers_within : (qs : List Rational) → EachFits l qs → Every (λ q. IsWithin (scaled_number l q)) qs
-    numbers_within [] f = tt
-    numbers_within (q ∷ qs) f = (f.0, numbers_within qs f.1)
+pub scaled_within : (l : ℕ) (qs : List Rational) (values : List ℤ) → values ≡ map (scaled_number l) qs → Every (λ q. IsWithin (scaled_number l q)) qs → All IsWithin values
+scaled_within l qs values e f = subst (All IsWithin) (sym e) (all_of IsWithin (map (scaled_number l) qs) (every-map IsWithin (scaled_number l) qs f))
 
 -- ---- the run
 
@@ -215,8 +211,8 @@ proven_ascends q target budget w e = for_each e.end e.follows
 
 -- ---- without a budget
 
-run_within_budget : (q : ProblemView) (target : Terms) (e : RunEndView (List (ℕ × Rational)) (List Rational)) → Runs q target None e → IsWithinBudget e
-run_within_budget q target e (inl a) = subst IsWithinBudget (sym a.1) tt
+run_within_budget : (q : ProblemView) (target : Terms) (e : RunEndView (List (ℕ × Rational)) (List Rational)) → Runs q target None e → (k : ℕ) → e ≢ Pivots k
+run_within_budget q target e (inl a) = λ k p. let h = a.1 in cc
 run_within_budget q target e (inr a) = ends_within_budget (closed_places q) (columns (closed_generators q)) (closed_target q target) e a.1
 
 pub never_out_of_steps : NeverOutOfSteps
@@ -234,12 +230,12 @@ never_out_of_steps q target k e = for_each e.end e.follows (run_within_budget q 
     pivots_not_width : {j : ℕ} → Undecided (causes.Pivots k) ≡ Undecided (causes.Width j) → ⊥
     pivots_not_width e = cc
 
-    for_each : (end : RunEndView (List (ℕ × Rational)) (List Rational)) → Follows q target end (Undecided (causes.Pivots k)) → IsWithinBudget end → ⊥
+    for_each : (end : RunEndView (List (ℕ × Rational)) (List Rational)) → Follows q target end (Undecided (causes.Pivots k)) → ((j : ℕ) → end ≢ Pivots j) → ⊥
     for_each (Weights ws) (inl a) i = pivots_not_yes a.3
     for_each (Weights ws) (inr a) i = pivots_not_scale a.1
     for_each (Point qs) (inl a) i = pivots_not_no a.1
     for_each (Point qs) (inr a) i = pivots_not_scale a.1
-    for_each (Pivots j) a i = i
+    for_each (Pivots j) a i = i j refl
     for_each (Width j) a i = pivots_not_width a
 
 pub never_pivots : {E : Type 0} (q : ProblemView) (target : Terms) (budget : Option ℕ) (r : Result Proof E) → IfOk r (λ proof. EndsWith q target budget (proof_view proof))

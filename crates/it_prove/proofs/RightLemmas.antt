@@ -32,9 +32,9 @@ module _ (q : ProblemView) (target : Terms) where
       right_by field_ℚ m n (StepFits m n) (feasibility_problem (closed_places q) (columns (closed_generators q)) (closed_target q target)) budget end a.1
 
   right_outcome : IsProblem q → IsUpTo (size_of q.space) target → (end : RunEndView (List (ℕ × Rational)) (List Rational)) (o : ProofView) → IsRightEnd end → Follows q target end o → IsRightProof q target o
-  right_outcome k u (Weights ws) o r (inl (w, lift, fit, is)) = subst (IsRightProof q target) (sym is) (lifted_certifies q target k u ws r fit.lifted.numbers w lift, fit.check)
+  right_outcome k u (Weights ws) o r (inl (w, lift, fit, is)) = subst (IsRightProof q target) (sym is) (lifted_certifies q target k u ws r fit.0.numbers w lift, fit.1)
   right_outcome k u (Weights ws) o r (inr a) = subst (IsRightProof q target) (sym a.1) tt
-  right_outcome k u (Point qs) o r (inl a) = subst (IsRightProof q target) (sym a.1) (point_right q target qs k u r, a.0.check)
+  right_outcome k u (Point qs) o r (inl a) = subst (IsRightProof q target) (sym a.1) (point_right q target qs k u r, a.0.1)
   right_outcome k u (Point qs) o r (inr a) = subst (IsRightProof q target) (sym a.1) tt
   right_outcome k u (Pivots j) o r e = subst (IsRightProof q target) (sym e) tt
   right_outcome k u (Width j) o r e = subst (IsRightProof q target) (sym e) tt

@@ -9,7 +9,7 @@ use Rattle.it_elemental.specs.Generators.{Generator, of_elemental, of_constraint
 use Rattle.it_closure.specs.declared.dependences.Dependence.{Dependence}
 use Rattle.it_closure.specs.Reading.{dependences_of}
 use Rattle.it_closure.specs.Sizes.{column_count, constraint_columns, table_size}
-use Rattle.it_prove.specs.Closed.{collapsed_row, collapsed_generators, closed_places, closed_generators}
+use Rattle.it_prove.specs.Closed.{collapsed_generator, collapsed_row, closed_places, closed_generators}
 use Rattle.it_columns.specs.Columns.{columns_by, columns}
 use Rattle.it_prove.specs.ProofViews.{SizeIsOfStart}
 
@@ -18,12 +18,12 @@ length_by_kind Inequality row rest = omega arith
 length_by_kind Equation row rest = omega arith
 
 module _ (n : ℕ) (ds : List Dependence) where
-  length-constraints : (cs : List Constraint) → length (columns (collapsed_generators n ds (map of_constraint cs))) ≡ constraint_columns cs
+  length-constraints : (cs : List Constraint) → length (columns (map (collapsed_generator n ds) (map of_constraint cs))) ≡ constraint_columns cs
   unfolding columns
   length-constraints [] = refl
-  length-constraints (c ∷ cs) = length_by_kind c.kind (collapsed_row n ds c.row) (columns (collapsed_generators n ds (map of_constraint cs))) ∙ ap (λ k. column_count c.kind + k) (length-constraints cs)
+  length-constraints (c ∷ cs) = length_by_kind c.kind (collapsed_row n ds c.row) (columns (map (collapsed_generator n ds) (map of_constraint cs))) ∙ ap (λ k. column_count c.kind + k) (length-constraints cs)
 
-  length-elementals : (m : ℕ) (es : List Elemental) (gs : List Generator) → length (columns (collapsed_generators n ds (map (of_elemental m) es ++ gs))) ≡ length es + length (columns (collapsed_generators n ds gs))
+  length-elementals : (m : ℕ) (es : List Elemental) (gs : List Generator) → length (columns (map (collapsed_generator n ds) (map (of_elemental m) es ++ gs))) ≡ length es + length (columns (map (collapsed_generator n ds) gs))
   unfolding columns
   length-elementals m [] gs = omega arith
   length-elementals m (e ∷ es) gs = omega (arith, length-elementals m es gs)

@@ -20,16 +20,17 @@ use Rattle.it_elemental.proofs.GeneratorLemmas.{every_or}
 use Rattle.it_closure.specs.Collapse.{CollapseFits}
 use Rattle.it_closure.specs.Coordinates.{RiseTo}
 use Rattle.it_closure.specs.Reading.{dependences_of}
+use Rattle.it_tableau.specs.TableauViews.{start_of}
 use Rattle.it_tableau.specs.Operations.{rationals}
 use Rattle.it_tableau.specs.FieldOperations.{sum_to}
 use Rattle.it_tableau.specs.Fits.{StartFits}
-use Rattle.it_tableau.specs.Problems.{feasibility_problem, start_of}
+use Rattle.it_tableau.specs.Problems.{feasibility_problem}
 use Rattle.it_tableau.specs.SimplexTables as simplex
 use Rattle.it_run.specs.Choice.{IsDone, IsStuck, next}
 use Rattle.it_run.specs.Readings.{weights, point}
 use Rattle.it_run.specs.Solving.{StepFits, RunsTo}
 use Rattle.it_tableau.specs.SimplexTables.{SimplexTable, start_row, sign}
-use Rattle.it_run.specs.Runs.{RunEndView, EndsAs, clip_end}
+use Rattle.it_run.specs.Runs.{RunEndView, EndsAs}
 use Rattle.it_run.specs.Runs.RunEndView.{Weights, Point, Pivots, Width}
 use Rattle.it_run.proofs.RowValues.{whole_plus}
 use Rattle.it_prove.specs.Closed.{collapsed_row, collapsed_generator, closed_places, closed_generators, closed_target, CollapsesFit}
@@ -111,34 +112,24 @@ module _ (coords : List ℕ) (cols : List Terms) (t : Terms) (few : length coord
 
 -- ---- the run
 
+same_step : {W P : Type 0} (j : ℕ) → (let x : RunEndView W P = Width zero in x) ≡ Width j → zero ≡ j
+same_step j q = cc
+
 never_zero : {S W P : Type 0} (IsDone IsStuck Fits : S → Type 0) (next : S → S) (weights : S → W) (point : S → P) (left k : ℕ) (s : S) → EndsAs IsDone IsStuck Fits next weights point left k s (Width zero) → ⊥
 never_zero D T F next ws pt zero k s (inl a) = absurd (cc)
 never_zero D T F next ws pt zero k s (inr (inl a)) = absurd (cc)
 never_zero D T F next ws pt zero k s (inr (inr a)) = absurd (cc)
 never_zero D T F next ws pt (suc left) k s (inl a) = absurd (cc)
 never_zero D T F next ws pt (suc left) k s (inr (inl a)) = absurd (cc)
-never_zero D T F next ws pt (suc left) k s (inr (inr (d, t, inl a))) = absurd (cc)
+never_zero D T F next ws pt (suc left) k s (inr (inr (d, t, inl a))) = let q : zero ≡ min (suc k) 4294967295 = same_step (min (suc k) 4294967295) a.1 in absurd (omega arith)
 never_zero D T F next ws pt (suc left) k s (inr (inr (d, t, inr a))) = never_zero D T F next ws pt left (suc k) (next s) a.1
-
--- an end that is that of step 0 when clipped is that of step 0
-zero_before_clip : (e : RunEndView (List (ℕ × Rational)) (List Rational)) → Width zero ≡ clip_end e → e ≡ Width zero
-zero_before_clip (Weights w) q = absurd (cc)
-zero_before_clip (Point w) q = absurd (cc)
-zero_before_clip (Pivots k) q = absurd (cc)
-zero_before_clip (Width k) q = by_number k (same_step (min k 4294967295) q)
-  where
-    same_step : (j : ℕ) → (let x : RunEndView (List (ℕ × Rational)) (List Rational) = Width zero in x) ≡ Width j → zero ≡ j
-    same_step j q = cc
-
-    by_number : (k : ℕ) → zero ≡ min k 4294967295 → (let x : RunEndView (List (ℕ × Rational)) (List Rational) = Width k in x) ≡ Width zero
-    by_number k q = let s : k ≡ zero = omega arith in ap (λ x. let r : RunEndView (List (ℕ × Rational)) (List Rational) = Width x in r) s
 
 never_run : (m n : ℕ) (p : simplex.FeasibilityProblem Rational) (budget : Option ℕ) (t : SimplexTable Rational) (e : RunEndView (List (ℕ × Rational)) (List Rational)) → e ≡ Width zero → RunsTo m n p budget t e → ⊥
 never_run m n p (Some steps) t e z r =
     never_zero (IsDone rationals m n) (IsStuck rationals m n) (StepFits m n) (next rationals m n) (weights rationals m n) (point rationals m n p) steps zero t (subst (RunsTo m n p (Some steps) t) z r)
 never_run m n p None t e z r =
-    never_zero (IsDone rationals m n) (IsStuck rationals m n) (StepFits m n) (next rationals m n) (weights rationals m n) (point rationals m n p) r.budget zero t
-    (subst (RunsTo m n p (Some r.budget) t) (zero_before_clip r.end (sym z ∙ r.is_clipped)) r.runs)
+    never_zero (IsDone rationals m n) (IsStuck rationals m n) (StepFits m n) (next rationals m n) (weights rationals m n) (point rationals m n p) r.0 zero t
+    (subst (RunsTo m n p (Some r.0) t) z r.1)
 
 pub never_at_start : NeverAtStart
 never_at_start q target budget k s e = by_cases e.run (zero_end e.end e.follows)

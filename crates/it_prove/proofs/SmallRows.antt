@@ -16,7 +16,7 @@ use Rattle.it_closure.specs.declared.dependences.Dependence.{Dependence}
 use Rattle.it_closure.specs.Collapse.{PlaceSumsFit, CollapseFits, place, placed_terms}
 use Rattle.it_space.specs.Sums.{plus_at}
 use Rattle.it_prove.specs.Closed.{collapsed_row}
-use Rattle.it_columns.specs.Columns.{columns_by, columns_of, columns}
+use Rattle.it_columns.specs.Columns.{columns_by, columns}
 use Rattle.it_space.proofs.TermLemmas.{coefficient-negated_terms}
 
 pub abs_add : (x y : ℤ) (a b : ℕ) → unsigned_abs x ≤ a → unsigned_abs y ≤ b → unsigned_abs (x +ℤ y) ≤ a + b
@@ -110,7 +110,7 @@ by_kind Equation r s = (s, ((λ c. subst (λ (z : ℤ). unsigned_abs z ≤ 1040 
 
 pub columns_small : (gs : List Generator) → Every (λ g. SmallRow g.row) gs → Every SmallRow (columns gs)
 unfolding columns
-columns_small gs e = every-flat_map SmallRow columns_of gs (every-same (λ g. SmallRow g.row) (λ g. Every SmallRow (columns_of g)) gs (λ g s. by_kind g.kind g.row s) e)
+columns_small gs e = every-flat_map SmallRow (λ (g : Generator). columns_by g.kind g.row) gs (every-same (λ g. SmallRow g.row) (λ g. Every SmallRow (columns_by g.kind g.row)) gs (λ g s. by_kind g.kind g.row s) e)
 
 -- a row turned stays small
 pub small-negated_terms : (row : Terms) → IsSmall row → IsSmall (negated_terms row)

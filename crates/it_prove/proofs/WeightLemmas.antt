@@ -7,6 +7,7 @@ use Rattle.it_rational.specs.Rational as Q
 use Rattle.it_rational.proofs.RationalLaws.{ring_ℚ}
 use Rattle.it_space.specs.Rows.{Terms, coefficient, value, Ascends}
 use Rattle.std.specs.List.{AllByRecursion as Every}
+use Rattle.it_number.specs.Limit.{IsWithin}
 use Rattle.it_space.proofs.EveryLemmas.{all_of}
 use Rattle.it_tableau.specs.Operations.{rationals}
 use Rattle.it_tableau.specs.Problems.{feasibility_problem}
@@ -15,9 +16,9 @@ use Rattle.it_run.proofs.RowValues.{sums_up, whole_plus}
 use Rattle.it_elemental.specs.Generators.{Generator, generator_at}
 use Rattle.it_check.specs.Verdicts.{column}
 use Rattle.it_columns.specs.Columns.{columns}
-use Rattle.it_prove.specs.Weights.{weights_from}
-use Rattle.it_columns.specs.Scaling.{EachFits, scale_of, scaled_number}
-use Rattle.it_prove.specs.Weights.{scaled_by, scaled_weights, numbers_of}
+use Rattle.it_prove.proofs.GeneratorWeights.{weights_from}
+use Rattle.it_columns.specs.Scaling.{scale_of, scaled_number}
+use Rattle.it_prove.specs.Weights.{scaled_by, numbers_of}
 use Rattle.it_columns.proofs.Scales.{scale_pos, denominators_divide}
 use Rattle.it_columns.proofs.Wholes.{scaled_above, whole_same, whole_scaled, whole_times}
 use Rattle.it_prove.proofs.GroupLemmas.{value_total, total_by_generators}
@@ -42,7 +43,7 @@ scaled_sum l ws f t d e = whole_same (value (scaled_by l ws) f) (pos l *ℤ t)
 
 -- so many of the weights are scaled, as the code puts them one after the other
 pub record AreTerms (l : ℕ) (ws : List (ℕ × Rational)) (i : ℕ) (out : Terms) : Type 0 where
-  pub fits : EachFits l (numbers_of (drop i ws)) ↔ EachFits l (numbers_of ws)
+  pub fits : Every (λ q. IsWithin (scaled_number l q)) (numbers_of (drop i ws)) ↔ Every (λ q. IsWithin (scaled_number l q)) (numbers_of ws)
   pub same : out ++ scaled_by l (drop i ws) ≡ scaled_by l ws
 
 -- each scaled weight is of a column and above 0
@@ -59,7 +60,7 @@ coefficient_not_negative l n from (w ∷ ws) h d a j = by_test (eqb w.0 j) (scal
     by_test false g k = omega (arith, ints)
 
 -- as a row over the columns they are canonical
-pub scaled_terms_ascend : (l n from : ℕ) (ws : List (ℕ × Rational)) → 0 < l → Every (λ q. q.den ∣ l) (numbers_of ws) → EachFits l (numbers_of ws) → AreWeights rationals n from ws → Ascends from (scaled_by l ws)
+pub scaled_terms_ascend : (l n from : ℕ) (ws : List (ℕ × Rational)) → 0 < l → Every (λ q. q.den ∣ l) (numbers_of ws) → Every (λ q. IsWithin (scaled_number l q)) (numbers_of ws) → AreWeights rationals n from ws → Ascends from (scaled_by l ws)
 scaled_terms_ascend l n from [] h d f a = tt
 scaled_terms_ascend l n from (w ∷ ws) h d f a = (a.0, not_zero (scaled_number l w.1) (scaled_above l w.1 h d.0 a.2), f.0, ascends_from_next (scaled_terms_ascend l n (suc w.0) ws h d.1 f.1 a.3))
   where
@@ -85,12 +86,12 @@ columns_below m n from ws h a = all_of (λ (w : ℕ × Rational). w.0 < m) ws (e
 
 module _ (n l : ℕ) (ws : List (ℕ × Rational)) (e : l ≡ scale_of (numbers_of ws)) (a : AreWeights rationals n 0 ws) where
   found_divides : Every (λ q. q.den ∣ l) (numbers_of ws)
-  found_divides = subst (λ l. Every (λ q. q.den ∣ l) (numbers_of ws)) (sym e) (denominators_divide 1 (numbers_of ws))
+  found_divides = subst (λ l. Every (λ q. q.den ∣ l) (numbers_of ws)) (sym e) (denominators_divide (numbers_of ws))
 
   found_some : 0 < l
-  found_some = subst (λ l. 0 < l) (sym e) (scale_pos 1 (numbers_of ws) (omega arith))
+  found_some = subst (λ l. 0 < l) (sym e) (scale_pos (numbers_of ws))
 
-  pub terms_canonical : (ts : Terms) → ts ≡ scaled_by l ws → EachFits l (numbers_of ws) → Ascends 0 ts
+  pub terms_canonical : (ts : Terms) → ts ≡ scaled_by l ws → Every (λ q. IsWithin (scaled_number l q)) (numbers_of ws) → Ascends 0 ts
   terms_canonical ts s f = subst (Ascends 0) (sym s) (scaled_terms_ascend l n 0 ws found_some found_divides f a)
 
   pub terms_positive : (ts : Terms) → ts ≡ scaled_by l ws → (j : ℕ) → pos 0 ≤ℤ coefficient ts j
@@ -99,22 +100,22 @@ module _ (n l : ℕ) (ws : List (ℕ × Rational)) (e : l ≡ scale_of (numbers_
 module _ (gs : List Generator) (coords : List ℕ) (target : Terms) (ws : List (ℕ × Rational))
     (a : SumsUp rationals (length coords) (length (columns gs)) (feasibility_problem coords (columns gs) target) ws) where
   scaled_divide : Every (λ q. q.den ∣ scale_of (numbers_of ws)) (numbers_of ws)
-  scaled_divide = denominators_divide 1 (numbers_of ws)
+  scaled_divide = denominators_divide (numbers_of ws)
 
   scale_some : 0 < scale_of (numbers_of ws)
-  scale_some = scale_pos 1 (numbers_of ws) (omega arith)
+  scale_some = scale_pos (numbers_of ws)
 
   zero_plus : (k : ℕ) → 0 + k ≡ k
   zero_plus k = omega arith
 
   -- at each coordinate of the list
   pub adds_up : (c : ℕ) → ((k : ℕ) × (k < length coords) × (get_or coords k 0 ≡ c))
-      → pos (scale_of (numbers_of ws)) *ℤ coefficient target c ≡ value (weights_from 0 0 gs (coefficient (scaled_weights ws))) (column gs c)
+      → pos (scale_of (numbers_of ws)) *ℤ coefficient target c ≡ value (weights_from 0 0 gs (coefficient (scaled_by (scale_of (numbers_of ws)) ws))) (column gs c)
   adds_up c i =
       sym (scaled_sum (scale_of (numbers_of ws)) ws (λ j. coefficient (get_or (columns gs) j []) c) (coefficient target c) scaled_divide
       (sums_up coords (columns gs) target ws a c i))
-      ∙ value_total c (columns gs) (scaled_weights ws) (terms_of_columns (scale_of (numbers_of ws)) (length (columns gs)) 0 ws a.ordered)
-      ∙ total_by_generators c gs gs 0 0 (coefficient (scaled_weights ws)) (λ k l. ap (generator_at gs) (zero_plus k))
+      ∙ value_total c (columns gs) (scaled_by (scale_of (numbers_of ws)) ws) (terms_of_columns (scale_of (numbers_of ws)) (length (columns gs)) 0 ws a.ordered)
+      ∙ total_by_generators c gs gs 0 0 (coefficient (scaled_by (scale_of (numbers_of ws)) ws)) (λ k l. ap (generator_at gs) (zero_plus k))
 
   pub scale_least : pos 1 ≤ℤ pos (scale_of (numbers_of ws))
   scale_least = least (scale_of (numbers_of ws)) scale_some
@@ -122,8 +123,8 @@ module _ (gs : List Generator) (coords : List ℕ) (target : Terms) (ws : List (
       least : (l : ℕ) → 0 < l → pos 1 ≤ℤ pos l
       least l h = omega (arith, ints)
 
-  pub scaled_positive : (j : ℕ) → pos 0 ≤ℤ coefficient (scaled_weights ws) j
+  pub scaled_positive : (j : ℕ) → pos 0 ≤ℤ coefficient (scaled_by (scale_of (numbers_of ws)) ws) j
   scaled_positive = coefficient_not_negative (scale_of (numbers_of ws)) (length (columns gs)) 0 ws scale_some scaled_divide a.ordered
 
-  pub scaled_canonical : EachFits (scale_of (numbers_of ws)) (numbers_of ws) → Ascends 0 (scaled_weights ws)
+  pub scaled_canonical : Every (λ q. IsWithin (scaled_number (scale_of (numbers_of ws)) q)) (numbers_of ws) → Ascends 0 (scaled_by (scale_of (numbers_of ws)) ws)
   scaled_canonical f = scaled_terms_ascend (scale_of (numbers_of ws)) (length (columns gs)) 0 ws scale_some scaled_divide f a.ordered

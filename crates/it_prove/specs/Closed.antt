@@ -22,17 +22,13 @@ collapsed_row n ds row = filter (λ t. nat_lt 0 t.0) (placed_terms n ds row)
 abbrev pub collapsed_generator : ℕ → List Dependence → Generator → Generator
 collapsed_generator n ds g = record { kind = g.kind; row = collapsed_row n ds g.row }
 
--- those of all, in order
-abbrev pub collapsed_generators : ℕ → List Dependence → List Generator → List Generator
-collapsed_generators n ds gs = map (collapsed_generator n ds) gs
-
 -- the coordinates of the run
 abbrev pub closed_places : ProblemView → List ℕ
 closed_places q = closed_coordinates q.space.variables q.space.rates (dependences_of q)
 
 -- the generators of a problem over closed sets, which give the run its columns
 abbrev pub closed_generators : ProblemView → List Generator
-closed_generators q = collapsed_generators q.space.variables (dependences_of q) (generators q)
+closed_generators q = map (collapsed_generator q.space.variables (dependences_of q)) (generators q)
 
 -- the target over closed sets
 abbrev pub closed_target : ProblemView → Terms → Terms
@@ -43,11 +39,7 @@ pub record CollapsesFit (q : ProblemView) (target : Terms) : Type 0 where
   pub each : All (λ g. CollapseFits q.space.variables (dependences_of q) g.row) (generators q)
   pub own : CollapseFits q.space.variables (dependences_of q) target
 
--- the values at the coordinates from 1 on by those at the places: a set has its closure's, and where that is the closure of the
--- empty set it has 0
-abbrev pub spread_values : ℕ → List Dependence → ℕ → Terms → List ℤ
-spread_values n ds size places = map (spread_out n ds (coefficient places)) (span 1 size)
-
--- a point of the run made one over all coordinates: scaled to whole numbers, then spread out
+-- A point of the run made one over all coordinates: scaled to whole numbers, then spread out. A set has the value of its closure, and
+-- 0 where that is the closure of the empty set.
 abbrev pub spread_point : ProblemView → List Rational → List ℤ
-spread_point q qs = spread_values q.space.variables (dependences_of q) (size_of q.space) (zip (closed_places q) (scaled_point qs))
+spread_point q qs = map (spread_out q.space.variables (dependences_of q) (coefficient (zip (closed_places q) (scaled_point qs)))) (span 1 (size_of q.space))

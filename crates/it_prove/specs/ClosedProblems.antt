@@ -1,5 +1,5 @@
 -- What is made once of a problem, for runs about many targets under it and under the problems that begin with its generators.
-use Rattle.std.specs.Prelude.{◌≡◌, ℕ, ◌<◌, ◌≤◌, List, [], ◌∷◌, length, take}
+use Rattle.std.specs.Prelude.{◌≡◌, ℕ, ◌<◌, ◌≤◌, List, [], ◌∷◌, length, take, map}
 use Rattle.it_space.specs.Problems.{ProblemView}
 use Rattle.it_space.specs.Rows.{Terms, coefficient}
 use Rattle.it_elemental.specs.Generators.{Generator, generators, generator_at}
@@ -7,7 +7,7 @@ use Rattle.it_closure.specs.declared.dependences.Dependence.{Dependence}
 use Rattle.it_closure.specs.Collapse.{CollapseFits}
 use Rattle.it_closure.specs.Reading.{dependences_of}
 use Rattle.it_columns.specs.Columns.{columns}
-use Rattle.it_prove.specs.Closed.{closed_places, collapsed_generators}
+use Rattle.it_prove.specs.Closed.{collapsed_generator, closed_places}
 use Rattle.it_prove.specs.declared.closed.ClosedProblem.{ClosedProblem}
 
 -- rows with the same coefficients, one by one
@@ -19,7 +19,7 @@ SameRows (r ∷ rs) (s ∷ ss) = ((c : ℕ) → coefficient r c ≡ coefficient 
 
 -- rows are the columns over closed sets of the first i generators, and the partial sums of their collapse are within the limit
 pub record AreColumns (n : ℕ) (ds : List Dependence) (gs : List Generator) (i : ℕ) (rows : List Terms) : Type 0 where
-  pub same : SameRows rows (columns (collapsed_generators n ds (take i gs)))
+  pub same : SameRows rows (columns (map (collapsed_generator n ds) (take i gs)))
   pub fits : (j : ℕ) → j < i → CollapseFits n ds (generator_at gs j).row
 
 -- the dependences and the coordinates are those of the problem, and the columns those of some of its first generators

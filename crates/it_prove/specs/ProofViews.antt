@@ -39,39 +39,28 @@ proof_view (proofs.Yes c) = Yes (certificate_view c)
 proof_view (proofs.No p) = No p
 proof_view (proofs.Undecided cause) = Undecided cause
 
--- the certificate over closed sets, by the weights of the columns
-abbrev pub closed_weights : ProblemView → List (ℕ × Rational) → CertificateView
-closed_weights q ws = certificate_of (generators q) ws
-
--- the lift of the certificate: the scale stays, and each generator has its weight with all that the lift adds; they ascend, and
--- none is 0
+-- the lift of the certificate over closed sets, which has the weights of the columns: the scale stays, and each generator has its
+-- weight with all that the lift adds; they ascend, and none is 0
 pub record IsLifted (q : ProblemView) (target : Terms) (ws : List (ℕ × Rational)) (w : CertificateView) : Type 0 where
-  pub scale : w.scale ≡ (closed_weights q ws).scale
+  pub scale : w.scale ≡ (certificate_of (generators q) ws).scale
   pub canonical : IsCanonical w.weights
-  pub weights : (i : ℕ) → coefficient w.weights i ≡ coefficient (lifted_weights q.space.variables (dependences_of q) (value target) (generators_of q) (closed_weights q ws)) i
+  pub weights : (i : ℕ) → coefficient w.weights i
+      ≡ coefficient (lifted_weights q.space.variables (dependences_of q) (value target) (generators_of q) (certificate_of (generators q) ws)) i
 
 -- the numbers of the scaled weights are within the limit, and so are those of the lift, which has none where no dependence is
 pub record LiftedFit (q : ProblemView) (target : Terms) (ws : List (ℕ × Rational)) : Type 0 where
   pub numbers : NumbersFit (numbers_of ws)
-  pub lift : dependences_of q ≢ [] → LiftFits q.space.variables (dependences_of q) (value target) (generators_of q) (closed_weights q ws)
+  pub lift : dependences_of q ≢ [] → LiftFits q.space.variables (dependences_of q) (value target) (generators_of q) (certificate_of (generators q) ws)
 
--- and those of the check of the lifted certificate
-pub record WeightsFit (q : ProblemView) (target : Terms) (ws : List (ℕ × Rational)) (w : CertificateView) : Type 0 where
-  pub lifted : LiftedFit q target ws
-  pub check : CertificateFits q target w
-
--- the same for the scaled point
-pub record ValuesFit (q : ProblemView) (target : Terms) (qs : List Rational) : Type 0 where
-  pub numbers : NumbersFit qs
-  pub check : PointFits q target (spread_point q qs)
-
--- The outcome that an end of the run has. Weights whose lift fits are a proof; other weights, and a point that doesn't fit, leave
--- the question open for the scale.
+-- The outcome that an end of the run has. Weights are a proof, and a point is a refutation, where their numbers fit and those of their
+-- check; else they leave the question open for the scale.
 abbrev pub Follows : ProblemView → Terms → RunEndView (List (ℕ × Rational)) (List Rational) → ProofView → Type 0
 Follows q target (Weights ws) o =
-    ((w : CertificateView) × IsLifted q target ws w × WeightsFit q target ws w × (o ≡ Yes w))
-    ⊎ (((w : CertificateView) → IsLifted q target ws w → ¬ WeightsFit q target ws w) × (o ≡ Undecided Scale))
-Follows q target (Point qs) o = (ValuesFit q target qs × (o ≡ No (spread_point q qs))) ⊎ (¬ ValuesFit q target qs × (o ≡ Undecided Scale))
+    ((w : CertificateView) × IsLifted q target ws w × (LiftedFit q target ws × CertificateFits q target w) × (o ≡ Yes w))
+    ⊎ (((w : CertificateView) → IsLifted q target ws w → ¬ (LiftedFit q target ws × CertificateFits q target w)) × (o ≡ Undecided Scale))
+Follows q target (Point qs) o =
+    ((NumbersFit qs × PointFits q target (spread_point q qs)) × (o ≡ No (spread_point q qs)))
+    ⊎ (¬ (NumbersFit qs × PointFits q target (spread_point q qs)) × (o ≡ Undecided Scale))
 Follows q target (Pivots k) o = o ≡ Undecided (causes.Pivots k)
 Follows q target (Width k) o = o ≡ Undecided (causes.Width k)
 

@@ -1,13 +1,14 @@
 //! A certificate from the weights of columns.
-ghost use Rattle.std.specs.Prelude.{◌≡◌, ◌<◌, ◌^◌, ℕ, ℤ, pos, ◌≤ℤ◌, length, IfErr, IfOk, OnOk};
+ghost use Rattle.std.specs.Prelude.{◌≡◌, ◌<◌, ◌^◌, ℕ, ℤ, pos, ◌-ℤ◌, ◌≤ℤ◌, length, IfErr, IfOk, OnOk};
 ghost use Rattle.it_space.specs.Answers.{certificate_view};
 ghost use Rattle.it_space.specs.Problems.{IsProblem, problem_view};
 ghost use Rattle.it_space.specs.Rows.{coefficient};
+ghost use Rattle.it_space.specs.Sums.{terms_from};
 ghost use Rattle.it_run.specs.Readings.{AreWeights};
 ghost use Rattle.it_elemental.specs.Generators.{generators};
-ghost use Rattle.it_columns.specs.Columns.{columns};
+ghost use Rattle.it_columns.specs.Columns.{columns, number_by, numbers_from};
 ghost use Rattle.it_columns.specs.Scaling.{NumbersFit};
-ghost use Rattle.it_prove.specs.Weights.{certificate_of, numbers_of, weight_by, weights_from};
+ghost use Rattle.it_prove.specs.Weights.{certificate_of, numbers_of};
 ghost use Rattle.it_tableau.specs.Operations.{rationals};
 
 use crate::scaling::{numbers, terms};
@@ -22,7 +23,7 @@ use std::alloc::{AllocError, Global};
 fn weight_of(row: &Row, kind: Kind, column: u32) -> i128
     requires positive { (c : ℕ) → pos 0 ≤ℤ coefficient row.now c }
     requires few { column < 2 ^ 31 }
-    ensures { result ≡ weight_by kind (coefficient row.now) column }
+    ensures { result ≡ number_by (λ a b. a -ℤ b) kind (coefficient row.now) column }
 {
     match kind {
         Kind::Inequality => row.coefficient(column),
@@ -38,7 +39,7 @@ fn generator_weights(
 ) -> Result<Vec<(u32, i128)>, AllocError>
     requires problem { IsProblem (problem_view problem.now) }
     requires positive { (c : ℕ) → pos 0 ≤ℤ coefficient row.now c }
-    ensures { IfOk result (λ v. v.items ≡ weights_from 0 0 (generators (problem_view problem.now)) (coefficient row.now)) }
+    ensures { IfOk result (λ v. v.items ≡ terms_from 0 (numbers_from (λ a b. a -ℤ b) 0 (generators (problem_view problem.now)) (coefficient row.now))) }
 {
     let mut weights = Vec::new(alloc);
     let mut column = 0;

@@ -4,9 +4,9 @@ ghost use Rattle.it_space.specs.Problems.{IsProblem, problem_view};
 ghost use Rattle.it_space.specs.Rows.{Terms, coefficient};
 ghost use Rattle.it_closure.specs.Collapse.{CollapseFits};
 ghost use Rattle.it_elemental.specs.Generators.{generators, generator_at};
-ghost use Rattle.it_prove.specs.Closed.{collapsed_row, collapsed_generator};
+ghost use Rattle.it_prove.specs.Closed.{collapsed_row};
 ghost use Rattle.it_prove.specs.ClosedProblems.{SameRows};
-ghost use Rattle.it_columns.specs.Columns.{columns_of};
+ghost use Rattle.it_columns.specs.Columns.{columns_by};
 
 use it_closure::Dependences;
 use it_columns::{generator_row, push_row};
@@ -45,7 +45,7 @@ pub fn push_columns(
     requires problem { IsProblem (problem_view problem.now) }
     requires space { dependences.now.space ≡ problem.now.space }
     requires listed { index < length (generators (problem_view problem.now)) }
-    ensures added { OnOk result ((front xs : List Terms) → SameRows (front ++ columns.old.items) xs → SameRows (front ++ columns.new.items) (xs ++ columns_of (collapsed_generator problem.now.space.variables dependences.now.list (generator_at (generators (problem_view problem.now)) index)))) }
+    ensures added { OnOk result ((front xs : List Terms) → SameRows (front ++ columns.old.items) xs → SameRows (front ++ columns.new.items) (xs ++ columns_by (generator_at (generators (problem_view problem.now)) index).kind (collapsed_row problem.now.space.variables dependences.now.list (generator_at (generators (problem_view problem.now)) index).row))) }
     ensures fits { OnOk result (CollapseFits problem.now.space.variables dependences.now.list (generator_at (generators (problem_view problem.now)) index).row) }
     ensures wide { IfErr result (λ f. f ≡ RowFault.Wide → ¬ (CollapseFits problem.now.space.variables dependences.now.list (generator_at (generators (problem_view problem.now)) index).row)) }
 {

@@ -1,12 +1,13 @@
 //! Points over all coordinates from points over closed sets.
-ghost use Rattle.std.specs.Prelude.{◌≡◌, ◌<◌, ◌++◌, ◌∷◌, [], ℕ, pos, length, slice_index_or, IfErr, IfOk, OnOk};
+ghost use Rattle.std.specs.Prelude.{◌≡◌, ◌<◌, ◌++◌, ◌∷◌, [], ℕ, pos, length, slice_index_or, IfErr, IfOk, OnOk, map};
 ghost use Rattle.it_space.specs.Problems.{IsProblem, problem_view};
 ghost use Rattle.it_space.specs.Rows.{IsCanonical, coefficient, single_term};
 ghost use Rattle.it_space.specs.Spaces.{size_of};
-ghost use Rattle.it_closure.specs.Collapse.{place};
+ghost use Rattle.it_closure.specs.Collapse.{place, spread_out};
 ghost use Rattle.it_closure.specs.Coordinates.{RiseTo};
 ghost use Rattle.it_closure.specs.Reading.{dependences_of};
-ghost use Rattle.it_prove.specs.Closed.{closed_places, spread_point, spread_values};
+ghost use Rattle.it_prove.specs.Closed.{closed_places, spread_point};
+ghost use Rattle.it_polymatroid.specs.Elementals.{span};
 ghost use Rattle.it_prove.specs.Steps.{terms_of_places};
 ghost use Rattle.it_columns.specs.Scaling.{NumbersFit, scaled_point};
 
@@ -66,7 +67,7 @@ fn spread_values(
     dependences: &Dependences,
     row: &Row,
 ) -> Result<Vec<i128>, AllocError>
-    ensures { IfOk result (λ v. v.items ≡ spread_values dependences.now.space.variables dependences.now.list (size_of dependences.now.space) row.now) }
+    ensures { IfOk result (λ v. v.items ≡ map (spread_out dependences.now.space.variables dependences.now.list (coefficient row.now)) (span 1 (size_of dependences.now.space))) }
 {
     let size = dependences.space().size();
     let mut values = Vec::with_capacity(alloc, size as usize)?;

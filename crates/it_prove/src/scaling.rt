@@ -1,8 +1,9 @@
 //! The weights of columns made whole by the least common multiple of their denominators.
 //! The result of `push` is matched, since `?` makes no `RowFault` of its error.
 ghost use Rattle.std.specs.Prelude.{◌≡◌, ◌<◌, ◌^◌, ◌++◌, ◌∷◌, [], All, IfErr, IfOk, OnOk};
+ghost use Rattle.std.specs.List.{AllByRecursion as Every};
 ghost use Rattle.it_number.specs.Limit.{IsWithin};
-ghost use Rattle.it_columns.specs.Scaling.{EachFits, scaled_number};
+ghost use Rattle.it_columns.specs.Scaling.{scaled_number};
 ghost use Rattle.it_prove.specs.Weights.{numbers_of, scaled_by};
 
 use it_columns::scaled_number;
@@ -38,8 +39,8 @@ pub fn terms(
     requires columns { All (λ w. w.0 < 2 ^ 32) weights.now }
     requires scale { scale < 2 ^ 127 }
     ensures value { IfOk result (λ v. v.items ≡ scaled_by scale weights.now) }
-    ensures fits { OnOk result (EachFits scale (numbers_of weights.now)) }
-    ensures wide { IfErr result (λ f. f ≡ RowFault.Wide → ¬ (EachFits scale (numbers_of weights.now))) }
+    ensures fits { OnOk result (Every (λ q. IsWithin (scaled_number scale q)) (numbers_of weights.now)) }
+    ensures wide { IfErr result (λ f. f ≡ RowFault.Wide → ¬ (Every (λ q. IsWithin (scaled_number scale q)) (numbers_of weights.now))) }
 {
     let mut terms = Vec::with_capacity(alloc, weights.len())?;
     for weight in weights {

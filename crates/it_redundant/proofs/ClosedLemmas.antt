@@ -13,7 +13,7 @@ use Rattle.it_closure.specs.Collapse.{CollapseFits}
 use Rattle.it_closure.specs.Coordinates.{closed_coordinates}
 use Rattle.it_closure.specs.Reading.{dependences_of, dependence_list, read_from, read_one}
 use Rattle.it_prove.specs.declared.closed.ClosedProblem.{ClosedProblem}
-use Rattle.it_prove.specs.Closed.{collapsed_generators}
+use Rattle.it_prove.specs.Closed.{collapsed_generator}
 use Rattle.it_prove.specs.ClosedProblems.{AreColumns, IsClosedProblem, SameRows}
 use Rattle.it_columns.specs.Columns.{columns}
 use Rattle.it_redundant.specs.Reduction.{row_constraints, with_rows}
@@ -41,7 +41,7 @@ take_front (g ∷ gs) hs (suc i) h = ap (λ xs. g ∷ xs) (take_front gs hs i (o
 
 columns_after : (n : ℕ) (ds : List Dependence) (gs hs : List Generator) (i : ℕ) (rows : List Terms) → i ≤ length gs → AreColumns n ds gs i rows → AreColumns n ds (gs ++ hs) i rows
 columns_after n ds gs hs i rows h a = record {
-  same = subst (λ xs. SameRows rows (columns (collapsed_generators n ds xs))) (sym (take_front gs hs i h)) a.same;
+  same = subst (λ xs. SameRows rows (columns (map (collapsed_generator n ds) xs))) (sym (take_front gs hs i h)) a.same;
   fits = λ j l. subst (λ (g : Generator). CollapseFits n ds g.row) (sym (get_or_append_left gs hs (record { kind = Inequality; row = [] }) j (omega arith))) (a.fits j l);
 }
 

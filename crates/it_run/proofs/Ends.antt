@@ -1,5 +1,5 @@
 -- The weights of an end by weights sum to the target, and the point of an end by a point separates the target from the columns.
-use Rattle.std.proofs.Common.{◌≡◌, ℕ, zero, suc, ◌+◌, ◌<◌, ◌≤◌, Bool, true, false, cond, eqb, ltb, ◌&&◌, List, [], ◌∷◌, length, get_or, refl, sym, ap, subst, ◌∙◌, ◌⊎◌, inl, inr, arith}
+use Rattle.std.proofs.Common.{◌≡◌, ℕ, zero, suc, ◌+◌, ◌<◌, ◌≤◌, Bool, true, false, cond, eqb, ltb, ◌&&◌, not, List, [], ◌∷◌, length, get_or, refl, sym, ap, subst, ◌∙◌, ◌⊎◌, inl, inr, arith}
 use Rattle.std.proofs.lemmas.Bool.{ne_eqb, cases_lt, lt-ltb, le-ltb, ltb-true}
 use Rattle.it_number.proofs.Ring.{ring, mul-null, v, plus, times, minus, nil, one}
 use Rattle.it_rational.proofs.Ordered.{null-least, not_both, below-from}
@@ -8,7 +8,8 @@ use Rattle.it_tableau.specs.FieldOperations.{operations_of, sum_to}
 use Rattle.it_tableau.specs.SimplexTables.{SimplexTable, FeasibilityProblem, sign, start_row}
 use Rattle.it_tableau.specs.Invariants.{cost_of, HasInvariants}
 use Rattle.it_run.specs.Choice.{IsDone, IsStuck}
-use Rattle.it_run.specs.Readings.{weight, weights_from_column, weights, point_value, point_from_row, point, ring_combination, AreWeights, SumsUp, value_at_point, Separates}
+use Rattle.it_run.specs.Readings.{weight, weights, point, ring_combination, AreWeights, SumsUp, value_at_point, Separates}
+use Rattle.it_run.proofs.ReadingLists.{weights_from_column, point_value, point_from_row}
 use Rattle.it_tableau.proofs.Sums.{sum_same, sum_null, sum_times, sum_times_left, sum_swap, sum_one, sum_least, all_null, eqb_comm}
 use Rattle.it_tableau.proofs.StartLemmas.{row_column, row_right}
 
@@ -109,7 +110,7 @@ module _ {A : Type 0} (F : OrderedField A) (m n : ℕ) where
 
       no_steps : j ≡ j + zero
       no_steps = omega arith
-  combination_of_weights t f j (suc left) = by_test (F.order.is_least (weight (operations_of F) m n t j)) (F.order.is_least (F.ring.neg (weight (operations_of F) m n t j))) refl refl (combination_of_weights t f (suc j) left) ∙ ap (λ i. sum_to F.ring i weighted_value) step_joins
+  combination_of_weights t f j (suc left) = by_test (F.order.is_least (weight (operations_of F) m n t j)) (F.order.is_least (F.ring.neg (weight (operations_of F) m n t j))) refl refl (from_next (combination_of_weights t f (suc j) left)) ∙ ap (λ i. sum_to F.ring i weighted_value) step_joins
     where
       weighted_value : ℕ → A
       weighted_value i = F.ring.mul (weight (operations_of F) m n t i) (f i)
@@ -117,8 +118,13 @@ module _ {A : Type 0} (F : OrderedField A) (m n : ℕ) where
       step_joins : suc j + left ≡ j + suc left
       step_joins = omega arith
 
+      from_next : F.ring.add (ring_combination (operations_of F) (weights_from_column (operations_of F) m n t (suc j) left) f) (sum_to F.ring (suc j) weighted_value) ≡ sum_to F.ring (suc j + left) weighted_value
+          → F.ring.add (ring_combination (operations_of F) (weights_from_column (operations_of F) m n t (j + 1) left) f) (sum_to F.ring (suc j) weighted_value) ≡ sum_to F.ring (suc j + left) weighted_value
+      from_next h = let e : suc j ≡ j + 1 = omega arith in
+          subst (λ (i : ℕ). F.ring.add (ring_combination (operations_of F) (weights_from_column (operations_of F) m n t i left) f) (sum_to F.ring (suc j) weighted_value) ≡ sum_to F.ring (suc j + left) weighted_value) e h
+
       rest : A
-      rest = ring_combination (operations_of F) (weights_from_column (operations_of F) m n t (suc j) left) f
+      rest = ring_combination (operations_of F) (weights_from_column (operations_of F) m n t (j + 1) left) f
 
       null_weight_drops : weight (operations_of F) m n t j ≡ F.ring.null → F.ring.add rest (F.ring.add (weighted_value j) (sum_to F.ring j weighted_value)) ≡ sum_to F.ring (suc j + left) weighted_value → F.ring.add rest (sum_to F.ring j weighted_value) ≡ sum_to F.ring (suc j + left) weighted_value
       null_weight_drops e ih = sym (ap (F.ring.add rest) (ap (λ x. F.ring.add x (sum_to F.ring j weighted_value)) (ap (λ x. F.ring.mul x (f j)) e ∙ F.ring.mul_comm F.ring.null (f j) ∙ mul-null F.ring (f j)) ∙ F.ring.null-add (sum_to F.ring j weighted_value))) ∙ ih
@@ -127,7 +133,7 @@ module _ {A : Type 0} (F : OrderedField A) (m n : ℕ) where
       weight_moves ih = ring F.ring (rest ∷ weighted_value j ∷ sum_to F.ring j weighted_value ∷ []) (plus (plus (v 1) (v 0)) (v 2)) (plus (v 0) (plus (v 1) (v 2))) refl ∙ ih
 
       by_test : (b d : Bool) → F.order.is_least (weight (operations_of F) m n t j) ≡ b → F.order.is_least (F.ring.neg (weight (operations_of F) m n t j)) ≡ d → F.ring.add rest (F.ring.add (weighted_value j) (sum_to F.ring j weighted_value)) ≡ sum_to F.ring (suc j + left) weighted_value
-          → F.ring.add (ring_combination (operations_of F) (cond (b && d) (weights_from_column (operations_of F) m n t (suc j) left) ((j, weight (operations_of F) m n t j) ∷ weights_from_column (operations_of F) m n t (suc j) left)) f) (sum_to F.ring j weighted_value) ≡ sum_to F.ring (suc j + left) weighted_value
+          → F.ring.add (ring_combination (operations_of F) (cond (not (b && d)) ((j, weight (operations_of F) m n t j) ∷ weights_from_column (operations_of F) m n t (j + 1) left) (weights_from_column (operations_of F) m n t (j + 1) left)) f) (sum_to F.ring j weighted_value) ≡ sum_to F.ring (suc j + left) weighted_value
       by_test true true e d ih = null_weight_drops (F.order.strict (weight (operations_of F) m n t j) e d) ih
       by_test true false e d ih = weight_moves ih
       by_test false b e d ih = weight_moves ih
@@ -157,23 +163,23 @@ module _ {A : Type 0} (F : OrderedField A) (m n : ℕ) where
     where
       rest_are_weights : (j left : ℕ) → j + left ≡ n → AreWeights (operations_of F) n j (weights_from_column (operations_of F) m n t j left)
       rest_are_weights j zero e = tt
-      rest_are_weights j (suc left) e = by_test (F.order.is_least (weight (operations_of F) m n t j)) (F.order.is_least (F.ring.neg (weight (operations_of F) m n t j))) refl refl (rest_are_weights (suc j) left (omega arith))
+      rest_are_weights j (suc left) e = by_test (F.order.is_least (weight (operations_of F) m n t j)) (F.order.is_least (F.ring.neg (weight (operations_of F) m n t j))) refl refl (weights_from_less (suc j) (j + 1) (weights_from_column (operations_of F) m n t (j + 1) left) (omega arith) (rest_are_weights (j + 1) left (omega arith)))
         where
-          by_test : (b d : Bool) → F.order.is_least (weight (operations_of F) m n t j) ≡ b → F.order.is_least (F.ring.neg (weight (operations_of F) m n t j)) ≡ d → AreWeights (operations_of F) n (suc j) (weights_from_column (operations_of F) m n t (suc j) left)
-              → AreWeights (operations_of F) n j (cond (b && d) (weights_from_column (operations_of F) m n t (suc j) left) ((j, weight (operations_of F) m n t j) ∷ weights_from_column (operations_of F) m n t (suc j) left))
-          by_test true true f g ih = weights_from_less j (suc j) (weights_from_column (operations_of F) m n t (suc j) left) (omega arith) ih
+          by_test : (b d : Bool) → F.order.is_least (weight (operations_of F) m n t j) ≡ b → F.order.is_least (F.ring.neg (weight (operations_of F) m n t j)) ≡ d → AreWeights (operations_of F) n (suc j) (weights_from_column (operations_of F) m n t (j + 1) left)
+              → AreWeights (operations_of F) n j (cond (not (b && d)) ((j, weight (operations_of F) m n t j) ∷ weights_from_column (operations_of F) m n t (j + 1) left) (weights_from_column (operations_of F) m n t (j + 1) left))
+          by_test true true f g ih = weights_from_less j (suc j) (weights_from_column (operations_of F) m n t (j + 1) left) (omega arith) ih
           by_test true false f g ih = (omega arith, omega arith, g, ih)
           by_test false d f g ih = absurd (not_both F (weight (operations_of F) m n t j) f (weight_least p t h j))
 
   -- the list of the point's values
   point_length : (p : FeasibilityProblem A) (t : SimplexTable A) (k left : ℕ) → length (point_from_row (operations_of F) m n p t k left) ≡ left
   point_length p t k zero = refl
-  point_length p t k (suc left) = let e = point_length p t (suc k) left in omega (arith, e)
+  point_length p t k (suc left) = let e = point_length p t (k + 1) left in omega (arith, e)
 
   point_entry_is : (p : FeasibilityProblem A) (t : SimplexTable A) (k left i : ℕ) → i < left → get_or (point_from_row (operations_of F) m n p t k left) i F.ring.null ≡ point_value (operations_of F) m n p t (k + i)
   point_entry_is p t k zero i l = absurd (omega arith)
   point_entry_is p t k (suc left) zero l = let e : k ≡ k + 0 = omega arith in ap (point_value (operations_of F) m n p t) e
-  point_entry_is p t k (suc left) (suc i) l = let e : suc k + i ≡ k + suc i = omega arith in point_entry_is p t (suc k) left i (omega arith) ∙ ap (point_value (operations_of F) m n p t) e
+  point_entry_is p t k (suc left) (suc i) l = let e : k + 1 + i ≡ k + suc i = omega arith in point_entry_is p t (k + 1) left i (omega arith) ∙ ap (point_value (operations_of F) m n p t) e
 
   -- the value of a row that is f at each coordinate is its cost
   point_value_of_column : (p : FeasibilityProblem A) (t : SimplexTable A) (f : ℕ → A) (j : ℕ) → HasInvariants (operations_of F) m n p t → ((k : ℕ) → k < m → start_row (operations_of F) m n p k j ≡ F.ring.mul (sign (operations_of F) p k) (f k))

@@ -1,5 +1,5 @@
 -- The lists of weights and of a point's values as they are filled, one after another.
-use Rattle.std.proofs.Common.{◌≡◌, ℕ, suc, ◌+◌, ◌-◌, ◌<◌, ◌++◌, pos, true, false, cond, ◌&&◌, Bool, List, [], ◌∷◌, refl, sym, ap, ap₂, ◌∙◌, arith}
+use Rattle.std.proofs.Common.{◌≡◌, ℕ, suc, ◌+◌, ◌-◌, ◌<◌, ◌++◌, pos, true, false, cond, ◌&&◌, not, Bool, List, [], ◌∷◌, refl, sym, ap, ap₂, ◌∙◌, arith}
 use Rattle.std.proofs.lemmas.List.{append_assoc}
 use Rattle.it_rational.specs.Rational.{Rational, integer, minus, times, is_at_least_zero}
 use Rattle.it_rational.proofs.RationalLaws.{ring_ℚ}
@@ -9,7 +9,8 @@ use Rattle.it_number.proofs.Ring.{neg-null}
 use Rattle.it_tableau.specs.Operations.{rationals}
 use Rattle.it_tableau.specs.SimplexTables.{SimplexTable, FeasibilityProblem}
 use Rattle.it_tableau.specs.TableauViews.{TableauView, height, table}
-use Rattle.it_run.specs.Readings.{weight, weights_from_column, weights, point_value, point_from_row, point}
+use Rattle.it_run.specs.Readings.{weight, weights, point}
+use Rattle.it_run.proofs.ReadingLists.{weights_from_column, point_from_row}
 use Rattle.it_run.specs.Answers.{sign_number, HasSigns}
 
 module _ (m n : ℕ) (t : SimplexTable Rational) where
@@ -25,24 +26,21 @@ module _ (m n : ℕ) (t : SimplexTable Rational) where
   abbrev pub AreWeightsSoFar : List (ℕ × Rational) → ℕ → Type 0
   AreWeightsSoFar out j = out ++ weights_from_column rationals m n t j (n - j) ≡ weights rationals m n t
 
-  split_off : (j : ℕ) → j < n → From j (n - j) ≡ cond (is_at_least_zero (W j) && is_at_least_zero (minus (W j))) (From (j + 1) (n - (j + 1))) ((j, W j) ∷ From (j + 1) (n - (j + 1)))
-  split_off j l = ap (From j) rest_is_longer ∙ ap (λ (k : ℕ). cond (is_at_least_zero (W j) && is_at_least_zero (minus (W j))) (From k (n - (j + 1))) ((j, W j) ∷ From k (n - (j + 1)))) successor_is_sum
+  split_off : (j : ℕ) → j < n → From j (n - j) ≡ cond (not (is_at_least_zero (W j) && is_at_least_zero (minus (W j)))) ((j, W j) ∷ From (j + 1) (n - (j + 1))) (From (j + 1) (n - (j + 1)))
+  split_off j l = ap (From j) rest_is_longer
     where
       rest_is_longer : n - j ≡ suc (n - (j + 1))
       rest_is_longer = omega arith
 
-      successor_is_sum : suc j ≡ j + 1
-      successor_is_sum = omega arith
-
   pub weights_skip_null : (out : List (ℕ × Rational)) (j : ℕ) → j < n → W j ≡ integer (pos 0) → AreWeightsSoFar out j → AreWeightsSoFar out (j + 1)
-  weights_skip_null out j l e h = ap (λ xs. out ++ xs) (sym (split_off j l ∙ ap₂ (λ b d. cond (b && d) (From (j + 1) (n - (j + 1))) ((j, W j) ∷ From (j + 1) (n - (j + 1))))
+  weights_skip_null out j l e h = ap (λ xs. out ++ xs) (sym (split_off j l ∙ ap₂ (λ b d. cond (not (b && d)) ((j, W j) ∷ From (j + 1) (n - (j + 1))) (From (j + 1) (n - (j + 1))))
       (ap is_at_least_zero e ∙ null-least field_ℚ) (ap (λ x. is_at_least_zero (minus x)) e ∙ ap is_at_least_zero (neg-null ring_ℚ) ∙ null-least field_ℚ))) ∙ h
 
   pub weights_with_next : (out : List (ℕ × Rational)) (j : ℕ) (w : Rational) → j < n → w ≡ W j → ¬ (w ≡ integer (pos 0)) → AreWeightsSoFar out j → AreWeightsSoFar (out ++ ((j, w) ∷ [])) (j + 1)
   weights_with_next out j w l e d h =
       append_assoc out ((j, w) ∷ []) (From (j + 1) (n - (j + 1)))
       ∙ ap (λ x. out ++ ((j, x) ∷ From (j + 1) (n - (j + 1)))) e
-      ∙ ap (λ xs. out ++ xs) (sym (split_off j l ∙ ap (λ b. cond b (From (j + 1) (n - (j + 1))) ((j, W j) ∷ From (j + 1) (n - (j + 1)))) (by_test (is_at_least_zero (W j)) (is_at_least_zero (minus (W j))) refl refl)))
+      ∙ ap (λ xs. out ++ xs) (sym (split_off j l ∙ ap (λ b. cond (not b) ((j, W j) ∷ From (j + 1) (n - (j + 1))) (From (j + 1) (n - (j + 1)))) (by_test (is_at_least_zero (W j)) (is_at_least_zero (minus (W j))) refl refl)))
       ∙ h
     where
       by_test : (a b : Bool) → is_at_least_zero (W j) ≡ a → is_at_least_zero (minus (W j)) ≡ b → (is_at_least_zero (W j) && is_at_least_zero (minus (W j))) ≡ false
@@ -60,7 +58,7 @@ pub values_more : (t : TableauView) (out : List Rational) (k : ℕ) (x : Rationa
 values_more t out k x l e h p s =
     append_assoc out (x ∷ []) (rest (k + 1) (height t - (k + 1)))
     ∙ ap (λ y. out ++ y ∷ rest (k + 1) (height t - (k + 1))) (e ∙ ap (λ z. times z ((table t).entry (height t) (t.generator_columns + k))) (s k l))
-    ∙ ap (λ xs. out ++ xs) (sym (ap (rest k) rest_is_longer ∙ ap (λ i. point_value rationals (height t) t.generator_columns p (table t) k ∷ rest i (height t - (k + 1))) successor_is_sum))
+    ∙ ap (λ xs. out ++ xs) (sym (ap (rest k) rest_is_longer))
     ∙ h p s
   where
     rest : ℕ → ℕ → List Rational
@@ -68,6 +66,3 @@ values_more t out k x l e h p s =
 
     rest_is_longer : height t - k ≡ suc (height t - (k + 1))
     rest_is_longer = omega arith
-
-    successor_is_sum : suc k ≡ k + 1
-    successor_is_sum = omega arith

@@ -2,9 +2,9 @@
 use Rattle.std.proofs.Common.{◌≡◌, ◌≢◌, ◌⊎◌, inl, inr, ℕ, zero, suc, ◌+◌, ◌-◌, ◌<◌, ◌≤◌, Option, Some, None, refl, sym, ap, subst, ◌∙◌, arith}
 use Rattle.std.proofs.lemmas.Bool.{cases_eq, cases_lt}
 use Rattle.it_space.proofs.OptionLemmas.{some_same, none_is_not_some}
-use Rattle.it_run.specs.Runs.{RunEndView, EndsAs, EndsBy, EndsUnbound, IsWithinBudget, state_after_steps, clip_end, clip_number}
-use Rattle.it_run.specs.Runs.RunEndView.{Weights, Point, Width}
-use Rattle.it_run.specs.FirstEnds.{EndsAt, EndsFirst, GoesOnAt, IsBudget}
+use Rattle.it_run.specs.Runs.{RunEndView, EndsAs, EndsBy, state_after_steps, clip_number}
+use Rattle.it_run.specs.Runs.RunEndView.{Pivots, Width}
+use Rattle.it_run.specs.FirstEnds.{EndsAt, EndsFirst, GoesOnAt}
 
 module _ {S W P : Type 0} (IsDone IsStuck Fits : S → Type 0) (next : S → S) (weights : S → W) (point : S → P) where
   -- how a run with so many steps left ends
@@ -35,38 +35,34 @@ module _ {S W P : Type 0} (IsDone IsStuck Fits : S → Type 0) (next : S → S) 
       by_cases (inr d) = h j (omega arith)
 
   -- with a budget
-  first_bound : (b left k : ℕ) (s : S) (e : RunEndView W P) → b ≤ 4294967295 → k + left ≡ b → ((j : ℕ) → j < k → On (Some b) j (state s j)) → Run left k (state s k) e → First (Some b) s e
-  first_bound b zero k s e u q h (inl r) = record { steps = k; before = h; here = inl r }
-  first_bound b zero k s e u q h (inr (inl r)) = record { steps = k; before = h; here = inr (inl r) }
-  first_bound b zero k s e u q h (inr (inr r)) = let x : b ≡ k = omega arith in record { steps = k; before = h; here = inr (inr (inl (r.0, r.1, ap (λ (y : ℕ). Some y) x, r.2))) }
-  first_bound b (suc left) k s e u q h (inl r) = record { steps = k; before = h; here = inl r }
-  first_bound b (suc left) k s e u q h (inr (inl r)) = record { steps = k; before = h; here = inr (inl r) }
-  first_bound b (suc left) k s e u q h (inr (inr r)) = by_cases r.2 (λ f. first_bound b left (suc k) s e u (omega arith) (one_longer (Some b) s k h (r.0, r.1, budget_remains, f)))
+  first_bound : (b left k : ℕ) (s : S) (e : RunEndView W P) → k + left ≡ b → ((j : ℕ) → j < k → On (Some b) j (state s j)) → Run left k (state s k) e → First (Some b) s e
+  first_bound b zero k s e q h (inl r) = record { steps = k; before = h; here = inl r }
+  first_bound b zero k s e q h (inr (inl r)) = record { steps = k; before = h; here = inr (inl r) }
+  first_bound b zero k s e q h (inr (inr r)) = let x : b ≡ k = omega arith in record { steps = k; before = h; here = inr (inr (inl (r.0, r.1, ap (λ (y : ℕ). Some y) x, r.2))) }
+  first_bound b (suc left) k s e q h (inl r) = record { steps = k; before = h; here = inl r }
+  first_bound b (suc left) k s e q h (inr (inl r)) = record { steps = k; before = h; here = inr (inl r) }
+  first_bound b (suc left) k s e q h (inr (inr r)) = by_cases r.2 (λ f. first_bound b left (suc k) s e (omega arith) (one_longer (Some b) s k h (r.0, r.1, budget_remains, f)))
     where
       budget_remains : Some b ≢ Some k
       budget_remains x = let y : b ≡ k = some_same b k x in omega arith
 
-      by_cases : ((¬ (Fits (state s k)) × (e ≡ Width (suc k))) ⊎ (Fits (state s k) × Run left (suc k) (next (state s k)) e))
+      by_cases : ((¬ (Fits (state s k)) × (e ≡ Width (clip_number (suc k)))) ⊎ (Fits (state s k) × Run left (suc k) (next (state s k)) e))
           → (Fits (state s k) → Run left (suc k) (state s (suc k)) e → First (Some b) s e) → First (Some b) s e
-      by_cases (inl f) ih = let y : suc k ≡ clip_number (suc k) = omega arith in record {
-        steps = k;
-        before = h;
-        here = inr (inr (inr (r.0, r.1, budget_remains, f.0, subst (λ (x : ℕ). e ≡ Width x) y f.1)));
-      }
+      by_cases (inl f) ih = record { steps = k; before = h; here = inr (inr (inr (r.0, r.1, budget_remains, f.0, f.1))) }
       by_cases (inr f) ih = ih f.0 f.1
 
   -- without one
-  first_free : (left k : ℕ) (s : S) (d e : RunEndView W P) → IsWithinBudget d → e ≡ clip_end d → ((j : ℕ) → j < k → On None j (state s j)) → Run left k (state s k) d → First None s e
-  first_free zero k s d e w t h (inl r) = record { steps = k; before = h; here = inl (r.0, t ∙ ap clip_end r.1) }
-  first_free zero k s d e w t h (inr (inl r)) = record { steps = k; before = h; here = inr (inl (r.0, r.1, t ∙ ap clip_end r.2)) }
-  first_free zero k s d e w t h (inr (inr r)) = absurd (subst IsWithinBudget r.2 w)
-  first_free (suc left) k s d e w t h (inl r) = record { steps = k; before = h; here = inl (r.0, t ∙ ap clip_end r.1) }
-  first_free (suc left) k s d e w t h (inr (inl r)) = record { steps = k; before = h; here = inr (inl (r.0, r.1, t ∙ ap clip_end r.2)) }
-  first_free (suc left) k s d e w t h (inr (inr r)) = by_cases r.2 (λ f. first_free left (suc k) s d e w t (one_longer None s k h (r.0, r.1, none_is_not_some k, f)))
+  first_free : (left k : ℕ) (s : S) (e : RunEndView W P) → ((j : ℕ) → e ≢ Pivots j) → ((j : ℕ) → j < k → On None j (state s j)) → Run left k (state s k) e → First None s e
+  first_free zero k s e w h (inl r) = record { steps = k; before = h; here = inl r }
+  first_free zero k s e w h (inr (inl r)) = record { steps = k; before = h; here = inr (inl r) }
+  first_free zero k s e w h (inr (inr r)) = absurd (w k r.2)
+  first_free (suc left) k s e w h (inl r) = record { steps = k; before = h; here = inl r }
+  first_free (suc left) k s e w h (inr (inl r)) = record { steps = k; before = h; here = inr (inl r) }
+  first_free (suc left) k s e w h (inr (inr r)) = by_cases r.2 (λ f. first_free left (suc k) s e w (one_longer None s k h (r.0, r.1, none_is_not_some k, f)))
     where
-      by_cases : ((¬ (Fits (state s k)) × (d ≡ Width (suc k))) ⊎ (Fits (state s k) × Run left (suc k) (next (state s k)) d))
-          → (Fits (state s k) → Run left (suc k) (state s (suc k)) d → First None s e) → First None s e
-      by_cases (inl f) ih = record { steps = k; before = h; here = inr (inr (inr (r.0, r.1, none_is_not_some k, f.0, t ∙ ap clip_end f.1))) }
+      by_cases : ((¬ (Fits (state s k)) × (e ≡ Width (clip_number (suc k)))) ⊎ (Fits (state s k) × Run left (suc k) (next (state s k)) e))
+          → (Fits (state s k) → Run left (suc k) (state s (suc k)) e → First None s e) → First None s e
+      by_cases (inl f) ih = record { steps = k; before = h; here = inr (inr (inr (r.0, r.1, none_is_not_some k, f.0, f.1))) }
       by_cases (inr f) ih = ih f.0 f.1
 
   -- back from step k to the first
@@ -81,17 +77,17 @@ module _ {S W P : Type 0} (IsDone IsStuck Fits : S → Type 0) (next : S → S) 
       step_joins : k + suc x ≡ suc k + x
       step_joins = omega arith
 
-  free_first : (s : S) (e : RunEndView W P) → First None s e → EndsUnbound IsDone IsStuck Fits next weights point s e
+  free_first : (s : S) (e : RunEndView W P) → First None s e → EndsBy IsDone IsStuck Fits next weights point None s e
   free_first s e f = by_cases f.here
     where
-      by_cases : At None f.steps (state s f.steps) e → EndsUnbound IsDone IsStuck Fits next weights point s e
-      by_cases (inl r) = record { budget = f.steps + 0; end = Weights (weights (state s f.steps)); runs = run_from_first_step None 0 f.steps s (Weights (weights (state s f.steps))) f.before (inl (r.0, refl)); within = tt; is_clipped = r.1 }
-      by_cases (inr (inl r)) = record { budget = f.steps + 0; end = Point (point (state s f.steps)); runs = run_from_first_step None 0 f.steps s (Point (point (state s f.steps))) f.before (inr (inl (r.0, r.1, refl))); within = tt; is_clipped = r.2 }
+      by_cases : At None f.steps (state s f.steps) e → EndsBy IsDone IsStuck Fits next weights point None s e
+      by_cases (inl r) = (f.steps + 0, run_from_first_step None 0 f.steps s e f.before (inl r), λ k q. let h = r.1 in cc)
+      by_cases (inr (inl r)) = (f.steps + 0, run_from_first_step None 0 f.steps s e f.before (inr (inl r)), λ k q. let h = r.2 in cc)
       by_cases (inr (inr (inl r))) = absurd (none_is_not_some f.steps r.2)
-      by_cases (inr (inr (inr r))) = record { budget = f.steps + 1; end = Width (suc f.steps); runs = run_from_first_step None 1 f.steps s (Width (suc f.steps)) f.before (inr (inr (r.0, r.1, inl (r.3, refl)))); within = tt; is_clipped = r.4 }
+      by_cases (inr (inr (inr r))) = (f.steps + 1, run_from_first_step None 1 f.steps s e f.before (inr (inr (r.0, r.1, inl (r.3, r.4)))), λ k q. let h = r.4 in cc)
 
-  bound_first : (b : ℕ) (s : S) (e : RunEndView W P) → b ≤ 4294967295 → First (Some b) s e → Run b 0 s e
-  bound_first b s e u f = by_cases (cases_lt b f.steps) (b - f.steps) refl f.here
+  bound_first : (b : ℕ) (s : S) (e : RunEndView W P) → First (Some b) s e → Run b 0 s e
+  bound_first b s e f = by_cases (cases_lt b f.steps) (b - f.steps) refl f.here
     where
       run_from_start : (x : ℕ) → f.steps ≤ b → b - f.steps ≡ x → Run x f.steps (state s f.steps) e → Run b 0 s e
       run_from_start x l q r = let y : f.steps + x ≡ b = omega arith in subst (λ (z : ℕ). Run z 0 s e) y (run_from_first_step (Some b) x f.steps s e f.before r)
@@ -105,10 +101,9 @@ module _ {S W P : Type 0} (IsDone IsStuck Fits : S → Type 0) (next : S → S) 
       by_cases (inr l) zero q (inr (inr (inl r))) = run_from_start zero l q (inr (inr (r.0, r.1, r.3)))
       by_cases (inr l) (suc x) q (inr (inr (inl r))) = let y : b ≡ f.steps = some_same b f.steps r.2 in absurd (omega arith)
       by_cases (inr l) zero q (inr (inr (inr r))) = absurd (r.2 (ap (λ (y : ℕ). Some y) (let y : b ≡ f.steps = omega arith in y)))
-      by_cases (inr l) (suc x) q (inr (inr (inr r))) = let y : clip_number (suc f.steps) ≡ suc f.steps = omega arith in
-          run_from_start (suc x) l q (inr (inr (r.0, r.1, inl (r.3, subst (λ (z : ℕ). e ≡ Width z) y r.4))))
+      by_cases (inr l) (suc x) q (inr (inr (inr r))) = run_from_start (suc x) l q (inr (inr (r.0, r.1, inl (r.3, r.4))))
 
-  pub ends_are_first : (budget : Option ℕ) (s : S) (e : RunEndView W P) → IsBudget budget
+  pub ends_are_first : (budget : Option ℕ) (s : S) (e : RunEndView W P)
       → (EndsBy IsDone IsStuck Fits next weights point budget s e → First budget s e) × (First budget s e → EndsBy IsDone IsStuck Fits next weights point budget s e)
-  ends_are_first (Some b) s e u = (λ r. first_bound b b 0 s e u (omega arith) (λ j l. absurd (omega arith)) r, λ f. bound_first b s e u f)
-  ends_are_first None s e u = (λ r. first_free r.budget 0 s r.end e r.within r.is_clipped (λ j l. absurd (omega arith)) r.runs, λ f. free_first s e f)
+  ends_are_first (Some b) s e = (λ r. first_bound b b 0 s e (omega arith) (λ j l. absurd (omega arith)) r, λ f. bound_first b s e f)
+  ends_are_first None s e = (λ r. first_free r.0 0 s e r.2 (λ j l. absurd (omega arith)) r.1, λ f. free_first s e f)

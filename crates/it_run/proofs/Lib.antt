@@ -3,6 +3,7 @@ pub mod Ends
 pub mod RunLemmas
 pub mod SignLemmas
 pub mod Reading
+pub mod ReadingLists
 pub mod Example
 pub mod SearchLemmas
 pub mod RunSteps

@@ -1,5 +1,5 @@
 -- A run has one end, and what its steps keep holds there.
-use Rattle.std.proofs.Common.{ap, List, ◌≡◌, ◌⊎◌, inl, inr, ℕ, zero, suc, ◌+◌, ◌<◌, ◌≤◌, refl, sym, ◌∙◌, subst, arith}
+use Rattle.std.proofs.Common.{ap, List, ◌≡◌, ◌⊎◌, inl, inr, ℕ, zero, suc, ◌+◌, ◌<◌, ◌≤◌, refl, sym, ◌∙◌, subst}
 use Rattle.it_rational.specs.OrderedFields.{OrderedField}
 use Rattle.it_tableau.specs.FieldOperations.{operations_of}
 use Rattle.it_tableau.specs.SimplexTables.{SimplexTable, FeasibilityProblem, start}
@@ -8,7 +8,7 @@ use Rattle.it_tableau.proofs.Kept.{pivot_keeps_invariants}
 use Rattle.it_tableau.proofs.StartLemmas.{start_has_invariants}
 use Rattle.it_run.specs.Choice.{next, entering_column, leaving_row, IsDone, IsStuck}
 use Rattle.it_run.specs.Readings.{weights, point, SumsUp, Separates}
-use Rattle.it_run.specs.Runs.{RunEndView, EndsAs}
+use Rattle.it_run.specs.Runs.{RunEndView, EndsAs, clip_number}
 use Rattle.it_run.specs.Runs.RunEndView.{Weights, Point, Pivots, Width}
 use Rattle.it_run.proofs.BlandRule.{entering_is, some_column, leaving_is, may_enter}
 use Rattle.it_run.proofs.Ends.{weights_right, point_right}
@@ -39,8 +39,8 @@ module _ {S W P : Type 0} (IsDone IsStuck Fits : S → Type 0) (next : S → S) 
   one_end (suc left) k s d e (inr (inr p)) (inr (inl q)) = absurd (p.1 q.1)
   one_end (suc left) k s d e (inr (inr p)) (inr (inr q)) = by_cases p.2 q.2 (λ a b. one_end left (suc k) (next s) d e a b)
     where
-      by_cases : ((¬ (Fits s) × (d ≡ Width (suc k))) ⊎ (Fits s × Run left (suc k) (next s) d))
-          → ((¬ (Fits s) × (e ≡ Width (suc k))) ⊎ (Fits s × Run left (suc k) (next s) e))
+      by_cases : ((¬ (Fits s) × (d ≡ Width (clip_number (suc k)))) ⊎ (Fits s × Run left (suc k) (next s) d))
+          → ((¬ (Fits s) × (e ≡ Width (clip_number (suc k)))) ⊎ (Fits s × Run left (suc k) (next s) e))
           → (Run left (suc k) (next s) d → Run left (suc k) (next s) e → d ≡ e) → d ≡ e
       by_cases (inl a) (inl b) ih = a.1 ∙ sym b.1
       by_cases (inl a) (inr b) ih = absurd (a.0 b.0)
@@ -49,33 +49,27 @@ module _ {S W P : Type 0} (IsDone IsStuck Fits : S → Type 0) (next : S → S) 
 
   -- where a run's end comes from, if each step keeps I
   module _ (I : S → Type 0) where
-    -- the end is read off a state with I, or it has the number of a step that was left
-    abbrev pub EndComesFrom : ℕ → ℕ → RunEndView W P → Type 0
-    EndComesFrom left k (Weights w) = (s : S) × I s × IsDone s × (w ≡ weights s)
-    EndComesFrom left k (Point q) = (s : S) × I s × ¬ (IsDone s) × IsStuck s × (q ≡ point s)
-    EndComesFrom left k (Pivots j) = j ≡ k + left
-    EndComesFrom left k (Width j) = (k < j) × (j ≤ k + left)
+    -- the end is read off a state with I, or it is a number alone
+    abbrev pub EndComesFrom : RunEndView W P → Type 0
+    EndComesFrom (Weights w) = (s : S) × I s × IsDone s × (w ≡ weights s)
+    EndComesFrom (Point q) = (s : S) × I s × ¬ (IsDone s) × IsStuck s × (q ≡ point s)
+    EndComesFrom (Pivots j) = Unit {0}
+    EndComesFrom (Width j) = Unit {0}
 
-    comes_from_equal : (left k : ℕ) (s : S) (d e : RunEndView W P) → e ≡ d → EndComesFrom left k d → EndComesFrom left k e
-    comes_from_equal left k s d e q c = subst (EndComesFrom left k) (sym q) c
+    comes_from_equal : (d e : RunEndView W P) → e ≡ d → EndComesFrom d → EndComesFrom e
+    comes_from_equal d e q c = subst EndComesFrom (sym q) c
 
-    comes_from_later : (left k : ℕ) (e : RunEndView W P) → EndComesFrom left (suc k) e → EndComesFrom (suc left) k e
-    comes_from_later left k (Weights w) c = c
-    comes_from_later left k (Point q) c = c
-    comes_from_later left k (Pivots j) c = omega arith
-    comes_from_later left k (Width j) c = (omega (arith, c.0), omega (arith, c.1))
-
-    pub end_comes_from : ((s : S) → I s → ¬ (IsDone s) → ¬ (IsStuck s) → I (next s)) → (left k : ℕ) (s : S) (e : RunEndView W P) → I s → Run left k s e → EndComesFrom left k e
-    end_comes_from keeps zero k s e i (inl p) = comes_from_equal zero k s (Weights (weights s)) e p.1 (s, i, p.0, refl)
-    end_comes_from keeps zero k s e i (inr (inl p)) = comes_from_equal zero k s (Point (point s)) e p.2 (s, i, p.0, p.1, refl)
-    end_comes_from keeps zero k s e i (inr (inr p)) = comes_from_equal zero k s (Pivots k) e p.2 (omega arith)
-    end_comes_from keeps (suc left) k s e i (inl p) = comes_from_equal (suc left) k s (Weights (weights s)) e p.1 (s, i, p.0, refl)
-    end_comes_from keeps (suc left) k s e i (inr (inl p)) = comes_from_equal (suc left) k s (Point (point s)) e p.2 (s, i, p.0, p.1, refl)
+    pub end_comes_from : ((s : S) → I s → ¬ (IsDone s) → ¬ (IsStuck s) → I (next s)) → (left k : ℕ) (s : S) (e : RunEndView W P) → I s → Run left k s e → EndComesFrom e
+    end_comes_from keeps zero k s e i (inl p) = comes_from_equal (Weights (weights s)) e p.1 (s, i, p.0, refl)
+    end_comes_from keeps zero k s e i (inr (inl p)) = comes_from_equal (Point (point s)) e p.2 (s, i, p.0, p.1, refl)
+    end_comes_from keeps zero k s e i (inr (inr p)) = comes_from_equal (Pivots k) e p.2 tt
+    end_comes_from keeps (suc left) k s e i (inl p) = comes_from_equal (Weights (weights s)) e p.1 (s, i, p.0, refl)
+    end_comes_from keeps (suc left) k s e i (inr (inl p)) = comes_from_equal (Point (point s)) e p.2 (s, i, p.0, p.1, refl)
     end_comes_from keeps (suc left) k s e i (inr (inr p)) = by_cases p.2 (λ r. end_comes_from keeps left (suc k) (next s) e (keeps s i p.0 p.1) r)
       where
-        by_cases : ((¬ (Fits s) × (e ≡ Width (suc k))) ⊎ (Fits s × Run left (suc k) (next s) e)) → (Run left (suc k) (next s) e → EndComesFrom left (suc k) e) → EndComesFrom (suc left) k e
-        by_cases (inl a) ih = comes_from_equal (suc left) k s (Width (suc k)) e a.1 (omega arith, omega arith)
-        by_cases (inr a) ih = comes_from_later left k e (ih a.1)
+        by_cases : ((¬ (Fits s) × (e ≡ Width (clip_number (suc k)))) ⊎ (Fits s × Run left (suc k) (next s) e)) → (Run left (suc k) (next s) e → EndComesFrom e) → EndComesFrom e
+        by_cases (inl a) ih = comes_from_equal (Width (clip_number (suc k))) e a.1 tt
+        by_cases (inr a) ih = ih a.1
 
 module _ {A : Type 0} (F : OrderedField A) (m n : ℕ) where
   -- a step of the run keeps what every table keeps
@@ -102,9 +96,9 @@ module _ {S W P : Type 0} (IsDone IsStuck Fits : S → Type 0) (next : S → S) 
   end_with_readings (suc left) k s e (inr (inl p)) = inr (inl (p.0, p.1, ap with_readings p.2))
   end_with_readings (suc left) k s e (inr (inr p)) = inr (inr (p.0, p.1, by_cases p.2 (λ r. end_with_readings left (suc k) (next s) e r)))
     where
-      by_cases : ((¬ (Fits s) × (e ≡ Width (suc k))) ⊎ (Fits s × EndsAs IsDone IsStuck Fits next (λ s. s) (λ s. s) left (suc k) (next s) e))
+      by_cases : ((¬ (Fits s) × (e ≡ Width (clip_number (suc k)))) ⊎ (Fits s × EndsAs IsDone IsStuck Fits next (λ s. s) (λ s. s) left (suc k) (next s) e))
           → (EndsAs IsDone IsStuck Fits next (λ s. s) (λ s. s) left (suc k) (next s) e → EndsAs IsDone IsStuck Fits next weights point left (suc k) (next s) (with_readings e))
-          → ((¬ (Fits s) × (with_readings e ≡ Width (suc k))) ⊎ (Fits s × EndsAs IsDone IsStuck Fits next weights point left (suc k) (next s) (with_readings e)))
+          → ((¬ (Fits s) × (with_readings e ≡ Width (clip_number (suc k)))) ⊎ (Fits s × EndsAs IsDone IsStuck Fits next weights point left (suc k) (next s) (with_readings e)))
       by_cases (inl a) ih = inl (a.0, ap with_readings a.1)
       by_cases (inr a) ih = inr (a.0, ih a.1)
 
@@ -123,7 +117,7 @@ module _ {A : Type 0} (F : OrderedField A) (m n : ℕ) where
       (end_comes_from (IsDone (operations_of F) m n) (IsStuck (operations_of F) m n) Fits (next (operations_of F) m n) (weights (operations_of F) m n) (point (operations_of F) m n p) (HasInvariants (operations_of F) m n p)
       (λ t h d s. next_holds F m n p t h s) budget zero (start (operations_of F) m n p) e (start_has_invariants F m n p) r)
     where
-      for_each : (e : RunEndView (List (ℕ × A)) (List A)) → EndComesFrom (IsDone (operations_of F) m n) (IsStuck (operations_of F) m n) Fits (next (operations_of F) m n) (weights (operations_of F) m n) (point (operations_of F) m n p) (HasInvariants (operations_of F) m n p) budget zero e → EndIsRight p e
+      for_each : (e : RunEndView (List (ℕ × A)) (List A)) → EndComesFrom (IsDone (operations_of F) m n) (IsStuck (operations_of F) m n) Fits (next (operations_of F) m n) (weights (operations_of F) m n) (point (operations_of F) m n p) (HasInvariants (operations_of F) m n p) e → EndIsRight p e
       for_each (Weights w) c = subst (SumsUp (operations_of F) m n p) (sym c.3) (weights_right F m n p c.0 c.1 c.2)
       for_each (Point w) c = subst (Separates (operations_of F) m n p) (sym c.4) (point_right F m n p c.0 c.1 c.2 c.3)
       for_each (Pivots j) c = tt

@@ -9,7 +9,7 @@ use Rattle.it_tableau.specs.Fits.{PivotFits}
 use Rattle.it_tableau.specs.Invariants.{HasInvariants}
 use Rattle.it_tableau.specs.TableauViews.{TableauView, height, table}
 use Rattle.it_run.specs.Choice.{entering_column, leaving_row, next, IsDone, IsStuck}
-use Rattle.it_run.specs.Runs.{RunEndView}
+use Rattle.it_run.specs.Runs.{RunEndView, clip_number}
 use Rattle.it_run.specs.Runs.RunEndView.{Weights, Point, Pivots, Width}
 use Rattle.it_run.specs.Solving.{RatiosFit, StepFits}
 use Rattle.it_run.specs.Steps.{IsLeaving, IsReady, IsStep, IsWide, Reaches, ReachesFrom, HasInvariantsForSome}
@@ -70,7 +70,7 @@ module _ (m n : ℕ) where
   run_stuck zero k t s d u e = inr (inl (d, u, ap (λ x. let r : RunEndView (SimplexTable Rational) (SimplexTable Rational) = Point x in r) e))
   run_stuck (suc left) k t s d u e = inr (inl (d, u, ap (λ x. let r : RunEndView (SimplexTable Rational) (SimplexTable Rational) = Point x in r) e))
 
-  pub run_wide : (left k j : ℕ) (t : SimplexTable Rational) → 0 < left → ¬ (Done t) → IsWide m n t → j ≡ suc k → Reaches m n left k t (Width j)
+  pub run_wide : (left k j : ℕ) (t : SimplexTable Rational) → 0 < left → ¬ (Done t) → IsWide m n t → j ≡ clip_number (suc k) → Reaches m n left k t (Width j)
   run_wide zero k j t h d w e = absurd (omega arith)
   run_wide (suc left) k j t h d w e = inr (inr (d, w.0, inl (w.1, ap (λ x. let r : RunEndView (SimplexTable Rational) (SimplexTable Rational) = Width x in r) e)))
 

@@ -1,13 +1,13 @@
 -- A run without a budget, and how its loop ends or goes on.
-use Rattle.std.proofs.Common.{◌≡◌, ℕ, suc, ◌+◌, ◌-◌, ◌<◌, None, refl, sym, subst, arith, min}
+use Rattle.std.proofs.Common.{◌≡◌, ◌≢◌, ℕ, suc, ◌+◌, ◌-◌, ◌<◌, None, refl, sym, subst, arith, min}
 use Rattle.it_rational.specs.Rational.{Rational}
 use Rattle.it_rational.proofs.Field.{field_ℚ}
 use Rattle.it_tableau.specs.Operations.{rationals}
 use Rattle.it_tableau.specs.TableauViews.{TableauView, height, table}
 use Rattle.it_tableau.specs.SimplexTables.{SimplexTable}
 use Rattle.it_run.specs.Choice.{IsDone, IsStuck}
-use Rattle.it_run.specs.Runs.{RunEndView, clip_end, clip_number, IsWithinBudget}
-use Rattle.it_run.specs.Runs.RunEndView.{Weights, Point, Width}
+use Rattle.it_run.specs.Runs.{RunEndView, clip_number}
+use Rattle.it_run.specs.Runs.RunEndView.{Weights, Point, Pivots, Width}
 use Rattle.it_run.specs.Steps.{IsStep, IsWide, HasInvariantsForSome, ReachesBy, ReachesFrom}
 use Rattle.it_run.proofs.RunSteps.{run_done, run_stuck, run_wide, step_on}
 use Rattle.it_run.proofs.StepsLeft.{steps_left, steps_fall}
@@ -37,18 +37,18 @@ pub record IsRunUnderWay (from now : TableauView) (number : ℕ) : Type 0 where
 
 module _ (from now : TableauView) (number : ℕ) (w : IsRunUnderWay from now number) where
   -- it ends so
-  run_ends : (left : ℕ) (e : RunEndView (SimplexTable Rational) (SimplexTable Rational)) → ReachesFrom now left w.made e → IsWithinBudget e → EndsWithoutBudget from (clip_end e)
-  run_ends left e r i = let b = w.back left e r in record { budget = b.0; end = e; runs = b.1; within = i; is_clipped = refl }
+  run_ends : (left : ℕ) (e : RunEndView (SimplexTable Rational) (SimplexTable Rational)) → ReachesFrom now left w.made e → ((k : ℕ) → e ≢ Pivots k) → EndsWithoutBudget from e
+  run_ends left e r i = let b = w.back left e r in (b.0, b.1, i)
 
   pub unbound_done : IsDone rationals (height now) now.generator_columns (table now) → EndsWithoutBudget from (Weights (table now))
-  unbound_done d = run_ends 0 (Weights (table now)) (run_done (height now) now.generator_columns 0 w.made (table now) d) tt
+  unbound_done d = run_ends 0 (Weights (table now)) (run_done (height now) now.generator_columns 0 w.made (table now) d) (λ k q. cc)
 
   pub unbound_stuck : (s : SimplexTable Rational) → ¬ (IsDone rationals (height now) now.generator_columns (table now)) → IsStuck rationals (height now) now.generator_columns (table now) → s ≡ table now → EndsWithoutBudget from (Point s)
-  unbound_stuck s d u e = run_ends 0 (Point s) (run_stuck (height now) now.generator_columns 0 w.made (table now) s d u e) tt
+  unbound_stuck s d u e = run_ends 0 (Point s) (run_stuck (height now) now.generator_columns 0 w.made (table now) s d u e) (λ k q. cc)
 
   pub unbound_wide : ¬ (IsDone rationals (height now) now.generator_columns (table now)) → IsWide (height now) now.generator_columns (table now) → EndsWithoutBudget from (Width number)
   unbound_wide d u = subst (λ (k : ℕ). EndsWithoutBudget from (Width k)) (sym w.number_is)
-      (run_ends 1 (Width (suc w.made)) (run_wide (height now) now.generator_columns 1 w.made (suc w.made) (table now) (omega arith) d u refl) tt)
+      (run_ends 1 (Width (clip_number (suc w.made))) (run_wide (height now) now.generator_columns 1 w.made (clip_number (suc w.made)) (table now) (omega arith) d u refl) (λ k q. cc))
 
   -- a step further
   pub step_is_made : (new : TableauView) (k : ℕ) → k ≡ clip_number (number + 1) → ¬ (IsDone rationals (height now) now.generator_columns (table now)) → IsStep now new → IsRunUnderWay from new k

@@ -1,5 +1,5 @@
 -- How a run ends, by the first number of steps at which one of its ends holds.
-use Rattle.std.specs.Prelude.{◌≡◌, ◌≢◌, ◌⊎◌, ℕ, suc, ◌<◌, ◌≤◌, Option, Some, None, List}
+use Rattle.std.specs.Prelude.{◌≡◌, ◌≢◌, ◌⊎◌, ℕ, suc, ◌<◌, Option, Some, List}
 use Rattle.it_rational.specs.Rational.{Rational}
 use Rattle.it_tableau.specs.Operations.{rationals}
 use Rattle.it_tableau.specs.SimplexTables.{SimplexTable, FeasibilityProblem}
@@ -26,11 +26,6 @@ module _ {S W P : Type 0} (IsDone IsStuck Fits : S → Type 0) (next : S → S) 
     pub before : (k : ℕ) → k < steps → GoesOnAt budget k (state_after_steps next s k)
     pub here : EndsAt budget steps (state_after_steps next s steps) e
 
--- a budget of 32 bits, or none
-abbrev pub IsBudget : Option ℕ → Type 0
-IsBudget (Some budget) = budget ≤ 4294967295
-IsBudget None = Unit {0}
-
 -- how the run from table t ends
 abbrev pub RunsFirst : (m n : ℕ) → FeasibilityProblem Rational → Option ℕ → SimplexTable Rational → RunEndView (List (ℕ × Rational)) (List Rational) → Type 0
 RunsFirst m n p = EndsFirst (IsDone rationals m n) (IsStuck rationals m n) (StepFits m n) (next rationals m n)
@@ -38,5 +33,5 @@ RunsFirst m n p = EndsFirst (IsDone rationals m n) (IsStuck rationals m n) (Step
 
 -- both ways to say it say the same
 abbrev pub EndsAreFirst : Type 0
-EndsAreFirst = (m n : ℕ) (p : FeasibilityProblem Rational) (budget : Option ℕ) (t : SimplexTable Rational) (e : RunEndView (List (ℕ × Rational)) (List Rational)) → IsBudget budget
+EndsAreFirst = (m n : ℕ) (p : FeasibilityProblem Rational) (budget : Option ℕ) (t : SimplexTable Rational) (e : RunEndView (List (ℕ × Rational)) (List Rational))
     → (RunsTo m n p budget t e → RunsFirst m n p budget t e) × (RunsFirst m n p budget t e → RunsTo m n p budget t e)

@@ -1,5 +1,6 @@
 -- What is read off the last table of a run, and what weights and a point are to show.
-use Rattle.std.specs.Prelude.{◌≡◌, ℕ, zero, suc, ◌+◌, ◌<◌, ◌≤◌, true, false, cond, eqb, ◌&&◌, List, [], ◌∷◌, length, slice_index_or}
+use Rattle.std.specs.Prelude.{◌≡◌, ℕ, suc, ◌+◌, ◌<◌, ◌≤◌, true, false, cond, eqb, ◌&&◌, not, List, [], ◌∷◌, length, map, filter, slice_index_or}
+use Rattle.std.specs.List.{range_with_len}
 use Rattle.it_tableau.specs.Operations.{Operations}
 use Rattle.it_tableau.specs.Sums.{sum_by}
 use Rattle.it_tableau.specs.SimplexTables.{SimplexTable, FeasibilityProblem, sign}
@@ -9,27 +10,13 @@ module _ {A : Type 0} (K : Operations A) (m n : ℕ) where
   abbrev pub weight : SimplexTable A → ℕ → A
   weight t j = sum_by K.null K.add m (λ i. cond (eqb (t.basis i) j) (t.entry i (n + m)) K.null)
 
-  -- the weights other than 0 of so many columns from column j on, by column
-  abbrev pub weights_from_column : SimplexTable A → ℕ → ℕ → List (ℕ × A)
-  weights_from_column t j zero = []
-  weights_from_column t j (suc left) = cond (K.is_least (weight t j) && K.is_least (K.neg (weight t j))) (weights_from_column t (suc j) left) ((j, weight t j) ∷ weights_from_column t (suc j) left)
-
-  -- the weights other than 0 of all columns but the artificial ones
+  -- the weights other than 0 of all columns but the artificial ones, by column
   abbrev pub weights : SimplexTable A → List (ℕ × A)
-  weights t = weights_from_column t 0 n
+  weights t = filter (λ (w : ℕ × A). not (K.is_least w.1 && K.is_least (K.neg w.1))) (map (λ j. (j, weight t j)) (range_with_len 0 n))
 
-  -- the point at row k: the row's sign times the cost of its artificial column
-  abbrev pub point_value : FeasibilityProblem A → SimplexTable A → ℕ → A
-  point_value p t k = K.mul (sign K p k) (t.entry m (n + k))
-
-  -- its values at so many rows from row k on
-  abbrev pub point_from_row : FeasibilityProblem A → SimplexTable A → ℕ → ℕ → List A
-  point_from_row p t k zero = []
-  point_from_row p t k (suc left) = point_value p t k ∷ point_from_row p t (suc k) left
-
-  -- its values at all rows
+  -- the point: at row k its sign times the cost of its artificial column
   abbrev pub point : FeasibilityProblem A → SimplexTable A → List A
-  point p t = point_from_row p t 0 m
+  point p t = map (λ k. K.mul (sign K p k) (t.entry m (n + k))) (range_with_len 0 m)
 
 module _ {A : Type 0} (K : Operations A) where
   -- the sum over a list of numbered weights of weight times f of the number

@@ -1,23 +1,23 @@
 -- From a run to the answer of a question.
-use Rattle.std.proofs.Common.{◌≡◌, inl, inr, ℕ, zero, pos, negsuc, if◌then◌else◌, Bool, true, false, not, cond, List, length, slice_index_or, Option, Some, None, refl, sym, ap, ap₂, subst, ◌∙◌, arith}
+use Rattle.std.proofs.Common.{◌≡◌, ◌≢◌, inl, inr, ℕ, zero, pos, negsuc, if◌then◌else◌, Bool, true, false, not, cond, List, length, slice_index_or, Option, Some, None, refl, sym, ap, ap₂, subst, ◌∙◌, arith}
 use Rattle.std.specs.Option.{IfNone}
 use Rattle.it_rational.specs.Rational.{Rational, integer, minus, is_at_least_zero}
 use Rattle.it_rational.proofs.Field.{field_ℚ}
 use Rattle.it_space.specs.Rows.{Terms, coefficient}
 use Rattle.it_tableau.specs.Operations.{rationals}
 use Rattle.it_tableau.specs.Fits.{StartFits}
-use Rattle.it_tableau.specs.Problems.{feasibility_problem, start_of}
-use Rattle.it_tableau.specs.TableauViews.{TableauView, height, table, IsStart}
+use Rattle.it_tableau.specs.Problems.{feasibility_problem}
+use Rattle.it_tableau.specs.TableauViews.{TableauView, height, table, IsStart, start_of}
 use Rattle.it_tableau.specs.SimplexTables.{SimplexTable, start}
 use Rattle.it_run.specs.Answers.{end_of_answer, HasSigns, IsStartOf, RunsFrom}
 use Rattle.it_run.specs.Choice.{next, IsDone, IsStuck}
 use Rattle.it_run.specs.Readings.{weights, point}
-use Rattle.it_run.specs.Runs.{RunEndView, IsWithinBudget}
+use Rattle.it_run.specs.Runs.{RunEndView}
 use Rattle.it_run.specs.Runs.RunEndView.{Weights, Point, Pivots, Width}
 use Rattle.it_run.specs.Solving.{RunsTo, StepFits}
 use Rattle.it_run.specs.declared.answering.Solved.{Solved}
 use Rattle.it_run.specs.declared.answering.Solved.TheVariants as answers
-use Rattle.it_run.proofs.BudgetLemmas.{one_end_by, right_by, within_budget}
+use Rattle.it_run.proofs.BudgetLemmas.{one_end_by, right_by}
 use Rattle.it_run.proofs.RunLemmas.{EndIsRight}
 use Rattle.it_run.proofs.SignLemmas.{minus_one}
 use Rattle.it_simplex.specs.Answers.{IsRightSolved, Solves}
@@ -77,12 +77,9 @@ if_none None P f = f refl
 if_none (Some k) P f = tt
 
 -- without a budget the answer isn't that the budget is used up
-pub ends_within_budget : (cs : List ℕ) (columns : List Terms) (target : Terms) (e : RunEndView (List (ℕ × Rational)) (List Rational)) → Solves cs columns target None e → IsWithinBudget e
-ends_within_budget cs columns target e (inl a) = subst IsWithinBudget (sym a.1) tt
-ends_within_budget cs columns target e (inr a) =
-    let m = length cs in let n = length columns in
-    within_budget (IsDone rationals m n) (IsStuck rationals m n) (StepFits m n) (next rationals m n) (weights rationals m n) (point rationals m n (feasibility_problem cs columns target))
-    (start_of cs columns target) e a.1
+pub ends_within_budget : (cs : List ℕ) (columns : List Terms) (target : Terms) (e : RunEndView (List (ℕ × Rational)) (List Rational)) → Solves cs columns target None e → (k : ℕ) → e ≢ Pivots k
+ends_within_budget cs columns target e (inl a) = λ k q. let h = a.1 in cc
+ends_within_budget cs columns target e (inr a) = a.1.2
 
 -- the run has one end, and so has the answer
 pub ends_once : (cs : List ℕ) (columns : List Terms) (target : Terms) (budget : Option ℕ) (d e : RunEndView (List (ℕ × Rational)) (List Rational))

@@ -4,7 +4,8 @@ use Rattle.it_rational.specs.Rational.{Rational}
 use Rattle.it_space.specs.Rows.{Terms}
 use Rattle.it_tableau.specs.Operations.{rationals}
 use Rattle.it_tableau.specs.Fits.{StartFits}
-use Rattle.it_tableau.specs.Problems.{feasibility_problem, start_of}
+use Rattle.it_tableau.specs.SimplexTables.{start}
+use Rattle.it_tableau.specs.Problems.{feasibility_problem}
 use Rattle.it_run.specs.Readings.{SumsUp, Separates}
 use Rattle.it_run.specs.Runs.{RunEndView}
 use Rattle.it_run.specs.Runs.RunEndView.{Width}
@@ -19,7 +20,7 @@ Solves coordinates columns target budget e =
     let m = length coordinates in
     let n = length columns in
     let p = feasibility_problem coordinates columns target in
-    (¬ (StartFits m n p) × (e ≡ Width zero)) ⊎ (StartFits m n p × RunsTo m n p budget (start_of coordinates columns target) e)
+    (¬ (StartFits m n p) × (e ≡ Width zero)) ⊎ (StartFits m n p × RunsTo m n p budget (start rationals m n p) e)
 
 -- weights sum to the target, and a point separates it from the columns
 abbrev pub IsRightSolved : List ℕ → List Terms → Terms → Solved → Type 0

@@ -1,8 +1,8 @@
 //! The answer to a question.
-ghost use Rattle.std.specs.Prelude.{IfOk};
+ghost use Rattle.std.specs.Prelude.{◌≢◌, ℕ, IfOk};
 ghost use Rattle.std.specs.Option.{IfNone};
 ghost use Rattle.it_run.specs.Answers.{end_of_answer};
-ghost use Rattle.it_run.specs.Runs.{IsWithinBudget};
+ghost use Rattle.it_run.specs.Runs.RunEndView.{Pivots};
 ghost use Rattle.it_simplex.specs.Answers.{IsRightSolved, Solves};
 
 use crate::budget::Budget;
@@ -56,7 +56,7 @@ pub fn solve(
     budget: Budget,
 ) -> Result<Solved, AllocError>
     ensures end { IfOk result (λ solved. Solves coordinates.now columns.now target.now budget (end_of_answer solved)) }
-    ensures unbound { IfNone budget (IfOk result (λ solved. IsWithinBudget (end_of_answer solved))) }
+    ensures unbound { IfNone budget (IfOk result (λ solved. (k : ℕ) → end_of_answer solved ≢ Pivots k)) }
     ensures right { IfOk result (λ solved. IsRightSolved coordinates.now columns.now target.now solved) }
 {
     // named before it is answered, so that the contract of the call stands at the answer

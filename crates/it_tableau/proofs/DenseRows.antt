@@ -6,7 +6,7 @@ use Rattle.std.proofs.Math.Seq.{get_or-append_seam}
 use Rattle.it_rational.specs.Rational.{Rational, integer, plus, minus, times, inverse}
 use Rattle.it_fraction.specs.Fits.{IsNarrow}
 use Rattle.it_fraction.proofs.ZeroLemmas.{zero_narrow}
-use Rattle.it_tableau.specs.Fits.{EntryFits, QuotientFits}
+use Rattle.it_tableau.specs.Fits.{EntryFits}
 use Rattle.it_tableau.specs.Merging.{AreDivided, AreMerged, MergeFits, TermQuotientsFit}
 use Rattle.it_tableau.specs.Entries.{entry_at, zero_rational}
 use Rattle.it_tableau.specs.Rows.{RowQuotientsFit, IsDivided, IsReduced, ListsValues, RowFits, RowStepFits, entries_from, dense_row}
@@ -112,21 +112,21 @@ module _ (w : ℕ) (ts : RowTerms) (right : Rational) (a : Climbs 0 w ts) (n : I
     }
 
 module _ (w : ℕ) (old : RowTerms) (r p : Rational) where
-  pub row_quotients_fit : TermQuotientsFit old p → QuotientFits r p → RowQuotientsFit (dense_row w old r) p
+  pub row_quotients_fit : TermQuotientsFit old p → IsNarrow (times r (inverse p)) → RowQuotientsFit (dense_row w old r) p
   row_quotients_fit m e j l = by_cases (cases_lt j w)
     where
-      by_cases : (j < w) ⊎ (w ≤ j) → QuotientFits (entry_at (dense_row w old r) j) p
-      by_cases (inl h) = subst (λ (x : Rational). QuotientFits x p) (sym (row_entry w old r j h)) (m j)
-      by_cases (inr h) = subst (λ (x : Rational). QuotientFits x p) (sym (row_end w old r j (let n = row_length w old r in omega (arith, l, h, n)))) e
+      by_cases : (j < w) ⊎ (w ≤ j) → IsNarrow (times (entry_at (dense_row w old r) j) (inverse p))
+      by_cases (inl h) = subst (λ (x : Rational). IsNarrow (times x (inverse p))) (sym (row_entry w old r j h)) (m j)
+      by_cases (inr h) = subst (λ (x : Rational). IsNarrow (times x (inverse p))) (sym (row_end w old r j (let n = row_length w old r in omega (arith, l, h, n)))) e
 
-  pub right_quotient_fits : RowQuotientsFit (dense_row w old r) p → QuotientFits r p
-  right_quotient_fits f = subst (λ (x : Rational). QuotientFits x p) (row_end w old r w refl) (f w (let n = row_length w old r in omega (arith, n)))
+  pub right_quotient_fits : RowQuotientsFit (dense_row w old r) p → IsNarrow (times r (inverse p))
+  right_quotient_fits f = subst (λ (x : Rational). IsNarrow (times x (inverse p))) (row_end w old r w refl) (f w (let n = row_length w old r in omega (arith, n)))
 
   pub term_quotients_fit : Climbs 0 w old → RowQuotientsFit (dense_row w old r) p → TermQuotientsFit old p
   term_quotients_fit a f j = by_cases (cases_lt j w)
     where
-      by_cases : (j < w) ⊎ (w ≤ j) → QuotientFits (entry_in old j) p
-      by_cases (inl h) = subst (λ (x : Rational). QuotientFits x p) (row_entry w old r j h) (f j (let n = row_length w old r in omega (arith, n, h)))
+      by_cases : (j < w) ⊎ (w ≤ j) → IsNarrow (times (entry_in old j) (inverse p))
+      by_cases (inl h) = subst (λ (x : Rational). IsNarrow (times x (inverse p))) (row_entry w old r j h) (f j (let n = row_length w old r in omega (arith, n, h)))
       by_cases (inr h) = (quotient_of_null (entry_in old j) p (climbs_none 0 w old j a h)).0
 
   pub row_divided : (out : RowTerms) (right : Rational) → AreDivided old p w out → right ≡ times r (inverse p) → IsDivided (dense_row w old r) p (dense_row w out right)
@@ -151,7 +151,7 @@ module _ (w : ℕ) (old by : RowTerms) (r s : Rational) (seen seen_by : List Rat
   pub step_terms : Climbs 0 w old → Climbs 0 w by → RowStepFits seen seen_by c p → MergeFits old by q
   step_terms a b fits = terms_fit w old by r s q a b (step_row_fits fits)
 
-  pub step_fits : QuotientFits (entry_at seen c) p → MergeFits old by q → EntryFits r s q → RowStepFits seen seen_by c p
+  pub step_fits : IsNarrow (times (entry_at seen c) (inverse p)) → MergeFits old by q → EntryFits r s q → RowStepFits seen seen_by c p
   step_fits n m h = record {
     quotient = n;
     row_fits = subst (RowFits seen seen_by) e (subst (λ (x : List Rational). RowFits x seen_by q) f (subst (λ (y : List Rational). RowFits (dense_row w old r) y q) g (row_fits w old by r s q m h)));

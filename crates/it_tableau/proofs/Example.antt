@@ -4,9 +4,9 @@ use Rattle.std.proofs.Common.{◌≡◌, ℕ, ℤ, pos, negsuc, List, [], ◌∷
 use Rattle.it_number.specs.Gcd.{gcd, gcd_within}
 use Rattle.it_rational.specs.Rational.{Rational, quotient}
 use Rattle.it_space.specs.Rows.{Terms}
+use Rattle.it_tableau.specs.TableauViews.{start_of}
 use Rattle.it_tableau.specs.Operations.{rationals}
 use Rattle.it_tableau.specs.SimplexTables.{SimplexTable, pivot}
-use Rattle.it_tableau.specs.Problems.{start_of}
 
 -- the coordinates, the columns and the target
 abbrev pub coordinates : List ℕ

@@ -12,11 +12,11 @@ use Rattle.it_fraction.specs.Fits.{SumFits}
 use Rattle.it_tableau.specs.Operations.{rationals}
 use Rattle.it_tableau.specs.FieldOperations.{sum_to}
 use Rattle.it_tableau.specs.Fits.{StartFits}
-use Rattle.it_tableau.specs.Problems.{feasibility_problem, start_of}
+use Rattle.it_tableau.specs.Problems.{feasibility_problem}
 use Rattle.it_tableau.specs.Entries.{entry_at, row_at}
 use Rattle.it_tableau.specs.Rows.{column_sum, ColumnsFit, ListsValues}
 use Rattle.it_tableau.specs.StartRows.{AreStartRows}
-use Rattle.it_tableau.specs.TableauViews.{table_of}
+use Rattle.it_tableau.specs.TableauViews.{table_of, start_of}
 use Rattle.it_tableau.specs.SimplexTables.{FeasibilityProblem, SimplexTable, sign, start_row}
 use Rattle.it_tableau.proofs.Sums.{sum_same, sum_null}
 use Rattle.it_tableau.proofs.ViewLemmas.{entry_past_end, entry_past_rows, same_functions}

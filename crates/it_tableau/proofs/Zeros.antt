@@ -4,7 +4,7 @@ use Rattle.std.specs.Result.{IfErr}
 use Rattle.it_rational.specs.Rational.{Rational, integer, plus, minus, times, inverse}
 use Rattle.it_fraction.specs.Fits.{IsNarrow}
 use Rattle.it_fraction.proofs.ZeroLemmas.{top_of_zero, zero-product, zero-product-narrow, product-zero, product-zero-narrow, difference-zero, difference-zero-fits, zero-difference, zero-difference-fits, minus-narrow}
-use Rattle.it_tableau.specs.Fits.{EntryFits, QuotientFits}
+use Rattle.it_tableau.specs.Fits.{EntryFits}
 
 -- what holds anyway holds of an error
 pub any_err : {X F : Type 0} (r : Result X F) (w : F) (Q : Type 0) → Q → IfErr r (λ f. f ≡ w → Q)
@@ -31,5 +31,5 @@ difference_from_null x y q e = (
 )
 
 -- 0 divided
-pub quotient_of_null : (x p : Rational) → x ≡ integer (pos 0) → QuotientFits x p × (times x (inverse p) ≡ integer (pos 0))
+pub quotient_of_null : (x p : Rational) → x ≡ integer (pos 0) → IsNarrow (times x (inverse p)) × (times x (inverse p) ≡ integer (pos 0))
 quotient_of_null x p e = (zero-product-narrow x (inverse p) (top_of_zero x e), zero-product x (inverse p) (top_of_zero x e))

@@ -11,10 +11,6 @@ use Rattle.it_tableau.specs.SimplexTables.{SimplexTable, FeasibilityProblem, sta
 abbrev pub StartFits : ℕ → ℕ → FeasibilityProblem Rational → Type 0
 StartFits m n p = (k j : ℕ) → k ≤ m → j < n + m + 1 → IsNarrow (sum_by (integer (pos 0)) plus k (λ i. start_row rationals m n p i j))
 
--- x divided by y is within the limit
-abbrev pub QuotientFits : Rational → Rational → Type 0
-QuotientFits x y = IsNarrow (times x (inverse y))
-
 -- x less y times q, the product first and then the difference
 pub record EntryFits (x y q : Rational) : Type 0 where
   pub product : IsNarrow (times y q)
@@ -23,6 +19,6 @@ pub record EntryFits (x y q : Rational) : Type 0 where
 -- the numbers of the pivot at row r and column c: for each other row, the cost row too, its quotient and what its entries and
 -- its right side become; and the quotients that row r becomes
 pub record PivotFits (m n : ℕ) (t : SimplexTable Rational) (r c : ℕ) : Type 0 where
-  pub quotients : (i : ℕ) → i < m + 1 → i ≢ r → QuotientFits (t.entry i c) (t.entry r c)
+  pub quotients : (i : ℕ) → i < m + 1 → i ≢ r → IsNarrow (times (t.entry i c) (inverse (t.entry r c)))
   pub entries : (i j : ℕ) → i < m + 1 → i ≢ r → j < n + m + 1 → EntryFits (t.entry i j) (t.entry r j) (times (t.entry i c) (inverse (t.entry r c)))
-  pub own : (j : ℕ) → j < n + m + 1 → QuotientFits (t.entry r j) (t.entry r c)
+  pub own : (j : ℕ) → j < n + m + 1 → IsNarrow (times (t.entry r j) (inverse (t.entry r c)))

@@ -2,7 +2,7 @@
 use Rattle.std.specs.Prelude.{◌≡◌, ◌≢◌, ◌⊎◌, ◌++◌, length, slice_index_or, ℕ, ◌<◌, pos, [], ◌∷◌}
 use Rattle.it_rational.specs.Rational.{Rational, integer, plus, minus, times, inverse}
 use Rattle.it_fraction.specs.Fits.{IsNarrow}
-use Rattle.it_tableau.specs.Fits.{EntryFits, QuotientFits}
+use Rattle.it_tableau.specs.Fits.{EntryFits}
 use Rattle.it_tableau.specs.SparseRows.{RowTerms, entry_in, Climbs}
 use Rattle.it_tableau.specs.declared.merging.TermSource.{TermSource}
 use Rattle.it_tableau.specs.declared.merging.TermSource.TheVariants.{Old, Other, Both}
@@ -22,7 +22,7 @@ pub record AreMerged (old by : RowTerms) (q : Rational) (width : ℕ) (out : Row
 
 -- the numbers of all columns divided by p fit
 abbrev pub TermQuotientsFit : RowTerms → Rational → Type 0
-TermQuotientsFit old p = (k : ℕ) → QuotientFits (entry_in old k) p
+TermQuotientsFit old p = (k : ℕ) → IsNarrow (times (entry_in old k) (inverse p))
 
 -- the divided row
 pub record AreDivided (old : RowTerms) (p : Rational) (width : ℕ) (out : RowTerms) : Type 0 where

@@ -2,8 +2,7 @@
 use Rattle.std.specs.Prelude.{ℕ, ◌<◌, List, [], length, slice_index_or}
 use Rattle.it_rational.specs.Rational.{Rational, integer}
 use Rattle.it_space.specs.Rows.{Terms, coefficient}
-use Rattle.it_tableau.specs.Operations.{rationals}
-use Rattle.it_tableau.specs.SimplexTables.{FeasibilityProblem, SimplexTable, start}
+use Rattle.it_tableau.specs.SimplexTables.{FeasibilityProblem}
 
 -- each coordinate is below all later ones
 abbrev pub IsAscending : List ℕ → Type 0
@@ -15,7 +14,3 @@ feasibility_problem coordinates columns target = record {
   column = λ j k. integer (coefficient (slice_index_or columns j []) (slice_index_or coordinates k 0));
   target = λ k. integer (coefficient target (slice_index_or coordinates k 0));
 }
-
--- the start of its first phase
-abbrev pub start_of : List ℕ → List Terms → Terms → SimplexTable Rational
-start_of coordinates columns target = start rationals (length coordinates) (length columns) (feasibility_problem coordinates columns target)

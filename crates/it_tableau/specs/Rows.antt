@@ -1,12 +1,11 @@
 -- No public clause cites this module: rows of rational numbers as lists, and what a pivot does to them.
-use Rattle.std.specs.Prelude.{◌≡◌, ◌≢◌, ℕ, zero, suc, ◌<◌, List, [], ◌∷◌, ◌++◌, length}
-use Rattle.it_rational.specs.Rational.{Rational, plus, minus, times, inverse}
-use Rattle.it_rational.proofs.RationalLaws.{ring_ℚ}
+use Rattle.std.specs.Prelude.{◌≡◌, ◌≢◌, ℕ, zero, suc, ◌<◌, List, [], ◌∷◌, ◌++◌, length, pos}
+use Rattle.it_rational.specs.Rational.{Rational, integer, plus, minus, times, inverse}
 use Rattle.it_fraction.specs.Fits.{IsNarrow, SumFits}
-use Rattle.it_tableau.specs.FieldOperations.{sum_to}
+use Rattle.it_tableau.specs.Sums.{sum_by}
 use Rattle.it_tableau.specs.Entries.{entry_at, row_at}
 use Rattle.it_tableau.specs.SparseRows.{RowTerms, entry_in}
-use Rattle.it_tableau.specs.Fits.{QuotientFits, EntryFits}
+use Rattle.it_tableau.specs.Fits.{EntryFits}
 
 -- so many numbers from column j on
 abbrev pub entries_from : RowTerms → ℕ → ℕ → List Rational
@@ -29,7 +28,7 @@ pub record ListsValues (f : ℕ → Rational) (n : ℕ) (row : List Rational) : 
 
 -- the sum of the first k numbers of column j
 abbrev pub column_sum : List (List Rational) → ℕ → ℕ → Rational
-column_sum rows j k = sum_to ring_ℚ k (λ i. entry_at (row_at rows i) j)
+column_sum rows j k = sum_by (integer (pos 0)) plus k (λ i. entry_at (row_at rows i) j)
 
 -- each addition of the sum of column j fits
 abbrev pub ColumnFits : List (List Rational) → ℕ → Type 0
@@ -50,7 +49,7 @@ pub record IsReduced (old by : List Rational) (q : Rational) (new : List Rationa
 
 -- each entry divided by p fits
 abbrev pub RowQuotientsFit : List Rational → Rational → Type 0
-RowQuotientsFit row p = (k : ℕ) → k < length row → QuotientFits (entry_at row k) p
+RowQuotientsFit row p = (k : ℕ) → k < length row → IsNarrow (times (entry_at row k) (inverse p))
 
 -- each entry divided by p
 pub record IsDivided (old : List Rational) (p : Rational) (new : List Rational) : Type 0 where
@@ -59,7 +58,7 @@ pub record IsDivided (old : List Rational) (p : Rational) (new : List Rational) 
 
 -- the quotient of a row and what follows from it fit
 pub record RowStepFits (row by : List Rational) (c : ℕ) (p : Rational) : Type 0 where
-  pub quotient : QuotientFits (entry_at row c) p
+  pub quotient : IsNarrow (times (entry_at row c) (inverse p))
   pub row_fits : RowFits row by (times (entry_at row c) (inverse p))
 
 -- rows of one length

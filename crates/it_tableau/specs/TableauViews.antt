@@ -2,9 +2,10 @@
 use Rattle.std.specs.Prelude.{◌≡◌, ℕ, ◌+◌, ◌<◌, Bool, false, not, ℤ, pos, negsuc, if◌then◌else◌, List, length, slice_index_or}
 use Rattle.it_rational.specs.Rational.{Rational, minus, integer, is_at_least_zero}
 use Rattle.it_space.specs.Rows.{Terms, coefficient}
-use Rattle.it_tableau.specs.SimplexTables.{SimplexTable}
+use Rattle.it_tableau.specs.Operations.{rationals}
+use Rattle.it_tableau.specs.SimplexTables.{SimplexTable, start}
 use Rattle.it_tableau.specs.Entries.{entry_at, row_at}
-use Rattle.it_tableau.specs.Problems.{start_of}
+use Rattle.it_tableau.specs.Problems.{feasibility_problem}
 
 -- a table as the code keeps it
 pub record TableauView : Type 0 where
@@ -54,6 +55,10 @@ pub record IsSound (n width : ℕ) (rows : List (List Rational)) (basis : List �
   pub width_is : width ≡ n + length basis
   pub shape : HasShape (length basis) n rows basis
   pub signs_are : length negated ≡ length basis
+
+-- the start of the first phase for a question of rows
+abbrev pub start_of : List ℕ → List Terms → Terms → SimplexTable Rational
+start_of coordinates columns target = start rationals (length coordinates) (length columns) (feasibility_problem coordinates columns target)
 
 -- the start of the run on the rows' coefficients at the coordinates
 pub record IsStart (coordinates : List ℕ) (columns : List Terms) (target : Terms) (t : TableauView) : Type 0 where

@@ -3,7 +3,8 @@ use Rattle.std.specs.Option.{IfSome}
 use Rattle.it_run.specs.declared.answering.Solved.{Solved}
 use Rattle.it_run.proofs.AnswerLemmas.{if_ok}
 use Rattle.it_space.specs.Rows.{Terms}
-use Rattle.it_tableau.specs.Problems.{feasibility_problem, start_of}
+use Rattle.it_tableau.specs.TableauViews.{start_of}
+use Rattle.it_tableau.specs.Problems.{feasibility_problem}
 use Rattle.it_engine.specs.Answers.{RunsFromStart}
 use Rattle.it_engine.specs.Ends.{AnswersQuestion}
 use Rattle.it_engine.specs.Loading.{right_sum, AreReadColumns, AreReadRows, IsNorm}

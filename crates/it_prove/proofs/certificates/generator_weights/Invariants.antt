@@ -2,7 +2,7 @@ use Rattle.it_space.specs.Problems.{problem_view}
 use Rattle.std.proofs.Common.{◌≡◌, ◌≤◌, ◌++◌, ◌*◌, drop}
 use Rattle.it_space.specs.Rows.{coefficient}
 use Rattle.it_elemental.specs.Generators.{generators}
-use Rattle.it_prove.specs.Weights.{weights_from}
+use Rattle.it_prove.proofs.GeneratorWeights.{weights_from}
 use Rattle.it_prove.proofs.certificates.generator_weights.Given as goal
 
 abbrev pub invariant-loop-index : goal.invariant-loop-index

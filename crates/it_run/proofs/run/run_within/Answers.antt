@@ -1,4 +1,4 @@
-use Rattle.std.proofs.Common.{◌≡◌, ◌∙◌, ◌+◌, ◌-◌, ℕ, refl, subst, ap, arith}
+use Rattle.std.proofs.Common.{◌≡◌, ◌∙◌, ◌+◌, ◌-◌, ℕ, suc, min, refl, subst, ap, arith}
 use Rattle.it_tableau.specs.TableauViews.{height, table}
 use Rattle.it_run.specs.Runs.RunEndView.{Weights, Point, Pivots, Width}
 use Rattle.it_run.specs.Steps.{IsStep, ReachesFrom, IsStepOrStuck}
@@ -20,9 +20,10 @@ returns-in-Ok-false-clause-end c = let t = c.loop-k.tableau in let s = c.step.ne
 
 pub returns-in-Err-Wide-clause-end : goal.returns-in-Err-Wide-clause-end
 returns-in-Err-Wide-clause-end c = let t = c.loop-k.tableau in
+    let number_is : c.loop-k.k + 1 ≡ min (suc c.loop-k.k) 4294967295 = omega (arith, c.loop-k-test.true) in
     c.loop-k.invariant.back (Width (c.loop-k.k + 1))
     (run_wide (height t) t.generator_columns (c.args.budget - c.loop-k.k) c.loop-k.k (c.loop-k.k + 1) (table t) (omega (arith, c.loop-k-test.true)) c.if-is_done.ensures.no
-    (c.in-Err-Wide.ensures.wide c.in-Err-Wide.field-0-is) (omega arith))
+    (c.in-Err-Wide.ensures.wide c.in-Err-Wide.field-0-is) number_is)
 
 pub loop-k-preserved : goal.loop-k-preserved
 loop-k-preserved c = let t = c.loop-k.tableau in let s = c.step.new.tableau in

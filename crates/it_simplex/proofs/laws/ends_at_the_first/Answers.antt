@@ -6,5 +6,5 @@ use Rattle.it_tableau.specs.Operations.{rationals}
 use Rattle.it_simplex.proofs.laws.ends_at_the_first.Goals as goal
 
 pub returns : goal.returns
-returns c = λ m n p budget t e u. ends_are_first (IsDone rationals m n) (IsStuck rationals m n) (StepFits m n) (next rationals m n)
-    (weights rationals m n) (point rationals m n p) budget t e u
+returns c = λ m n p budget t e. ends_are_first (IsDone rationals m n) (IsStuck rationals m n) (StepFits m n) (next rationals m n)
+    (weights rationals m n) (point rationals m n p) budget t e

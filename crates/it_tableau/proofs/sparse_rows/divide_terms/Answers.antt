@@ -1,7 +1,7 @@
 use Rattle.std.proofs.Common.{◌∙◌, ℕ, sym, ap, subst, arith}
 use Rattle.it_rational.specs.Rational.{Rational, times, inverse}
+use Rattle.it_fraction.specs.Fits.{IsNarrow}
 use Rattle.it_space.specs.declared.faults.RowFault.TheVariants.{Wide}
-use Rattle.it_tableau.specs.Fits.{QuotientFits}
 use Rattle.it_tableau.specs.Merging.{IsAppended, TermQuotientsFit}
 use Rattle.it_tableau.proofs.DivisionSteps.{IsDividing, all_quotients_fit, division_ends, term_is_divided, division_begins, refused_quotient}
 use Rattle.it_tableau.proofs.Zeros.{any_err}
@@ -14,13 +14,13 @@ pub returns-in_err-div-clause-wide : goal.returns-in_err-div-clause-wide
 returns-in_err-div-clause-wide c =
     any_err c.from_residual.result Wide (¬ (TermQuotientsFit c.args.terms.now c.args.pivot))
     (refused_quotient c.args.width c.args.terms.now c.args.pivot c.loop-i.i c.loop-i.buffer.items c.loop-i.invariant c.loop-i-test.true
-    (subst (λ (y : Rational). ¬ (QuotientFits y c.args.pivot)) c.term.ensures.value c.in_err-div.ensures))
+    (subst (λ (y : Rational). ¬ (IsNarrow (times y (inverse c.args.pivot)))) c.term.ensures.value c.in_err-div.ensures))
 
 pub loop-i-preserved : goal.loop-i-preserved
 loop-i-preserved c =
     let v = c.in_ok-div.field-0 in
     term_is_divided c.args.width c.args.terms.now c.args.pivot c.loop-i.i c.loop-i.buffer.items c.loop-i.invariant c.append.new.terms.items v c.loop-i-test.true
-    (subst (λ (y : Rational). QuotientFits y c.args.pivot) c.term.ensures.value c.in_ok-div.ensures.0)
+    (subst (λ (y : Rational). IsNarrow (times y (inverse c.args.pivot))) c.term.ensures.value c.in_ok-div.ensures.0)
     (c.in_ok-div.ensures.1 ∙ ap (λ (y : Rational). times y (inverse c.args.pivot)) c.term.ensures.value)
     (subst (λ (n : ℕ). IsAppended c.loop-i.buffer.items n v c.append.new.terms.items) c.column.ensures c.in_ok-append.ensures)
 

@@ -2,7 +2,6 @@ use Rattle.std.proofs.Common.{◌≡◌, ℕ, List, pos, sym, ap, subst, ◌∙�
 use Rattle.it_fraction.specs.Fits.{IsNarrow}
 use Rattle.it_rational.specs.Rational.{Rational, integer, times, inverse}
 use Rattle.it_space.specs.declared.faults.RowFault.TheVariants.{Wide}
-use Rattle.it_tableau.specs.Fits.{QuotientFits}
 use Rattle.it_tableau.specs.Merging.{AreMerged, MergeFits}
 use Rattle.it_tableau.specs.Entries.{entry_at}
 use Rattle.it_tableau.specs.Rows.{IsReduced, RowStepFits, dense_row}
@@ -70,7 +69,7 @@ returns-clause-ok c =
     let d = (goal.at.returns-clause-ok c).After-reduced_entry in
     step_fits c.self.inside.width c.self.inside.terms.items c.by.inside.terms.items c.self.inside.right c.by.inside.right c.args.self.now c.args.by.now
     c.self.view_is (by_seen d) c.args.column c.args.pivot c.in_ok-q.q (factor d)
-    (subst (λ (x : Rational). QuotientFits x c.args.pivot) c.entry-entry.ensures c.in_ok-q.ensures.0)
+    (subst (λ (x : Rational). IsNarrow (times x (inverse c.args.pivot))) c.entry-entry.ensures c.in_ok-q.ensures.0)
     (subst (λ (ts : RowTerms). MergeFits ts c.by.inside.terms.items c.in_ok-q.q) c.as_slice.ensures.value
     (subst (λ (ts : RowTerms). MergeFits c.as_slice.result.now ts c.in_ok-q.q) c.as_slice-2.ensures.value c.in_ok-merge.ensures.ok))
     c.in_ok-right.ensures.ok

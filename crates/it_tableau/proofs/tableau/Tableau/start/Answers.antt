@@ -1,7 +1,6 @@
 use Rattle.std.proofs.Common.{◌≡◌, List, refl, sym, subst}
 use Rattle.it_rational.specs.Rational.{Rational}
-use Rattle.it_tableau.specs.Problems.{start_of}
-use Rattle.it_tableau.specs.TableauViews.{table_of}
+use Rattle.it_tableau.specs.TableauViews.{table_of, start_of}
 use Rattle.it_tableau.proofs.StartView.{start_shown}
 use Rattle.it_tableau.proofs.tableau.Tableau.start.Goals as goal
 
