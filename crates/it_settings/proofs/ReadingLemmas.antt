@@ -1,6 +1,7 @@
 -- The reading, from what clap gave.
 use Rattle.std.proofs.Math.Path.{fun_ext}
-use Rattle.std.proofs.Common.{◌≡◌, [], ◌∷◌, List, refl, ap, sym, ◌∙◌, codes, Option, None, Err}
+use Rattle.std.proofs.Common.{◌≡◌, ◌==◌, [], ◌∷◌, List, length, if◌then◌else◌, refl, ap, sym, ◌∙◌, codes, Option, None, Err, arith}
+use Rattle.std.proofs.lemmas.Bool.{ne_eqb}
 use Rattle.clap.specs.Words.{Text, Kinds, fault_of, matches_of, rows_of, first_of, first_value}
 use Rattle.clap.specs.declared.parser.matches.Found.{Found}
 use Rattle.clap.specs.declared.error.kind.ErrorKind.{ErrorKind}
@@ -8,7 +9,7 @@ use Rattle.clap.specs.declared.error.kind.ErrorKind.TheVariants as kinds
 use Rattle.clap.proofs.WalkLemmas.{first_value-rows}
 use Rattle.it_settings.specs.App.{itip_app}
 use Rattle.it_settings.specs.ErrorKinds.{IsFaultOf}
-use Rattle.it_settings.specs.Settings.{settings_of, settings_by, answer_of, bench_of, steps_of, unless_fault, TellsReading}
+use Rattle.it_settings.specs.Settings.{settings_of, settings_by, answer_of, bench_of, steps_of, TellsReading}
 use Rattle.it_settings.specs.ValuesViews.{AreTexts, by_name, texts_of}
 use Rattle.it_settings.specs.declared.reading.Values.{Values}
 use Rattle.it_settings.specs.declared.types.Settings.{Settings}
@@ -28,12 +29,12 @@ pub has_reading : (words : List Text) (f : Found) → fault_of itip_app words �
     → settings_of words ≡ settings_by (first_value f)
 unfolding settings_of
 has_reading words f none rows =
-    ap (λ ks. unless_fault ks (settings_by (λ id. first_of id (matches_of itip_app words)))) none
+    ap (λ (ks : Kinds). if length ks == 0 then settings_by (λ id. first_of id (matches_of itip_app words)) else None) none
     ∙ ap (λ rs. settings_by (λ id. first_of id rs)) (sym rows) ∙ ap settings_by (sym (fun_ext (first_value-rows f)))
 
-none_with_fault : (ks : Kinds) (o : Option Settings) → (ks ≡ [] → ⊥) → unless_fault ks o ≡ None
+none_with_fault : (ks : Kinds) (o : Option Settings) → (ks ≡ [] → ⊥) → (if length ks == 0 then o else None) ≡ None
 none_with_fault [] o some = absurd (some refl)
-none_with_fault (k ∷ ks) o some = refl
+none_with_fault (k ∷ ks) o some = ap (λ b. if b then o else None) (ne_eqb (length (k ∷ ks)) 0 (λ e. omega arith))
 
 pub has_no_reading : (words : List Text) (kind : ErrorKind) (fault : WordsFault)
     → (fault_of itip_app words ≡ [] → kind ≡ kinds.OutOfMemory) → IsFaultOf kind fault → TellsReading (settings_of words) (Err fault)

@@ -1,5 +1,6 @@
 -- The command as clap reads it (clap: the command line parser of Rust).
-use Rattle.std.specs.Prelude.{true, Some, codes}
+use Rattle.std.specs.Prelude.{[], ◌∷◌, true, Some, codes}
+use Rattle.std.specs.List.{fold}
 use Rattle.clap.specs.Words.{App, Rule, Text, new_app, new_rule, with_rule}
 use Rattle.clap.specs.declared.builder.action.ArgAction.TheVariants.{Set}
 
@@ -15,12 +16,7 @@ mode_rule = record (new_rule (codes "mode")) { action = Some Set; required = tru
 unfoldable pub bare_app : App
 bare_app = let a = new_app (codes "itip") in record a { top = record a.top { no_binary_name = true; disable_help_flag = true; disable_version_flag = true } }
 
--- one more option
-unfoldable pub with_option : App → Text → App
-with_option a name = with_rule a (option_rule name)
-
 -- the mode, and the options of all modes
 unfoldable pub itip_app : App
-itip_app =
-    with_option (with_option (with_option (with_option (with_option (with_option (with_rule bare_app mode_rule)
-    (codes "format")) (codes "pivots")) (codes "rows")) (codes "tries")) (codes "seed")) (codes "count")
+itip_app = fold (λ a name. with_rule a (option_rule name)) (with_rule bare_app mode_rule)
+    (codes "format" ∷ codes "pivots" ∷ codes "rows" ∷ codes "tries" ∷ codes "seed" ∷ codes "count" ∷ [])

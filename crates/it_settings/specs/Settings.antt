@@ -1,10 +1,11 @@
 -- The settings that words give: what the command takes from them, each value then judged.
-use Rattle.std.specs.Prelude.{ℕ, ◌^◌, ◌≡◌, ◌≤◌, ◌<◌, ◌&&◌, List, [], ◌∷◌, length, Option, Some, None, is_none, Result, Ok, Err, if◌then◌else◌, codes, option_and_then, option_map, nat_le}
+use Rattle.std.specs.Prelude.{ℕ, ◌^◌, ◌≡◌, ◌≤◌, ◌<◌, ◌==◌, ◌&&◌, List, [], ◌∷◌, length, Option, Some, None, is_none, Result, Ok, Err, if◌then◌else◌, codes, option_and_then, option_map, nat_le}
 use Rattle.std.specs.Str.{bytes_eq}
 use Rattle.std.specs.List.{list_all}
+use Rattle.std.specs.Map.{lookup}
 use Rattle.std.specs.Option.{option_map_or}
 use Rattle.it_number.specs.Decimals.{value_from}
-use Rattle.clap.specs.Words.{Text, Kinds, fault_of, matches_of, first_of}
+use Rattle.clap.specs.Words.{Text, fault_of, matches_of, first_of}
 use Rattle.it_settings.specs.App.{itip_app}
 use Rattle.it_settings.specs.declared.types.Format.{Format}
 use Rattle.it_settings.specs.declared.types.Format.TheVariants as formats
@@ -26,10 +27,7 @@ pivots_of text = if bytes_eq text (codes "none") then Some None else option_map 
 
 -- a format by its name
 unfoldable pub format_of : Text → Option Format
-format_of text =
-    if bytes_eq text (codes "text") then Some formats.Text else
-    if bytes_eq text (codes "json") then Some formats.Json else
-    if bytes_eq text (codes "proof") then Some formats.Proof else None
+format_of text = lookup (bytes_eq text) ((codes "text", formats.Text) ∷ (codes "json", formats.Json) ∷ (codes "proof", formats.Proof) ∷ [])
 
 -- ---- the modes: by the texts that were given for the mode and for each option, by name
 
@@ -89,14 +87,9 @@ settings_by given = option_and_then (settings_in given) (given (codes "mode"))
 
 -- ---- the words
 
--- nothing is read where the command finds a fault in the words
-abbrev pub unless_fault : Kinds → Option Settings → Option Settings
-unless_fault [] s = s
-unless_fault (k ∷ ks) s = None
-
--- the settings of the words, if they have a reading
+-- the settings of the words, if they have a reading; they have none where the command finds a fault in them
 unfoldable pub settings_of : List Text → Option Settings
-settings_of words = unless_fault (fault_of itip_app words) (settings_by (λ id. first_of id (matches_of itip_app words)))
+settings_of words = if length (fault_of itip_app words) == 0 then settings_by (λ id. first_of id (matches_of itip_app words)) else None
 
 -- an answer tells the reading: its settings, or `Usage` exactly where there is none
 abbrev pub TellsReading : Option Settings → Result Settings WordsFault → Type 0

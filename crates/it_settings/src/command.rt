@@ -1,7 +1,7 @@
 //! The command, as clap reads it.
 ghost use Rattle.std.specs.Prelude.{◌≡◌, [], map, IfOk, IfErr, true, false};
 ghost use Rattle.clap.specs.Words.{app_of, rule_of, with_rule, fault_of, found_of, rows_of, matches_of, kind_of};
-ghost use Rattle.it_settings.specs.App.{option_rule, mode_rule, bare_app, with_option, itip_app};
+ghost use Rattle.it_settings.specs.App.{option_rule, mode_rule, bare_app, itip_app};
 
 use clap::error::ErrorKind;
 use clap::{Arg, ArgAction, ArgMatches, Command, Error};
@@ -39,13 +39,12 @@ fn bare_command<'a>(alloc: Global) -> Command<'a>
 }
 
 /// The command with one more option.
-#[tactic(auto, unfolding(crate::specs::App::with_option))]
 fn with_option<'a>(
     command: Command<'a>,
     alloc: Global,
     name: &'a str,
 ) -> Result<Command<'a>, AllocError>
-    ensures { IfOk result (λ r. app_of r ≡ with_option (app_of command.entry) name.entry.now) }
+    ensures { IfOk result (λ r. app_of r ≡ with_rule (app_of command.entry) (option_rule name.entry.now)) }
 {
     command.arg(option(alloc, name))
 }
