@@ -8,7 +8,7 @@ use Rattle.std.proofs.lemmas.Str.{digit_value_digit}
 use Rattle.std.proofs.lemmas.Str.Parse.{digit_from_value}
 use Rattle.it_number.specs.Limit.{IsWithin}
 use Rattle.it_number.specs.Decimals.{value_from}
-use Rattle.it_certificate.specs.Numerals.{up_to_limit, magnitude_of, integer_of, count_of, count_of_integer, step_of}
+use Rattle.it_certificate.specs.Numerals.{below, magnitude_of, integer_of, count_of_integer, step_of}
 
 digits_read : (n : ℕ) (ds : List ℕ) → AllDigits 10 ds → value_from n ds ≡ Some (digits_value_after 10 n ds)
 digits_read n [] all = refl
@@ -31,8 +31,8 @@ magnitude_back n lt =
     let few : length (decimal n) ≤ 39 = length-decimal-le_wide 39 n (lit< tt) (below_wide n lt) wide in
     let test : (nat_le 1 (length (decimal n)) && nat_le (length (decimal n)) 39) ≡ true = search (rules, some, few) in
     let value : value_from 0 (decimal n) ≡ Some n = digits_read 0 (decimal n) numeral.0.1 ∙ ap Some numeral.1 in
-    let inside : up_to_limit n ≡ Some n = search (rules, lt) in
-    ap (λ b. cond b (option_and_then up_to_limit (value_from 0 (decimal n))) None) test ∙ ap (option_and_then up_to_limit) value ∙ inside
+    let inside : below (2 ^ 127) n ≡ Some n = search (rules, lt) in
+    ap (λ b. cond b (option_and_then (below (2 ^ 127)) (value_from 0 (decimal n))) None) test ∙ ap (option_and_then (below (2 ^ 127))) value ∙ inside
   where
     tens : 10 ^ 39 ≤ 10 ^ 64
     tens = lit≤ tt
@@ -55,7 +55,7 @@ integer_back (negsuc n) lt = ap (option_map (λ n. neg_ℤ (pos n))) (magnitude_
 decimal_integer : (n : ℕ) → n < 2 ^ 127 → integer_of (decimal n) ≡ Some (pos n)
 decimal_integer n lt = integer_back (pos n) lt
 
-pub count_back : (n : ℕ) → n < 2 ^ 32 → count_of n ≡ Some n
+pub count_back : (n : ℕ) → n < 2 ^ 32 → below (2 ^ 32) n ≡ Some n
 count_back n lt = search (rules, lt)
 
 pub step_back : (n : ℕ) → n < 2 ^ 32 → step_of (decimal n) ≡ Some n

@@ -26,14 +26,16 @@ use Rattle.it_certificate.specs.declared.kinds.AnswerKind.{AnswerKind}
 use Rattle.it_certificate.specs.declared.kinds.AnswerKind.TheVariants as kinds
 use Rattle.it_certificate.specs.declared.kinds.CauseKind.{CauseKind}
 use Rattle.it_certificate.specs.declared.kinds.CauseKind.TheVariants as causes
-use Rattle.it_certificate.specs.Numerals.{count_of, count_of_integer, step_of, integer_of}
-use Rattle.it_certificate.specs.Values.{rate_name}
-use Rattle.it_certificate.specs.Kinds.{back_of}
+use Rattle.it_elemental.specs.Generators.{is_equation}
+use Rattle.it_demand.specs.Demands.{kind_of}
+use Rattle.it_demand.specs.Targets.{targets}
+use Rattle.it_certificate.specs.Numerals.{below, count_of_integer, step_of, integer_of}
+use Rattle.it_certificate.specs.Kinds.{back_of, mark_of}
 use Rattle.std.specs.Option.{option_or, option_zip}
-use Rattle.it_certificate.specs.Parts.{text_of, integer_at, count_at, two_of, pair_at, all_of, list_at, of_length, certificate_at, proofs_at, point_at, back_at, cause_kind_at, cause_of, cause_at, is_row_between, row_of, mark_at, terms_at, marked_row_at, rows_at, set_at, parts_at, tried_at}
-use Rattle.it_certificate.specs.AnswerReading.{and_then, is_equality, no_at, undecided_at, contained_at}
-use Rattle.it_certificate.specs.Obligations.{obligation_count, target_count}
-use Rattle.it_certificate.specs.Reports.{verb_answer, question_answer}
+use Rattle.it_certificate.specs.Parts.{text_of, integer_at, count_at, two_of, pair_at, all_of, list_at, of_length, certificate_at, proofs_at, point_at, back_at, cause_kind_at, cause_of, cause_at, is_row_between, row_of, marked_row_at, rows_at, set_at, parts_at}
+use Rattle.it_certificate.specs.AnswerReading.{and_then, no_at, undecided_at, contained_at}
+use Rattle.it_certificate.specs.Obligations.{obligation_count}
+use Rattle.it_certificate.specs.Reports.{verb_answer}
 use Rattle.it_certificate.specs.AnswerShapes.{IsNumberedAmount, IsNumbered, IsRowIn, IsFoundIn, IsCauseFor, HasVerbShape, HasQuestionShape}
 use Rattle.it_certificate.proofs.WithinLemmas.{and_then_some, map_some, cond_some, pair_some, all_of_holds, integer_at_within, point_within, point_length}
 use Rattle.it_certificate.proofs.RowLemmas.{row_is_canonical}
@@ -54,7 +56,7 @@ ok_same a b is = cc
 
 -- ---- numbers and terms
 
-count_below : (n m : ℕ) → count_of n ≡ Some m → m < 2 ^ 32
+count_below : (n m : ℕ) → below (2 ^ 32) n ≡ Some m → m < 2 ^ 32
 count_below n m is =
     let h = cond_some (nat_lt n (2 ^ 32)) (Some n) m is in
     let e : n ≡ m = let s = h.1 in cc in
@@ -63,7 +65,7 @@ count_below n m is =
 
 count_at_below : (d : Data) (n : ℕ) → count_at d ≡ Some n → n < 2 ^ 32
 unfolding count_at
-count_at_below d n is = let h = and_then_some (option_and_then as_u64 (as_number d)) count_of n is in count_below h.0 n h.1.1
+count_at_below d n is = let h = and_then_some (option_and_then as_u64 (as_number d)) (below (2 ^ 32)) n is in count_below h.0 n h.1.1
 
 pair_numbers : (d : Data) (t : ℕ × ℤ) → pair_at d ≡ Some t → IsNumberedAmount t
 unfolding pair_at
@@ -87,10 +89,12 @@ counted_numbers P f each n o xs is =
 certificate_numbers : (d : Data) (c : CertificateView) → certificate_at d ≡ Some c → IsNumbered c
 unfolding certificate_at
 certificate_numbers d c is =
-    let h = and_then_some (option_and_then integer_at (get (codes "scale") d)) (λ s. option_map (λ ws. record { scale = s; weights = ws }) (list_at pair_at (get (codes "weights") d))) c is in
-    let k = map_some (list_at pair_at (get (codes "weights") d)) (λ ws. record { scale = h.0; weights = ws }) c h.1.1 in
-    let s = and_then_some (get (codes "scale") d) integer_at h.0 h.1.0 in
-    subst IsNumbered k.1.1 (record { scale = integer_at_within s.0 h.0 s.1.1; weights = list_numbers IsNumberedAmount pair_at pair_numbers (get (codes "weights") d) k.0 k.1.0 })
+    let scale = option_and_then integer_at (get (codes "scale") d) in
+    let weights = list_at pair_at (get (codes "weights") d) in
+    let h = map_some (option_zip scale weights) (λ p. record { scale = p.0; weights = p.1 }) c is in
+    let k = pair_some scale weights h.0 h.1.0 in
+    let s = and_then_some (get (codes "scale") d) integer_at h.0.0 k.0 in
+    subst IsNumbered h.1.1 (record { scale = integer_at_within s.0 h.0.0 s.1.1; weights = list_numbers IsNumberedAmount pair_at pair_numbers (get (codes "weights") d) h.0.1 k.1 })
 
 proofs_fit : (n : ℕ) (d : Data) (ps : List CertificateView) → proofs_at n d ≡ Some ps → (length ps ≡ n) × All IsNumbered ps
 unfolding proofs_at
@@ -98,10 +102,10 @@ proofs_fit n d ps is = counted_numbers IsNumbered certificate_at certificate_num
 
 -- ---- yes, no
 
-yes_fits : (v : NamesView) (r : RelationView) (d : Data) (a : AnswerView) → ok_or (option_map Yes (proofs_at (target_count r.sign) d)) keys.Proofs ≡ Ok a → HasVerbShape v (Prove r) a
+yes_fits : (v : NamesView) (r : RelationView) (d : Data) (a : AnswerView) → ok_or (option_map Yes (proofs_at (length (targets (length v.variables) r)) d)) keys.Proofs ≡ Ok a → HasVerbShape v (Prove r) a
 yes_fits v r d a is =
-    let h = map_some (proofs_at (target_count r.sign) d) Yes a (key_ok keys.Proofs (option_map Yes (proofs_at (target_count r.sign) d)) a is) in
-    subst (HasVerbShape v (Prove r)) h.1.1 (proofs_fit (target_count r.sign) d h.0 h.1.0)
+    let h = map_some (proofs_at (length (targets (length v.variables) r)) d) Yes a (key_ok keys.Proofs (option_map Yes (proofs_at (length (targets (length v.variables) r)) d)) a is) in
+    subst (HasVerbShape v (Prove r)) h.1.1 (proofs_fit (length (targets (length v.variables) r)) d h.0 h.1.0)
 
 back_only : (equality back : Bool) (text : List ℕ) → back_of equality text ≡ Some back → back ≡ true → equality ≡ true
 back_only true back text is at = refl
@@ -120,11 +124,11 @@ no_fits : (v : NamesView) (r : RelationView) (d : Data) (a : AnswerView) → no_
 unfolding no_at
 no_fits v r d a is =
     let size = size_of (space_of v) in
-    let h = then_ok (ok_or (point_at (size_of (space_of v)) d) keys.Point) (λ values. and_then (ok_or (back_at (is_equality r.sign) d) keys.Side) (λ back. Ok (No back values))) a is in
-    let k = then_ok (ok_or (back_at (is_equality r.sign) d) keys.Side) (λ back. Ok (No back h.0)) a h.1.1 in
+    let h = then_ok (ok_or (point_at (size_of (space_of v)) d) keys.Point) (λ values. and_then (ok_or (back_at (is_equation (kind_of r.sign)) d) keys.Side) (λ back. Ok (No back values))) a is in
+    let k = then_ok (ok_or (back_at (is_equation (kind_of r.sign)) d) keys.Side) (λ back. Ok (No back h.0)) a h.1.1 in
     let p = key_ok keys.Point (point_at (size_of (space_of v)) d) h.0 h.1.0 in
-    let b = key_ok keys.Side (back_at (is_equality r.sign) d) k.0 k.1.0 in
-    subst (HasVerbShape v (Prove r)) (ok_same (No k.0 h.0) a k.1.1) (point_length (size_of (space_of v)) d h.0 p, point_within (size_of (space_of v)) d h.0 p, back_fits (is_equality r.sign) k.0 d b)
+    let b = key_ok keys.Side (back_at (is_equation (kind_of r.sign)) d) k.0 k.1.0 in
+    subst (HasVerbShape v (Prove r)) (ok_same (No k.0 h.0) a k.1.1) (point_length (size_of (space_of v)) d h.0 p, point_within (size_of (space_of v)) d h.0 p, back_fits (is_equation (kind_of r.sign)) k.0 d b)
 
 -- ---- undecided
 
@@ -137,12 +141,12 @@ unfolding step_of
 step_below text n is = let h = and_then_some (integer_of text) count_of_integer n is in integer_below h.0 n h.1.1
 
 -- a name that is found is the name at its place
-found_in : (v : NamesView) (text : List ℕ) (r : ℕ) → index_of v.rates text ≡ Some r → rate_name v r ≡ text
+found_in : (v : NamesView) (text : List ℕ) (r : ℕ) → index_of v.rates text ≡ Some r → get_or v.rates r [] ≡ text
 found_in v text r is =
     let h = cond_some (nat_lt (position_or_len (bytes_eq text) v.rates) (length v.rates)) (Some (position_or_len (bytes_eq text) v.rates)) r is in
     let e : position_or_len (bytes_eq text) v.rates ≡ r = let s = h.1 in cc in
     let lt : position_or_len (bytes_eq text) v.rates < length v.rates = let t = h.0 in search (rules, t) in
-    subst (λ i. rate_name v i ≡ text) e (sym ((bytes_eq-Decides text (get_or v.rates (position_or_len (bytes_eq text) v.rates) [])).0 (passes_at_first (bytes_eq text) v.rates [] lt)))
+    subst (λ i. get_or v.rates i [] ≡ text) e (sym ((bytes_eq-Decides text (get_or v.rates (position_or_len (bytes_eq text) v.rates) [])).0 (passes_at_first (bytes_eq text) v.rates [] lt)))
 
 found_rate : (v : NamesView) (text : List ℕ) (r : ℕ) → index_of v.rates text ≡ Some r → IsFoundIn v r
 found_rate v text r is = ap (index_of v.rates) (found_in v text r is) ∙ is
@@ -186,15 +190,14 @@ all_second : (ts : Terms) → All IsNumberedAmount ts → All (λ t. IsWithin t.
 all_second [] all = All-nil (λ t. IsWithin t.1)
 all_second (t ∷ ts) all = All-cons (λ t. IsWithin t.1) t ts (All-head IsNumberedAmount t ts all).1 (all_second ts (All-tail IsNumberedAmount t ts all))
 
-terms_numbers : (d : Data) (ts : Terms) → terms_at d ≡ Some ts → All IsNumberedAmount ts
-unfolding terms_at
+terms_numbers : (d : Data) (ts : Terms) → list_at pair_at (get (codes "row") d) ≡ Some ts → All IsNumberedAmount ts
 terms_numbers d ts is = list_numbers IsNumberedAmount pair_at pair_numbers (get (codes "row") d) ts is
 
 row_fits : (size : ℕ) (d : Data) (r : Mark × Terms) → marked_row_at size d ≡ Some r → IsRowIn size r
 unfolding marked_row_at
 row_fits size d r is =
-    let h = pair_some (mark_at d) (option_and_then (row_of size) (terms_at d)) r is in
-    let k = and_then_some (terms_at d) (row_of size) r.1 h.1 in
+    let h = pair_some (option_and_then mark_of (text_of (get (codes "mark") d))) (option_and_then (row_of size) (list_at pair_at (get (codes "row") d))) r is in
+    let k = and_then_some (list_at pair_at (get (codes "row") d)) (row_of size) r.1 h.1 in
     let m = cond_some (is_row_between 1 size k.0) (Some k.0) r.1 k.1.1 in
     let e : k.0 ≡ r.1 = let s = m.1 in cc in
     let terms : All IsNumberedAmount r.1 = subst (λ ts. All IsNumberedAmount ts) e (terms_numbers d k.0 k.1.0) in
@@ -217,7 +220,7 @@ IsSetIn n s = (s < 2 ^ 32) × (s < 2 ^ n)
 set_fits : (n : ℕ) (d : Data) (s : ℕ) → set_at n d ≡ Some s → IsSetIn n s
 unfolding set_at
 set_fits n d s is =
-    let h = and_then_some (count_at d) (λ s. if nat_lt s (2 ^ n) then Some s else None) s is in
+    let h = and_then_some (count_at d) (below (2 ^ n)) s is in
     let m = cond_some (nat_lt h.0 (2 ^ n)) (Some h.0) s h.1.1 in
     let e : h.0 ≡ s = let t = m.1 in cc in
     let lt : h.0 < 2 ^ n = let t = m.0 in search (rules, t) in
@@ -236,8 +239,7 @@ contained_fits v first second tries d a is =
     let w = proofs_fit (obligation_count second) d k.0 (key_ok keys.Proofs (proofs_at (obligation_count second) d) k.0 k.1.0) in
     subst (HasVerbShape v (Contain first second tries)) (ok_same (Contained h.0 k.0) a k.1.1) (record { each = p.0; sets = p.1; obligations = w.0; numbers = w.1 })
 
-open_fits : (v : NamesView) (first second : RegionView) (tries : List (List ℕ)) (d : Data) (a : AnswerView) → ok_or (option_map Open (tried_at d)) keys.Tried ≡ Ok a → HasVerbShape v (Contain first second tries) a
-unfolding tried_at
+open_fits : (v : NamesView) (first second : RegionView) (tries : List (List ℕ)) (d : Data) (a : AnswerView) → ok_or (option_map Open (option_and_then count_at (get (codes "tried") d))) keys.Tried ≡ Ok a → HasVerbShape v (Contain first second tries) a
 open_fits v first second tries d a is =
     let tried = option_and_then count_at (get (codes "tried") d) in
     let h = map_some tried Open a (key_ok keys.Tried (option_map Open tried) a is) in
@@ -270,8 +272,8 @@ contain_fits v first second tries kinds.Region d a is = absurd (cc)
 contain_fits v first second tries kinds.Contained d a is = contained_fits v first second tries d a is
 contain_fits v first second tries kinds.Open d a is = open_fits v first second tries d a is
 
-pub answer_fits : (q : QuestionView) (kind : AnswerKind) (d : Data) (a : AnswerView) → question_answer q kind d ≡ Ok a → HasQuestionShape q.body a
-unfolding question_answer HasQuestionShape
+pub answer_fits : (q : QuestionView) (kind : AnswerKind) (d : Data) (a : AnswerView) → verb_answer q.body.names q.body.verb kind d ≡ Ok a → HasQuestionShape q.body a
+unfolding HasQuestionShape
 answer_fits q kind d a is = by_verb q.body.verb is
   where
     by_verb : (verb : VerbView) → verb_answer q.body.names verb kind d ≡ Ok a → HasVerbShape q.body.names verb a

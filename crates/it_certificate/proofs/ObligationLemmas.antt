@@ -1,5 +1,9 @@
 -- How many forms lines say to be at least 0, line by line.
+use Rattle.std.proofs.Math.Path.{fun_ext}
 use Rattle.std.proofs.Common.{◌≡◌, ℕ, ◌+◌, ◌*◌, ◌-◌, ◌<◌, List, [], ◌∷◌, ◌++◌, length, map, drop, get_or, refl, ap, sym, ◌∙◌, arith}
+use Rattle.it_space.specs.declared.problems.Kind.{Kind}
+use Rattle.it_space.specs.declared.problems.Kind.TheVariants.{Inequality, Equation}
+use Rattle.it_polymatroid.specs.Certificates.{Form}
 use Rattle.it_syntax.specs.declared.types.Given.{Given}
 use Rattle.std.specs.List.{fold, sum_by}
 use Rattle.it_space.proofs.ListLemmas.{drop_item}
@@ -7,14 +11,24 @@ use Rattle.it_syntax.specs.declared.types.Atom.{Atom}
 use Rattle.it_syntax.specs.Meaning.{RelationView}
 use Rattle.it_syntax.specs.Givens.{GivenView, Relation, Markov, Independent, Function, given_view, links}
 use Rattle.it_question.specs.Questions.{RegionView}
-use Rattle.it_demand.specs.Demands.{Demand, LineDemand, demands, equations, parts_from, parts_of}
+use Rattle.it_demand.specs.Demands.{Demand, LineDemand, demands, equations, kind_of, parts_from, parts_of}
 use Rattle.it_demand.specs.LineDemands.{given_demands, row_demands}
+use Rattle.it_demand.specs.Canonical.{form_of}
+use Rattle.it_demand.specs.Targets.{demanded_forms, targets}
+use Rattle.it_question.specs.Tables.{line_demands}
 use Rattle.it_demand.proofs.ChainLemmas.{links-length}
-use Rattle.it_certificate.specs.Obligations.{form_count, obligation_count}
-use Rattle.it_certificate.specs.ReportSteps.{given_form_count, relation_form_count}
+use Rattle.it_certificate.specs.Obligations.{obligation_count}
+use Rattle.it_certificate.specs.ReportSteps.{form_count, target_count, given_form_count, relation_form_count}
 
 abbrev total : {A : Type 0} → (A → ℕ) → ℕ → List A → ℕ
 total f a xs = fold (λ s x. s + f x) a xs
+
+forms_counted : (k : Kind) (f : Form) → length (demanded_forms k f) ≡ form_count k
+forms_counted Inequality f = refl
+forms_counted Equation f = refl
+
+pub targets_counted : (n : ℕ) (r : RelationView) → length (targets n r) ≡ target_count r.sign
+targets_counted n r = forms_counted (kind_of r.sign) (form_of n r)
 
 abbrev line_forms : LineDemand → ℕ
 line_forms d = form_count d.demand.kind
@@ -67,6 +81,7 @@ region_forms r =
     ∙ of_rows n (total line_forms 0 (given_demands n 1 r.lines.givens)) 1 r.lines.rows
     ∙ from_total relation_form_count (total line_forms 0 (given_demands n 1 r.lines.givens)) r.lines.rows
     ∙ ap (λ k. k + total relation_form_count 0 r.lines.rows) (of_givens n 0 1 r.lines.givens))
+    ∙ ap (λ f. sum_by f (line_demands n r.lines)) (fun_ext (λ d. sym (forms_counted d.demand.kind d.demand.form)))
 
 pub count_is : (r : RegionView) (a b : ℕ) → a ≡ sum_by given_form_count r.lines.givens → b ≡ sum_by relation_form_count r.lines.rows → a + b ≡ obligation_count r
 count_is r a b p q = ap (λ x. x + b) p ∙ ap (λ y. sum_by given_form_count r.lines.givens + y) q ∙ region_forms r

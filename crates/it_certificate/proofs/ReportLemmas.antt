@@ -19,7 +19,7 @@ use Rattle.it_certificate.specs.declared.keys.Key.TheVariants as keys
 use Rattle.it_certificate.specs.declared.keys.ReportFault.{ReportFault}
 use Rattle.it_certificate.specs.declared.keys.ReportFault.TheVariants as faults
 use Rattle.it_certificate.specs.Parts.{text_of, answer_kind_at}
-use Rattle.it_certificate.specs.Reports.{IsQuestionOf, IsQuestionAt, question_answer, report_of, ReadsAs}
+use Rattle.it_certificate.specs.Reports.{IsQuestionOf, IsQuestionAt, verb_answer, report_of, ReadsAs}
 use Rattle.it_certificate.specs.ReportSteps.{GivesQuestion, ReadsValue}
 use Rattle.it_certificate.specs.Steps.{GivesKeyed, fault_by}
 use Rattle.it_certificate.specs.AnswerReading.{and_then}
@@ -47,23 +47,23 @@ pub no_kind : (d : Data) → None ≡ answer_kind_at d → ReadsAs d (Err keys.A
 unfolding report_of
 no_kind d is =
     let own = question_there d (text_of (get (codes "question") d)) refl in
-    record { own = own.0; question = own.1; is = ap (λ k. and_then (ok_or k keys.Answer) (λ kind. and_then (ok_or own.0 keys.Question) (λ q. and_then (question_answer q kind d) (λ a. Ok (q, a))))) (sym is) }
+    record { own = own.0; question = own.1; is = ap (λ k. and_then (ok_or k keys.Answer) (λ kind. and_then (ok_or own.0 keys.Question) (λ q. and_then (verb_answer q.body.names q.body.verb kind d) (λ a. Ok (q, a))))) (sym is) }
 
-with_kind : (d : Data) (kind : AnswerKind) (o : Option QuestionView) → Some kind ≡ answer_kind_at d → report_of o d ≡ and_then (ok_or o keys.Question) (λ q. and_then (question_answer q kind d) (λ a. Ok (q, a)))
+with_kind : (d : Data) (kind : AnswerKind) (o : Option QuestionView) → Some kind ≡ answer_kind_at d → report_of o d ≡ and_then (ok_or o keys.Question) (λ q. and_then (verb_answer q.body.names q.body.verb kind d) (λ a. Ok (q, a)))
 unfolding report_of
-with_kind d kind o is = ap (λ k. and_then (ok_or k keys.Answer) (λ kind. and_then (ok_or o keys.Question) (λ q. and_then (question_answer q kind d) (λ a. Ok (q, a))))) (sym is)
+with_kind d kind o is = ap (λ k. and_then (ok_or k keys.Answer) (λ kind. and_then (ok_or o keys.Question) (λ q. and_then (verb_answer q.body.names q.body.verb kind d) (λ a. Ok (q, a))))) (sym is)
 
 pub no_question : (d : Data) (kind : AnswerKind) (refusal : Refusal) (f : ReportFault) → Some kind ≡ answer_kind_at d → GivesQuestion d (Err refusal) → f ≡ fault_by refusal keys.Question → ReadsValue d (Err f)
 no_question d kind refusals.Shape f is none made = subst (λ g. ReadsValue d (Err g)) (sym made) (record { own = None; question = none; is = with_kind d kind None is })
 no_question d kind refusals.Memory f is none made = subst (λ g. ReadsValue d (Err g)) (sym made) tt
 
-answer_as : (d : Data) (kind : AnswerKind) (q : QuestionView) (r : Result AnswerView Key) → Some kind ≡ answer_kind_at d → IsQuestionOf d q → question_answer q kind d ≡ r → ReadsAs d (and_then r (λ a. Ok (q, a)))
+answer_as : (d : Data) (kind : AnswerKind) (q : QuestionView) (r : Result AnswerView Key) → Some kind ≡ answer_kind_at d → IsQuestionOf d q → verb_answer q.body.names q.body.verb kind d ≡ r → ReadsAs d (and_then r (λ a. Ok (q, a)))
 answer_as d kind q r is own by = record { own = Some q; question = own; is = with_kind d kind (Some q) is ∙ ap (λ z. and_then z (λ a. Ok (q, a))) by }
 
-pub answer_ok : (d : Data) (kind : AnswerKind) (q : Question) (a : Answer) → Some kind ≡ answer_kind_at d → IsQuestionOf d (question_view q) → question_answer (question_view q) kind d ≡ Ok (answer_view a) → ReadsAs d (Ok (question_view q, answer_view a))
+pub answer_ok : (d : Data) (kind : AnswerKind) (q : Question) (a : Answer) → Some kind ≡ answer_kind_at d → IsQuestionOf d (question_view q) → verb_answer (question_view q).body.names (question_view q).body.verb kind d ≡ Ok (answer_view a) → ReadsAs d (Ok (question_view q, answer_view a))
 answer_ok d kind q a is own by = answer_as d kind (question_view q) (Ok (answer_view a)) is own by
 
-pub answer_err : (d : Data) (kind : AnswerKind) (q : Question) (f : ReportFault) → Some kind ≡ answer_kind_at d → IsQuestionOf d (question_view q) → GivesKeyed answer_view (Err f) (question_answer (question_view q) kind d) → ReadsValue d (Err f)
+pub answer_err : (d : Data) (kind : AnswerKind) (q : Question) (f : ReportFault) → Some kind ≡ answer_kind_at d → IsQuestionOf d (question_view q) → GivesKeyed answer_view (Err f) (verb_answer (question_view q).body.names (question_view q).body.verb kind d) → ReadsValue d (Err f)
 answer_err d kind q (faults.Shape key) is own by = answer_as d kind (question_view q) (Err key) is own by
 answer_err d kind q faults.NotJson is own by = by
 answer_err d kind q faults.Memory is own by = tt

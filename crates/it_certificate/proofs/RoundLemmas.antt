@@ -1,6 +1,6 @@
 -- What is written of an answer reads back.
 use Rattle.std.proofs.Common.{◌≡◌, ℕ, ◌+◌, ◌<◌, ◌≤◌, ◌^◌, ◌==◌, ◌&&◌, ℤ, not, unsigned_abs, List, [], ◌∷◌, length, map, filter, refl, ap, ◌∙◌, Option, Some, None, Ok, option_and_then, option_map, Bool, true, false, cond, nat_le, nat_lt, rules, arith, codes, eq-eqb, decimal, if◌then◌else◌}
-use Rattle.std.specs.Prelude.{All, ok_or}
+use Rattle.std.specs.Prelude.{All, ok_or, get_or}
 use Rattle.std.proofs.lemmas.List.{length-map}
 use Rattle.std.proofs.lemmas.List.Elements.{All-head, All-tail, All-filter}
 use Rattle.serde_json.specs.Data.{Data}
@@ -24,17 +24,22 @@ use Rattle.it_certificate.specs.declared.kinds.AnswerKind.{AnswerKind}
 use Rattle.it_certificate.specs.declared.kinds.AnswerKind.TheVariants as kinds
 use Rattle.it_certificate.specs.declared.kinds.CauseKind.{CauseKind}
 use Rattle.it_certificate.specs.declared.kinds.CauseKind.TheVariants as causes
-use Rattle.it_certificate.specs.Values.{integer_value, count_value, pair_value, proof_value, row_value, rate_name, step_or_rate_word, answer_value}
+use Rattle.it_elemental.specs.Generators.{is_equation}
+use Rattle.it_demand.specs.Demands.{kind_of}
+use Rattle.it_demand.specs.Targets.{targets}
+use Rattle.it_certificate.specs.Values.{integer_value, count_value, pair_value, proof_value, row_value, step_or_rate_word, answer_value}
 use Rattle.std.specs.Option.{option_or, option_zip}
-use Rattle.it_certificate.specs.Parts.{text_of, integer_at, count_at, pair_at, all_of, of_length, certificate_by, certificate_at, answer_kind_at, proofs_at, point_at, back_at, cause_kind_at, cause_of, cause_at, is_row_between, row_of, mark_at, terms_at, marked_row_at, rows_at, set_at, parts_at, tried_at}
-use Rattle.it_certificate.specs.AnswerReading.{and_then, is_equality, no_at, undecided_at, contained_at}
-use Rattle.it_certificate.specs.Obligations.{obligation_count, target_count}
-use Rattle.it_certificate.specs.Reports.{verb_answer, question_answer, report_of}
+use Rattle.it_certificate.specs.Parts.{text_of, integer_at, count_at, pair_at, all_of, of_length, certificate_at, answer_kind_at, proofs_at, point_at, back_at, cause_kind_at, cause_of, cause_at, is_row_between, row_of, marked_row_at, rows_at, set_at, parts_at, list_at}
+use Rattle.it_certificate.specs.AnswerReading.{and_then, no_at, undecided_at, contained_at}
+use Rattle.it_certificate.specs.Obligations.{obligation_count}
+use Rattle.it_certificate.specs.Reports.{verb_answer, report_of}
 use Rattle.it_certificate.specs.AnswerShapes.{IsNumberedAmount, IsNumbered, IsRowIn, IsCauseFor, HasContainmentShape, HasVerbShape, HasQuestionShape}
 use Rattle.it_certificate.specs.Laws.{without_zeros, written_answer, ReadsBack}
 use Rattle.it_certificate.proofs.BackLemmas.{integer_back, count_back, step_back}
 use Rattle.it_certificate.proofs.QuestionLemmas.{found_text}
 use Rattle.it_certificate.proofs.RowLemmas.{nonzero_passes}
+use Rattle.it_certificate.specs.Kinds.{mark_of}
+use Rattle.it_certificate.specs.Numerals.{below}
 
 -- ---- numbers, terms and certificates
 
@@ -68,8 +73,11 @@ same_back P f v each xs all = all_back P f v (λ x. x) each xs all ∙ ap Some (
 certificate_back : (c : CertificateView) → IsNumbered c → certificate_at (proof_value c) ≡ Some (without_zeros c)
 unfolding certificate_at proof_value
 certificate_back c p =
-    ap (λ s. certificate_by s (all_of pair_at (items_of (map pair_value (filter is_nonzero_weight c.weights))))) (number_back c.scale p.scale)
-    ∙ ap (λ ws. certificate_by (Some c.scale) ws) (same_back IsNumberedAmount pair_at pair_value pair_back (filter is_nonzero_weight c.weights) (All-filter is_nonzero_weight IsNumberedAmount c.weights p.weights))
+    ap (λ s. option_map certificate_of (option_zip s (all_of pair_at (items_of (map pair_value (filter is_nonzero_weight c.weights)))))) (number_back c.scale p.scale)
+    ∙ ap (λ ws. option_map certificate_of (option_zip (Some c.scale) ws)) (same_back IsNumberedAmount pair_at pair_value pair_back (filter is_nonzero_weight c.weights) (All-filter is_nonzero_weight IsNumberedAmount c.weights p.weights))
+  where
+    certificate_of : ℤ × List (ℕ × ℤ) → CertificateView
+    certificate_of p = record { scale = p.0; weights = p.1 }
 
 of_length_is : {A : Type 0} (n : ℕ) (xs : List A) → length xs ≡ n → of_length n xs ≡ Some xs
 of_length_is n xs is = ap (λ b. cond b (Some xs) None) (eq-eqb (length xs) n is)
@@ -82,9 +90,9 @@ certificates_back n ws is all =
 
 -- ---- yes and no
 
-yes_back : (text : List ℕ) (v : NamesView) (r : RelationView) (ws : List CertificateView) → HasVerbShape v (Prove r) (Yes ws) → ok_or (option_map Yes (proofs_at (target_count r.sign) (answer_value text v (Yes ws)))) keys.Proofs ≡ Ok (Yes (map without_zeros ws))
+yes_back : (text : List ℕ) (v : NamesView) (r : RelationView) (ws : List CertificateView) → HasVerbShape v (Prove r) (Yes ws) → ok_or (option_map Yes (proofs_at (length (targets (length v.variables) r)) (answer_value text v (Yes ws)))) keys.Proofs ≡ Ok (Yes (map without_zeros ws))
 unfolding proofs_at answer_value
-yes_back text v r ws fits = ap (λ o. ok_or (option_map Yes o) keys.Proofs) (certificates_back (target_count r.sign) ws fits.0 fits.1)
+yes_back text v r ws fits = ap (λ o. ok_or (option_map Yes o) keys.Proofs) (certificates_back (length (targets (length v.variables) r)) ws fits.0 fits.1)
 
 point_back : (text : List ℕ) (v : NamesView) (n : ℕ) (back : Bool) (vs : List ℤ) → length vs ≡ n → All IsWithin vs → point_at n (answer_value text v (No back vs)) ≡ Some vs
 unfolding point_at answer_value
@@ -98,9 +106,9 @@ side_back text v equality false vs is = refl
 no_back : (text : List ℕ) (v : NamesView) (r : RelationView) (back : Bool) (vs : List ℤ) → HasVerbShape v (Prove r) (No back vs) → no_at (size_of (space_of v)) r.sign (answer_value text v (No back vs)) ≡ Ok (No back vs)
 unfolding no_at
 no_back text v r back vs fits =
-    ap (λ o. and_then (ok_or o keys.Point) (λ values. and_then (ok_or (back_at (is_equality r.sign) (answer_value text v (No back vs))) keys.Side) (λ b. Ok (No b values))))
+    ap (λ o. and_then (ok_or o keys.Point) (λ values. and_then (ok_or (back_at (is_equation (kind_of r.sign)) (answer_value text v (No back vs))) keys.Side) (λ b. Ok (No b values))))
     (point_back text v (size_of (space_of v)) back vs fits.0 fits.1)
-    ∙ ap (λ o. and_then (ok_or o keys.Side) (λ b. Ok (No b vs))) (side_back text v (is_equality r.sign) back vs fits.2)
+    ∙ ap (λ o. and_then (ok_or o keys.Side) (λ b. Ok (No b vs))) (side_back text v (is_equation (kind_of r.sign)) back vs fits.2)
 
 -- ---- undecided
 
@@ -124,7 +132,7 @@ step_or_rate_back v (Pivots steps) fits = ap (option_map Pivots) (step_back step
 step_or_rate_back v (Width step) fits = ap (λ o. option_or (option_map Width o) (option_map WideRate (index_of v.rates (decimal step)))) (step_back step fits)
 step_or_rate_back v Scale fits = refl
 step_or_rate_back v (Rows r) fits = ap (option_map Rows) fits
-step_or_rate_back v (WideRate r) fits = ap (λ o. option_or (option_map Width o) (option_map WideRate (index_of v.rates (rate_name v r)))) fits.1 ∙ ap (option_map WideRate) fits.0
+step_or_rate_back v (WideRate r) fits = ap (λ o. option_or (option_map Width o) (option_map WideRate (index_of v.rates (get_or v.rates r [])))) fits.1 ∙ ap (option_map WideRate) fits.0
 
 cause_back : (text : List ℕ) (v : NamesView) (c : Cause) → IsCauseFor v c → cause_at v.rates (kind_of_cause c) (answer_value text v (Undecided c)) ≡ Some c
 unfolding cause_at answer_value
@@ -158,20 +166,20 @@ from_one size (t ∷ ts) asc up = ((All-head (λ t. (1 ≤ t.0) × (t.0 ≤ size
 row_kept : (size : ℕ) (ts : Terms) → IsCanonical ts → IsUpTo size ts → row_of size ts ≡ Some ts
 row_kept size ts canonical up = ap (λ b. cond b (Some ts) None) (row_test 1 1 size ts (omega arith) (from_one size ts canonical up) up)
 
-mark_back : (m : Mark) (ts : Terms) → mark_at (row_value (m, ts)) ≡ Some m
-unfolding mark_at row_value
+mark_back : (m : Mark) (ts : Terms) → option_and_then mark_of (text_of (get (codes "mark") (row_value (m, ts)))) ≡ Some m
+unfolding row_value
 mark_back Plain ts = refl
 mark_back Needed ts = refl
 mark_back Unsettled ts = refl
 
-terms_back : (r : Mark × Terms) → All IsNumberedAmount r.1 → terms_at (row_value r) ≡ Some r.1
-unfolding terms_at row_value
+terms_back : (r : Mark × Terms) → All IsNumberedAmount r.1 → list_at pair_at (get (codes "row") (row_value r)) ≡ Some r.1
+unfolding row_value
 terms_back r all = same_back IsNumberedAmount pair_at pair_value pair_back r.1 all
 
 row_back : (size : ℕ) (r : Mark × Terms) → IsRowIn size r → marked_row_at size (row_value r) ≡ Some r
 unfolding marked_row_at
 row_back size r fits =
-    ap (λ o. option_zip o (option_and_then (row_of size) (terms_at (row_value r)))) (mark_back r.0 r.1)
+    ap (λ o. option_zip o (option_and_then (row_of size) (list_at pair_at (get (codes "row") (row_value r))))) (mark_back r.0 r.1)
     ∙ ap (λ o. option_zip (Some r.0) (option_and_then (row_of size) o)) (terms_back r fits.terms)
     ∙ ap (λ o. option_zip (Some r.0) o) (row_kept size r.1 fits.canonical fits.coordinates)
 
@@ -183,7 +191,7 @@ region_back text v rows size all = ap (λ o. ok_or (option_map Region o) keys.Ro
 
 set_back : (n s : ℕ) → (s < 2 ^ 32) × (s < 2 ^ n) → set_at n (count_value s) ≡ Some s
 unfolding set_at
-set_back n s h = ap (option_and_then (λ s. if nat_lt s (2 ^ n) then Some s else None)) (count_read s h.0) ∙ (let lt = h.1 in let e : nat_lt s (2 ^ n) ≡ true = search (rules, lt) in ap (λ b. cond b (Some s) None) e)
+set_back n s h = ap (option_and_then (below (2 ^ n))) (count_read s h.0) ∙ (let lt = h.1 in let e : nat_lt s (2 ^ n) ≡ true = search (rules, lt) in ap (λ b. cond b (Some s) None) e)
 
 contained_back : (text : List ℕ) (v : NamesView) (first second : RegionView) (parts : List ℕ) (ws : List CertificateView) → HasContainmentShape first second parts ws
     → contained_at second.auxiliaries (length first.names.variables) (obligation_count second) (answer_value text v (Contained parts ws)) ≡ Ok (Contained parts (map without_zeros ws))
@@ -195,8 +203,8 @@ contained_back text v first second parts ws fits =
     ∙ of_length_is second.auxiliaries parts fits.each)
     ∙ ap (λ o. and_then (ok_or o keys.Proofs) (λ ps. Ok (Contained parts ps))) (certificates_back (obligation_count second) ws fits.obligations fits.numbers)
 
-open_back : (text : List ℕ) (v : NamesView) (tried : ℕ) → tried < 2 ^ 32 → ok_or (option_map Open (tried_at (answer_value text v (Open tried)))) keys.Tried ≡ Ok (Open tried)
-unfolding tried_at answer_value
+open_back : (text : List ℕ) (v : NamesView) (tried : ℕ) → tried < 2 ^ 32 → ok_or (option_map Open (option_and_then count_at (get (codes "tried") (answer_value text v (Open tried))))) keys.Tried ≡ Ok (Open tried)
+unfolding answer_value
 open_back text v tried lt = ap (λ o. ok_or (option_map Open o) keys.Tried) (count_read tried lt)
 
 -- ---- reports
@@ -256,8 +264,8 @@ verb_back text v (Prove r) a fits = prove_back text v r a fits
 verb_back text v (Eliminate rates) a fits = eliminate_back text v rates a fits
 verb_back text v (Contain first second tries) a fits = contain_back text v first second tries a fits
 
-answer_back : (q : QuestionView) (a : AnswerView) → HasQuestionShape q.body a → question_answer q (kind_of_answer a) (answer_value q.text q.body.names a) ≡ Ok (written_answer a)
-unfolding question_answer HasQuestionShape
+answer_back : (q : QuestionView) (a : AnswerView) → HasQuestionShape q.body a → verb_answer q.body.names q.body.verb (kind_of_answer a) (answer_value q.text q.body.names a) ≡ Ok (written_answer a)
+unfolding HasQuestionShape
 answer_back q a fits = verb_back q.text q.body.names q.body.verb a fits
 
 pub reads_back : ReadsBack
@@ -265,6 +273,6 @@ unfolding report_of
 reads_back q a short file fits = record {
   own = Some q;
   question = found_text (answer_value q.text q.body.names a) q.text q (text_back q.text q.body.names a) (short, file);
-  is = ap (λ k. and_then (ok_or k keys.Answer) (λ kind. and_then (question_answer q kind (answer_value q.text q.body.names a)) (λ b. Ok (q, b)))) (answer_kind_back q.text q.body.names a)
+  is = ap (λ k. and_then (ok_or k keys.Answer) (λ kind. and_then (verb_answer q.body.names q.body.verb kind (answer_value q.text q.body.names a)) (λ b. Ok (q, b)))) (answer_kind_back q.text q.body.names a)
       ∙ ap (λ r. and_then r (λ b. Ok (q, b))) (answer_back q a fits);
 }

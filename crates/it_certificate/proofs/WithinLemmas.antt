@@ -6,9 +6,9 @@ use Rattle.serde_json.specs.Data.{Data, Items, no_items, item}
 use Rattle.serde_json.specs.Find.{get, as_str, as_array}
 use Rattle.it_number.specs.Limit.{IsWithin}
 use Rattle.it_number.specs.Decimals.{value_from}
-use Rattle.it_certificate.specs.Numerals.{up_to_limit, integer_of, magnitude_of}
+use Rattle.it_certificate.specs.Numerals.{below, integer_of, magnitude_of}
 use Rattle.std.specs.Option.{option_zip}
-use Rattle.it_certificate.specs.Parts.{integer_at, count_at, two_of, all_of, point_at, list_at, of_length, pair_at, terms_at}
+use Rattle.it_certificate.specs.Parts.{integer_at, count_at, two_of, all_of, point_at, list_at, of_length, pair_at}
 
 pub and_then_some : {A B : Type 0} (o : Option A) (f : A → Option B) (b : B) → option_and_then f o ≡ Some b → (a : A) × ((o ≡ Some a) × (f a ≡ Some b))
 and_then_some None f b is = absurd (cc)
@@ -29,7 +29,7 @@ all_of_holds P f each (item d ds) xs is =
     let k = map_some (all_of f ds) (λ rest. h.0 ∷ rest) xs h.1.1 in
     subst (λ zs. All P zs) k.1.1 (All-cons P h.0 k.0 (each d h.0 h.1.0) (all_of_holds P f each ds k.0 k.1.0))
 
-up_to_limit_within : (n m : ℕ) → up_to_limit n ≡ Some m → m < 2 ^ 127
+up_to_limit_within : (n m : ℕ) → below (2 ^ 127) n ≡ Some m → m < 2 ^ 127
 up_to_limit_within n m is =
     let h = cond_some (nat_lt n (2 ^ 127)) (Some n) m is in
     let e : n ≡ m = let s = h.1 in cc in
@@ -39,8 +39,8 @@ up_to_limit_within n m is =
 magnitude_within : (ds : List ℕ) (m : ℕ) → magnitude_of ds ≡ Some m → m < 2 ^ 127
 unfolding magnitude_of
 magnitude_within ds m is =
-    let h = cond_some (nat_le 1 (length ds) && nat_le (length ds) 39) (option_and_then up_to_limit (value_from 0 ds)) m is in
-    let k = and_then_some (value_from 0 ds) up_to_limit m h.1 in
+    let h = cond_some (nat_le 1 (length ds) && nat_le (length ds) 39) (option_and_then (below (2 ^ 127)) (value_from 0 ds)) m is in
+    let k = and_then_some (value_from 0 ds) (below (2 ^ 127)) m h.1 in
     up_to_limit_within k.0 m k.1.1
 
 negative_within : (m : ℕ) → m < 2 ^ 127 → IsWithin (neg_ℤ (pos m))
@@ -89,8 +89,7 @@ pair_within d t is =
     let h = and_then_some (option_and_then two_of (as_array d)) (λ p. option_zip (count_at p.0) (integer_at p.1)) t is in
     integer_at_within h.0.1 t.1 (pair_some (count_at h.0.0) (integer_at h.0.1) t h.1.1).1
 
-pub terms_within : (d : Data) (ts : List (ℕ × ℤ)) → terms_at d ≡ Some ts → All (λ t. IsWithin t.1) ts
-unfolding terms_at
+pub terms_within : (d : Data) (ts : List (ℕ × ℤ)) → list_at pair_at (get (codes "row") d) ≡ Some ts → All (λ t. IsWithin t.1) ts
 terms_within d ts is =
     let h = and_then_some (option_and_then as_array (get (codes "row") d)) (all_of pair_at) ts is in
     all_of_holds (λ t. IsWithin t.1) pair_at pair_within h.0 ts h.1.1

@@ -1,10 +1,11 @@
 -- The answer of a report by its kind, or the first key that is missing or of another shape: one key after the other.
-use Rattle.std.specs.Prelude.{ℕ, List, Bool, true, false, Result, Ok, Err, ok_or}
+use Rattle.std.specs.Prelude.{ℕ, List, Result, Ok, Err, ok_or}
 use Rattle.serde_json.specs.Data.{Data}
 use Rattle.it_space.specs.Answers.{AnswerView}
 use Rattle.it_space.specs.Answers.AnswerView.{No, Undecided, Contained}
 use Rattle.it_syntax.specs.declared.types.Sign.{Sign}
-use Rattle.it_syntax.specs.declared.types.Sign.TheVariants.{Equal}
+use Rattle.it_elemental.specs.Generators.{is_equation}
+use Rattle.it_demand.specs.Demands.{kind_of}
 use Rattle.it_certificate.specs.declared.keys.Key.{Key}
 use Rattle.it_certificate.specs.declared.keys.Key.TheVariants as keys
 use Rattle.it_certificate.specs.Parts.{proofs_at, point_at, back_at, cause_kind_at, cause_at, parts_at}
@@ -14,16 +15,11 @@ abbrev pub and_then : {A B : Type 0} → Result A Key → (A → Result B Key) �
 and_then (Ok a) f = f a
 and_then (Err k) f = Err k
 
--- whether a relation of this sign is an equality
-abbrev pub is_equality : Sign → Bool
-is_equality Equal = true
-is_equality sign = false
-
 -- a no: a value for each of so many coordinates, and a side
 unfoldable pub no_at : ℕ → Sign → Data → Result AnswerView Key
 no_at size sign d =
     and_then (ok_or (point_at size d) keys.Point) (λ values.
-    and_then (ok_or (back_at (is_equality sign) d) keys.Side) (λ back. Ok (No back values)))
+    and_then (ok_or (back_at (is_equation (kind_of sign)) d) keys.Side) (λ back. Ok (No back values)))
 
 -- an undecided: its cause, and at which step, budget or rate
 unfoldable pub undecided_at : List (List ℕ) → Data → Result AnswerView Key

@@ -1,5 +1,5 @@
 -- Answers of the shape that a question wants. What is read has it, and what has it reads back.
-use Rattle.std.specs.Prelude.{◌≡◌, ℕ, ◌<◌, ◌^◌, ℤ, List, length, true, All, Some, None}
+use Rattle.std.specs.Prelude.{◌≡◌, ℕ, ◌<◌, ◌^◌, ℤ, List, [], length, true, All, Some, None, slice_index_or}
 use Rattle.it_number.specs.Limit.{IsWithin}
 use Rattle.it_space.specs.Rows.{Terms, IsCanonical, IsUpTo}
 use Rattle.it_space.specs.Spaces.{size_of}
@@ -10,11 +10,12 @@ use Rattle.it_space.specs.declared.answers.Cause.{Cause}
 use Rattle.it_space.specs.declared.answers.Cause.TheVariants.{Pivots, Width, Scale, Rows, WideRate}
 use Rattle.it_syntax.specs.NamesViews.{NamesView, index_of}
 use Rattle.it_question.specs.Questions.{BodyView, RegionView, VerbView, Prove, Eliminate, Contain}
+use Rattle.it_elemental.specs.Generators.{is_equation}
+use Rattle.it_demand.specs.Demands.{kind_of}
 use Rattle.it_demand.specs.LineDemands.{space_of}
+use Rattle.it_demand.specs.Targets.{targets}
 use Rattle.it_certificate.specs.Numerals.{step_of}
-use Rattle.it_certificate.specs.Values.{rate_name}
-use Rattle.it_certificate.specs.AnswerReading.{is_equality}
-use Rattle.it_certificate.specs.Obligations.{obligation_count, target_count}
+use Rattle.it_certificate.specs.Obligations.{obligation_count}
 
 -- a number of 32 bits with one within the limit
 abbrev pub IsNumberedAmount : ℕ × ℤ → Type 0
@@ -33,7 +34,7 @@ pub record IsRowIn (size : ℕ) (r : Mark × Terms) : Type 0 where
 
 -- the rate is found by its name
 abbrev pub IsFoundIn : NamesView → ℕ → Type 0
-IsFoundIn v r = index_of v.rates (rate_name v r) ≡ Some r
+IsFoundIn v r = index_of v.rates (slice_index_or v.rates r []) ≡ Some r
 
 -- A rate at which a number is too wide is told apart from a step by its name.
 abbrev pub IsCauseFor : NamesView → Cause → Type 0
@@ -41,7 +42,7 @@ IsCauseFor v (Pivots steps) = steps < 2 ^ 32
 IsCauseFor v (Width step) = step < 2 ^ 32
 IsCauseFor v Scale = Unit {0}
 IsCauseFor v (Rows r) = IsFoundIn v r
-IsCauseFor v (WideRate r) = IsFoundIn v r × (step_of (rate_name v r) ≡ None)
+IsCauseFor v (WideRate r) = IsFoundIn v r × (step_of (slice_index_or v.rates r []) ≡ None)
 
 -- a set of the first region's variables for each auxiliary of the second, and a certificate for each of its obligations
 pub record HasContainmentShape (first second : RegionView) (parts : List ℕ) (proofs : List CertificateView) : Type 0 where
@@ -53,8 +54,8 @@ pub record HasContainmentShape (first second : RegionView) (parts : List ℕ) (p
 -- The shape of the answers that a question of this verb wants: a certificate a target; a value a coordinate, and the second target
 -- where there are two; rows; sets and certificates; a cause; how many candidates were tried.
 abbrev pub HasVerbShape : NamesView → VerbView → AnswerView → Type 0
-HasVerbShape v (Prove r) (Yes proofs) = (length proofs ≡ target_count r.sign) × All IsNumbered proofs
-HasVerbShape v (Prove r) (No back values) = (length values ≡ size_of (space_of v)) × All IsWithin values × (back ≡ true → is_equality r.sign ≡ true)
+HasVerbShape v (Prove r) (Yes proofs) = (length proofs ≡ length (targets (length v.variables) r)) × All IsNumbered proofs
+HasVerbShape v (Prove r) (No back values) = (length values ≡ size_of (space_of v)) × All IsWithin values × (back ≡ true → is_equation (kind_of r.sign) ≡ true)
 HasVerbShape v (Prove r) (Undecided cause) = IsCauseFor v cause
 HasVerbShape v (Eliminate rates) (Region rows) = All (IsRowIn (size_of (space_of v))) rows
 HasVerbShape v (Eliminate rates) (Undecided cause) = IsCauseFor v cause

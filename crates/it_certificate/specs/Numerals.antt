@@ -2,26 +2,22 @@
 use Rattle.std.specs.Prelude.{ℕ, ◌^◌, ◌==◌, ◌&&◌, ℤ, pos, negsuc, neg_ℤ, List, [], ◌∷◌, length, if◌then◌else◌, Option, Some, None, option_map, option_and_then, nat_le, nat_lt}
 use Rattle.it_number.specs.Decimals.{value_from}
 
--- a number up to the limit of 2 ^ 127 - 1
-abbrev pub up_to_limit : ℕ → Option ℕ
-up_to_limit n = if nat_lt n (2 ^ 127) then Some n else None
+-- a number below a bound
+abbrev pub below : ℕ → ℕ → Option ℕ
+below bound n = if nat_lt n bound then Some n else None
 
 -- 1 to 39 digits with a value up to the limit
 unfoldable pub magnitude_of : List ℕ → Option ℕ
-magnitude_of ds = if nat_le 1 (length ds) && nat_le (length ds) 39 then option_and_then up_to_limit (value_from 0 ds) else None
+magnitude_of ds = if nat_le 1 (length ds) && nat_le (length ds) 39 then option_and_then (below (2 ^ 127)) (value_from 0 ds) else None
 
 -- such digits, or `-` and such digits after it: the value of a decimal text
 unfoldable pub integer_of : List ℕ → Option ℤ
 integer_of [] = None
 integer_of (c ∷ cs) = if c == 45 then option_map (λ n. neg_ℤ (pos n)) (magnitude_of cs) else option_map pos (magnitude_of (c ∷ cs))
 
--- a count: a number of at most 32 bits
-abbrev pub count_of : ℕ → Option ℕ
-count_of n = if nat_lt n (2 ^ 32) then Some n else None
-
--- an integer that is a count
+-- an integer that is a count: a number of at most 32 bits
 abbrev pub count_of_integer : ℤ → Option ℕ
-count_of_integer (pos n) = count_of n
+count_of_integer (pos n) = below (2 ^ 32) n
 count_of_integer (negsuc n) = None
 
 -- a count as decimal text

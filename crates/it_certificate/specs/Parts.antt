@@ -1,5 +1,5 @@
 -- The members of a report's object, each as far as its shape goes.
-use Rattle.std.specs.Prelude.{ℕ, ◌+◌, ◌^◌, ◌==◌, ◌&&◌, not, unsigned_abs, ℤ, List, [], ◌∷◌, length, Bool, true, if◌then◌else◌, codes, Option, Some, None, option_map, option_and_then, nat_le, nat_lt, bytes_eq}
+use Rattle.std.specs.Prelude.{ℕ, ◌+◌, ◌^◌, ◌==◌, ◌&&◌, not, unsigned_abs, ℤ, List, [], ◌∷◌, length, Bool, true, if◌then◌else◌, codes, Option, Some, None, option_map, option_and_then, nat_le, bytes_eq}
 use Rattle.std.specs.Option.{option_or, option_zip}
 use Rattle.serde_json.specs.Data.{Data, Items, no_items, item}
 use Rattle.serde_json.specs.Find.{get, as_str, as_array, as_number, as_u64}
@@ -12,7 +12,7 @@ use Rattle.it_syntax.specs.NamesViews.{index_of}
 use Rattle.it_certificate.specs.declared.kinds.AnswerKind.{AnswerKind}
 use Rattle.it_certificate.specs.declared.kinds.CauseKind.{CauseKind}
 use Rattle.it_certificate.specs.declared.kinds.CauseKind.TheVariants as causes
-use Rattle.it_certificate.specs.Numerals.{integer_of, count_of, step_of}
+use Rattle.it_certificate.specs.Numerals.{integer_of, below, step_of}
 use Rattle.it_certificate.specs.Kinds.{answer_kind_of, cause_kind_of, mark_of, back_of}
 
 -- a member as text
@@ -25,7 +25,7 @@ integer_at d = option_and_then integer_of (as_str d)
 
 -- an integer from 0 to 4294967295, written with digits alone
 unfoldable pub count_at : Data → Option ℕ
-count_at d = option_and_then count_of (option_and_then as_u64 (as_number d))
+count_at d = option_and_then (below (2 ^ 32)) (option_and_then as_u64 (as_number d))
 
 -- the items of a pair
 abbrev pub two_of : Items → Option (Data × Data)
@@ -49,13 +49,10 @@ list_at f d = option_and_then (all_of f) (option_and_then as_array d)
 abbrev pub of_length : {A : Type 0} → ℕ → List A → Option (List A)
 of_length n xs = if length xs == n then Some xs else None
 
--- a scale and weights
-abbrev pub certificate_by : Option ℤ → Option (List (ℕ × ℤ)) → Option CertificateView
-certificate_by scale weights = option_and_then (λ s. option_map (λ ws. record { scale = s; weights = ws }) weights) scale
-
--- a certificate
+-- a certificate: a scale and weights
 unfoldable pub certificate_at : Data → Option CertificateView
-certificate_at d = certificate_by (option_and_then integer_at (get (codes "scale") d)) (list_at pair_at (get (codes "weights") d))
+certificate_at d = option_map (λ p. record { scale = p.0; weights = p.1 })
+    (option_zip (option_and_then integer_at (get (codes "scale") d)) (list_at pair_at (get (codes "weights") d)))
 
 -- the kind of the answer
 unfoldable pub answer_kind_at : Data → Option AnswerKind
@@ -97,17 +94,9 @@ is_row_between from size (t ∷ ts) = (nat_le from t.0 && (nat_le t.0 size && no
 abbrev pub row_of : ℕ → Terms → Option Terms
 row_of size ts = if is_row_between 1 size ts then Some ts else None
 
--- the mark of a row
-unfoldable pub mark_at : Data → Option Mark
-mark_at d = option_and_then mark_of (text_of (get (codes "mark") d))
-
--- the terms of a row
-unfoldable pub terms_at : Data → Option Terms
-terms_at d = list_at pair_at (get (codes "row") d)
-
--- a row with its mark
+-- a row's mark and its terms
 unfoldable pub marked_row_at : ℕ → Data → Option (Mark × Terms)
-marked_row_at size d = option_zip (mark_at d) (option_and_then (row_of size) (terms_at d))
+marked_row_at size d = option_zip (option_and_then mark_of (text_of (get (codes "mark") d))) (option_and_then (row_of size) (list_at pair_at (get (codes "row") d)))
 
 -- the rows of a region
 unfoldable pub rows_at : ℕ → Data → Option (List (Mark × Terms))
@@ -115,12 +104,8 @@ rows_at size d = list_at (marked_row_at size) (get (codes "rows") d)
 
 -- a set of n variables, by its number
 unfoldable pub set_at : ℕ → Data → Option ℕ
-set_at n d = option_and_then (λ s. if nat_lt s (2 ^ n) then Some s else None) (count_at d)
+set_at n d = option_and_then (below (2 ^ n)) (count_at d)
 
 -- so many sets of n variables
 unfoldable pub parts_at : ℕ → ℕ → Data → Option (List ℕ)
 parts_at count n d = option_and_then (of_length count) (list_at (set_at n) (get (codes "parts") d))
-
--- how many candidates were tried
-unfoldable pub tried_at : Data → Option ℕ
-tried_at d = option_and_then count_at (get (codes "tried") d)

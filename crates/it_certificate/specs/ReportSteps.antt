@@ -2,7 +2,11 @@
 use Rattle.std.specs.Prelude.{◌≡◌, ℕ, ◌*◌, ◌-◌, ◌≤◌, List, [], ◌∷◌, length, Option, Some, None, Result, Ok, Err}
 use Rattle.serde_json.specs.Data.{Data}
 use Rattle.it_space.specs.Answers.{answer_view}
+use Rattle.it_space.specs.declared.problems.Kind.{Kind}
+use Rattle.it_space.specs.declared.problems.Kind.TheVariants.{Inequality, Equation}
+use Rattle.it_syntax.specs.declared.types.Sign.{Sign}
 use Rattle.it_syntax.specs.Meaning.{RelationView}
+use Rattle.it_demand.specs.Demands.{kind_of}
 use Rattle.it_syntax.specs.Givens.{GivenView, Relation, Markov, Independent, Function}
 use Rattle.it_question.specs.Questions.{QuestionView, question_view}
 use Rattle.it_question.specs.Files.{IsFile}
@@ -12,8 +16,16 @@ use Rattle.it_certificate.specs.declared.keys.Refusal.TheVariants.{Memory, Shape
 use Rattle.it_certificate.specs.declared.keys.ReportFault.{ReportFault}
 use Rattle.it_certificate.specs.declared.keys.ReportFault.TheVariants as faults
 use Rattle.it_certificate.specs.declared.types.Reported.{Reported}
-use Rattle.it_certificate.specs.Obligations.{target_count}
 use Rattle.it_certificate.specs.Reports.{IsQuestionOf, ReadsAs}
+
+-- how many forms a demand of this kind says to be at least 0
+abbrev pub form_count : Kind → ℕ
+form_count Inequality = 1
+form_count Equation = 2
+
+-- how many targets a relation of this sign has
+abbrev pub target_count : Sign → ℕ
+target_count sign = form_count (kind_of sign)
 
 -- how many forms a given says to be at least 0: two an equation
 abbrev pub given_form_count : GivenView → ℕ

@@ -1,5 +1,5 @@
 -- An answer as a line of JSON, without the line's end.
-use Rattle.std.specs.Prelude.{ℕ, ◌<◌, ℤ, List, [], map, filter, length, Bool, true, false, codes, decimal, slice_index_or, IsAscii}
+use Rattle.std.specs.Prelude.{ℕ, ◌<◌, ℤ, List, [], map, filter, length, if◌then◌else◌, codes, decimal, slice_index_or, IsAscii}
 use Rattle.std.specs.Fmt.{signed_decimal}
 use Rattle.serde_json.specs.Data.{Data, unsigned, number, string, array, object, item, no_items, member, no_members}
 use Rattle.serde_json.specs.View.{items_of}
@@ -34,11 +34,6 @@ proof_value c = object
     (member (codes "scale") (integer_value c.scale)
     (member (codes "weights") (list_value pair_value (filter is_nonzero_weight c.weights)) no_members))
 
--- the word of a side: whether it is the second target that is violated
-abbrev pub side_word : Bool → List ℕ
-side_word true = codes "back"
-side_word false = codes "forward"
-
 -- a row with its mark
 unfoldable pub row_value : Mark × Terms → Data
 row_value r = object
@@ -53,19 +48,16 @@ cause_word Scale = codes "scale"
 cause_word (Rows r) = codes "rows"
 cause_word (WideRate r) = codes "width"
 
--- the name of a rate
-abbrev pub rate_name : NamesView → ℕ → List ℕ
-rate_name v r = slice_index_or v.rates r []
-
 -- at which step, budget or rate a cause came
 abbrev pub step_or_rate_word : NamesView → Cause → List ℕ
 step_or_rate_word v (Pivots steps) = decimal steps
 step_or_rate_word v (Width step) = decimal step
 step_or_rate_word v Scale = codes "0"
-step_or_rate_word v (Rows r) = rate_name v r
-step_or_rate_word v (WideRate r) = rate_name v r
+step_or_rate_word v (Rows r) = slice_index_or v.rates r []
+step_or_rate_word v (WideRate r) = slice_index_or v.rates r []
 
--- the answer to the question of a text, with the question's names; the keys in alphabetical order
+-- the answer to the question of a text, with the question's names; the keys in alphabetical order. The side is `back` where it is the second
+-- target that is violated.
 unfoldable pub answer_value : List ℕ → NamesView → AnswerView → Data
 answer_value text v (Yes proofs) = object
     (member (codes "answer") (string (codes "yes"))
@@ -75,7 +67,7 @@ answer_value text v (No back values) = object
     (member (codes "answer") (string (codes "no"))
     (member (codes "point") (list_value integer_value values)
     (member (codes "question") (string text)
-    (member (codes "side") (string (side_word back)) no_members))))
+    (member (codes "side") (string (if back then codes "back" else codes "forward")) no_members))))
 answer_value text v (Undecided cause) = object
     (member (codes "answer") (string (codes "undecided"))
     (member (codes "at") (string (step_or_rate_word v cause))
@@ -101,7 +93,7 @@ answer_text text v answer = compact_text (answer_value text v answer)
 
 -- one of the rates, and its name is ASCII
 abbrev pub IsAsciiRate : NamesView → ℕ → Type 0
-IsAsciiRate v r = (r < length v.rates) × IsAscii (rate_name v r)
+IsAsciiRate v r = (r < length v.rates) × IsAscii (slice_index_or v.rates r [])
 
 -- the answers that can be written with these names
 abbrev pub IsWritable : NamesView → AnswerView → Type 0

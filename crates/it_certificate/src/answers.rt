@@ -1,13 +1,16 @@
 //! The answer of a report, by its kind.
-ghost use Rattle.std.specs.Prelude.{◌≡◌, ◌≤◌, ok_or, option_map};
+ghost use Rattle.std.specs.Prelude.{◌≡◌, ◌≤◌, ok_or, option_map, codes, option_and_then};
 ghost use Rattle.serde_json.specs.View.{view};
+ghost use Rattle.serde_json.specs.Find.{get};
 ghost use Rattle.it_space.specs.Answers.{answer_view};
 ghost use Rattle.it_space.specs.Answers.AnswerView.{Yes, Region, Open};
 ghost use Rattle.it_space.specs.Spaces.{IsSpace, size_of};
-ghost use Rattle.it_certificate.specs.AnswerReading.{contained_at, is_equality, no_at, undecided_at};
+ghost use Rattle.it_elemental.specs.Generators.{is_equation};
+ghost use Rattle.it_demand.specs.Demands.{kind_of};
+ghost use Rattle.it_certificate.specs.AnswerReading.{contained_at, no_at, undecided_at};
 ghost use Rattle.it_certificate.specs.declared.keys.Key.TheVariants as keys;
-ghost use Rattle.it_certificate.specs.Obligations.{target_count};
-ghost use Rattle.it_certificate.specs.Parts.{proofs_at, rows_at, tried_at};
+ghost use Rattle.it_certificate.specs.ReportSteps.{target_count};
+ghost use Rattle.it_certificate.specs.Parts.{count_at, proofs_at, rows_at};
 ghost use Rattle.it_certificate.specs.Steps.{GivesKeyed, fault_by};
 
 use crate::keys::{Key, Refusal, ReportFault};
@@ -33,7 +36,7 @@ pub fn fault(refusal: Refusal, key: Key) -> ReportFault
 
 /// Whether a relation of this sign is an equality.
 fn is_equality(sign: Sign) -> bool
-    ensures { result ≡ is_equality sign }
+    ensures { result ≡ is_equation (kind_of sign) }
 {
     match sign {
         Sign::AtLeast | Sign::AtMost => false,
@@ -118,7 +121,7 @@ pub fn contained_at(
 
 /// A search without an end.
 pub fn open_at(value: &Value) -> Result<Answer, ReportFault>
-    ensures { GivesKeyed answer_view result (ok_or (option_map Open (tried_at (view value.now))) keys.Tried) }
+    ensures { GivesKeyed answer_view result (ok_or (option_map Open (option_and_then count_at (get (codes "tried") (view value.now)))) keys.Tried) }
 {
     match tried_at(value) {
         Some(tried) => Ok(Answer::Open { tried }),

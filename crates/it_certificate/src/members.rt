@@ -1,11 +1,11 @@
 //! The members of a report's object.
-ghost use Rattle.std.specs.Prelude.{◌≡◌, map, option_map};
+ghost use Rattle.std.specs.Prelude.{◌≡◌, map, option_map, codes, option_and_then};
 ghost use Rattle.serde_json.specs.View.{view};
 ghost use Rattle.serde_json.specs.Find.{get};
 ghost use Rattle.std.specs.Option.{option_or};
 ghost use Rattle.it_space.specs.Answers.{certificate_view};
 ghost use Rattle.it_space.specs.declared.answers.Cause.TheVariants.{WideRate, Width};
-ghost use Rattle.it_certificate.specs.Parts.{answer_kind_at, back_at, cause_at, cause_kind_at, cause_of, point_at, proofs_at, text_of, tried_at};
+ghost use Rattle.it_certificate.specs.Parts.{answer_kind_at, back_at, cause_at, cause_kind_at, cause_of, count_at, point_at, proofs_at, text_of};
 ghost use Rattle.it_certificate.specs.Steps.{Yields};
 
 use crate::keys::Refusal;
@@ -108,9 +108,8 @@ pub fn cause_at(value: &Value, names: &Names, kind: CauseKind) -> Option<Cause>
 }
 
 /// How many candidates were tried.
-#[tactic(auto, unfolding(crate::specs::Parts::tried_at))]
 pub fn tried_at(value: &Value) -> Option<u32>
-    ensures { result ≡ tried_at (view value.now) }
+    ensures { result ≡ option_and_then count_at (get (codes "tried") (view value.now)) }
 {
     count_at(value.get("tried")?)
 }

@@ -2,7 +2,7 @@
 ghost use Rattle.std.specs.Prelude.{◌≡◌, ◌≤◌, ◌<◌, ◌^◌, ◌+◌, ◌*◌, ◌-◌, SomeIff, option_and_then, Some, ℕ};
 ghost use Rattle.serde_json.specs.View.{view};
 ghost use Rattle.it_number.specs.Decimals.{value_from};
-ghost use Rattle.it_certificate.specs.Numerals.{count_of, count_of_integer, integer_of, magnitude_of, step_of, up_to_limit};
+ghost use Rattle.it_certificate.specs.Numerals.{below, count_of_integer, integer_of, magnitude_of, step_of};
 ghost use Rattle.it_certificate.specs.Parts.{count_at, integer_at};
 
 use serde_json::Value;
@@ -26,7 +26,7 @@ fn with_digit(n: u128, d: u8) -> Option<u128>
 
 /// The value of digits, unless it passes 2^127 - 1.
 fn value_up_to_limit(digits: &[u8]) -> Option<u128>
-    ensures { result ≡ option_and_then up_to_limit (value_from 0 digits.now) }
+    ensures { result ≡ option_and_then (below (2 ^ 127)) (value_from 0 digits.now) }
 {
     let mut n: u128 = 0;
     for d in digits {
@@ -77,7 +77,7 @@ pub fn integer_at(value: &Value) -> Option<i128>
 
 /// The number, unless it passes 32 bits.
 fn count_of(n: u64) -> Option<u32>
-    ensures { result ≡ count_of n }
+    ensures { result ≡ below (2 ^ 32) n }
 {
     if n < 4294967296 { Some(n as u32) } else { None }
 }

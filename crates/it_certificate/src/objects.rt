@@ -12,7 +12,7 @@ pub struct Members {
     map: Map<String, Value>,
 }
 
-// written out, so that letting the members go is one call
+// Written by hand, so that dropping the members takes one call.
 impl Drop for Members {
     fn drop(self) {
         let Members { map: _ } = self;

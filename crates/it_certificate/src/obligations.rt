@@ -4,8 +4,8 @@ ghost use Rattle.it_syntax.specs.Givens.{IsGivenOf, given_view};
 ghost use Rattle.it_syntax.specs.Meaning.{relation_view};
 ghost use Rattle.it_question.specs.Questions.{region_view};
 ghost use Rattle.it_question.specs.Limits.{AreLinesOver};
-ghost use Rattle.it_certificate.specs.Obligations.{obligation_count, target_count};
-ghost use Rattle.it_certificate.specs.ReportSteps.{given_form_count, relation_form_count};
+ghost use Rattle.it_certificate.specs.Obligations.{obligation_count};
+ghost use Rattle.it_certificate.specs.ReportSteps.{given_form_count, relation_form_count, target_count};
 
 use it_question::types::Region;
 use it_syntax::types::{Given, Relation, Sign};

@@ -1,10 +1,11 @@
 //! The rows of a region in a report.
-ghost use Rattle.std.specs.Prelude.{◌≡◌, ◌==◌, ◌&&◌, nat_le, not, unsigned_abs, All, IfOk};
+ghost use Rattle.std.specs.Prelude.{◌≡◌, ◌==◌, ◌&&◌, nat_le, not, unsigned_abs, codes, option_and_then, All, IfOk};
 ghost use Rattle.serde_json.specs.View.{view, items_view};
 ghost use Rattle.serde_json.specs.Find.{get};
 ghost use Rattle.it_number.specs.Limit.{IsWithin};
-ghost use Rattle.it_certificate.specs.Parts.{all_of, is_row_between, mark_at, marked_row_at, row_of, rows_at, terms_at};
+ghost use Rattle.it_certificate.specs.Parts.{all_of, is_row_between, list_at, marked_row_at, pair_at, row_of, rows_at, text_of};
 ghost use Rattle.it_certificate.specs.Steps.{Yields};
+ghost use Rattle.it_certificate.specs.Kinds.{mark_of};
 
 use crate::keys::Refusal;
 use crate::kinds::mark_of;
@@ -48,17 +49,16 @@ fn row_of(terms: Vec<(u32, i128)>, size: u32) -> Option<Row>
 }
 
 /// The mark of a row.
-#[tactic(auto, unfolding(crate::specs::Parts::mark_at))]
 fn mark_at(value: &Value) -> Option<Mark>
-    ensures { result ≡ mark_at (view value.now) }
+    ensures { result ≡ option_and_then mark_of (text_of (get (codes "mark") (view value.now))) }
 {
     mark_of(text_of_member(value.get("mark"))?)
 }
 
 /// The terms of a row, each coefficient within the limit.
-#[tactic(auto, using(crate::proofs::WithinLemmas::terms_within), unfolding(crate::specs::Parts::terms_at))]
+#[tactic(auto, using(crate::proofs::WithinLemmas::terms_within))]
 fn terms_at(alloc: Global, value: &Value) -> Result<Vec<(u32, i128)>, Refusal>
-    ensures terms { Yields (λ v. v.items) result (terms_at (view value.now)) }
+    ensures terms { Yields (λ v. v.items) result (list_at pair_at (get (codes "row") (view value.now))) }
     ensures within { IfOk result (λ v. All (λ t. IsWithin t.1) v.items) }
 {
     // named before it is answered, so that the contract of the call stands at the answer

@@ -8,7 +8,7 @@ pub struct Reported {
     pub answer: Answer,
 }
 
-// written out, so that letting it go is one call, and not a step for each field below
+// Written by hand, so that dropping a report takes one call and not a step for each field.
 impl Drop for Reported {
     fn drop(self) {
         let Reported {

@@ -1,9 +1,9 @@
 //! The parts of answers as JSON values.
-ghost use Rattle.std.specs.Prelude.{◌≡◌, IfOk, filter, map, decimal, IsAscii};
+ghost use Rattle.std.specs.Prelude.{◌≡◌, [], codes, if◌then◌else◌, IfOk, filter, map, decimal, slice_index_or, IsAscii};
 ghost use Rattle.serde_json.specs.Data.{string};
 ghost use Rattle.serde_json.specs.View.{view};
 ghost use Rattle.it_space.specs.Answers.{IfRate, certificate_view, is_nonzero_weight};
-ghost use Rattle.it_certificate.specs.Values.{IsAsciiRate, cause_word, count_value, integer_value, list_value, pair_value, step_or_rate_word, proof_value, rate_name, row_value, side_word};
+ghost use Rattle.it_certificate.specs.Values.{IsAsciiRate, cause_word, count_value, integer_value, list_value, pair_value, step_or_rate_word, proof_value, row_value};
 
 use crate::objects::Members;
 use it_space::{Cause, Certificate, Mark, Row, VarSet, is_nonzero_weight};
@@ -88,7 +88,7 @@ pub fn integers(alloc: Global, numbers: &[i128]) -> Result<Value, AllocError>
 
 /// The word of a side.
 pub fn side_word(back: bool) -> &'static str
-    ensures { result.now ≡ side_word back }
+    ensures { result.now ≡ (if back then codes "back" else codes "forward") }
 {
     if back { "back" } else { "forward" }
 }
@@ -171,7 +171,7 @@ pub fn ascii_text(bytes: &[u8]) -> &str
 /// The name of a rate.
 fn rate(alloc: Global, names: &Names, rate: u8) -> Result<Value, AllocError>
     requires { IsAsciiRate names.now rate }
-    ensures { IfOk result (λ v. view v ≡ string (rate_name names.now rate)) }
+    ensures { IfOk result (λ v. view v ≡ string (slice_index_or names.now.rates rate [])) }
 {
     let name = ascii_text(names.rate_name(rate));
     json!(in alloc; name)

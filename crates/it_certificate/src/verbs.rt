@@ -3,9 +3,9 @@ ghost use Rattle.serde_json.specs.View.{view};
 ghost use Rattle.it_space.specs.Answers.{answer_view};
 ghost use Rattle.it_space.specs.Spaces.{IsSpace};
 ghost use Rattle.it_demand.specs.LineDemands.{space_of};
-ghost use Rattle.it_question.specs.Questions.{question_body, question_view, verb_view};
+ghost use Rattle.it_question.specs.Questions.{question_body, verb_view};
 ghost use Rattle.it_question.specs.Limits.{IsQuestion, IsVerbOver};
-ghost use Rattle.it_certificate.specs.Reports.{question_answer, verb_answer};
+ghost use Rattle.it_certificate.specs.Reports.{verb_answer};
 ghost use Rattle.it_certificate.specs.Steps.{GivesKeyed};
 
 use crate::answers::{contained_at, no_at, open_at, region_at, undecided_at, yes_at};
@@ -19,6 +19,7 @@ use serde_json::Value;
 use std::alloc::Global;
 
 /// The answer to a question of this verb.
+#[tactic(auto, using(crate::proofs::ObligationLemmas::targets_counted))]
 fn verb_answer(
     alloc: Global,
     value: &Value,
@@ -61,7 +62,6 @@ fn verb_answer(
 }
 
 /// The answer to a question.
-#[tactic(auto, unfolding(crate::specs::Reports::question_answer))]
 pub fn question_answer(
     alloc: Global,
     value: &Value,
@@ -69,7 +69,7 @@ pub fn question_answer(
     kind: AnswerKind,
 ) -> Result<Answer, ReportFault>
     requires { IsQuestion (question_body question.now) }
-    ensures { GivesKeyed answer_view result (question_answer (question_view question.now) kind (view value.now)) }
+    ensures { GivesKeyed answer_view result (verb_answer question.now.names (verb_view question.now.verb) kind (view value.now)) }
 {
     verb_answer(alloc, value, &question.names, &question.verb, kind)
 }

@@ -1,5 +1,5 @@
 -- The text of a JSON value without floats is UTF-8 and reads as that value; and an answer that fits its question has such a value.
-use Rattle.std.proofs.Common.{◌≡◌, ℕ, suc, max, ◌<◌, ◌≤◌, ◌^◌, ℤ, pos, negsuc, List, [], ◌∷◌, ◌++◌, map, filter, codes, decimal, Bool, true, false, Some, option_map, option_and_then, All, IsUtf8, refl, sym, ap, ap₂, subst, ◌∙◌, arith, lit≤, append-nil}
+use Rattle.std.proofs.Common.{◌≡◌, ℕ, suc, max, ◌<◌, ◌≤◌, ◌^◌, ℤ, pos, negsuc, List, [], ◌∷◌, ◌++◌, map, filter, codes, decimal, Bool, true, false, Some, option_map, option_and_then, All, IsUtf8, refl, sym, ap, ap₂, subst, ◌∙◌, arith, lit≤, append-nil, if◌then◌else◌}
 use Rattle.std.proofs.lemmas.Fmt.{IsAscii-decimal_wide}
 use Rattle.std.proofs.lemmas.List.Elements.{All-head, All-tail, All-filter}
 use Rattle.std.proofs.lemmas.Str.{IsUtf8-append, IsUtf8-nil, IsUtf8-from_ascii}
@@ -29,7 +29,7 @@ use Rattle.it_space.specs.declared.answers.Mark.{Mark}
 use Rattle.it_space.specs.declared.answers.Mark.TheVariants.{Plain, Needed, Unsettled}
 use Rattle.it_syntax.specs.NamesViews.{NamesView}
 use Rattle.it_certificate.specs.AnswerShapes.{IsNumberedAmount, IsNumbered}
-use Rattle.it_certificate.specs.Values.{integer_value, count_value, pair_value, proof_value, side_word, row_value, cause_word, step_or_rate_word, answer_value, answer_text}
+use Rattle.it_certificate.specs.Values.{integer_value, count_value, pair_value, proof_value, row_value, cause_word, step_or_rate_word, answer_value, answer_text}
 use Rattle.it_certificate.proofs.ValueLemmas.{answer_shallow}
 
 -- ---- values without floats
@@ -217,7 +217,7 @@ cause_utf8 causes.Scale = IsUtf8-are_ascii (codes "scale") refl
 cause_utf8 (causes.Rows r) = IsUtf8-are_ascii (codes "rows") refl
 cause_utf8 (causes.WideRate r) = IsUtf8-are_ascii (codes "width") refl
 
-side_utf8 : (back : Bool) → IsUtf8 (side_word back)
+side_utf8 : (back : Bool) → IsUtf8 (if back then codes "back" else codes "forward")
 side_utf8 true = IsUtf8-are_ascii (codes "back") refl
 side_utf8 false = IsUtf8-are_ascii (codes "forward") refl
 

@@ -1,11 +1,10 @@
 -- A right answer fits its question, so that what is written of it reads back as it.
-use Rattle.std.proofs.Common.{◌≡◌, ◌≢◌, ◌⊎◌, inl, inr, ℕ, zero, suc, ◌+◌, ◌<◌, ◌≤◌, ◌^◌, min, ℤ, List, [], ◌∷◌, map, filter, length, All, Bool, true, false, Option, Some, None, IfSome, refl, sym, ap, subst, ◌∙◌, arith, lit≤, cond}
+use Rattle.std.proofs.Common.{◌≡◌, ◌≢◌, ◌⊎◌, inl, inr, ℕ, zero, suc, ◌+◌, ◌<◌, ◌≤◌, ◌^◌, min, ℤ, List, [], ◌∷◌, map, filter, length, All, Bool, true, false, Option, Some, None, IfSome, refl, sym, ap, subst, ◌∙◌, arith, lit≤, cond, get_or}
 use Rattle.std.proofs.lemmas.List.{length-append, length-map}
 use Rattle.std.proofs.lemmas.List.Elements.{All-nil, All-cons, All-head, All-tail}
 use Rattle.it_number.specs.Limit.{IsWithin}
 use Rattle.it_rational.specs.Rational.{Rational}
 use Rattle.it_space.specs.declared.answers.Cause.{Cause}
-use Rattle.it_space.specs.declared.answers.Cause.TheVariants as causes
 use Rattle.it_space.specs.declared.spaces.Space.{Space}
 use Rattle.it_space.specs.Answers.{AnswerView, CertificateView, is_nonzero_weight}
 use Rattle.it_space.specs.Answers.AnswerView.{Yes, No, Undecided, Region, Contained, Open}
@@ -23,7 +22,6 @@ use Rattle.it_prove.specs.Closed.{closed_places, spread_point}
 use Rattle.it_closure.specs.Collapse.{spread_out}
 use Rattle.it_columns.specs.Scaling.{NumbersFit, scale_of, scaled_point}
 use Rattle.it_prove.specs.Steps.{terms_of_places}
-use Rattle.it_prove.specs.ProofViews as proof_views
 use Rattle.it_prove.specs.ProofViews.{Follows, Runs, AreProofsOf}
 use Rattle.it_prove.proofs.ProofLemmas.{scaled_within}
 use Rattle.it_prove.proofs.PointLemmas.{places_rise, pairs_canonical, point_spread, spread_within}
@@ -41,22 +39,23 @@ use Rattle.it_question.specs.Tables.{problem_names, problem_names_by}
 use Rattle.it_demand.proofs.ZipLemmas.{zip-length}
 use Rattle.it_eliminate.specs.Elimination.{Member}
 use Rattle.it_redundant.specs.ReducedElimination.{ProjectedView}
-use Rattle.it_redundant.specs.ReducedElimination as projections
 use Rattle.it_answer.specs.declared.types.Budgets.{Budgets}
 use Rattle.it_answer.specs.Forms.{all_demands, demand_of_elemental, demand_of_line, CertifyAll, MayStand}
 use Rattle.it_answer.specs.Shows.{ShowsBy, ViolatesFirst}
 use Rattle.it_answer.specs.DueEliminations.{answer_of_end, IsDueElimination}
 use Rattle.it_answer.specs.DueRelations.{PointIsDue, CauseIsDue, IsDueRelation}
 use Rattle.it_answer.proofs.UniqueLemmas.{undecided_same}
-use Rattle.it_certificate.specs.AnswerReading.{is_equality}
 use Rattle.it_certificate.specs.AnswerShapes.{IsNumberedAmount, IsNumbered, IsFoundIn, IsCauseFor, HasVerbShape}
 use Rattle.it_certificate.specs.Numerals.{step_of}
 use Rattle.it_certificate.proofs.RowLemmas.{nonzero_passes}
 use Rattle.it_certificate.specs.Laws.{without_zeros}
-use Rattle.it_certificate.specs.Values.{rate_name}
 use Rattle.it_report.proofs.CountLemmas.{targets_counted}
 use Rattle.it_cli.proofs.LineLemmas.{point_size}
 use Rattle.it_cli.proofs.RateLemmas.{IsEndOf, end_of_rates}
+use Rattle.it_elemental.specs.Generators.{is_equation}
+use Rattle.it_space.specs.declared.answers.Cause.TheVariants as causes
+use Rattle.it_prove.specs.ProofViews as proof_views
+use Rattle.it_redundant.specs.ReducedElimination as projections
 
 -- ---- the ends of one target
 
@@ -224,7 +223,7 @@ module _ (q : BodyView) (r : RelationView) (b : Poses q r) where
   values_due budget (t ∷ []) true values d = absurd d
   values_due budget (t ∷ u ∷ ts) true values d = values_by_end b.problem u b.is_problem.limits values d.1.end d.1.follows
 
-  second_only : (s : Sign) (f : Form) (back : Bool) (values : List ℤ) → ViolatesFirst q (demanded_forms (kind_of s) f) back values → back ≡ true → is_equality s ≡ true
+  second_only : (s : Sign) (f : Form) (back : Bool) (values : List ℤ) → ViolatesFirst q (demanded_forms (kind_of s) f) back values → back ≡ true → is_equation (kind_of s) ≡ true
   second_only AtLeast f true values c e = absurd c
   second_only AtMost f true values c e = absurd c
   second_only Equal f back values c e = refl
@@ -242,7 +241,7 @@ module _ (q : BodyView) (r : RelationView) (b : Poses q r) where
 pub right_prove_fits : (budget : Option ℕ) (q : BodyView) (r : RelationView) (a : AnswerView) → IfSome budget (λ n. n < 2 ^ 32) → q.verb ≡ Prove r → ShowsBy q (Prove r) a → IsDueRelation budget q r a → HasVerbShape q.names (Prove r) a
 right_prove_fits budget q r (Yes ws) few verb shown due =
     let b = due.poses in (
-      all_counted q b.problem b.is_problem.space b.is_problem.limits b.is_problem.constraints (targets (variables_of q) r) ws shown ∙ targets_counted r.sign (form_of (variables_of q) r),
+      all_counted q b.problem b.is_problem.space b.is_problem.limits b.is_problem.constraints (targets (variables_of q) r) ws shown ∙ targets_counted (variables_of q) (length q.names.variables) r,
       all_numbered q b.problem b.is_problem.space b.is_problem.limits b.is_problem.constraints (targets (variables_of q) r) ws shown (proofs_scaled b.problem budget b.rows ws due.due),
     )
 right_prove_fits budget q r (No back values) few verb shown due =
@@ -262,7 +261,7 @@ answer_cause_same : (c d : Cause) → Undecided c ≡ Undecided d → c ≡ d
 answer_cause_same c d e = cc
 
 -- A cause of an elimination fits, where each listed rate is found by its name, and the name is no number.
-pub eliminated_cause_fits : (budgets : Budgets) (q : BodyView) (rates : List ℕ) (cause : Cause) → ((r : ℕ) → Member r rates → IsFoundIn q.names r × (step_of (rate_name q.names r) ≡ None))
+pub eliminated_cause_fits : (budgets : Budgets) (q : BodyView) (rates : List ℕ) (cause : Cause) → ((r : ℕ) → Member r rates → IsFoundIn q.names r × (step_of (get_or q.names.rates r []) ≡ None))
     → IsDueElimination budgets q rates (Undecided cause) → IsCauseFor q.names cause
 eliminated_cause_fits budgets q rates cause named due =
     by_end due.end (end_of_rates due.givens budgets.pivots budgets.rows due.rows [] [] rates due.end due.ends) due.is

@@ -47,7 +47,7 @@ use Rattle.it_answer.specs.DueRelations.{CauseIsDue, IsDueRelation}
 use Rattle.it_answer.specs.Forms.{CertifyAll, MayStand, all_demands}
 use Rattle.it_demand.specs.Targets.{targets}
 use Rattle.it_answer.specs.RightAnswers.{IsDueBy, IsRightAnswer}
-use Rattle.it_print.specs.Lines.{IsCauseOf, IsPrintable, IsRowOver, answer_line, auxiliary_names, auxiliary_names_by, origins_of}
+use Rattle.it_print.specs.Lines.{IsCauseOf, IsPrintable, IsRowOver, answer_line, auxiliary_names, origins_of}
 use Rattle.it_print.specs.ProofLines.{generator_rows, proof_text}
 use Rattle.it_answer.specs.AnswerForms.{answer_forms}
 use Rattle.it_answer.proofs.UniqueLemmas.{undecided_same}
@@ -169,9 +169,9 @@ printable_region budgets q rates m (answers.Open tried) names within shown due =
 -- ---- an answer to `contain`
 
 -- the parts are as many as the names of auxiliary variables
-as_many_parts : (q : BodyView) (a b : RegionView) (tries : List (List ℕ)) (parts : List ℕ) → q.verb ≡ Contain a b tries → IsRegionOf q.names b → ArePartsOf a b parts → length parts ≡ length (auxiliary_names q)
+as_many_parts : (q : BodyView) (a b : RegionView) (tries : List (List ℕ)) (parts : List ℕ) → q.verb ≡ Contain a b tries → IsRegionOf q.names b → ArePartsOf a b parts → length parts ≡ length (auxiliary_names q.names q.verb)
 as_many_parts q a b tries parts is region are = are.count ∙ region.counted
-    ∙ ap length (sym (ap (auxiliary_names_by q.names) is ∙ ap (drop (length q.names.variables)) region.variables ∙ drop-append_seam q.names.variables region.own))
+    ∙ ap length (sym (ap (auxiliary_names q.names) is ∙ ap (drop (length q.names.variables)) region.variables ∙ drop-append_seam q.names.variables region.own))
 
 printable_containment : (q : BodyView) (a b : RegionView) (tries : List (List ℕ)) (m : ℕ) (answer : Answer) → q.verb ≡ Contain a b tries → IsQuestion q → m ≡ length (question_demands q)
     → ShowsBy q (Contain a b tries) (answer_view answer) → IsPrintable q m answer

@@ -1,5 +1,5 @@
 -- The rates of a question that a file asks are found by their names, and none is the text of a number.
-use Rattle.std.proofs.Common.{◌≡◌, inl, inr, ℕ, zero, suc, ◌+◌, ◌-◌, ◌*◌, ◌<◌, ◌≤◌, ◌==◌, ◌&&◌, nat_lt, nat_le, pos, neg_ℤ, Bool, true, false, cond, not, List, [], ◌∷◌, ◌++◌, take, drop, length, get_or, Option, Some, None, option_map, option_and_then, bytes_eq, refl, sym, ap, subst, ◌∙◌, arith, rules, append_assoc, append-nil, length-append}
+use Rattle.std.proofs.Common.{◌≡◌, inl, inr, ℕ, ◌^◌, zero, suc, ◌+◌, ◌-◌, ◌*◌, ◌<◌, ◌≤◌, ◌==◌, ◌&&◌, nat_lt, nat_le, pos, neg_ℤ, Bool, true, false, cond, not, List, [], ◌∷◌, ◌++◌, take, drop, length, get_or, Option, Some, None, option_map, option_and_then, bytes_eq, refl, sym, ap, subst, ◌∙◌, arith, rules, append_assoc, append-nil, length-append}
 use Rattle.std.specs.Char.{is_ascii_alphabetic, is_ascii_digit}
 use Rattle.std.specs.List.{AllByRecursion as Every, IsDistinct, position_or_len}
 use Rattle.std.proofs.lemmas.Bool.{ne_eqb}
@@ -26,8 +26,7 @@ use Rattle.it_question.specs.Texts.{text_of_lines, question_line_count, with_tex
 use Rattle.it_question.proofs.NewNameLemmas.{new_of}
 use Rattle.it_certificate.specs.AnswerShapes.{IsFoundIn}
 use Rattle.it_number.specs.Decimals.{value_from}
-use Rattle.it_certificate.specs.Numerals.{up_to_limit, magnitude_of, integer_of, count_of_integer, step_of}
-use Rattle.it_certificate.specs.Values.{rate_name}
+use Rattle.it_certificate.specs.Numerals.{below, magnitude_of, integer_of, count_of_integer, step_of}
 use Rattle.it_space.proofs.EveryLemmas.{every-append, every_front, every_back}
 use Rattle.it_forms.specs.Forms.{Keyword, Punctuation, Give, Then}
 use Rattle.it_forms.specs.Words.{limit_flag}
@@ -201,9 +200,9 @@ magnitude_none : (c : ℕ) (cs : List ℕ) → is_ascii_digit c ≡ false → ma
 unfolding magnitude_of
 magnitude_none c cs e =
     let test = nat_le 1 (length (c ∷ cs)) && nat_le (length (c ∷ cs)) 39 in
-    ap (λ b. cond test (option_and_then up_to_limit (cond b (value_from (10 * 0 + (c - 48)) cs) None)) None) e ∙ by_test test
+    ap (λ b. cond test (option_and_then (below (2 ^ 127)) (cond b (value_from (10 * 0 + (c - 48)) cs) None)) None) e ∙ by_test test
   where
-    by_test : (b : Bool) → cond b (option_and_then up_to_limit None) None ≡ None
+    by_test : (b : Bool) → cond b (option_and_then (below (2 ^ 127)) None) None ≡ None
     by_test true = refl
     by_test false = refl
 
@@ -216,9 +215,9 @@ no_number (c ∷ cs) h =
     ∙ ap (λ o. option_and_then count_of_integer (option_map pos o)) (magnitude_none c cs n.0)
 
 -- a rate of the question that a text asks
-pub rates_found : (q : QuestionView) (r : ℕ) → IsFile q.text (q ∷ []) → r < length q.body.names.rates → IsFoundIn q.body.names r × (step_of (rate_name q.body.names r) ≡ None)
+pub rates_found : (q : QuestionView) (r : ℕ) → IsFile q.text (q ∷ []) → r < length q.body.names.rates → IsFoundIn q.body.names r × (step_of (get_or q.body.names.rates r []) ≡ None)
 rates_found q r asked h =
     let ls = letters_of_lines asked.lines in
     let all = always_said file _ file_has IfSoundAll file_keeps ls asked.tree.0 (said file with_texts q.text (q ∷ []) asked) (lines_sound 1 (split_lines q.text) asked.lines asked.cut) in
     let g = first_good q asked.lines asked.tree.0 all asked.says in
-    (found_at q.body.names.rates r g.distinct h, no_number (rate_name q.body.names r) (every_at IsLettered q.body.names.rates r g.lettered h))
+    (found_at q.body.names.rates r g.distinct h, no_number (get_or q.body.names.rates r []) (every_at IsLettered q.body.names.rates r g.lettered h))

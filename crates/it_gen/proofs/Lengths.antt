@@ -1,10 +1,10 @@
 -- How long a file of drawn questions is at most.
-use Rattle.std.proofs.Common.{◌≡◌, ℕ, zero, suc, ◌+◌, ◌-◌, ◌*◌, ◌^◌, ◌<◌, ◌≤◌, ◌==◌, Bool, true, false, cond, List, [], ◌∷◌, ◌++◌, length, codes, ap, length-append, arith}
+use Rattle.std.proofs.Common.{◌≡◌, ℕ, zero, suc, ◌+◌, ◌-◌, ◌*◌, ◌^◌, ◌<◌, ◌≤◌, ◌==◌, Bool, true, false, if◌then◌else◌, cond, List, [], ◌∷◌, ◌++◌, length, codes, ap, length-append, arith}
 use Rattle.std.specs.Prelude.{decimal}
 use Rattle.std.proofs.lemmas.Fmt.{decimal_digit}
 use Rattle.it_space.specs.Sets.{has_member}
 use Rattle.it_polymatroid.specs.Elementals.{Elemental, Conditional, Mutual, elemental_at}
-use Rattle.it_print.specs.Lines.{one_if, members_from, joined_texts, set_text, given_set_text, elemental_text}
+use Rattle.it_print.specs.Lines.{members_from, joined_texts, set_text, given_set_text, elemental_text}
 use Rattle.it_gen.specs.Draws.{state_after, draw}
 use Rattle.it_gen.specs.GeneratedFiles.{four_names, generated_term_text, bound_text, question_text, generated_file}
 use Rattle.it_gen.proofs.PartTexts.{drawn_below}
@@ -25,7 +25,7 @@ unfolding commas
 members_fewer i [] set = omega arith
 members_fewer i (w ∷ ws) set = by_test (has_member set i) (members_fewer (i + 1) ws set)
   where
-    by_test : (b : Bool) → commas (members_from (i + 1) ws set) ≤ commas ws → commas (one_if b w ++ members_from (i + 1) ws set) ≤ 1 + length w + commas ws
+    by_test : (b : Bool) → commas (members_from (i + 1) ws set) ≤ commas ws → commas ((if b then w ∷ [] else []) ++ members_from (i + 1) ws set) ≤ 1 + length w + commas ws
     by_test true h = omega (arith, h)
     by_test false h = omega (arith, h)
 

@@ -1,5 +1,5 @@
 -- The parts of a drawn question are written in their forms.
-use Rattle.std.proofs.Common.{◌≡◌, ℕ, zero, suc, ◌+◌, ◌-◌, ◌/◌, ◌^◌, ◌<◌, ◌≤◌, ◌==◌, Bool, true, false, cond, List, [], ◌∷◌, ◌++◌, length, Option, None, codes, refl, sym, ap, subst, arith, append_assoc, append-nil}
+use Rattle.std.proofs.Common.{◌≡◌, ℕ, zero, suc, ◌+◌, ◌-◌, ◌/◌, ◌^◌, ◌<◌, ◌≤◌, ◌==◌, Bool, true, false, cond, List, [], ◌∷◌, ◌++◌, length, Option, None, codes, refl, sym, ap, subst, arith, append_assoc, append-nil, if◌then◌else◌}
 use Rattle.std.specs.Prelude.{nat_eq, decimal, bit_or, unwrap_or, if◌then◌else◌, Some}
 use Rattle.std.specs.Int.{bit_at}
 use Rattle.std.proofs.lemmas.Nat.Bits.{bit_at-lt}
@@ -12,15 +12,12 @@ use Rattle.it_polymatroid.specs.Elementals.{Elemental, Conditional, Mutual, elem
 use Rattle.it_elemental.specs.Views.{IsElemental}
 use Rattle.it_elemental.proofs.PlaceLemmas.{is_elemental}
 use Rattle.it_forms.specs.declared.types.Code.{Code}
-use Rattle.it_forms.specs.declared.types.Code.TheVariants as codes
-use Rattle.it_forms.specs.declared.types.Symbol.TheVariants as symbols
 use Rattle.it_forms.specs.Forms.{Form, is_of, Punctuation}
 use Rattle.it_forms.specs.Letters.{Word, Number, Sym}
 use Rattle.it_forms.specs.Words.{symbol, word, any_word, flagged, missing_flag}
 use Rattle.it_forms.specs.declared.types.Symbol.TheVariants.{Minus}
 use Rattle.it_syntax.specs.declared.types.Atom.{Atom}
 use Rattle.it_syntax.specs.declared.types.Sign.TheVariants.{AtLeast}
-use Rattle.it_syntax.specs.declared.types.TokenKind.TheVariants as kinds
 use Rattle.it_syntax.specs.LineForms.{variable, more_names, names, given_set, entropy, mutual_information, measure_or, atom, atom_or_nothing, term, signs, more_terms, terms, sum, compare, relation}
 use Rattle.it_syntax.specs.Meaning.{multiple_from}
 use Rattle.it_syntax.specs.Multiples.{most_terms}
@@ -28,11 +25,14 @@ use Rattle.it_syntax.specs.NamesViews.{NamesView}
 use Rattle.it_syntax.specs.Scopes.{Environment, Scope, env_of, scope_of}
 use Rattle.it_syntax.specs.Spelling.{is_word_byte, Stops, IsText}
 use Rattle.it_syntax.specs.MeasureWords.{is_measure}
-use Rattle.it_print.specs.Lines.{joined_texts, one_if, members_from, set_text, elemental_text}
+use Rattle.it_print.specs.Lines.{joined_texts, members_from, set_text, elemental_text}
 use Rattle.it_gen.specs.Draws.{state_after, draw}
 use Rattle.it_gen.specs.GeneratedFiles.{four_names, generated_term_text, bound_text}
 use Rattle.it_gen.proofs.SpelledLines.{Writes, Anything, writes_then, writes_space, writes_word, writes_number, writes_symbol}
 use Rattle.it_gen.proofs.SpelledForms.{IsLetter, IsWritten, same_text, letter_written, then_written, last_written, first_written, other_written, none_written, one_written, give_written}
+use Rattle.it_forms.specs.declared.types.Code.TheVariants as codes
+use Rattle.it_forms.specs.declared.types.Symbol.TheVariants as symbols
+use Rattle.it_syntax.specs.declared.types.TokenKind.TheVariants as kinds
 
 -- ---- names
 
@@ -60,7 +60,7 @@ members_known : (i : ℕ) (names : List (List ℕ)) (set : ℕ) → AreKnown nam
 members_known i [] set h = tt
 members_known i (w ∷ ws) set h = by_test (has_member set i) (members_known (i + 1) ws set h.1)
   where
-    by_test : (b : Bool) → AreKnown (members_from (i + 1) ws set) → AreKnown (one_if b w ++ members_from (i + 1) ws set)
+    by_test : (b : Bool) → AreKnown (members_from (i + 1) ws set) → AreKnown ((if b then w ∷ [] else []) ++ members_from (i + 1) ws set)
     by_test true more = (h.0, more)
     by_test false more = more
 
@@ -112,10 +112,10 @@ has_first s h = by_test (has_member s 0) (has_member s 1) (has_member s 2) (has_
     not_all_absent a b c d = omega (arith, a, b, c, d, h.0, h.1)
 
     by_test : (a b c d : Bool) → has_member s 0 ≡ a → has_member s 1 ≡ b → has_member s 2 ≡ c → has_member s 3 ≡ d
-        → HasFirst (one_if a (codes "A") ++ (one_if b (codes "B") ++ (one_if c (codes "C") ++ (one_if d (codes "D") ++ []))))
-    by_test true b c d e f g i = (codes "A", one_if b (codes "B") ++ (one_if c (codes "C") ++ (one_if d (codes "D") ++ [])), refl)
-    by_test false true c d e f g i = (codes "B", one_if c (codes "C") ++ (one_if d (codes "D") ++ []), refl)
-    by_test false false true d e f g i = (codes "C", one_if d (codes "D") ++ [], refl)
+        → HasFirst ((if a then codes "A" ∷ [] else []) ++ ((if b then codes "B" ∷ [] else []) ++ ((if c then codes "C" ∷ [] else []) ++ ((if d then codes "D" ∷ [] else []) ++ []))))
+    by_test true b c d e f g i = (codes "A", (if b then codes "B" ∷ [] else []) ++ ((if c then codes "C" ∷ [] else []) ++ ((if d then codes "D" ∷ [] else []) ++ [])), refl)
+    by_test false true c d e f g i = (codes "B", (if c then codes "C" ∷ [] else []) ++ ((if d then codes "D" ∷ [] else []) ++ []), refl)
+    by_test false false true d e f g i = (codes "C", (if d then codes "D" ∷ [] else []) ++ [], refl)
     by_test false false false true e f g i = (codes "D", [], refl)
     by_test false false false false e f g i = absurd (not_all_absent (no_bit s 0 e) (no_bit s 1 f) (no_bit s 2 g) (no_bit s 3 i))
 

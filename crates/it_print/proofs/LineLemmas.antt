@@ -1,5 +1,5 @@
 -- Steps of texts.
-use Rattle.std.proofs.Common.{◌≡◌, ℕ, ◌<◌, ◌≤◌, ◌*◌, ◌%◌, ◌^◌, ◌-◌, List, ◌∷◌, ◌++◌, ◌+◌, Some, Bool, true, false, sym, ap, ◌∙◌, arith, append_assoc, append-nil, codes, ◌||◌, drop, [], ℤ, map, filter, cond, refl}
+use Rattle.std.proofs.Common.{◌≡◌, ℕ, ◌<◌, ◌≤◌, ◌*◌, ◌%◌, ◌^◌, ◌-◌, List, ◌∷◌, ◌++◌, ◌+◌, Some, Bool, true, false, if◌then◌else◌, sym, ap, ◌∙◌, arith, append_assoc, append-nil, codes, ◌||◌, drop, [], ℤ, map, filter, cond, refl}
 use Rattle.it_space.specs.Answers.{is_nonzero_weight}
 use Rattle.it_space.specs.declared.problems.Origin.{Origin}
 use Rattle.std.specs.List.{slice_get}
@@ -8,11 +8,11 @@ use Rattle.std.proofs.lemmas.Option.{slice_get_within, get_or_from_slice_get}
 use Rattle.it_space.specs.Sets.{has_member}
 use Rattle.std.proofs.Math.Pow.{pow_mono}
 use Rattle.std.proofs.lemmas.Nat.{pow_below}
-use Rattle.it_print.specs.Lines.{joined_texts, one_if, members_from, or_zero, sum_text, weight_text}
+use Rattle.it_print.specs.Lines.{joined_texts, members_from, or_zero, sum_text, weight_text}
 
 -- a list's first element, and what is written after it
 pub joined_step : (separator : List ℕ) (some wanted : Bool) (text : List ℕ) (rest : List (List ℕ)) (out : List ℕ)
-    → (out ++ joined_texts separator some (one_if wanted text)) ++ joined_texts separator (some || wanted) rest ≡ out ++ joined_texts separator some (one_if wanted text ++ rest)
+    → (out ++ joined_texts separator some (if wanted then text ∷ [] else [])) ++ joined_texts separator (some || wanted) rest ≡ out ++ joined_texts separator some ((if wanted then text ∷ [] else []) ++ rest)
 joined_step separator false false text rest out = ap (λ t. t ++ joined_texts separator false rest) (append-nil out)
 joined_step separator true false text rest out = ap (λ t. t ++ joined_texts separator true rest) (append-nil out)
 joined_step separator false true text rest out = simp (append_assoc, append-nil)
@@ -26,7 +26,7 @@ or_zero_unless false texts = or_zero texts
 -- the weights other than 0, one after the other
 abbrev pub weight_texts : List (List ℕ) → List Origin → List (ℕ × ℤ) → List (List ℕ)
 weight_texts names origins [] = []
-weight_texts names origins (weight ∷ weights) = one_if (is_nonzero_weight weight) (weight_text names origins weight) ++ weight_texts names origins weights
+weight_texts names origins (weight ∷ weights) = (if is_nonzero_weight weight then weight_text names origins weight ∷ [] else []) ++ weight_texts names origins weights
 
 -- they are the texts of those that aren't 0
 weight_texts_by_filter : (names : List (List ℕ)) (origins : List Origin) (weights : List (ℕ × ℤ)) → weight_texts names origins weights ≡ map (weight_text names origins) (filter is_nonzero_weight weights)
@@ -34,7 +34,7 @@ weight_texts_by_filter names origins [] = refl
 weight_texts_by_filter names origins (weight ∷ weights) = by_test (is_nonzero_weight weight) (weight_texts_by_filter names origins weights)
   where
     by_test : (b : Bool) → weight_texts names origins weights ≡ map (weight_text names origins) (filter is_nonzero_weight weights)
-        → one_if b (weight_text names origins weight) ++ weight_texts names origins weights
+        → (if b then weight_text names origins weight ∷ [] else []) ++ weight_texts names origins weights
         ≡ map (weight_text names origins) (cond b (weight ∷ filter is_nonzero_weight weights) (filter is_nonzero_weight weights))
     by_test true same = ap (λ texts. weight_text names origins weight ∷ texts) same
     by_test false same = same
@@ -47,8 +47,8 @@ sum_begins names origins weights out = ap (λ texts. out ++ joined_texts (codes 
 
 -- what a sum still has to write
 pub sum_step : (some wanted : Bool) (text : List ℕ) (rest : List (List ℕ)) (out : List ℕ)
-    → (out ++ joined_texts (codes " + ") some (one_if wanted text)) ++ joined_texts (codes " + ") (some || wanted) (or_zero_unless (some || wanted) rest)
-    ≡ out ++ joined_texts (codes " + ") some (or_zero_unless some (one_if wanted text ++ rest))
+    → (out ++ joined_texts (codes " + ") some (if wanted then text ∷ [] else [])) ++ joined_texts (codes " + ") (some || wanted) (or_zero_unless (some || wanted) rest)
+    ≡ out ++ joined_texts (codes " + ") some (or_zero_unless some ((if wanted then text ∷ [] else []) ++ rest))
 sum_step false false text rest out = ap (λ t. t ++ joined_texts (codes " + ") false (or_zero rest)) (append-nil out)
 sum_step true false text rest out = ap (λ t. t ++ joined_texts (codes " + ") true rest) (append-nil out)
 sum_step false true text rest out = simp (append_assoc, append-nil)
@@ -60,7 +60,7 @@ others_fit i n h k = omega (arith, pow_below i n h, pow_mono {i = n} {j = 10} k)
 
 -- one more name of a set
 pub set_step : (names : List (List ℕ)) (i set : ℕ) (name : List ℕ) (some : Bool) (out : List ℕ) → slice_get names i ≡ Some name
-    → (out ++ joined_texts (codes ",") some (one_if (has_member set i) name)) ++ joined_texts (codes ",") (some || has_member set i) (members_from (i + 1) (drop (i + 1) names) set)
+    → (out ++ joined_texts (codes ",") some (if has_member set i then name ∷ [] else [])) ++ joined_texts (codes ",") (some || has_member set i) (members_from (i + 1) (drop (i + 1) names) set)
     ≡ out ++ joined_texts (codes ",") some (members_from i (drop i names) set)
 set_step names i set name some out e =
     joined_step (codes ",") some (has_member set i) name (members_from (i + 1) (drop (i + 1) names) set) out

@@ -22,24 +22,15 @@ use Rattle.it_question.specs.Questions.{BodyView, VerbView, Contain}
 use Rattle.it_canon.specs.QuestionDemands.{variables_of}
 use Rattle.it_question.specs.Tables.{problem_names}
 
--- a separator, where something stands before
-abbrev pub between_if : Bool → List ℕ → List ℕ
-between_if some separator = if some then separator else []
-
 -- texts with a separator between them; `some`: one stands before them
 abbrev pub joined_texts : List ℕ → Bool → List (List ℕ) → List ℕ
 joined_texts separator some [] = []
-joined_texts separator some (text ∷ texts) = between_if some separator ++ text ++ joined_texts separator true texts
-
--- a list of one item, or the empty list
-abbrev pub one_if : {X : Type 0} → Bool → X → List X
-one_if true x = x ∷ []
-one_if false x = []
+joined_texts separator some (text ∷ texts) = (if some then separator else []) ++ text ++ joined_texts separator true texts
 
 -- the names of a set's members from variable i on
 abbrev pub members_from : ℕ → List (List ℕ) → ℕ → List (List ℕ)
 members_from i [] set = []
-members_from i (name ∷ names) set = one_if (has_member set i) name ++ members_from (i + 1) names set
+members_from i (name ∷ names) set = (if has_member set i then name ∷ [] else []) ++ members_from (i + 1) names set
 
 -- the names of a set's members in order of declaration, with `,` between them
 unfoldable pub set_text : List (List ℕ) → ℕ → List ℕ
@@ -56,28 +47,20 @@ elemental_text names (Conditional i) =
 elemental_text names (Mutual i j k) =
     codes "I(" ++ set_text names (2 ^ i) ++ codes ";" ++ set_text names (2 ^ j) ++ given_set_text names k ++ codes ")"
 
--- `.I` where a line gives several constraints
-abbrev pub part_number : ℕ → ℕ → List ℕ
-part_number part parts = if nat_lt 1 parts then codes "." ++ decimal part else []
-
 -- the origin of a constraint: `given J`, `given J.I` where the line gives several, or `row J`
 unfoldable pub origin_text : Origin → List ℕ
-origin_text (Given line part parts) = codes "given " ++ decimal line ++ part_number part parts
+origin_text (Given line part parts) = codes "given " ++ decimal line ++ (if nat_lt 1 parts then codes "." ++ decimal part else [])
 origin_text (Rate line) = codes "row " ++ decimal line
 
 -- the origins of constraints, in order
 abbrev pub origins_of : List Constraint → List Origin
 origins_of cs = map (λ c. c.origin) cs
 
--- the origin of the constraint of this number
-abbrev pub origin_at : List Origin → ℕ → Origin
-origin_at origins i = slice_index_or origins i (Rate 0)
-
 -- the generator of this number, by the variables' names and the origins of the constraints
 unfoldable pub generator_text : List (List ℕ) → List Origin → ℕ → List ℕ
 generator_text names origins g =
     if nat_lt g (length (elementals (length names))) then elemental_text names (elemental_at (length names) g)
-    else origin_text (origin_at origins (g - length (elementals (length names))))
+    else origin_text (slice_index_or origins (g - length (elementals (length names))) (Rate 0))
 
 -- a weight before its generator
 unfoldable pub weight_text : List (List ℕ) → List Origin → ℕ × ℤ → List ℕ
@@ -101,14 +84,10 @@ unfoldable pub coordinate_text : NamesView → ℕ → List ℕ
 coordinate_text v c =
     if nat_lt c (2 ^ length v.variables) then codes "h(" ++ set_text v.variables c ++ codes ")" else slice_index_or v.rates (c - 2 ^ length v.variables) []
 
--- a coordinate with its value
-abbrev pub pair_text : NamesView → ℕ → ℤ → List ℕ
-pair_text v c x = coordinate_text v c ++ codes "=" ++ signed_decimal x
-
 -- the coordinates from c on with their values
 abbrev pub pair_texts : NamesView → ℕ → List ℤ → List (List ℕ)
 pair_texts v c [] = []
-pair_texts v c (x ∷ xs) = pair_text v c x ∷ pair_texts v (c + 1) xs
+pair_texts v c (x ∷ xs) = (coordinate_text v c ++ codes "=" ++ signed_decimal x) ∷ pair_texts v (c + 1) xs
 
 -- the values of a point with a blank between them
 unfoldable pub values_text : NamesView → List ℤ → List ℕ
@@ -129,32 +108,24 @@ sign_text true false = []
 sign_text false true = codes " - "
 sign_text false false = codes " + "
 
--- a coefficient without its sign and with a blank after it, and nothing where it is 1
-abbrev pub factor_text : ℕ → List ℕ
-factor_text n = if n == 1 then [] else decimal n ++ codes " "
-
--- a term, the first or a later one
+-- a term, the first or a later one: its sign, its coefficient without it unless it is 1, and its coordinate
 unfoldable pub term_text : NamesView → Bool → ℕ × ℤ → List ℕ
-term_text v is_first t = sign_text is_first (int_lt t.1 (pos 0)) ++ factor_text (unsigned_abs t.1) ++ coordinate_text v t.0
+term_text v is_first t =
+    sign_text is_first (int_lt t.1 (pos 0)) ++ (if unsigned_abs t.1 == 1 then [] else decimal (unsigned_abs t.1) ++ codes " ") ++ coordinate_text v t.0
 
 -- terms in order, the first of them as such or not
 abbrev pub terms_text : NamesView → Bool → Terms → List ℕ
 terms_text v is_first [] = []
 terms_text v is_first (t ∷ ts) = term_text v is_first t ++ terms_text v false ts
 
--- the terms of a row by coordinate, or `0`
-unfoldable pub form_text : NamesView → Terms → List ℕ
-form_text v [] = codes "0"
-form_text v (t ∷ ts) = terms_text v true (t ∷ ts)
-
 -- what a row is to be
 abbrev pub kind_text : Kind → List ℕ
 kind_text Inequality = codes " >= 0"
 kind_text Equation = codes " = 0"
 
--- a row that is to be at least 0, or to be 0
+-- the terms of a row by coordinate, or `0`, and what it is to be: at least 0, or 0
 unfoldable pub row_text : NamesView → Kind → Terms → List ℕ
-row_text v kind terms = form_text v terms ++ kind_text kind
+row_text v kind terms = (if length terms == 0 then codes "0" else terms_text v true terms) ++ kind_text kind
 
 -- the line of a row of the region that answers question k
 unfoldable pub row_line : ℕ → NamesView → Mark × Terms → List ℕ
@@ -165,13 +136,9 @@ unfoldable pub undecided_line : ℕ → NamesView → Cause → List ℕ
 undecided_line k v cause = decimal k ++ codes " undecided " ++ cause_text v cause ++ codes "\n"
 
 -- the names of the auxiliary variables that a containment asks for
-abbrev pub auxiliary_names_by : NamesView → VerbView → List (List ℕ)
-auxiliary_names_by v (Contain first second tries) = drop (length v.variables) second.names.variables
-auxiliary_names_by v verb = []
-
--- those of a question
-abbrev pub auxiliary_names : BodyView → List (List ℕ)
-auxiliary_names q = auxiliary_names_by q.names q.verb
+abbrev pub auxiliary_names : NamesView → VerbView → List (List ℕ)
+auxiliary_names v (Contain first second tries) = drop (length v.variables) second.names.variables
+auxiliary_names v verb = []
 
 -- the set that an auxiliary variable stands for, or `0` where it is empty
 unfoldable pub part_for : List (List ℕ) → List ℕ → ℕ → List ℕ
@@ -205,7 +172,7 @@ answer_line k q origins (Yes ws) =
 answer_line k q origins (No is_back values) = decimal k ++ codes " no " ++ values_text (problem_names q) values ++ codes "\n"
 answer_line k q origins (Undecided cause) = undecided_line k (problem_names q) cause
 answer_line k q origins (Region rows) = decimal k ++ codes " region " ++ decimal (length rows) ++ codes "\n" ++ flat_map (row_line k (problem_names q)) rows
-answer_line k q origins (Contained parts proofs) = contained_line k (auxiliary_names q) (problem_names q).variables parts
+answer_line k q origins (Contained parts proofs) = contained_line k (auxiliary_names q.names q.verb) (problem_names q).variables parts
 answer_line k q origins (Open tried) = open_line k tried
 
 -- the generators of these certificates are there, of n variables and m constraints
@@ -219,5 +186,5 @@ IsPrintable q m (answers.Yes proofs) = AreListed (variables_of q) m proofs.items
 IsPrintable q m (answers.No back point) = (length point < 2 ^ variables_of q + length (problem_names q).rates) × (length point < 2 ^ 16)
 IsPrintable q m (answers.Undecided cause) = IsCauseOf (length (problem_names q).rates) cause
 IsPrintable q m (answers.Region rows) = All (λ row. IsRowOver (problem_names q) row.1) rows.items
-IsPrintable q m (answers.Contained parts proofs) = (length parts.items ≡ length (auxiliary_names q)) × AreListed (variables_of q) m proofs.items
+IsPrintable q m (answers.Contained parts proofs) = (length parts.items ≡ length (auxiliary_names q.names q.verb)) × AreListed (variables_of q) m proofs.items
 IsPrintable q m (answers.Open tried) = Unit {0}

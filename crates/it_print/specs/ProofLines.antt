@@ -21,13 +21,10 @@ generator_rows v cs g = generator_at (generator_list (length v.variables) cs) g
 unfoldable pub weight_line : ℕ → NamesView → List Origin → (ℕ → Generator) → ℕ × ℤ → List ℕ
 weight_line k v origins rows weight = decimal k ++ codes " proof " ++ weight_text v.variables origins weight ++ codes " : " ++ row_text v (rows weight.0).kind (rows weight.0).row ++ codes "\n"
 
--- the scale, and the target's row
-unfoldable pub sum_line : ℕ → NamesView → ℤ → Terms → List ℕ
-sum_line k v scale target = decimal k ++ codes " sum " ++ signed_decimal scale ++ codes " : " ++ row_text v Inequality target ++ codes "\n"
-
--- the weights other than 0 of a certificate, a line each, and the multiple of its target that they add up to
+-- the weights other than 0 of a certificate, a line each, and the multiple of its target that they add up to: the scale, and the target's row
 unfoldable pub certificate_lines : ℕ → NamesView → List Origin → (ℕ → Generator) → CertificateView → Terms → List ℕ
-certificate_lines k v origins rows w target = flat_map (weight_line k v origins rows) (filter is_nonzero_weight w.weights) ++ sum_line k v w.scale target
+certificate_lines k v origins rows w target = flat_map (weight_line k v origins rows) (filter is_nonzero_weight w.weights)
+    ++ decimal k ++ codes " sum " ++ signed_decimal w.scale ++ codes " : " ++ row_text v Inequality target ++ codes "\n"
 
 -- each certificate with its target
 abbrev pub proof_lines : ℕ → NamesView → List Origin → (ℕ → Generator) → List CertificateView → List Terms → List ℕ

@@ -1,7 +1,7 @@
 //! Generators: elemental inequalities, and constraints by the lines that they come from.
-ghost use Rattle.std.specs.Prelude.{◌≡◌, ◌≤◌, ◌<◌, ◌+◌, ◌^◌, ◌-◌, ◌++◌, length, OnOk};
+ghost use Rattle.std.specs.Prelude.{◌≡◌, ◌≤◌, ◌<◌, ◌+◌, ◌^◌, ◌-◌, ◌++◌, [], length, nat_lt, codes, decimal, if◌then◌else◌, OnOk};
 ghost use Rattle.it_polymatroid.specs.Elementals.{Conditional, Mutual, elementals, elemental_at};
-ghost use Rattle.it_print.specs.Lines.{elemental_text, generator_text, part_number, origin_text, origins_of};
+ghost use Rattle.it_print.specs.Lines.{elemental_text, generator_text, origin_text, origins_of};
 
 use crate::pieces::write_number;
 use crate::sets::{write_given, write_set};
@@ -117,7 +117,7 @@ fn write_origin(out: &mut Vec<u8>, origin: Origin) -> Result<(), AllocError>
 
 /// `.I` where a line gives several constraints.
 fn write_part_number(out: &mut Vec<u8>, part: u16, parts: u16) -> Result<(), AllocError>
-    ensures { OnOk result (out.new.items ≡ out.old.items ++ part_number part parts) }
+    ensures { OnOk result (out.new.items ≡ out.old.items ++ (if nat_lt 1 parts then codes "." ++ decimal part else [])) }
 {
     if parts > 1 {
         out.extend_from_slice(b".")?;

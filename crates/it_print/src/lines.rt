@@ -122,8 +122,8 @@ fn contained_line(
     question: &Question,
     sets: &[VarSet],
 ) -> Result<Vec<u8>, AllocError>
-    requires { length sets.now ≡ length (auxiliary_names (question_body question.now)) }
-    ensures { IfOk result (λ t. t.items ≡ contained_line k (auxiliary_names (question_body question.now)) (problem_names (question_body question.now)).variables sets.now) }
+    requires { length sets.now ≡ length (auxiliary_names (question_body question.now).names (question_body question.now).verb) }
+    ensures { IfOk result (λ t. t.items ≡ contained_line k (auxiliary_names (question_body question.now).names (question_body question.now).verb) (problem_names (question_body question.now)).variables sets.now) }
 {
     let mut out = Vec::new(alloc);
     write_number(&mut out, k)?;

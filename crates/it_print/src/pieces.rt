@@ -1,7 +1,7 @@
 //! Numbers, and texts with a separator between them.
-ghost use Rattle.std.specs.Prelude.{◌≡◌, ◌++◌, ◌||◌, OnOk, IfOk, decimal};
+ghost use Rattle.std.specs.Prelude.{◌≡◌, [], ◌∷◌, ◌++◌, ◌||◌, OnOk, IfOk, decimal, if◌then◌else◌};
 ghost use Rattle.std.specs.Fmt.{signed_decimal};
-ghost use Rattle.it_print.specs.Lines.{between_if, joined_texts, one_if};
+ghost use Rattle.it_print.specs.Lines.{joined_texts};
 
 use itoa::Buffer;
 use std::alloc::AllocError;
@@ -24,7 +24,7 @@ pub fn write_signed(out: &mut Vec<u8>, number: i128) -> Result<(), AllocError>
 
 /// A separator, where something stands before.
 fn write_between(out: &mut Vec<u8>, some: bool, separator: &[u8]) -> Result<(), AllocError>
-    ensures { OnOk result (out.new.items ≡ out.old.items ++ between_if some separator.now) }
+    ensures { OnOk result (out.new.items ≡ out.old.items ++ (if some then separator.now else [])) }
 {
     if some {
         out.extend_from_slice(separator)?;
@@ -40,7 +40,7 @@ pub fn write_if(
     wanted: bool,
     text: &[u8],
 ) -> Result<bool, AllocError>
-    ensures written { OnOk result (out.new.items ≡ out.old.items ++ joined_texts separator.now some (one_if wanted text.now)) }
+    ensures written { OnOk result (out.new.items ≡ out.old.items ++ joined_texts separator.now some (if wanted then text.now ∷ [] else [])) }
     ensures now { IfOk result (λ b. b ≡ (some || wanted)) }
 {
     if !wanted {

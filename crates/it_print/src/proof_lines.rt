@@ -1,13 +1,15 @@
 //! Answers with the rows that their proofs use.
-ghost use Rattle.std.specs.Prelude.{◌≡◌, ◌≤◌, ◌<◌, ◌+◌, ◌++◌, length, map, filter, flat_map, OnOk, IfOk, All};
+ghost use Rattle.std.specs.Prelude.{◌≡◌, ◌≤◌, ◌<◌, ◌+◌, ◌++◌, length, map, filter, flat_map, codes, decimal, OnOk, IfOk, All};
+ghost use Rattle.std.specs.Fmt.{signed_decimal};
 ghost use Rattle.it_space.specs.Answers.{answer_view, certificate_view, is_nonzero_weight};
+ghost use Rattle.it_space.specs.declared.problems.Kind.TheVariants.{Inequality};
 ghost use Rattle.it_polymatroid.specs.Elementals.{elementals, elemental_at};
 ghost use Rattle.it_elemental.specs.Generators.{of_elemental};
 ghost use Rattle.it_question.specs.Questions.{question_body};
 ghost use Rattle.it_question.specs.Tables.{problem_names};
 ghost use Rattle.it_canon.specs.QuestionDemands.{variables_of};
 ghost use Rattle.it_print.specs.Lines.{AreListed, IsPrintable, IsRowOver, answer_line, origins_of, row_text};
-ghost use Rattle.it_print.specs.ProofLines.{certificate_lines, generator_rows, proof_lines, proof_text, sum_line, weight_line};
+ghost use Rattle.it_print.specs.ProofLines.{certificate_lines, generator_rows, proof_lines, proof_text, weight_line};
 
 use crate::lines::answer_line;
 use crate::pieces::{write_number, write_signed};
@@ -195,7 +197,6 @@ fn write_constraint_row(
 }
 
 /// The line of the scale and the target.
-#[tactic(auto, unfolding(crate::specs::ProofLines::sum_line))]
 fn write_sum_line(
     out: &mut Vec<u8>,
     k: usize,
@@ -204,7 +205,7 @@ fn write_sum_line(
     target: &Row,
 ) -> Result<(), AllocError>
     requires { IsRowOver names.now target.now }
-    ensures { OnOk result (out.new.items ≡ out.old.items ++ sum_line k names.now certificate.now.scale target.now) }
+    ensures { OnOk result (out.new.items ≡ out.old.items ++ decimal k ++ codes " sum " ++ signed_decimal certificate.now.scale ++ codes " : " ++ row_text names.now Inequality target.now ++ codes "\n") }
 {
     write_number(out, k)?;
     out.extend_from_slice(b" sum ")?;

@@ -1,6 +1,6 @@
 //! Rows that are to be at least 0 or to be 0, and the lines of those of a region.
-ghost use Rattle.std.specs.Prelude.{◌≡◌, ◌<◌, ◌+◌, ◌^◌, ◌++◌, length, IfOk, OnOk, All, true, false, flat_map, int_lt, pos};
-ghost use Rattle.it_print.specs.Lines.{IsRowOver, factor_text, form_text, kind_text, row_line, row_text, sign_text, term_text, terms_text};
+ghost use Rattle.std.specs.Prelude.{◌≡◌, ◌<◌, ◌+◌, ◌^◌, ◌++◌, ◌==◌, [], length, codes, decimal, if◌then◌else◌, IfOk, OnOk, All, true, false, flat_map, int_lt, pos};
+ghost use Rattle.it_print.specs.Lines.{IsRowOver, kind_text, row_line, row_text, sign_text, term_text, terms_text};
 
 use crate::pieces::write_number;
 use crate::values::write_coordinate;
@@ -81,10 +81,9 @@ fn kind_text(kind: Kind) -> &'static [u8]
 }
 
 /// The terms of a row in order, or `0`.
-#[tactic(auto, unfolding(crate::specs::Lines::form_text))]
 fn write_form(out: &mut Vec<u8>, names: &Names, terms: &[(u32, i128)]) -> Result<(), AllocError>
     requires { IsRowOver names.now terms.now }
-    ensures { OnOk result (out.new.items ≡ out.old.items ++ form_text names.now terms.now) }
+    ensures { OnOk result (out.new.items ≡ out.old.items ++ (if length terms.now == 0 then codes "0" else terms_text names.now true terms.now)) }
 {
     match terms {
         [] => out.extend_from_slice(b"0"),
@@ -144,7 +143,7 @@ fn write_sign(out: &mut Vec<u8>, is_first: bool, is_negative: bool) -> Result<()
 
 /// A coefficient without its sign, unless it is 1.
 fn write_factor(out: &mut Vec<u8>, factor: u128) -> Result<(), AllocError>
-    ensures { OnOk result (out.new.items ≡ out.old.items ++ factor_text factor) }
+    ensures { OnOk result (out.new.items ≡ out.old.items ++ (if factor == 1 then [] else decimal factor ++ codes " ")) }
 {
     if factor != 1 {
         let mut buffer = Buffer::new();

@@ -16,8 +16,8 @@ pub fn write_substitution(
     question: &Question,
     sets: &[VarSet],
 ) -> Result<(), AllocError>
-    requires { length sets.now ≡ length (auxiliary_names (question_body question.now)) }
-    ensures { OnOk result (out.new.items ≡ out.old.items ++ parts_for (problem_names (question_body question.now)).variables (auxiliary_names (question_body question.now)) sets.now) }
+    requires { length sets.now ≡ length (auxiliary_names (question_body question.now).names (question_body question.now).verb) }
+    ensures { OnOk result (out.new.items ≡ out.old.items ++ parts_for (problem_names (question_body question.now)).variables (auxiliary_names (question_body question.now).names (question_body question.now).verb) sets.now) }
 {
     match &question.verb {
         Verb::Prove(_) | Verb::Eliminate(_) => Ok(()),

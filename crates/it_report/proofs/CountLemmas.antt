@@ -4,23 +4,25 @@ use Rattle.std.specs.List.{fold}
 use Rattle.it_space.specs.declared.problems.Kind.{Kind}
 use Rattle.it_space.specs.declared.problems.Kind.TheVariants.{Inequality, Equation}
 use Rattle.it_polymatroid.specs.Certificates.{Form}
-use Rattle.it_syntax.specs.declared.types.Sign.{Sign}
-use Rattle.it_syntax.specs.declared.types.Sign.TheVariants.{AtLeast, AtMost, Equal}
 use Rattle.it_syntax.specs.Meaning.{RelationView}
 use Rattle.it_syntax.specs.Givens.{GivenView}
 use Rattle.it_question.specs.Questions.{BodyView, RegionView}
 use Rattle.it_demand.specs.Demands.{Demand, LineDemand, demands, demand_of, parts_from, parts_of, kind_of}
 use Rattle.it_demand.specs.LineDemands.{given_demands, row_demands}
 use Rattle.it_question.specs.Tables.{line_demands}
-use Rattle.it_demand.specs.Targets.{demanded_forms}
+use Rattle.it_demand.specs.Canonical.{form_of}
+use Rattle.it_demand.specs.Targets.{demanded_forms, targets}
 use Rattle.it_region.specs.Obligations.{pulled_form, demand_obligations, obligations}
 use Rattle.it_region.specs.Pulling.{substituted_sets, pulled_coordinate}
-use Rattle.it_certificate.specs.Obligations.{form_count, obligation_count, target_count}
+use Rattle.it_certificate.specs.Obligations.{obligation_count}
 
-pub targets_counted : (sign : Sign) (f : Form) → length (demanded_forms (kind_of sign) f) ≡ target_count sign
-targets_counted AtLeast f = refl
-targets_counted AtMost f = refl
-targets_counted Equal f = refl
+as_many_forms : (k : Kind) (f g : Form) → length (demanded_forms k f) ≡ length (demanded_forms k g)
+as_many_forms Inequality f g = refl
+as_many_forms Equation f g = refl
+
+-- whichever the number of variables is
+pub targets_counted : (m n : ℕ) (r : RelationView) → length (targets m r) ≡ length (targets n r)
+targets_counted m n r = as_many_forms (kind_of r.sign) (form_of m r) (form_of n r)
 
 module _ (f : ℕ → ℕ) where
   -- obligations don't speak of where their lines stand
@@ -53,17 +55,13 @@ module _ (f : ℕ → ℕ) where
       let here : List Form = demanded_forms d.kind (pulled_form f d.form) in
       omega (arith, length-append here (demand_obligations f (row_demands n (line + 1) rs)), length-append here (demand_obligations f (row_demands n (k + 1) rs)), rest)
 
-  demanded_forms_counted : (k : Kind) (g : Form) → length (demanded_forms k g) ≡ form_count k
-  demanded_forms_counted Inequality g = refl
-  demanded_forms_counted Equation g = refl
-
   -- one for each form
-  forms_counted : (a : ℕ) (ds : List LineDemand) → a + length (demand_obligations f ds) ≡ fold (λ s d. s + form_count d.demand.kind) a ds
+  forms_counted : (a : ℕ) (ds : List LineDemand) → a + length (demand_obligations f ds) ≡ fold (λ s d. s + length (demanded_forms d.demand.kind d.demand.form)) a ds
   forms_counted a [] = omega arith
   forms_counted a (d ∷ ds) =
       let here : List Form = demanded_forms d.demand.kind (pulled_form f d.demand.form) in
-      let rest = forms_counted (a + form_count d.demand.kind) ds in
-      omega (arith, length-append here (demand_obligations f ds), demanded_forms_counted d.demand.kind (pulled_form f d.demand.form), rest)
+      let rest = forms_counted (a + length (demanded_forms d.demand.kind d.demand.form)) ds in
+      omega (arith, length-append here (demand_obligations f ds), as_many_forms d.demand.kind (pulled_form f d.demand.form) d.demand.form, rest)
 
 pub obligations_counted : (q : BodyView) (a b : RegionView) (parts : List ℕ) → length (obligations q a b parts) ≡ obligation_count b
 unfolding obligation_count

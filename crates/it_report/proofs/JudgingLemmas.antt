@@ -14,6 +14,7 @@ use Rattle.it_syntax.specs.declared.types.Sign.{Sign}
 use Rattle.it_syntax.specs.declared.types.Sign.TheVariants.{AtLeast, AtMost, Equal}
 use Rattle.it_question.specs.Questions.{BodyView, QuestionView, RegionView, VerbView, Prove, Eliminate, Contain}
 use Rattle.it_demand.specs.Canonical.{form_of}
+use Rattle.it_elemental.specs.Generators.{is_equation}
 use Rattle.it_demand.specs.Demands.{AreStated, kind_of}
 use Rattle.it_demand.specs.Targets.{targets, demanded_forms}
 use Rattle.it_demand.specs.LineDemands.{AreRowsOf, space_of}
@@ -24,7 +25,6 @@ use Rattle.it_region.specs.declared.types.Pair.{Pair}
 use Rattle.it_region.specs.Obligations.{obligations, ArePartsOf, ArePulledRows}
 use Rattle.it_region.specs.Pairs.{IsPair, IsPairOf, Pairs, IsContainment, FitsPair, pair_obligations}
 use Rattle.it_region.proofs.TextLemmas.{text_rows, parts_fit, rows_as_pulled}
-use Rattle.it_certificate.specs.AnswerReading.{is_equality}
 use Rattle.it_certificate.specs.AnswerShapes.{HasQuestionShape, HasVerbShape, HasContainmentShape}
 use Rattle.it_certificate.specs.declared.keys.ReportFault.{ReportFault}
 use Rattle.it_certificate.specs.declared.keys.ReportFault.TheVariants as faults
@@ -122,10 +122,10 @@ module _ (q : BodyView) (r : RelationView) (about : q.verb ≡ Prove r) where
       by_sign AtMost f = lit< tt
       by_sign Equal f = lit< tt
 
-  two_targets : (n : ℕ) → is_equality r.sign ≡ true → 1 < length (targets n r)
+  two_targets : (n : ℕ) → is_equation (kind_of r.sign) ≡ true → 1 < length (targets n r)
   two_targets n = by_sign r.sign (form_of n r)
     where
-      by_sign : (sign : Sign) (f : Form) → is_equality sign ≡ true → 1 < length (demanded_forms (kind_of sign) f)
+      by_sign : (sign : Sign) (f : Form) → is_equation (kind_of sign) ≡ true → 1 < length (demanded_forms (kind_of sign) f)
       by_sign AtLeast f e = absurd (cc)
       by_sign AtMost f e = absurd (cc)
       by_sign Equal f e = lit< tt
@@ -133,7 +133,7 @@ module _ (q : BodyView) (r : RelationView) (about : q.verb ≡ Prove r) where
   pub target_is_there : (back : Bool) (values : List ℤ) (n : ℕ) (ts : List Terms) → length ts ≡ length (targets n r) → HasQuestionShape q (No back values) → place_named back < length ts
   target_is_there back values n ts as_many h = by_test back (verb_fits q (No back values) (Prove r) about h).2
     where
-      by_test : (back : Bool) → (back ≡ true → is_equality r.sign ≡ true) → place_named back < length ts
+      by_test : (back : Bool) → (back ≡ true → is_equation (kind_of r.sign) ≡ true) → place_named back < length ts
       by_test true equal = omega (arith, as_many, two_targets n (equal refl))
       by_test false equal = omega (arith, as_many, one_target n)
 

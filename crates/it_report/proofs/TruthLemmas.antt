@@ -32,10 +32,9 @@ use Rattle.it_certificate.specs.declared.keys.Key.{Key}
 use Rattle.it_certificate.specs.declared.keys.Key.TheVariants as keys
 use Rattle.it_certificate.specs.declared.kinds.AnswerKind.{AnswerKind}
 use Rattle.it_certificate.specs.AnswerReading.{and_then}
-use Rattle.it_certificate.specs.Obligations.{target_count}
 use Rattle.it_certificate.specs.AnswerShapes.{HasQuestionShape, HasContainmentShape}
 use Rattle.it_certificate.specs.Parts.{answer_kind_at}
-use Rattle.it_certificate.specs.Reports.{ReadsReport, IsQuestionOf, IsQuestionAt, question_answer, report_of}
+use Rattle.it_certificate.specs.Reports.{ReadsReport, IsQuestionOf, IsQuestionAt, verb_answer, report_of}
 use Rattle.it_certificate.proofs.FitLemmas.{answer_fits}
 use Rattle.it_certificate.proofs.OneLemmas.{one_reading}
 use Rattle.it_check.specs.Meaning.{CertifiesRow, RefutesRow}
@@ -61,15 +60,15 @@ read_is : (own : Option QuestionView) (d : Data) (q : QuestionView) (a : AnswerV
 unfolding report_of
 read_is own d q a e = by_kind (answer_kind_at d) own e
   where
-    by_result : (kind : AnswerKind) (p : QuestionView) (r : Result AnswerView Key) → question_answer p kind d ≡ r → and_then r (with_answer p) ≡ as_read (q, a) → (Some p ≡ Some q) × HasQuestionShape q.body a
+    by_result : (kind : AnswerKind) (p : QuestionView) (r : Result AnswerView Key) → verb_answer p.body.names p.body.verb kind d ≡ r → and_then r (with_answer p) ≡ as_read (q, a) → (Some p ≡ Some q) × HasQuestionShape q.body a
     by_result kind p (Err k) is f = absurd (no_answer k (q, a) f)
     by_result kind p (Ok b) is f = let same = one_pair (p, b) (q, a) f in (ap (λ x. Some x.0) same, subst (λ x. HasQuestionShape x.0.body x.1) same (answer_fits p kind d b is))
 
     by_kind : (o : Option AnswerKind) (own : Option QuestionView)
-        → and_then (ok_or o keys.Answer) (λ kind. and_then (ok_or own keys.Question) (λ p. and_then (question_answer p kind d) (with_answer p))) ≡ as_read (q, a) → (own ≡ Some q) × HasQuestionShape q.body a
+        → and_then (ok_or o keys.Answer) (λ kind. and_then (ok_or own keys.Question) (λ p. and_then (verb_answer p.body.names p.body.verb kind d) (with_answer p))) ≡ as_read (q, a) → (own ≡ Some q) × HasQuestionShape q.body a
     by_kind None own f = absurd (no_answer keys.Answer (q, a) f)
     by_kind (Some kind) None f = absurd (no_answer keys.Question (q, a) f)
-    by_kind (Some kind) (Some p) f = by_result kind p (question_answer p kind d) refl f
+    by_kind (Some kind) (Some p) f = by_result kind p (verb_answer p.body.names p.body.verb kind d) refl f
 
 pub fits_question : (line : List ℕ) (q : QuestionView) (a : AnswerView) → ReadsReport line (Ok (q, a)) → HasQuestionShape q.body a
 fits_question line q a h = (read_is h.reads.own h.value q a h.reads.is).1
@@ -136,10 +135,10 @@ module _ (q : BodyView) (p : ProblemView) (is : IsProblemOf q p) where
         let c = both_valid (proof_verdict p t w) (proofs_verdict p ts ws) e in
         All-cons (λ (f : Form). pos 0 ≤ℤ f m) f fs (target_holds f t w z.0 c.0) (all_hold fs ts ws z.1 (omega (arith, l)) c.1)
 
-  yes_true : (r : RelationView) (ts : List Terms) (ws : List CertificateView) → ArePulledRows p.space (targets variable_count r) ts → length ws ≡ target_count r.sign → proofs_verdict p ts ws ≡ Valid → IsClaimTrueBy q (Prove r) (Yes ws)
+  yes_true : (r : RelationView) (ts : List Terms) (ws : List CertificateView) → ArePulledRows p.space (targets variable_count r) ts → length ws ≡ length (targets (length q.names.variables) r) → proofs_verdict p ts ws ≡ Valid → IsClaimTrueBy q (Prove r) (Yes ws)
   yes_true r ts ws are l e m t =
       (targets_met r.sign (side_at variable_count m (multiple_of r) r.left) (side_at variable_count m (multiple_of r) r.right) (form_of variable_count r) m refl).0
-      (all_hold m t.0 t.1 (targets variable_count r) ts ws are (l ∙ sym (targets_counted r.sign (form_of variable_count r))) e)
+      (all_hold m t.0 t.1 (targets variable_count r) ts ws are (l ∙ targets_counted (length q.names.variables) variable_count r) e)
 
   no_true : (r : RelationView) (ts : List Terms) (back : Bool) (values : List ℤ) → ArePulledRows p.space (targets variable_count r) ts → length values ≡ size_of p.space → place_named back < length ts
       → point_verdict p ts back values ≡ Valid → IsClaimTrueBy q (Prove r) (No back values)

@@ -1,7 +1,7 @@
 -- Answers that were read and aren't invalid can be written: their generators are there, and their points, rows and causes are of the
 -- question's names.
 use Rattle.std.proofs.Common.{◌≡◌, ℕ, ℤ, ◌+◌, ◌<◌, ◌≤◌, List, [], ◌∷◌, map, length, drop, Bool, true, false, not, Some, All, if◌then◌else◌, refl, sym, ap, ap₂, subst, ◌∙◌, arith}
-use Rattle.std.specs.Prelude.{bytes_eq}
+use Rattle.std.specs.Prelude.{bytes_eq, get_or}
 use Rattle.std.proofs.lemmas.List.{length-map}
 use Rattle.std.proofs.lemmas.List.Elements.{All-nil, All-cons, All-weaker}
 use Rattle.std.proofs.lemmas.List.Quantifiers.{position-Some}
@@ -31,15 +31,13 @@ use Rattle.it_question.specs.Limits.{IsQuestion, IsVerbOver}
 use Rattle.it_question.specs.Questions.{BodyView, RegionView, VerbView, Prove, Eliminate, Contain}
 use Rattle.it_question.specs.Tables.{problem_names, problem_names_by}
 use Rattle.it_demand.specs.LineDemands.{space_of}
-use Rattle.it_demand.specs.Canonical.{form_of}
 use Rattle.it_canon.specs.QuestionDemands.{IsProblemOf, question_demands, variables_of}
 use Rattle.it_region.specs.Obligations.{ArePulledRows}
 use Rattle.it_certificate.specs.AnswerShapes.{HasQuestionShape, HasVerbShape, IsCauseFor, IsRowIn}
-use Rattle.it_certificate.specs.Values.{rate_name}
 use Rattle.it_check.specs.declared.verdicts.Verdict.{Verdict}
 use Rattle.it_check.specs.declared.verdicts.Verdict.TheVariants.{Valid, BadScale, UnknownGenerator, NegativeWeight, Width, Mismatch, BrokenElemental, UnmetConstraint, NotViolated}
 use Rattle.it_check.proofs.Truth.{valid_yes_is}
-use Rattle.it_print.specs.Lines.{AreListed, IsCauseOf, IsPrintable, IsRowOver, auxiliary_names, auxiliary_names_by}
+use Rattle.it_print.specs.Lines.{AreListed, IsCauseOf, IsPrintable, IsRowOver, auxiliary_names}
 use Rattle.it_print.proofs.RowLemmas.{row_over}
 use Rattle.it_report.specs.Judging.{IsAnswerVerdict, IsJudged, answer_verdict, is_passed_over, judged_forms, judged_forms_by}
 use Rattle.it_report.specs.LineVerdicts.{LineVerdict, NotJson, Shape, Skipped, Judged, is_invalid}
@@ -111,7 +109,7 @@ pub yes_counted : (q : BodyView) (ws : List CertificateView) → HasQuestionShap
 yes_counted q ws h = by_verb q.verb (verb_fits q (Yes ws) q.verb refl h)
   where
     by_verb : (verb : VerbView) → HasVerbShape q.names verb (Yes ws) → length (judged_forms_by q verb (Yes ws)) ≡ length ws
-    by_verb (Prove r) h = targets_counted r.sign (form_of (variables_of q) r) ∙ sym h.0
+    by_verb (Prove r) h = targets_counted (variables_of q) (length q.names.variables) r ∙ sym h.0
     by_verb (Eliminate rates) h = absurd h
     by_verb (Contain first second tries) h = absurd h
 
@@ -129,8 +127,8 @@ cause_of_rates : (v : NamesView) (cause : Cause) → IsCauseFor v cause → IsCa
 cause_of_rates v (causes.Pivots steps) h = tt
 cause_of_rates v (causes.Width step) h = tt
 cause_of_rates v causes.Scale h = tt
-cause_of_rates v (causes.Rows r) h = (position-Some (bytes_eq (rate_name v r)) v.rates r [] h).0
-cause_of_rates v (causes.WideRate r) h = (position-Some (bytes_eq (rate_name v r)) v.rates r [] h.0).0
+cause_of_rates v (causes.Rows r) h = (position-Some (bytes_eq (get_or v.rates r [])) v.rates r [] h).0
+cause_of_rates v (causes.WideRate r) h = (position-Some (bytes_eq (get_or v.rates r [])) v.rates r [] h.0).0
 
 -- ---- what can be written
 
@@ -138,10 +136,10 @@ rows_over : (v : NamesView) (rows : List (Mark × Terms)) → All (IsRowIn (size
 rows_over v rows h = All-weaker (IsRowIn (size_of (space_of v))) (λ (row : Mark × Terms). IsRowOver v row.1) (λ row r. row_over v row.1 r.coordinates) rows h
 
 -- the parts are as many as the names of auxiliary variables
-parts_named : (q : BodyView) (first second : RegionView) (tries : List (List ℕ)) (parts : List ℕ) → q.verb ≡ Contain first second tries → IsQuestion q → length parts ≡ second.auxiliaries → length parts ≡ length (auxiliary_names q)
+parts_named : (q : BodyView) (first second : RegionView) (tries : List (List ℕ)) (parts : List ℕ) → q.verb ≡ Contain first second tries → IsQuestion q → length parts ≡ second.auxiliaries → length parts ≡ length (auxiliary_names q.names q.verb)
 parts_named q first second tries parts about k each =
     let region = (subst (IsVerbOver q.names) about k.verb).1 in
-    each ∙ region.counted ∙ ap length (sym (ap (auxiliary_names_by q.names) about ∙ ap (drop (length q.names.variables)) region.variables ∙ drop-append_seam q.names.variables region.own))
+    each ∙ region.counted ∙ ap length (sym (ap (auxiliary_names q.names) about ∙ ap (drop (length q.names.variables)) region.variables ∙ drop-append_seam q.names.variables region.own))
 
 module _ (q : BodyView) (k : IsQuestion q) (v : LineVerdict) (accepted : is_invalid v ≡ false) where
   printable_relation : (r : RelationView) (a : Answer) → q.verb ≡ Prove r → HasQuestionShape q (answer_view a) → IsAnswerVerdict q (answer_view a) v → HasVerbShape q.names (Prove r) (answer_view a)

@@ -90,7 +90,7 @@ head_line k q (Yes proofs) = numbered_line k (codes "yes")
 head_line k q (No back values) = numbered_line k (codes "no")
 head_line k q (Undecided cause) = undecided_line k (problem_names q) cause
 head_line k q (Region rows) = numbered_line k (codes "region " ++ decimal (length rows))
-head_line k q (Contained parts proofs) = contained_line k (auxiliary_names q) (problem_names q).variables parts
+head_line k q (Contained parts proofs) = contained_line k (auxiliary_names q.names q.verb) (problem_names q).variables parts
 head_line k q (Open tried) = open_line k tried
 
 -- ---- a line of a report

@@ -1,5 +1,5 @@
 -- Steps of the texts of facts.
-use Rattle.std.proofs.Common.{◌≡◌, ℕ, ◌+◌, ◌<◌, List, [], ◌++◌, ◌||◌, length, map, drop, get_or, Bool, true, sym, ap, subst, ℤ, ◌∙◌, append_assoc}
+use Rattle.std.proofs.Common.{◌≡◌, ℕ, ◌+◌, ◌<◌, if◌then◌else◌, List, [], ◌∷◌, ◌++◌, ◌||◌, length, map, drop, get_or, Bool, true, sym, ap, subst, ℤ, ◌∙◌, append_assoc}
 use Rattle.std.proofs.lemmas.List.{drop_more}
 use Rattle.it_space.specs.declared.spaces.Space.{Space}
 use Rattle.it_space.specs.Rows.{map_of}
@@ -8,12 +8,12 @@ use Rattle.it_terms.specs.Points.{Determine, TellsPoint, facts_text}
 use Rattle.it_terms.specs.declared.facts.Fact.{Fact}
 use Rattle.it_space.proofs.ListLemmas.{drop_item}
 use Rattle.it_space.specs.Sets.{has_member}
-use Rattle.it_print.specs.Lines.{between_if, joined_texts, members_from, one_if}
+use Rattle.it_print.specs.Lines.{joined_texts, members_from}
 use Rattle.it_print.proofs.LineLemmas.{joined_step}
 
 -- one more name of a set
 pub member_step : (separator : List ℕ) (names : List (List ℕ)) (i set : ℕ) (some : Bool) (out : List ℕ) → i < length names
-    → (out ++ joined_texts separator some (one_if (has_member set i) (get_or names i []))) ++ joined_texts separator (some || has_member set i) (members_from (i + 1) (drop (i + 1) names) set)
+    → (out ++ joined_texts separator some (if has_member set i then get_or names i [] ∷ [] else [])) ++ joined_texts separator (some || has_member set i) (members_from (i + 1) (drop (i + 1) names) set)
     ≡ out ++ joined_texts separator some (members_from i (drop i names) set)
 member_step separator names i set some out h =
     joined_step separator some (has_member set i) (get_or names i []) (members_from (i + 1) (drop (i + 1) names) set) out
@@ -21,10 +21,10 @@ member_step separator names i set some out h =
 
 -- one more item's text
 pub item_step : {X : Type 0} (separator : List ℕ) (text : X → List ℕ) (items : List X) (i : ℕ) (x : X) (some : Bool) (out : List ℕ) → i < length items → x ≡ get_or items i x
-    → (out ++ between_if some separator ++ text x) ++ joined_texts separator true (map text (drop (i + 1) items)) ≡ out ++ joined_texts separator some (map text (drop i items))
+    → (out ++ (if some then separator else []) ++ text x) ++ joined_texts separator true (map text (drop (i + 1) items)) ≡ out ++ joined_texts separator some (map text (drop i items))
 item_step separator text items i x some out h is =
-    ap (λ (t : List ℕ). t ++ joined_texts separator true (map text (drop (i + 1) items))) (append_assoc out (between_if some separator) (text x))
-    ∙ append_assoc out (between_if some separator ++ text x) (joined_texts separator true (map text (drop (i + 1) items)))
+    ap (λ (t : List ℕ). t ++ joined_texts separator true (map text (drop (i + 1) items))) (append_assoc out (if some then separator else []) (text x))
+    ∙ append_assoc out ((if some then separator else []) ++ text x) (joined_texts separator true (map text (drop (i + 1) items)))
     ∙ ap (λ xs. out ++ joined_texts separator some (map text xs)) (sym (drop_item items i x h is))
 
 -- the text of facts that determine a point

@@ -1,7 +1,7 @@
 //! Facts as texts.
-ghost use Rattle.std.specs.Prelude.{◌≡◌, ◌<◌, ◌++◌, ◌||◌, [], length, slice_index_or, false, All, codes, IfOk, OnOk};
+ghost use Rattle.std.specs.Prelude.{◌≡◌, ◌<◌, ◌++◌, ◌||◌, [], ◌∷◌, if◌then◌else◌, length, slice_index_or, false, All, codes, IfOk, OnOk};
 ghost use Rattle.it_space.specs.Sets.{has_member};
-ghost use Rattle.it_print.specs.Lines.{between_if, joined_texts, members_from, one_if};
+ghost use Rattle.it_print.specs.Lines.{joined_texts, members_from};
 ghost use Rattle.it_terms.specs.Points.{IsOver, fact_text, facts_text, variable_name};
 
 use crate::facts::Fact;
@@ -28,7 +28,7 @@ fn write_rate(out: &mut Vec<u8>, names: &Names, rate: u8) -> Result<(), AllocErr
 
 /// A separator, where something stands before.
 fn write_between(out: &mut Vec<u8>, some: bool, separator: &[u8]) -> Result<(), AllocError>
-    ensures { OnOk result (out.new.items ≡ out.old.items ++ between_if some separator.now) }
+    ensures { OnOk result (out.new.items ≡ out.old.items ++ (if some then separator.now else [])) }
 {
     if some {
         out.extend_from_slice(separator)?;
@@ -46,7 +46,7 @@ fn write_member(
     variable: u8,
 ) -> Result<bool, AllocError>
     requires { variable < length names.now.variables }
-    ensures written { OnOk result (out.new.items ≡ out.old.items ++ joined_texts (codes ";") some (one_if (has_member set variable) (variable_name names.now variable))) }
+    ensures written { OnOk result (out.new.items ≡ out.old.items ++ joined_texts (codes ";") some (if has_member set variable then variable_name names.now variable ∷ [] else [])) }
     ensures now { IfOk result (λ b. b ≡ (some || has_member set variable)) }
 {
     if !set.has(variable) {
@@ -111,7 +111,7 @@ fn write_fact(out: &mut Vec<u8>, names: &Names, fact: &Fact) -> Result<(), Alloc
 /// A fact, after `, ` where something stands before.
 fn write_next(out: &mut Vec<u8>, some: bool, names: &Names, fact: &Fact) -> Result<(), AllocError>
     requires { IsOver (length names.now.variables) (length names.now.rates) fact.now }
-    ensures { OnOk result (out.new.items ≡ out.old.items ++ between_if some (codes ", ") ++ fact_text names.now fact.now) }
+    ensures { OnOk result (out.new.items ≡ out.old.items ++ (if some then codes ", " else []) ++ fact_text names.now fact.now) }
 {
     write_between(out, some, b", ")?;
     write_fact(out, names, fact)
