@@ -11,12 +11,13 @@ use Rattle.it_question.proofs.FileReadings.{file_limits}
 use Rattle.it_question.proofs.TextLaws.{text_reads_back}
 use Rattle.it_certificate.specs.Laws.{ReadsBack}
 use Rattle.it_certificate.specs.Values.{answer_text}
+use Rattle.it_region.specs.declared.types.Candidate.{Candidate}
 use Rattle.it_contain.specs.Proposals.{Plan, plan_after_all}
 use Rattle.it_answer.specs.declared.types.Budgets.{Budgets}
 use Rattle.it_cli.specs.Accepted.{OutputIsAccepted}
 use Rattle.it_cli.specs.Modes.{Replies}
 use Rattle.it_cli.specs.Outputs.{answer_mode, check_mode, verdict_status}
-use Rattle.it_cli.specs.Right.{Context, after_answer, budgets_of}
+use Rattle.it_cli.specs.Right.{budgets_of}
 use Rattle.it_cli.proofs.AcceptLemmas.{right_accepted}
 use Rattle.it_cli.proofs.FeedLemmas.{split_one}
 use Rattle.it_cli.proofs.ShortTexts.{texts_are_short}
@@ -26,8 +27,8 @@ module _ (back : ReadsBack) (budgets : Budgets) (plans : List Plan) (few : IfSom
   abbrev Judges : ℕ → Bool → List (List ℕ) → Bool → List ℕ → Type 0
   Judges j before lines some told = Groups check_mode.IsRight check_mode.after check_mode.text j before lines some told
 
-  none_invalid : (k j : ℕ) (prefix qs : List QuestionView) (s t : Context) (some : Bool) (out told : List ℕ) → whole ≡ prefix ++ qs → All (λ q. IsQuestion q.body) qs → All (λ q. length q.text ≤ length bytes + 1) qs
-      → Groups (answer_mode budgets plans Json).IsRight after_answer (answer_mode budgets plans Json).text k s qs t out → Judges j false (split_lines out) some told → some ≡ false
+  none_invalid : (k j : ℕ) (prefix qs : List QuestionView) (s t : List Candidate) (some : Bool) (out told : List ℕ) → whole ≡ prefix ++ qs → All (λ q. IsQuestion q.body) qs → All (λ q. length q.text ≤ length bytes + 1) qs
+      → Groups (answer_mode budgets plans Json).IsRight (answer_mode budgets plans Json).after (answer_mode budgets plans Json).text k s qs t out → Judges j false (split_lines out) some told → some ≡ false
   none_invalid k j prefix [] s t some out told e limits lengths g v = (subst (λ (o : List ℕ). Judges j false (split_lines o) some told) g.1 v).0
   none_invalid k j prefix (q ∷ qs) s t some out told e limits lengths g v =
       let long = All-head (λ (q : QuestionView). length q.text ≤ length bytes + 1) q qs lengths in
@@ -37,7 +38,7 @@ module _ (back : ReadsBack) (budgets : Budgets) (plans : List Plan) (few : IfSom
       let cut : split_lines out ≡ line ∷ split_lines g.1 = ap split_lines g.4 ∙ split_one line g.1 fine.clear in
       let w = subst (λ (ls : List (List ℕ)). Judges j false ls some told) cut v in
       let ok = fine.verdicts w.0 w.2 in
-      none_invalid (k + 1) (j + 1) (prefix ++ q ∷ []) qs (after_answer s q g.0) t some g.1 w.1 (e ∙ sym (append_assoc prefix (q ∷ []) qs))
+      none_invalid (k + 1) (j + 1) (prefix ++ q ∷ []) qs (s ++ g.0.found) t some g.1 w.1 (e ∙ sym (append_assoc prefix (q ∷ []) qs))
       (All-tail (λ (q : QuestionView). IsQuestion q.body) q qs limits) (All-tail (λ (q : QuestionView). length q.text ≤ length bytes + 1) q qs lengths) g.3
       (subst (λ (b : Bool). Judges (j + 1) (false || b) (split_lines g.1) some w.1) ok w.3)
 

@@ -19,7 +19,7 @@ use Rattle.it_contain.specs.Proposals.{Plan}
 use Rattle.it_answer.specs.declared.types.Budgets.{Budgets}
 use Rattle.it_answer.specs.RightAnswers.{IsDueBy, IsRightAnswer}
 use Rattle.it_answer.specs.Shows.{AYesIsTrue}
-use Rattle.it_cli.specs.Copies.{AYesWithCopiesIsTrue, CopyQuestion, IsRightProof, Misfit, steps_alone, with_copies}
+use Rattle.it_cli.specs.Copies.{AYesWithCopiesIsTrue, CopyQuestion, IsRightProof, Misfit, with_copies}
 use Rattle.it_cli.specs.InnerEnds.{IsTextOf}
 use Rattle.it_cli.specs.Misfits.{misfit_line}
 use Rattle.it_cli.specs.Outputs.{copy_mode}
@@ -28,7 +28,7 @@ use Rattle.it_cli.proofs.RightLemmas.{question_at}
 -- ---- the answer to one question
 
 due_alone : (b : Budgets) (plans : List Plan) (q : BodyView) (verb : VerbView) (a : AnswerView) (found : List Candidate) → IsProof verb → IsDueBy b plans q verb (record { answer = a; found = found })
-    → IsDueBy (steps_alone b.pivots) [] q verb (record { answer = a; found = [] })
+    → IsDueBy (record { pivots = b.pivots; rows = 1; tries = 1 }) [] q verb (record { answer = a; found = [] })
 due_alone b plans q (Prove r) a found proof (due, none) = (due, refl)
 due_alone b plans q (Eliminate rates) a found proof h = absurd proof
 due_alone b plans q (Contain first second tries) a found proof h = absurd proof

@@ -10,6 +10,7 @@ use Rattle.it_question.specs.Questions.{BodyView, QuestionView, VerbView, Prove,
 use Rattle.it_forms.specs.declared.types.Code.{Code}
 use Rattle.it_question.specs.Files.{FileFaultAt, FileIsOne, FileOrFault}
 use Rattle.it_gen.specs.GeneratedFiles.{GeneratedIsFile, IsProve, generated_file}
+use Rattle.it_region.specs.declared.types.Candidate.{Candidate}
 use Rattle.it_contain.specs.Proposals.{Plan, plan_after_all}
 use Rattle.it_contain.proofs.PlanLemmas.{after_none, after_more}
 use Rattle.it_answer.specs.declared.types.Budgets.{Budgets}
@@ -19,14 +20,14 @@ use Rattle.it_answer.specs.RightAnswers.{OneRightAnswer, IsRightAnswer, IsAnswer
 use Rattle.it_cli.specs.Counts.{AreCounted, no_counts, with_answer}
 use Rattle.it_cli.specs.CountSteps.{total}
 use Rattle.it_cli.specs.Laws.{CountsAddUp}
-use Rattle.it_cli.specs.Right.{Context, IsRightAfter, after_answer}
+use Rattle.it_cli.specs.Right.{IsRightAfter}
 use Rattle.it_cli.specs.declared.counts.Counts.{Counts}
 
 -- ---- the loop that counts
 
 -- the first i questions are counted: what the rest leads to, all leads to; and the boxes know of what was found
 pub record IsCounting (budgets : Budgets) (plans : List Plan) (qs : List QuestionView) (i : ℕ) (counts : Counts) (plans_now : List Plan) : Type 0 where
-  pub found : Context
+  pub found : List Candidate
   pub counted : (end : Counts) → AreCounted budgets plans found counts (drop i qs) end → AreCounted budgets plans [] no_counts qs end
   pub learned : plans_now ≡ map (plan_after_all found) plans
   pub few : total counts ≡ i
@@ -73,12 +74,12 @@ counting_done budgets plans plans_now qs i counts c h = c.counted counts (subst 
 
 -- ---- the counts are determined
 
-pub one_count : OneRightAnswer → (budgets : Budgets) (plans : List Plan) (before : Context) (counts : Counts) (qs : List QuestionView) (c d : Counts) → AreCounted budgets plans before counts qs c → AreCounted budgets plans before counts qs d → c ≡ d
+pub one_count : OneRightAnswer → (budgets : Budgets) (plans : List Plan) (before : List Candidate) (counts : Counts) (qs : List QuestionView) (c d : Counts) → AreCounted budgets plans before counts qs c → AreCounted budgets plans before counts qs d → c ≡ d
 one_count one_answer budgets plans before counts [] c d a b = a ∙ sym b
 one_count one_answer budgets plans before counts (q ∷ qs) c d (reply, right, rest) (other, is_right, more) =
     let same : other ≡ reply = one_answer budgets (map (plan_after_all before) plans) q.body other reply is_right right in
-    one_count one_answer budgets plans (after_answer before q reply) (with_answer counts reply.answer) qs c d rest
-    (subst (λ (x : Reply). AreCounted budgets plans (after_answer before q x) (with_answer counts x.answer) qs d) same more)
+    one_count one_answer budgets plans (before ++ reply.found) (with_answer counts reply.answer) qs c d rest
+    (subst (λ (x : Reply). AreCounted budgets plans (before ++ x.found) (with_answer counts x.answer) qs d) same more)
 
 -- ---- what they sum to
 
@@ -103,14 +104,14 @@ counted_shown q (Prove r) answer c is proof x = counted_answer q.body r c answer
 counted_shown q (Eliminate rates) answer c is proof x = absurd (with_verb_is_prove q (Eliminate rates) is proof)
 counted_shown q (Contain a b tries) answer c is proof x = absurd (with_verb_is_prove q (Contain a b tries) is proof)
 
-answers_add_up : (budgets : Budgets) (plans : List Plan) (before : Context) (counts : Counts) (qs : List QuestionView) (end : Counts) → All IsProve qs → AreCounted budgets plans before counts qs end
+answers_add_up : (budgets : Budgets) (plans : List Plan) (before : List Candidate) (counts : Counts) (qs : List QuestionView) (end : Counts) → All IsProve qs → AreCounted budgets plans before counts qs end
     → (end.yes + end.no + end.undecided ≡ counts.yes + counts.no + counts.undecided + length qs) × (end.regions ≡ counts.regions) × (end.contained ≡ counts.contained) × (end.left_open ≡ counts.left_open)
 answers_add_up budgets plans before counts [] end all is =
     subst (λ (e : Counts). (e.yes + e.no + e.undecided ≡ counts.yes + counts.no + counts.undecided + 0) × (e.regions ≡ counts.regions) × (e.contained ≡ counts.contained) × (e.left_open ≡ counts.left_open))
     (sym is) (omega arith, refl, refl, refl)
 answers_add_up budgets plans before counts (q ∷ qs) end all (reply, right, rest) =
     let one = counted_shown q q.body.verb reply.answer counts refl (All-head IsProve q qs all) right.shows in
-    let more = answers_add_up budgets plans (after_answer before q reply) (with_answer counts reply.answer) qs end (All-tail IsProve q qs all) rest in
+    let more = answers_add_up budgets plans (before ++ reply.found) (with_answer counts reply.answer) qs end (All-tail IsProve q qs all) rest in
     (omega (arith, one.0, more.0), more.1 ∙ one.1, more.2 ∙ one.2, more.3 ∙ one.3)
 
 pub counts_add_up : GeneratedIsFile → FileIsOne → CountsAddUp

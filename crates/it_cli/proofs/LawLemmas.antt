@@ -1,5 +1,6 @@
 -- What follows for the status of a call.
 use Rattle.std.proofs.Common.{◌≡◌, ℕ, ◌≤◌, ◌<◌, inl, inr, List, [], ◌∷◌, ◌++◌, length, ◌⊎◌, Option, Some, None, refl, sym, ap, subst, ◌∙◌, arith, append-nil}
+use Rattle.it_settings.specs.Settings.{settings_of}
 use Rattle.it_space.proofs.OptionLemmas.{some_same}
 use Rattle.it_outside.specs.Causes.{next_count}
 use Rattle.it_outside.specs.Traffic.{Gains, Gave, GaveMore}
@@ -14,20 +15,20 @@ use Rattle.it_cli.specs.Right.{budgets_of}
 use Rattle.it_cli.specs.Modes.{Replies, WholeOutput}
 use Rattle.it_cli.specs.Outputs.{IsOutput, bench_mode, check_mode, mode_of, most_bytes}
 use Rattle.it_cli.specs.Refusals.{fault_line}
-use Rattle.it_cli.specs.Ends.{Call, Ends, Wrote, IsReading, HasNone, IsUntouched, IsTaken, IsInput, HasLimit, HasOutput, IsTooLong, IsUnread, IsDueInPart}
+use Rattle.it_cli.specs.Ends.{Call, Ends, Wrote, IsUntouched, IsTaken, IsInput, HasLimit, IsTooLong, IsUnread, IsDueInPart, HasWritten}
 use Rattle.it_cli.specs.Laws.{BenchReadsNothing, CountsAreWritten, FaultIsDue, Headline, IsComplete, IsThere, LongIsDue, ModesAreDetermined, SureEnds, UsageIsDue, VerdictsAreWritten}
 use Rattle.it_cli.specs.declared.status.Status.{Status}
 use Rattle.it_cli.specs.declared.status.Status.TheVariants.{Done, Invalid, Usage, Refused, ReadFault, WriteFault, Memory}
 
 -- ---- the words have one reading, and the source gave what was left
 
-has_one_or_none : (r : Call) (settings : Settings) → IsReading r settings → HasNone r → ⊥
+has_one_or_none : (r : Call) (settings : Settings) → settings_of r.words ≡ Some settings → settings_of r.words ≡ None → ⊥
 has_one_or_none r settings reading none = cc
 
-one_reading : (r : Call) (a b : Settings) → IsReading r a → IsReading r b → a ≡ b
+one_reading : (r : Call) (a b : Settings) → settings_of r.words ≡ Some a → settings_of r.words ≡ Some b → a ≡ b
 one_reading r a b first second = some_same a b (sym first ∙ second)
 
-one_limit : (r : Call) (settings : Settings) (most limit : ℕ) → IsReading r settings → most_bytes settings ≡ Some most → HasLimit r limit → limit ≡ most
+one_limit : (r : Call) (settings : Settings) (most limit : ℕ) → settings_of r.words ≡ Some settings → most_bytes settings ≡ Some most → HasLimit r limit → limit ≡ most
 one_limit r settings most limit reading is h = some_same limit most (sym h.limit ∙ ap most_bytes (one_reading r h.settings settings h.reading reading) ∙ is)
 
 -- what was given is what was left
@@ -35,26 +36,26 @@ same_bytes : (r : Call) (bytes given : List ℕ) → r.left ≡ Some bytes → G
 same_bytes r bytes given e g = end_comes_last bytes given r.left_after (subst (λ (o : Option (List ℕ)). Gave o r.left_after given) e g)
 
 -- a call that read the input with this reading read all of it
-input_is_given : (r : Call) (settings s : Settings) (most : ℕ) (bytes given : List ℕ) → IsReading r settings → most_bytes settings ≡ Some most → r.left ≡ Some bytes → IsInput r s given
+input_is_given : (r : Call) (settings s : Settings) (most : ℕ) (bytes given : List ℕ) → settings_of r.words ≡ Some settings → most_bytes settings ≡ Some most → r.left ≡ Some bytes → IsInput r s given
     → (given ≡ bytes) × (length bytes ≤ most)
 input_is_given r settings s most bytes given reading is e input =
     let taken : IsTaken r (Some most) given = subst (λ (o : Option ℕ). IsTaken r o given) (ap most_bytes (one_reading r s settings input.reading reading) ∙ is) input.taken in
     let same = same_bytes r bytes given e taken.0 in
     (same, subst (λ (b : List ℕ). length b ≤ most) same taken.1)
 
-too_long_for : (r : Call) (settings : Settings) (most : ℕ) (bytes : List ℕ) → IsReading r settings → most_bytes settings ≡ Some most → r.left ≡ Some bytes → IsTooLong r → most < length bytes
+too_long_for : (r : Call) (settings : Settings) (most : ℕ) (bytes : List ℕ) → settings_of r.words ≡ Some settings → most_bytes settings ≡ Some most → r.left ≡ Some bytes → IsTooLong r → most < length bytes
 too_long_for r settings most bytes reading is e t =
     subst (λ (n : ℕ). n < length bytes) (one_limit r settings most t.most reading is t.limit)
     (more_was_there bytes r.left_after t.most (subst (λ (o : Option (List ℕ)). GaveMore o r.left_after t.most) e t.more))
 
 -- ---- a mode without an input
 
-unread_input : (r : Call) (settings s : Settings) (bytes : List ℕ) → IsReading r settings → most_bytes settings ≡ None → IsInput r s bytes → IsUntouched r
+unread_input : (r : Call) (settings s : Settings) (bytes : List ℕ) → settings_of r.words ≡ Some settings → most_bytes settings ≡ None → IsInput r s bytes → IsUntouched r
 unread_input r settings s bytes reading none input =
     let taken : IsTaken r None bytes = subst (λ (o : Option ℕ). IsTaken r o bytes) (ap most_bytes (one_reading r s settings input.reading reading) ∙ none) input.taken in
     taken.0
 
-no_limit : (r : Call) (settings : Settings) (most : ℕ) → IsReading r settings → most_bytes settings ≡ None → HasLimit r most → ⊥
+no_limit : (r : Call) (settings : Settings) (most : ℕ) → settings_of r.words ≡ Some settings → most_bytes settings ≡ None → HasLimit r most → ⊥
 no_limit r settings most reading none h = some_not_none (sym h.limit ∙ ap most_bytes (one_reading r h.settings settings h.reading reading) ∙ none)
   where
     some_not_none : Some most ≡ None → ⊥
@@ -62,7 +63,7 @@ no_limit r settings most reading none h = some_not_none (sym h.limit ∙ ap most
 
 -- ---- the usage line
 
-untouched_in_part : (r : Call) → HasNone r → IsDueInPart r → IsUntouched r
+untouched_in_part : (r : Call) → settings_of r.words ≡ None → IsDueInPart r → IsUntouched r
 untouched_in_part r none (inl (no_reading, untouched, prefix)) = untouched
 untouched_in_part r none (inr (inl (t, prefix))) = absurd (has_one_or_none r t.limit.settings t.limit.reading none)
 untouched_in_part r none (inr (inr (inl (u, prefix)))) = absurd (has_one_or_none r u.settings u.input.reading none)
@@ -82,7 +83,7 @@ usage_is_due r Memory (faultless, inr (inr first)) none = absurd (has_one_or_non
 
 -- ---- an input of too many bytes
 
-long_given : (r : Call) (settings : Settings) (most : ℕ) (bytes : List ℕ) → IsReading r settings → most_bytes settings ≡ Some most → r.left ≡ Some bytes → most < length bytes
+long_given : (r : Call) (settings : Settings) (most : ℕ) (bytes : List ℕ) → settings_of r.words ≡ Some settings → most_bytes settings ≡ Some most → r.left ≡ Some bytes → most < length bytes
     → (s : Settings) (given : List ℕ) → IsInput r s given → ⊥
 long_given r settings most bytes reading is e h s given input = let g = input_is_given r settings s most bytes given reading is e input in omega (arith, g.1)
 
@@ -99,33 +100,33 @@ long_is_due r Memory settings most bytes ends reading is e h = inr (inr (inr ref
 -- ---- an input with a fault
 
 -- what was given for this reading is what is there
-there_is_given : (r : Call) (settings s : Settings) (most : Option ℕ) (bytes given : List ℕ) → IsReading r settings → most_bytes settings ≡ most → IsThere r most bytes → IsInput r s given → given ≡ bytes
+there_is_given : (r : Call) (settings s : Settings) (most : Option ℕ) (bytes given : List ℕ) → settings_of r.words ≡ Some settings → most_bytes settings ≡ most → IsThere r most bytes → IsInput r s given → given ≡ bytes
 there_is_given r settings s (Some most) bytes given reading is (e, fits) input = (input_is_given r settings s most bytes given reading is e input).0
 there_is_given r settings s None bytes given reading is none input =
     let taken : IsTaken r None given = subst (λ (o : Option ℕ). IsTaken r o given) (ap most_bytes (one_reading r s settings input.reading reading) ∙ is) input.taken in
     taken.1 ∙ sym none
 
 -- no limit is passed by what is there
-there_is_short : (r : Call) (settings : Settings) (most : Option ℕ) (bytes : List ℕ) → IsReading r settings → most_bytes settings ≡ most → IsThere r most bytes → IsTooLong r → ⊥
+there_is_short : (r : Call) (settings : Settings) (most : Option ℕ) (bytes : List ℕ) → settings_of r.words ≡ Some settings → most_bytes settings ≡ most → IsThere r most bytes → IsTooLong r → ⊥
 there_is_short r settings (Some most) bytes reading is (e, fits) t = omega (arith, too_long_for r settings most bytes reading is e t)
 there_is_short r settings None bytes reading is none t = no_limit r settings t.most reading is t.limit
 
 -- the output of the mode that the words ask for
-output_of : (r : Call) (s : Status) (settings : Settings) (h : HasOutput r s) → IsReading r settings → IsOutput r.plans settings h.bytes h.out s
+output_of : (r : Call) (s : Status) (settings : Settings) (h : HasWritten r (λ mode bytes out. WholeOutput mode bytes out s)) → settings_of r.words ≡ Some settings → IsOutput r.plans settings h.bytes h.out s
 output_of r s settings h reading = subst (λ (x : Settings). IsOutput r.plans x h.bytes h.out s) (one_reading r h.settings settings h.input.reading reading) h.output
 
 -- the fault in the mode that the words ask for
-fault_of : (r : Call) (settings : Settings) (u : IsUnread r) → IsReading r settings → (mode_of r.plans settings).FaultAt u.bytes u.line u.column u.code
+fault_of : (r : Call) (settings : Settings) (u : IsUnread r) → settings_of r.words ≡ Some settings → (mode_of r.plans settings).FaultAt u.bytes u.line u.column u.code
 fault_of r settings u reading = subst (λ (x : Settings). (mode_of r.plans x).FaultAt u.bytes u.line u.column u.code) (one_reading r u.settings settings u.input.reading reading) u.fault
 
 -- that of what is there
-fault_there : (r : Call) (settings : Settings) (bytes : List ℕ) (u : IsUnread r) → IsReading r settings → IsThere r (most_bytes settings) bytes → (mode_of r.plans settings).FaultAt bytes u.line u.column u.code
+fault_there : (r : Call) (settings : Settings) (bytes : List ℕ) (u : IsUnread r) → settings_of r.words ≡ Some settings → IsThere r (most_bytes settings) bytes → (mode_of r.plans settings).FaultAt bytes u.line u.column u.code
 fault_there r settings bytes u reading there =
     subst (λ (b : List ℕ). (mode_of r.plans settings).FaultAt b u.line u.column u.code) (there_is_given r settings u.settings (most_bytes settings) bytes u.bytes reading refl there u.input) (fault_of r settings u reading)
 
 module _ (determined : ModesAreDetermined) where
-  no_output : (r : Call) (s : Status) (settings : Settings) (bytes : List ℕ) (line column : ℕ) (code : Code) → IsReading r settings → IsThere r (most_bytes settings) bytes → (mode_of r.plans settings).FaultAt bytes line column code
-      → HasOutput r s → ⊥
+  no_output : (r : Call) (s : Status) (settings : Settings) (bytes : List ℕ) (line column : ℕ) (code : Code) → settings_of r.words ≡ Some settings → IsThere r (most_bytes settings) bytes → (mode_of r.plans settings).FaultAt bytes line column code
+      → HasWritten r (λ mode bytes out. WholeOutput mode bytes out s) → ⊥
   no_output r s settings bytes line column code reading there fault h =
       let output = output_of r s settings h reading in
       (determined r.plans settings).apart h.bytes output.items line column code output.asked
@@ -162,13 +163,13 @@ module _ (determined : ModesAreDetermined) where
 
 -- ---- mode bench
 
-unread_in_part : (r : Call) (seed count : ℕ) (pivots : Option ℕ) (rows tries : ℕ) → IsReading r (Bench seed count pivots rows tries) → IsDueInPart r → IsUntouched r
+unread_in_part : (r : Call) (seed count : ℕ) (pivots : Option ℕ) (rows tries : ℕ) → settings_of r.words ≡ Some (Bench seed count pivots rows tries) → IsDueInPart r → IsUntouched r
 unread_in_part r seed count pivots rows tries reading (inl (none, untouched, prefix)) = untouched
 unread_in_part r seed count pivots rows tries reading (inr (inl (t, prefix))) = absurd (no_limit r (Bench seed count pivots rows tries) t.most reading refl t.limit)
 unread_in_part r seed count pivots rows tries reading (inr (inr (inl (u, prefix)))) = absurd (fault_of r (Bench seed count pivots rows tries) u reading)
 unread_in_part r seed count pivots rows tries reading (inr (inr (inr part))) = unread_input r (Bench seed count pivots rows tries) part.settings part.bytes reading refl part.input
 
-never_invalid : (r : Call) (seed count : ℕ) (pivots : Option ℕ) (rows tries : ℕ) → IsReading r (Bench seed count pivots rows tries) → HasOutput r Invalid → ⊥
+never_invalid : (r : Call) (seed count : ℕ) (pivots : Option ℕ) (rows tries : ℕ) → settings_of r.words ≡ Some (Bench seed count pivots rows tries) → HasWritten r (λ mode bytes out. WholeOutput mode bytes out Invalid) → ⊥
 never_invalid r seed count pivots rows tries reading h =
     invalid_not_done (output_of r Invalid (Bench seed count pivots rows tries) h reading).is
   where
@@ -210,7 +211,7 @@ gain_is_told : (before now : Option (List ℕ)) (old new out : List ℕ) → bef
 gain_is_told before now old new out b n g = subst (λ (o : Option (List ℕ)). Gains (Some old) o out) n (subst (λ (o : Option (List ℕ)). Gains o now out) b g)
 
 -- the output for what the source had left
-output_is_read : (r : Call) (s : Status) (settings : Settings) (most : ℕ) (bytes old new : List ℕ) → HasOutput r s → IsReading r settings → most_bytes settings ≡ Some most
+output_is_read : (r : Call) (s : Status) (settings : Settings) (most : ℕ) (bytes old new : List ℕ) → HasWritten r (λ mode bytes out. WholeOutput mode bytes out s) → settings_of r.words ≡ Some settings → most_bytes settings ≡ Some most
     → r.left ≡ Some bytes → r.taken ≡ Some old → r.taken_after ≡ Some new → (out : List ℕ) × IsOutput r.plans settings bytes out s × (new ≡ old ++ out)
 output_is_read r s settings most bytes old new h reading is e taken taken_after = (
   h.out,
@@ -219,7 +220,7 @@ output_is_read r s settings most bytes old new h reading is e taken taken_after 
 )
 
 -- a call that is done, with a status that says so, has its output
-has_output : (r : Call) (s : Status) → Ends r s → (s ≡ Done) ⊎ (s ≡ Invalid) → HasOutput r s
+has_output : (r : Call) (s : Status) → Ends r s → (s ≡ Done) ⊎ (s ≡ Invalid) → HasWritten r (λ mode bytes out. WholeOutput mode bytes out s)
 has_output r Done (faultless, ends) is = ends
 has_output r Invalid (faultless, ends) is = ends
 has_output r Usage ends (inl is) = cc

@@ -19,7 +19,7 @@ use Rattle.it_settings.specs.declared.types.Format.{Format}
 use Rattle.it_settings.specs.declared.types.Settings.TheVariants.{Answer, Check, Bench, Copy, Best, Sharing}
 use Rattle.it_answer.specs.declared.types.Budgets.{Budgets}
 use Rattle.it_gen.specs.GeneratedFiles.{generated_file}
-use Rattle.it_cli.specs.Copies.{CopyQuestion, CopyReply, Extended, IsRightCopy, IsRightProof, Misfit, steps_alone, with_copies}
+use Rattle.it_cli.specs.Copies.{CopyQuestion, CopyReply, Extended, IsRightCopy, IsRightProof, Misfit, with_copies}
 use Rattle.it_cli.specs.Counts.{AreCounted, IsBenchLine, bench_line, no_counts}
 use Rattle.it_cli.specs.Laws.{ModesAreDetermined, OneOutput}
 use Rattle.it_cli.specs.Modes.{IsDetermined, Mode, Replies, WholeOutput}
@@ -90,7 +90,7 @@ pub record CopiesAreOne : Type 0 where
 
 -- a question about a relation has one right answer
 same_proof : OneRightAnswer → (pivots : Option ℕ) (e : BodyView) (a b : AnswerView) → IsRightProof pivots e a → IsRightProof pivots e b → a ≡ b
-same_proof one_answer pivots e a b f g = ap (λ (r : Reply). r.answer) (one_answer (steps_alone pivots) [] e (record { answer = a; found = [] }) (record { answer = b; found = [] }) f g)
+same_proof one_answer pivots e a b f g = ap (λ (r : Reply). r.answer) (one_answer (record { pivots = pivots; rows = 1; tries = 1 }) [] e (record { answer = a; found = [] }) (record { answer = b; found = [] }) f g)
 
 module _ (one_answer : OneRightAnswer) (one : CopiesAreOne) where
   one_copy : (pivots : Option ℕ) (x : CopyQuestion) (a b : CopyReply) → IsRightCopy pivots x a → IsRightCopy pivots x b → a ≡ b

@@ -38,26 +38,26 @@ module _ (m : Mode) (each : (s : m.State) (x : m.Item) → (reply : m.Reply) × 
   abbrev IsPrefixOfWhole : List ℕ → List ℕ → Type 0
   IsPrefixOfWhole bytes out = (whole : List ℕ) × (status : Status) × WholeOutput m bytes whole status × IsPrefix out whole
 
-  first_is_prefix : (bytes out : List ℕ) → FirstOutput m bytes out → IsPrefixOfWhole bytes out
-  first_is_prefix bytes out o =
-      let later = some_replies (1 + length o.items) o.state o.later in (
-        out ++ later.1,
-        m.status later.0,
-        record { items = o.items ++ o.later; asked = o.asked; state = later.0; replies = replies_join 1 (1 + length o.items) m.start o.state later.0 o.items o.later out later.1 refl o.replies later.2; is = refl },
-        (later.1, refl),
+  first_is_prefix : (bytes out : List ℕ) → (later : List m.Item) × FirstOutput m later bytes out → IsPrefixOfWhole bytes out
+  first_is_prefix bytes out (later, o) =
+      let rest = some_replies (1 + length o.items) o.state later in (
+        out ++ rest.1,
+        m.status rest.0,
+        record { items = o.items ++ later; asked = o.asked; state = rest.0; replies = replies_join 1 (1 + length o.items) m.start o.state rest.0 o.items later out rest.1 refl o.replies rest.2; is = refl },
+        (rest.1, refl),
       )
 
   part_is_prefix : (bytes out : List ℕ) → OutputInPart m bytes out → IsPrefixOfWhole bytes out
   part_is_prefix bytes out o =
-      let later = some_replies (length o.items + 1 + 1) (m.after o.state o.next o.reply) o.later in
-      let text = m.text (length o.items + 1) o.next o.reply in (
+      let later = some_replies (length o.first.items + 1 + 1) (m.after o.first.state o.next o.reply) o.later in
+      let text = m.text (length o.first.items + 1) o.next o.reply in (
         o.whole ++ (text ++ later.1),
         m.status later.0,
         record {
-          items = o.items ++ o.next ∷ o.later;
-          asked = o.asked;
+          items = o.first.items ++ o.next ∷ o.later;
+          asked = o.first.asked;
           state = later.0;
-          replies = replies_join 1 (length o.items + 1) m.start o.state later.0 o.items (o.next ∷ o.later) o.whole (text ++ later.1) (omega arith) o.replies (o.reply, later.1, o.right, later.2, refl);
+          replies = replies_join 1 (length o.first.items + 1) m.start o.first.state later.0 o.first.items (o.next ∷ o.later) o.whole (text ++ later.1) (omega arith) o.first.replies (o.reply, later.1, o.right, later.2, refl);
           is = refl;
         },
         (
@@ -99,9 +99,9 @@ counts_are_prefix plans seed count pivots rows tries bytes out = (
     o.reply,
     Done,
     counts_whole (budgets_of pivots rows tries) plans seed count bytes o.reply o.right,
-    (o.prefix.0, o.prefix.1 ∙ ap (λ t. t ++ o.prefix.0) (sym (o.is ∙ ap (λ w. w ++ o.part) (by_first_items (budgets_of pivots rows tries) plans seed count bytes o.items o.later o.next o.state o.whole o.asked o.replies)))),
+    (o.prefix.0, o.prefix.1 ∙ ap (λ t. t ++ o.prefix.0) (sym (o.is ∙ ap (λ w. w ++ o.part) (by_first_items (budgets_of pivots rows tries) plans seed count bytes o.first.items o.later o.next o.first.state o.whole o.first.asked o.first.replies)))),
   ),
-  λ o. elim (by_items (budgets_of pivots rows tries) plans seed count bytes o.items o.later o.state out o.asked o.replies) [
+  λ o. elim (by_items (budgets_of pivots rows tries) plans seed count bytes o.1.items o.0 o.1.state out o.1.asked o.1.replies) [
     | inl nothing ↦ inl nothing
     | inr is ↦ inr (out, Done, counts_whole (budgets_of pivots rows tries) plans seed count bytes out is, ([], sym (append-nil out)))
   ],

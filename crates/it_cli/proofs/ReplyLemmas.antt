@@ -30,7 +30,7 @@ module _ (m : Mode) where
   pub first_replied : (a b : Option (List ℕ)) (bytes : List ℕ) (items : List m.Item) (i : ℕ) (s : m.State) → m.Asks bytes items → Replied a b items i s → WroteFirst m a b bytes
   first_replied a b bytes items i s asked w = record {
     out = w.out;
-    output = record { items = take i items; later = drop i items; asked = subst (m.Asks bytes) (sym (take-append-drop i items)) asked; state = s; replies = w.groups };
+    output = (drop i items, record { items = take i items; asked = subst (m.Asks bytes) (sym (take-append-drop i items)) asked; state = s; replies = w.groups });
     wrote = w.wrote;
   }
 
@@ -39,13 +39,10 @@ module _ (m : Mode) where
   replies_stop a b c bytes items i s x reply text piece asked w h read right is same took = record {
     out = w.out ++ took.part;
     output = record {
-      items = take i items;
       next = x;
       later = drop (i + 1) items;
-      asked = subst (m.Asks bytes) (sym cut) asked;
-      state = s;
       whole = w.out;
-      replies = w.groups;
+      first = record { items = take i items; asked = subst (m.Asks bytes) (sym cut) asked; state = s; replies = w.groups };
       reply = reply;
       right = right;
       part = took.part;

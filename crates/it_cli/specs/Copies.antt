@@ -12,7 +12,6 @@ use Rattle.it_copy.specs.Extensions.{IsExtension, IsMisfit}
 use Rattle.it_copy.specs.Files.{IsCopyFile}
 use Rattle.it_copy.specs.Points.{HasCopies}
 use Rattle.it_print.specs.Lines.{answer_line}
-use Rattle.it_answer.specs.declared.types.Budgets.{Budgets}
 use Rattle.it_answer.specs.RightAnswers.{IsRightAnswer}
 use Rattle.it_answer.specs.Shows.{Shows}
 use Rattle.it_cli.specs.Misfits.{misfit_line}
@@ -39,13 +38,9 @@ pub data CopyReply : Type 0 where
   Misfit : (fault : CopyFault) → CopyReply
   Extended : (question : BodyView) (answer : AnswerView) → CopyReply
 
--- budgets of steps alone: a question about a relation tries no candidates and eliminates nothing
-abbrev pub steps_alone : Option ℕ → Budgets
-steps_alone pivots = record { pivots = pivots; rows = 1; tries = 1 }
-
--- a right answer to a question about a relation
+-- a right answer to a question about a relation, which tries no candidates and eliminates nothing
 abbrev pub IsRightProof : Option ℕ → BodyView → AnswerView → Type 0
-IsRightProof pivots q answer = IsRightAnswer (steps_alone pivots) [] q (record { answer = answer; found = [] })
+IsRightProof pivots q answer = IsRightAnswer (record { pivots = pivots; rows = 1; tries = 1 }) [] q (record { answer = answer; found = [] })
 
 -- a right reply; want of memory is none
 abbrev pub IsRightCopy : Option ℕ → CopyQuestion → CopyReply → Type 0

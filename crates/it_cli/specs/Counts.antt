@@ -5,10 +5,11 @@ use Rattle.it_space.specs.Answers.AnswerView.{Yes, No, Undecided, Region, Contai
 use Rattle.it_question.specs.Files.{IsFile}
 use Rattle.it_question.specs.Questions.{QuestionView}
 use Rattle.it_gen.specs.GeneratedFiles.{generated_file}
+use Rattle.it_region.specs.declared.types.Candidate.{Candidate}
 use Rattle.it_contain.specs.Proposals.{Plan}
 use Rattle.it_answer.specs.declared.types.Budgets.{Budgets}
 use Rattle.it_answer.specs.Replies.{Reply}
-use Rattle.it_cli.specs.Right.{Context, IsRightAfter, after_answer}
+use Rattle.it_cli.specs.Right.{IsRightAfter}
 use Rattle.it_cli.specs.declared.counts.Counts.{Counts}
 
 -- no answer is counted yet
@@ -25,10 +26,10 @@ with_answer c (Contained parts proofs) = record c { contained = c.contained + 1 
 with_answer c (Open tried) = record c { left_open = c.left_open + 1 }
 
 -- the counts before, and one right answer more for each question in order, come to this
-abbrev pub AreCounted : Budgets → List Plan → Context → Counts → List QuestionView → Counts → Type 0
+abbrev pub AreCounted : Budgets → List Plan → List Candidate → Counts → List QuestionView → Counts → Type 0
 AreCounted budgets plans before counts [] end = end ≡ counts
 AreCounted budgets plans before counts (q ∷ qs) end =
-    (reply : Reply) × IsRightAfter budgets plans before q reply × AreCounted budgets plans (after_answer before q reply) (with_answer counts reply.answer) qs end
+    (reply : Reply) × IsRightAfter budgets plans before q reply × AreCounted budgets plans (before ++ reply.found) (with_answer counts reply.answer) qs end
 
 -- the line that tells the counts
 unfoldable pub bench_line : ℕ → ℕ → Counts → List ℕ

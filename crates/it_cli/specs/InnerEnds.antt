@@ -59,7 +59,7 @@ pub record WroteWhole (m : Mode) (old new : Option (List ℕ)) (bytes : List ℕ
 -- the lines of the first items do
 pub record WroteFirst (m : Mode) (old new : Option (List ℕ)) (bytes : List ℕ) : Type 0 where
   pub out : List ℕ
-  pub output : FirstOutput m bytes out
+  pub output : (later : List m.Item) × FirstOutput m later bytes out
   pub wrote : Gains old new out
 
 -- the output does in part

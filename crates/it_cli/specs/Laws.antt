@@ -1,7 +1,9 @@
 -- What follows from how a call ends and from what a right answer is.
 use Rattle.std.specs.Prelude.{◌≡◌, ℕ, ◌+◌, ◌≤◌, ◌<◌, List, [], ◌++◌, length, Bool, ◌⊎◌, Option, Some, None}
+use Rattle.it_outside.specs.Causes.{next_count}
 use Rattle.it_settings.specs.declared.types.Settings.{Settings}
 use Rattle.it_settings.specs.declared.types.Settings.TheVariants.{Check, Bench}
+use Rattle.it_settings.specs.Settings.{settings_of}
 use Rattle.it_space.specs.Answers.AnswerView.{Undecided}
 use Rattle.it_space.specs.declared.answers.Cause.TheVariants.{Pivots}
 use Rattle.it_forms.specs.declared.types.Code.{Code}
@@ -15,10 +17,10 @@ use Rattle.it_cli.specs.Right.{budgets_of}
 use Rattle.it_gen.specs.GeneratedFiles.{generated_file}
 use Rattle.it_cli.specs.Counts.{AreCounted, IsBenchLine, no_counts}
 use Rattle.it_cli.specs.declared.counts.Counts.{Counts}
-use Rattle.it_cli.specs.Modes.{IsDetermined}
+use Rattle.it_cli.specs.Modes.{IsDetermined, WholeOutput}
 use Rattle.it_cli.specs.Outputs.{IsFirstOutput, IsPrefixOfOutput, IsOutput, IsOutputInPart, Verdicts, mode_of, most_bytes, verdict_status}
 use Rattle.it_cli.specs.Refusals.{long_line, fault_line}
-use Rattle.it_cli.specs.Ends.{Call, Ends, IsReading, HasNone, IsUntouched, ReadFailed, WriteFailed, Wrote, HasOutput}
+use Rattle.it_cli.specs.Ends.{Call, Ends, IsUntouched, Wrote, FaultsAre, HasWritten}
 use Rattle.it_cli.specs.declared.status.Status.{Status}
 use Rattle.it_cli.specs.declared.status.Status.TheVariants.{Done, Invalid, Usage, Refused, ReadFault, WriteFault, Memory}
 
@@ -27,20 +29,21 @@ use Rattle.it_cli.specs.declared.status.Status.TheVariants.{Done, Invalid, Usage
 -- The headline: where source and sink tell their bytes, in each mode with an input the sink gained the whole output for all that the
 -- source gave; in mode `answer` that is right answers to all its questions.
 abbrev pub Headline : Type 0
-Headline = (r : Call) (s : Status) (settings : Settings) (most : ℕ) (bytes old new : List ℕ) → Ends r s → (s ≡ Done) ⊎ (s ≡ Invalid) → IsReading r settings → most_bytes settings ≡ Some most
+Headline = (r : Call) (s : Status) (settings : Settings) (most : ℕ) (bytes old new : List ℕ) → Ends r s
+    → (s ≡ Done) ⊎ (s ≡ Invalid) → settings_of r.words ≡ Some settings → most_bytes settings ≡ Some most
     → r.left ≡ Some bytes → r.taken ≡ Some old → r.taken_after ≡ Some new
     → (out : List ℕ) × IsOutput r.plans settings bytes out s × (new ≡ old ++ out)
 
 -- In mode `check` it gained the verdict on each line, and the status says whether one is invalid.
 abbrev pub VerdictsAreWritten : Type 0
-VerdictsAreWritten = (r : Call) (s : Status) (bytes old new : List ℕ) → Ends r s → (s ≡ Done) ⊎ (s ≡ Invalid) → IsReading r Check
+VerdictsAreWritten = (r : Call) (s : Status) (bytes old new : List ℕ) → Ends r s → (s ≡ Done) ⊎ (s ≡ Invalid) → settings_of r.words ≡ Some Check
     → r.left ≡ Some bytes → r.taken ≡ Some old → r.taken_after ≡ Some new
     → (some_invalid : Bool) × (out : List ℕ) × Verdicts bytes some_invalid out × (new ≡ old ++ out) × (s ≡ verdict_status some_invalid)
 
 -- In mode `bench` it gained the line of counts, and the source is as it was.
 abbrev pub CountsAreWritten : Type 0
-CountsAreWritten = (r : Call) (seed count : ℕ) (pivots : Option ℕ) (rows tries : ℕ) (old new : List ℕ) → Ends r Done → IsReading r (Bench seed count pivots rows tries)
-    → r.taken ≡ Some old → r.taken_after ≡ Some new
+CountsAreWritten = (r : Call) (seed count : ℕ) (pivots : Option ℕ) (rows tries : ℕ) (old new : List ℕ) → Ends r Done
+    → settings_of r.words ≡ Some (Bench seed count pivots rows tries) → r.taken ≡ Some old → r.taken_after ≡ Some new
     → (line : List ℕ) × IsBenchLine (budgets_of pivots rows tries) r.plans seed count line × (new ≡ old ++ line) × IsUntouched r
 
 -- ---- completeness
@@ -52,9 +55,10 @@ IsThere r None bytes = bytes ≡ []
 
 -- With a reading, an input in which the mode is asked something, and no fault, the whole output is written or memory is wanted.
 abbrev pub IsComplete : Type 0
-IsComplete = (r : Call) (s : Status) (settings : Settings) (bytes : List ℕ) (items : List (mode_of r.plans settings).Item) → Ends r s → IsReading r settings
-    → IsThere r (most_bytes settings) bytes → (mode_of r.plans settings).Asks bytes items → (ReadFailed r → ⊥) → (WriteFailed r → ⊥)
-    → HasOutput r s ⊎ (s ≡ Memory)
+IsComplete = (r : Call) (s : Status) (settings : Settings) (bytes : List ℕ) (items : List (mode_of r.plans settings).Item) → Ends r s
+    → settings_of r.words ≡ Some settings → IsThere r (most_bytes settings) bytes → (mode_of r.plans settings).Asks bytes items
+    → (FaultsAre r (next_count r.read_faults) r.write_faults → ⊥) → (FaultsAre r r.read_faults (next_count r.write_faults) → ⊥)
+    → HasWritten r (λ mode bytes out. WholeOutput mode bytes out s) ⊎ (s ≡ Memory)
 
 -- A source and a sink whose counts of faults are 0, as those that never fail, give neither status of a fault.
 abbrev pub SureEnds : Type 0
@@ -64,24 +68,24 @@ SureEnds = (r : Call) (s : Status) → Ends r s → r.read_faults_after ≡ 0 �
 
 -- words without a reading have the usage line, and nothing is read for them
 abbrev pub UsageIsDue : Type 0
-UsageIsDue = (r : Call) (s : Status) → Ends r s → HasNone r → IsUntouched r × ((s ≡ Usage) ⊎ ((s ≡ WriteFault) ⊎ (s ≡ Memory)))
+UsageIsDue = (r : Call) (s : Status) → Ends r s → settings_of r.words ≡ None → IsUntouched r × ((s ≡ Usage) ⊎ ((s ≡ WriteFault) ⊎ (s ≡ Memory)))
 
 -- an input of too many bytes has the line for it
 abbrev pub LongIsDue : Type 0
-LongIsDue = (r : Call) (s : Status) (settings : Settings) (most : ℕ) (bytes : List ℕ) → Ends r s → IsReading r settings → most_bytes settings ≡ Some most
-    → r.left ≡ Some bytes → most < length bytes
+LongIsDue = (r : Call) (s : Status) (settings : Settings) (most : ℕ) (bytes : List ℕ) → Ends r s
+    → settings_of r.words ≡ Some settings → most_bytes settings ≡ Some most → r.left ≡ Some bytes → most < length bytes
     → ((s ≡ Refused) × Wrote r long_line) ⊎ ((s ≡ ReadFault) ⊎ ((s ≡ WriteFault) ⊎ (s ≡ Memory)))
 
 -- an input that has a fault in the mode has the line of its first one
 abbrev pub FaultIsDue : Type 0
-FaultIsDue = (r : Call) (s : Status) (settings : Settings) (bytes : List ℕ) (line column : ℕ) (code : Code) → Ends r s → IsReading r settings
+FaultIsDue = (r : Call) (s : Status) (settings : Settings) (bytes : List ℕ) (line column : ℕ) (code : Code) → Ends r s → settings_of r.words ≡ Some settings
     → IsThere r (most_bytes settings) bytes → (mode_of r.plans settings).FaultAt bytes line column code
     → ((s ≡ Refused) × Wrote r (fault_line line column code)) ⊎ ((s ≡ ReadFault) ⊎ ((s ≡ WriteFault) ⊎ (s ≡ Memory)))
 
 -- mode `bench` leaves the source as it was, whatever the status, and refuses nothing
 abbrev pub BenchReadsNothing : Type 0
-BenchReadsNothing = (r : Call) (s : Status) (seed count : ℕ) (pivots : Option ℕ) (rows tries : ℕ) → Ends r s → IsReading r (Bench seed count pivots rows tries)
-    → IsUntouched r × ((s ≡ Done) ⊎ ((s ≡ WriteFault) ⊎ (s ≡ Memory)))
+BenchReadsNothing = (r : Call) (s : Status) (seed count : ℕ) (pivots : Option ℕ) (rows tries : ℕ) → Ends r s
+    → settings_of r.words ≡ Some (Bench seed count pivots rows tries) → IsUntouched r × ((s ≡ Done) ⊎ ((s ≡ WriteFault) ⊎ (s ≡ Memory)))
 
 -- ---- what is determined
 

@@ -32,27 +32,23 @@ pub record WholeOutput (m : Mode) (bytes out : List ℕ) (status : Status) : Typ
   pub replies : Replies m items state out
   pub is : status ≡ m.status state
 
--- the lines of the replies to the first of them
-pub record FirstOutput (m : Mode) (bytes out : List ℕ) : Type 0 where
+-- the lines of the replies to the first of them, before these later ones
+pub record FirstOutput (m : Mode) (later : List m.Item) (bytes out : List ℕ) : Type 0 where
   pub items : List m.Item
-  pub later : List m.Item
   pub asked : m.Asks bytes (items ++ later)
   pub state : m.State
   pub replies : Replies m items state out
 
 -- the same, and then a prefix of the lines of a right reply to the next
 pub record OutputInPart (m : Mode) (bytes out : List ℕ) : Type 0 where
-  pub items : List m.Item
   pub next : m.Item
   pub later : List m.Item
-  pub asked : m.Asks bytes (items ++ next ∷ later)
-  pub state : m.State
   pub whole : List ℕ
-  pub replies : Replies m items state whole
+  pub first : FirstOutput m (next ∷ later) bytes whole
   pub reply : m.Reply
-  pub right : m.IsRight state next reply
+  pub right : m.IsRight first.state next reply
   pub part : List ℕ
-  pub prefix : IsPrefix part (m.text (length items + 1) next reply)
+  pub prefix : IsPrefix part (m.text (length first.items + 1) next reply)
   pub is : out ≡ whole ++ part
 
 -- bytes ask for one list of items, or have one first fault, and not both; and an item has one right reply in a state

@@ -1,5 +1,5 @@
 -- The modes, and what a whole input is answered with by the one that the words ask for.
-use Rattle.std.specs.Prelude.{◌≡◌, ℕ, List, [], ◌∷◌, Bool, true, false, ◌||◌, Option, Some, None}
+use Rattle.std.specs.Prelude.{◌≡◌, ℕ, List, [], ◌∷◌, ◌++◌, Bool, true, false, ◌||◌, Option, Some, None}
 use Rattle.it_outside.specs.Traffic.{IsPrefix}
 use Rattle.it_settings.specs.declared.types.Format.{Format}
 use Rattle.it_settings.specs.declared.types.Settings.{Settings}
@@ -9,6 +9,7 @@ use Rattle.it_question.specs.Lines.{split_lines}
 use Rattle.it_question.specs.Questions.{QuestionView}
 use Rattle.it_copy.specs.Files.{CopyFileFaultAt}
 use Rattle.it_forms.specs.declared.types.Code.{Code}
+use Rattle.it_region.specs.declared.types.Candidate.{Candidate}
 use Rattle.it_contain.specs.Proposals.{Plan}
 use Rattle.it_answer.specs.declared.types.Budgets.{Budgets}
 use Rattle.it_answer.specs.Replies.{Reply}
@@ -16,7 +17,7 @@ use Rattle.it_report.specs.Judging.{IsVerdict}
 use Rattle.it_report.specs.LineVerdicts.{LineVerdict, is_invalid, verdict_line}
 use Rattle.it_factor.specs.Lines.{reply_line}
 use Rattle.it_factor.specs.RightReplies.{IsRightReply}
-use Rattle.it_cli.specs.Right.{Context, IsRightAfter, after_answer, answer_lines, budgets_of, question_origins}
+use Rattle.it_cli.specs.Right.{IsRightAfter, answer_lines, budgets_of, question_origins}
 use Rattle.it_cli.specs.Counts.{IsBenchLine}
 use Rattle.it_cli.specs.Copies.{AsksWithCopies, IsRightCopy, copy_text}
 use Rattle.it_sharing.specs.SharingFiles.{SharingFaultAt}
@@ -38,12 +39,12 @@ abbrev pub answer_mode : Budgets → List Plan → Format → Mode
 answer_mode budgets plans format = record {
   Item = QuestionView;
   Reply = Reply;
-  State = Context;
+  State = List Candidate;
   Asks = IsFile;
   FaultAt = FileFaultAt;
   start = [];
   IsRight = IsRightAfter budgets plans;
-  after = after_answer;
+  after = λ found q reply. found ++ reply.found;
   text = λ k q reply. answer_lines format k q reply.answer;
   status = λ found. Done;
 }
@@ -117,7 +118,7 @@ IsOutput plans settings bytes out status = WholeOutput (mode_of plans settings) 
 
 -- what is written of it where memory was wanted: the lines of the first items
 abbrev pub IsFirstOutput : List Plan → Settings → List ℕ → List ℕ → Type 0
-IsFirstOutput plans settings bytes out = FirstOutput (mode_of plans settings) bytes out
+IsFirstOutput plans settings bytes out = (later : List (mode_of plans settings).Item) × FirstOutput (mode_of plans settings) later bytes out
 
 -- what is written of it where a write failed: the lines of the first items, and then a prefix of those of the next one
 abbrev pub IsOutputInPart : List Plan → Settings → List ℕ → List ℕ → Type 0

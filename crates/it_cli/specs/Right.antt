@@ -29,17 +29,9 @@ use Rattle.it_answer.specs.RightAnswers.{IsRightAnswer}
 abbrev pub budgets_of : Option ℕ → ℕ → ℕ → Budgets
 budgets_of pivots rows tries = record { pivots = pivots; rows = rows; tries = tries }
 
--- what an answer rests on beside its question: the candidates that were found for earlier ones, of which the boxes know
-abbrev pub Context : Type 0
-Context = List Candidate
-
--- the boxes had these plans before the first question
-abbrev pub IsRightAfter : Budgets → List Plan → Context → QuestionView → Reply → Type 0
+-- the boxes had these plans before the first question, and know of the candidates that were found for earlier ones
+abbrev pub IsRightAfter : Budgets → List Plan → List Candidate → QuestionView → Reply → Type 0
 IsRightAfter budgets plans before q reply = IsRightAnswer budgets (map (plan_after_all before) plans) q.body reply
-
--- what later answers rest on once this one is given
-abbrev pub after_answer : Context → QuestionView → Reply → Context
-after_answer before q reply = before ++ reply.found
 
 -- ---- the lines of an answer
 

@@ -1,8 +1,9 @@
 -- How a call of `tell` ends: what each status says of the words, of what the source gave and of what the sink took. It has no boxes.
 use Rattle.std.specs.Prelude.{◌≡◌, ℕ, List, [], codes, Bool, false, ◌||◌, ◌⊎◌, Option, Some, None, option_and_then}
-use Rattle.it_outside.specs.Traffic.{GaveMore}
+use Rattle.it_outside.specs.Traffic.{GaveMore, TookPrefix}
+use Rattle.it_outside.specs.Causes.{next_count}
 use Rattle.it_question.specs.Lines.{split_lines}
-use Rattle.it_cli.specs.Ends.{Call, IsFaultless, IsTaken, IsUntouched, ReadFailed, WriteFailed, Wrote, WrotePrefix}
+use Rattle.it_cli.specs.Ends.{Call, IsTaken, IsUntouched, Wrote, FaultsAre}
 use Rattle.it_cli.specs.Modes.{FirstOutput, Mode, OutputInPart, WholeOutput}
 use Rattle.it_cli.specs.Outputs.{verdict_status}
 use Rattle.it_cli.specs.Refusals.{long_line}
@@ -76,7 +77,7 @@ pub record HasToldFirst (r : Call) : Type 0 where
   pub bytes : List ℕ
   pub out : List ℕ
   pub report : IsReport r bytes
-  pub output : FirstOutput (tell_mode options.steps) bytes out
+  pub output : (later : List (tell_mode options.steps).Item) × FirstOutput (tell_mode options.steps) later bytes out
   pub wrote : Wrote r out
 
 -- of the first lines, and a prefix of what is told of the next one
@@ -96,10 +97,12 @@ pub record IsShowing (r : Call) (text : List ℕ) : Type 0 where
 
 -- By the status. Each case says which calls of source and sink failed, all of its cause and all that the sink took.
 abbrev pub Ends : Call → Status → Type 0
-Ends r Done = IsFaultless r × (HasTold r Done ⊎ ((text : List ℕ) × (IsShowing r text × Wrote r text)))
-Ends r Invalid = IsFaultless r × HasTold r Invalid
-Ends r Usage = IsFaultless r × HasNone r × IsUntouched r × Wrote r []
-Ends r Refused = IsFaultless r × IsTooLong r × Wrote r long_line
-Ends r ReadFault = ReadFailed r × ((options : Options) × AsksToTell r options) × Wrote r []
-Ends r WriteFault = WriteFailed r × ((IsTooLong r × WrotePrefix r long_line) ⊎ (HasToldInPart r ⊎ ((text : List ℕ) × (IsShowing r text × WrotePrefix r text))))
-Ends r Memory = IsFaultless r × ((((options : Options) × AsksToTell r options) × Wrote r []) ⊎ HasToldFirst r)
+Ends r Done = FaultsAre r r.read_faults r.write_faults × (HasTold r Done ⊎ ((text : List ℕ) × (IsShowing r text × Wrote r text)))
+Ends r Invalid = FaultsAre r r.read_faults r.write_faults × HasTold r Invalid
+Ends r Usage = FaultsAre r r.read_faults r.write_faults × HasNone r × IsUntouched r × Wrote r []
+Ends r Refused = FaultsAre r r.read_faults r.write_faults × IsTooLong r × Wrote r long_line
+Ends r ReadFault = FaultsAre r (next_count r.read_faults) r.write_faults × ((options : Options) × AsksToTell r options) × Wrote r []
+Ends r WriteFault = FaultsAre r r.read_faults (next_count r.write_faults)
+    × ((IsTooLong r × TookPrefix r.taken r.taken_after long_line)
+    ⊎ (HasToldInPart r ⊎ ((text : List ℕ) × (IsShowing r text × TookPrefix r.taken r.taken_after text))))
+Ends r Memory = FaultsAre r r.read_faults r.write_faults × ((((options : Options) × AsksToTell r options) × Wrote r []) ⊎ HasToldFirst r)
