@@ -1,7 +1,7 @@
 -- The lines of a report that mode `answer` writes are those of the answers, and no verdict on one is invalid.
-use Rattle.std.proofs.Common.{◌≡◌, ℕ, ◌+◌, ◌<◌, ◌≤◌, ◌^◌, Bool, false, ◌||◌, List, [], ◌∷◌, ◌++◌, map, length, All, IfSome, refl, sym, ap, subst, ◌∙◌, arith, append_assoc}
+use Rattle.std.proofs.Common.{◌≡◌, ℕ, ◌+◌, ◌<◌, ◌≤◌, ◌^◌, false, ◌||◌, List, [], ◌∷◌, ◌++◌, map, length, All, IfSome, refl, sym, ap, ap₂, subst, ◌∙◌, arith, append_assoc}
 use Rattle.std.proofs.lemmas.List.Elements.{All-head, All-tail}
-use Rattle.it_outside.specs.Groups.{Groups}
+use Rattle.std.specs.List.{list_any}
 use Rattle.it_settings.specs.declared.types.Format.TheVariants.{Json}
 use Rattle.it_question.specs.Files.{IsFile}
 use Rattle.it_question.specs.Limits.{IsQuestion}
@@ -9,11 +9,12 @@ use Rattle.it_question.specs.Lines.{split_lines}
 use Rattle.it_question.specs.Questions.{QuestionView}
 use Rattle.it_question.proofs.FileReadings.{file_limits}
 use Rattle.it_question.proofs.TextLaws.{text_reads_back}
+use Rattle.it_answer.specs.Replies.{Reply}
 use Rattle.it_certificate.specs.Laws.{ReadsBack}
 use Rattle.it_certificate.specs.Values.{answer_text}
-use Rattle.it_region.specs.declared.types.Candidate.{Candidate}
 use Rattle.it_contain.specs.Proposals.{Plan, plan_after_all}
 use Rattle.it_answer.specs.declared.types.Budgets.{Budgets}
+use Rattle.it_report.specs.LineVerdicts.{LineVerdict, is_invalid}
 use Rattle.it_cli.specs.Accepted.{OutputIsAccepted}
 use Rattle.it_cli.specs.Modes.{Replies}
 use Rattle.it_cli.specs.Outputs.{answer_mode, check_mode, verdict_status}
@@ -21,29 +22,29 @@ use Rattle.it_cli.specs.Right.{budgets_of}
 use Rattle.it_cli.proofs.AcceptLemmas.{right_accepted}
 use Rattle.it_cli.proofs.FeedLemmas.{split_one}
 use Rattle.it_cli.proofs.ShortTexts.{texts_are_short}
+use Rattle.it_cli.proofs.ReplyLemmas.{RepliesFrom, any_more}
+use Rattle.it_cli.proofs.RightLemmas.{found_in}
 
 module _ (back : ReadsBack) (budgets : Budgets) (plans : List Plan) (few : IfSome budgets.pivots (λ n. n < 2 ^ 32)) (few_tries : budgets.tries < 2 ^ 32) (bytes : List ℕ) (short : length bytes ≤ 1048576) (whole : List QuestionView) (file : IsFile bytes whole) where
-  -- the verdicts on these lines, from number j on
-  abbrev Judges : ℕ → Bool → List (List ℕ) → Bool → List ℕ → Type 0
-  Judges j before lines some told = Groups check_mode.IsRight check_mode.after check_mode.text j before lines some told
-
-  none_invalid : (k j : ℕ) (prefix qs : List QuestionView) (s t : List Candidate) (some : Bool) (out told : List ℕ) → whole ≡ prefix ++ qs → All (λ q. IsQuestion q.body) qs → All (λ q. length q.text ≤ length bytes + 1) qs
-      → Groups (answer_mode budgets plans Json).IsRight (answer_mode budgets plans Json).after (answer_mode budgets plans Json).text k s qs t out → Judges j false (split_lines out) some told → some ≡ false
-  none_invalid k j prefix [] s t some out told e limits lengths g v = (subst (λ (o : List ℕ). Judges j false (split_lines o) some told) g.1 v).0
-  none_invalid k j prefix (q ∷ qs) s t some out told e limits lengths g v =
+  none_invalid : (k j : ℕ) (prefix qs : List QuestionView) (s t : List Reply) (before verdicts : List LineVerdict) (out told : List ℕ) → whole ≡ prefix ++ qs → All (λ q. IsQuestion q.body) qs → All (λ q. length q.text ≤ length bytes + 1) qs
+      → RepliesFrom (answer_mode budgets plans Json) k s qs t out → list_any is_invalid before ≡ false → RepliesFrom check_mode j before (split_lines out) verdicts told
+      → list_any is_invalid verdicts ≡ false
+  none_invalid k j prefix [] s t before verdicts out told e limits lengths g clean v =
+      ap (list_any is_invalid) (subst (λ (o : List ℕ). RepliesFrom check_mode j before (split_lines o) verdicts told) g.1 v).0 ∙ clean
+  none_invalid k j prefix (q ∷ qs) s t before verdicts out told e limits lengths g clean v =
       let long = All-head (λ (q : QuestionView). length q.text ≤ length bytes + 1) q qs lengths in
       let limit = All-head (λ (q : QuestionView). IsQuestion q.body) q qs limits in
-      let fine = right_accepted back budgets (map (plan_after_all s) plans) q g.0 few few_tries (omega (arith, long, short)) (text_reads_back bytes whole qs q prefix file e) limit g.2 in
+      let fine = right_accepted back budgets (map (plan_after_all (found_in s)) plans) q g.0 few few_tries (omega (arith, long, short)) (text_reads_back bytes whole qs q prefix file e) limit g.2 in
       let line = answer_text q.text q.body.names g.0.answer in
       let cut : split_lines out ≡ line ∷ split_lines g.1 = ap split_lines g.4 ∙ split_one line g.1 fine.clear in
-      let w = subst (λ (ls : List (List ℕ)). Judges j false ls some told) cut v in
+      let w = subst (λ (ls : List (List ℕ)). RepliesFrom check_mode j before ls verdicts told) cut v in
       let ok = fine.verdicts w.0 w.2 in
-      none_invalid (k + 1) (j + 1) (prefix ++ q ∷ []) qs (s ++ g.0.found) t some g.1 w.1 (e ∙ sym (append_assoc prefix (q ∷ []) qs))
+      none_invalid (k + 1) (j + 1) (prefix ++ q ∷ []) qs (s ++ g.0 ∷ []) t (before ++ w.0 ∷ []) verdicts g.1 w.1 (e ∙ sym (append_assoc prefix (q ∷ []) qs))
       (All-tail (λ (q : QuestionView). IsQuestion q.body) q qs limits) (All-tail (λ (q : QuestionView). length q.text ≤ length bytes + 1) q qs lengths) g.3
-      (subst (λ (b : Bool). Judges (j + 1) (false || b) (split_lines g.1) some w.1) ok w.3)
+      (any_more is_invalid before w.0 ∙ ap₂ (λ x y. x || y) clean ok) w.3
 
 pub output_is_accepted : ReadsBack → OutputIsAccepted
 output_is_accepted back plans pivots rows tries bytes out told answered checked few few_tries short a c =
-    let verdicts = subst (λ (lines : List (List ℕ)). Replies check_mode lines c.state told) c.asked c.replies in
-    let none = none_invalid back (budgets_of pivots rows tries) plans few few_tries bytes short a.items a.asked 1 1 [] a.items [] a.state c.state out told refl (file_limits bytes a.items a.asked) (texts_are_short bytes a.items a.asked) a.replies verdicts in
+    let verdicts = subst (λ (lines : List (List ℕ)). Replies check_mode lines c.replies told) c.asked c.written in
+    let none = none_invalid back (budgets_of pivots rows tries) plans few few_tries bytes short a.items a.asked 1 1 [] a.items [] a.replies [] c.replies out told refl (file_limits bytes a.items a.asked) (texts_are_short bytes a.items a.asked) a.written refl verdicts in
     c.is ∙ ap verdict_status none

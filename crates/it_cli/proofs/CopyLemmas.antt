@@ -39,7 +39,7 @@ right_alone b plans q a found proof right = record { shows = right.shows; due = 
 
 -- the line that says why there is no such question is a right reply
 pub misfit_text : {E : Type 0} (pivots : Option ℕ) (x : CopyQuestion) (k : ℕ) (fault : CopyFault) (r : Result (Vec ℕ) E) → IsMisfit x.question.body x.copies fault → IfOk r (λ t. t.items ≡ misfit_line k fault) → IfOk r (λ t. fault ≡ Memory → ⊥)
-    → IfOk r (λ t. IsTextOf (copy_mode pivots) tt k x t.items)
+    → IfOk r (λ t. IsTextOf (copy_mode pivots) [] k x t.items)
 misfit_text pivots x k fault (Ok t) misfit told some = record { reply = Misfit fault; right = (some, misfit); is = told }
 misfit_text pivots x k fault (Err e) misfit told some = tt
 

@@ -240,16 +240,16 @@ headline r s settings most bytes old new ends is reading limit e taken taken_aft
 pub verdicts_are_written : VerdictsAreWritten
 verdicts_are_written r s bytes old new ends is reading e taken taken_after =
     let h = headline r s Check 67108864 bytes old new ends is reading refl e taken taken_after in
-    (h.1.state, h.0, subst (λ (lines : List (List ℕ)). Replies check_mode lines h.1.state h.0) h.1.asked h.1.replies, h.2, h.1.is)
+    (h.1.replies, h.0, subst (λ (lines : List (List ℕ)). Replies check_mode lines h.1.replies h.0) h.1.asked h.1.written, h.2, h.1.is)
 
 -- the whole output of mode `bench` is its line
-by_one_item : (budgets : Budgets) (plans : List Plan) (seed count : ℕ) (items : List (Unit {0})) (state : Unit {0}) (out : List ℕ) → items ≡ tt ∷ [] → Replies (bench_mode budgets plans seed count) items state out → IsBenchLine budgets plans seed count out
-by_one_item budgets plans seed count items state out is replies =
-    let one = subst (λ (xs : List (Unit {0})). Replies (bench_mode budgets plans seed count) xs state out) is replies in
+by_one_item : (budgets : Budgets) (plans : List Plan) (seed count : ℕ) (items : List (Unit {0})) (lines : List (List ℕ)) (out : List ℕ) → items ≡ tt ∷ [] → Replies (bench_mode budgets plans seed count) items lines out → IsBenchLine budgets plans seed count out
+by_one_item budgets plans seed count items lines out is written =
+    let one = subst (λ (xs : List (Unit {0})). Replies (bench_mode budgets plans seed count) xs lines out) is written in
     subst (IsBenchLine budgets plans seed count) (sym (one.4 ∙ ap (λ rest. one.0 ++ rest) one.3.1 ∙ append-nil one.0)) one.2
 
 line_of_output : (budgets : Budgets) (plans : List Plan) (seed count : ℕ) (bytes out : List ℕ) (s : Status) → WholeOutput (bench_mode budgets plans seed count) bytes out s → IsBenchLine budgets plans seed count out
-line_of_output budgets plans seed count bytes out s o = by_one_item budgets plans seed count o.items o.state out o.asked o.replies
+line_of_output budgets plans seed count bytes out s o = by_one_item budgets plans seed count o.items o.replies out o.asked o.written
 
 pub counts_are_written : CountsAreWritten
 counts_are_written r seed count pivots rows tries old new (faultless, h) reading taken taken_after = (

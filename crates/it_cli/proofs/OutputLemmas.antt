@@ -1,7 +1,6 @@
 -- Each mode is determined, and so an input has one output.
-use Rattle.std.proofs.Common.{◌≡◌, ℕ, ◌+◌, List, [], ◌∷◌, ◌++◌, map, Option, refl, sym, ap, ap₂, subst, ◌∙◌, arith}
+use Rattle.std.proofs.Common.{◌≡◌, ℕ, ◌+◌, List, [], ◌∷◌, ◌++◌, map, flat_map, Option, refl, sym, ap, ap₂, subst, ◌∙◌, arith}
 use Rattle.std.proofs.lemmas.Bool.{false≢true}
-use Rattle.it_outside.specs.Groups.{Groups}
 use Rattle.it_space.specs.Answers.{AnswerView}
 use Rattle.it_question.specs.Questions.{BodyView, QuestionView}
 use Rattle.it_question.specs.Files.{FileFaultIsOne, FileIsOne, FileOrFault}
@@ -28,22 +27,23 @@ use Rattle.it_cli.specs.Right.{budgets_of}
 use Rattle.it_cli.specs.SharingReplies.{Answered, Factored, IsRightSharing, Many, SharingReply}
 use Rattle.it_cli.specs.declared.status.Status.{Status}
 use Rattle.it_cli.proofs.CountLemmas.{one_count}
+use Rattle.it_cli.proofs.ReplyLemmas.{RepliesFrom}
 
 -- ---- a mode that is determined has one output
 
 module _ (m : Mode) (d : IsDetermined m) where
-  one_text : (k : ℕ) (xs : List m.Item) (s t u : m.State) (out other : List ℕ) → Groups m.IsRight m.after m.text k s xs t out → Groups m.IsRight m.after m.text k s xs u other → (out ≡ other) × (t ≡ u)
+  one_text : (k : ℕ) (xs : List m.Item) (s t u : List m.Reply) (out other : List ℕ) → RepliesFrom m k s xs t out → RepliesFrom m k s xs u other → (out ≡ other) × (t ≡ u)
   one_text k [] s t u out other a b = (a.1 ∙ sym b.1, a.0 ∙ sym b.0)
   one_text k (x ∷ xs) s t u out other (reply, rest, right, groups, is) (another, others, is_right, more, so) =
       let same : another ≡ reply = d.one_reply s x another reply is_right right in
-      let moved = subst (λ (y : m.Reply). Groups m.IsRight m.after m.text (k + 1) (m.after s x y) xs u others) same more in
-      let later = one_text (k + 1) xs (m.after s x reply) t u rest others groups moved in
+      let moved = subst (λ (y : m.Reply). RepliesFrom m (k + 1) (s ++ y ∷ []) xs u others) same more in
+      let later = one_text (k + 1) xs (s ++ reply ∷ []) t u rest others groups moved in
       (is ∙ ap₂ (λ y ys. m.text k x y ++ ys) (sym same) later.0 ∙ sym so, later.1)
 
   one_whole : (bytes out other : List ℕ) (s t : Status) → WholeOutput m bytes out s → WholeOutput m bytes other t → (out ≡ other) × (s ≡ t)
   one_whole bytes out other s t a b =
       let same = d.one_reading bytes b.items a.items b.asked a.asked in
-      let both = one_text 1 a.items m.start a.state b.state out other a.replies (subst (λ (xs : List m.Item). Replies m xs b.state other) same b.replies) in
+      let both = one_text 1 a.items [] a.replies b.replies out other a.written (subst (λ (xs : List m.Item). Replies m xs b.replies other) same b.written) in
       (both.0, a.is ∙ ap m.status both.1 ∙ sym b.is)
 
 -- ---- each mode is determined
@@ -54,7 +54,7 @@ module _ (one_answer : OneRightAnswer) (one_file : FileIsOne) (one_fault : FileF
     one_reading = one_file;
     one_fault = one_fault;
     apart = apart;
-    one_reply = λ s x a b f g. one_answer budgets (map (plan_after_all s) plans) x.body a b f g;
+    one_reply = λ s x a b f g. one_answer budgets (map (plan_after_all (flat_map (λ (r : Reply). r.found) s)) plans) x.body a b f g;
   }
 
   one_line : (budgets : Budgets) (plans : List Plan) (seed count : ℕ) (line other : List ℕ) → IsBenchLine budgets plans seed count line → IsBenchLine budgets plans seed count other → line ≡ other

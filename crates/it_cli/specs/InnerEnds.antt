@@ -40,10 +40,10 @@ pub record IsProofText (pivots : Option ℕ) (k : ℕ) (q : BodyView) (bytes : L
   pub right : IsRightProof pivots q answer
   pub is : bytes ≡ answer_line k q (question_origins q) answer
 
--- the lines of a right reply to item k of a mode, in a state
-pub record IsTextOf (m : Mode) (s : m.State) (k : ℕ) (x : m.Item) (bytes : List ℕ) : Type 0 where
+-- the lines of a right reply to item k of a mode, after earlier replies
+pub record IsTextOf (m : Mode) (earlier : List m.Reply) (k : ℕ) (x : m.Item) (bytes : List ℕ) : Type 0 where
   pub reply : m.Reply
-  pub right : m.IsRight s x reply
+  pub right : m.IsRight earlier x reply
   pub is : bytes ≡ m.text k x reply
 
 -- the line with which bytes are refused, that of their first fault

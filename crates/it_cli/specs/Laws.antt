@@ -1,5 +1,6 @@
 -- What follows from how a call ends and from what a right answer is.
-use Rattle.std.specs.Prelude.{◌≡◌, ℕ, ◌+◌, ◌≤◌, ◌<◌, List, [], ◌++◌, length, Bool, ◌⊎◌, Option, Some, None}
+use Rattle.std.specs.Prelude.{◌≡◌, ℕ, ◌+◌, ◌≤◌, ◌<◌, List, [], ◌++◌, length, ◌⊎◌, Option, Some, None}
+use Rattle.std.specs.List.{list_any}
 use Rattle.it_outside.specs.Causes.{next_count}
 use Rattle.it_settings.specs.declared.types.Settings.{Settings}
 use Rattle.it_settings.specs.declared.types.Settings.TheVariants.{Check, Bench}
@@ -13,6 +14,7 @@ use Rattle.it_region.specs.declared.types.Candidate.{Candidate}
 use Rattle.it_contain.specs.Proposals.{Plan}
 use Rattle.it_answer.specs.declared.types.Budgets.{Budgets}
 use Rattle.it_answer.specs.RightAnswers.{IsRightAnswer}
+use Rattle.it_report.specs.LineVerdicts.{LineVerdict, is_invalid}
 use Rattle.it_cli.specs.Right.{budgets_of}
 use Rattle.it_gen.specs.GeneratedFiles.{generated_file}
 use Rattle.it_cli.specs.Counts.{AreCounted, IsBenchLine, no_counts}
@@ -38,7 +40,7 @@ Headline = (r : Call) (s : Status) (settings : Settings) (most : ℕ) (bytes old
 abbrev pub VerdictsAreWritten : Type 0
 VerdictsAreWritten = (r : Call) (s : Status) (bytes old new : List ℕ) → Ends r s → (s ≡ Done) ⊎ (s ≡ Invalid) → settings_of r.words ≡ Some Check
     → r.left ≡ Some bytes → r.taken ≡ Some old → r.taken_after ≡ Some new
-    → (some_invalid : Bool) × (out : List ℕ) × Verdicts bytes some_invalid out × (new ≡ old ++ out) × (s ≡ verdict_status some_invalid)
+    → (verdicts : List LineVerdict) × (out : List ℕ) × Verdicts bytes verdicts out × (new ≡ old ++ out) × (s ≡ verdict_status (list_any is_invalid verdicts))
 
 -- In mode `bench` it gained the line of counts, and the source is as it was.
 abbrev pub CountsAreWritten : Type 0
@@ -95,7 +97,7 @@ CountsAddUp = (budgets : Budgets) (plans : List Plan) (seed count : ℕ) (questi
     → IsFile (generated_file seed count) questions → AreCounted budgets plans [] no_counts questions counts
     → (counts.yes + counts.no + counts.undecided ≡ count) × (counts.regions ≡ 0) × (counts.contained ≡ 0) × (counts.left_open ≡ 0)
 
--- in each mode bytes ask for one list of items, or have one first fault, and not both; and an item has one right reply in a state
+-- in each mode bytes ask for one list of items, or have one first fault, and not both; and an item has one right reply after others
 abbrev pub ModesAreDetermined : Type 0
 ModesAreDetermined = (plans : List Plan) (settings : Settings) → IsDetermined (mode_of plans settings)
 

@@ -1,5 +1,6 @@
 -- The modes, and what a whole input is answered with by the one that the words ask for.
-use Rattle.std.specs.Prelude.{◌≡◌, ℕ, List, [], ◌∷◌, ◌++◌, Bool, true, false, ◌||◌, Option, Some, None}
+use Rattle.std.specs.Prelude.{◌≡◌, ℕ, List, [], ◌∷◌, flat_map, Bool, true, false, Option, Some, None}
+use Rattle.std.specs.List.{list_any}
 use Rattle.it_outside.specs.Traffic.{IsPrefix}
 use Rattle.it_settings.specs.declared.types.Format.{Format}
 use Rattle.it_settings.specs.declared.types.Settings.{Settings}
@@ -9,7 +10,6 @@ use Rattle.it_question.specs.Lines.{split_lines}
 use Rattle.it_question.specs.Questions.{QuestionView}
 use Rattle.it_copy.specs.Files.{CopyFileFaultAt}
 use Rattle.it_forms.specs.declared.types.Code.{Code}
-use Rattle.it_region.specs.declared.types.Candidate.{Candidate}
 use Rattle.it_contain.specs.Proposals.{Plan}
 use Rattle.it_answer.specs.declared.types.Budgets.{Budgets}
 use Rattle.it_answer.specs.Replies.{Reply}
@@ -39,14 +39,11 @@ abbrev pub answer_mode : Budgets → List Plan → Format → Mode
 answer_mode budgets plans format = record {
   Item = QuestionView;
   Reply = Reply;
-  State = List Candidate;
   Asks = IsFile;
   FaultAt = FileFaultAt;
-  start = [];
-  IsRight = IsRightAfter budgets plans;
-  after = λ found q reply. found ++ reply.found;
+  IsRight = λ earlier q reply. IsRightAfter budgets plans (flat_map (λ (r : Reply). r.found) earlier) q reply;
   text = λ k q reply. answer_lines format k q reply.answer;
-  status = λ found. Done;
+  status = λ replies. Done;
 }
 
 -- the status after all verdicts are written
@@ -59,47 +56,41 @@ abbrev pub check_mode : Mode
 check_mode = record {
   Item = List ℕ;
   Reply = LineVerdict;
-  State = Bool;
   Asks = λ bytes lines. lines ≡ split_lines bytes;
   FaultAt = λ bytes line column code. ⊥;
-  start = false;
-  IsRight = λ some_invalid line v. IsVerdict line v;
-  after = λ some_invalid line v. some_invalid || is_invalid v;
+  IsRight = λ earlier line v. IsVerdict line v;
   text = λ k line v. verdict_line k v;
-  status = verdict_status;
+  status = λ verdicts. verdict_status (list_any is_invalid verdicts);
 }
 
--- a mode whose right replies to an item are the same in each place, and whose status is always that all is done
-abbrev pub mode_without_state : {Item Reply : Type 0} → (List ℕ → List Item → Type 0) → (List ℕ → ℕ → ℕ → Code → Type 0) → (Item → Reply → Type 0) → (ℕ → Item → Reply → List ℕ) → Mode
-mode_without_state {Item} {Reply} asks fault_at is_right text = record {
+-- a mode whose right replies to an item are the same after any others, and whose status is always that all is done
+abbrev pub mode_by_item : {Item Reply : Type 0} → (List ℕ → List Item → Type 0) → (List ℕ → ℕ → ℕ → Code → Type 0) → (Item → Reply → Type 0) → (ℕ → Item → Reply → List ℕ) → Mode
+mode_by_item {Item} {Reply} asks fault_at is_right text = record {
   Item = Item;
   Reply = Reply;
-  State = Unit {0};
   Asks = asks;
   FaultAt = fault_at;
-  start = tt;
-  IsRight = λ s x reply. is_right x reply;
-  after = λ s x reply. tt;
+  IsRight = λ earlier x reply. is_right x reply;
   text = text;
-  status = λ s. Done;
+  status = λ replies. Done;
 }
 
 -- the line of the counts for a generated file, which is one item; nothing is asked of an input
 abbrev pub bench_mode : Budgets → List Plan → ℕ → ℕ → Mode
 bench_mode budgets plans seed count =
-    mode_without_state (λ bytes items. items ≡ tt {0} ∷ []) (λ bytes line column code. ⊥) (λ item line. IsBenchLine budgets plans seed count line) (λ k item line. line)
+    mode_by_item (λ bytes items. items ≡ tt {0} ∷ []) (λ bytes line column code. ⊥) (λ item line. IsBenchLine budgets plans seed count line) (λ k item line. line)
 
 -- one right reply to each question of a file with a head
 abbrev pub copy_mode : Option ℕ → Mode
-copy_mode pivots = mode_without_state AsksWithCopies CopyFileFaultAt (IsRightCopy pivots) (λ k x reply. copy_text k reply)
+copy_mode pivots = mode_by_item AsksWithCopies CopyFileFaultAt (IsRightCopy pivots) (λ k x reply. copy_text k reply)
 
 -- one right reply to each question of a file that asks for factors
 abbrev pub best_mode : Option ℕ → Mode
-best_mode pivots = mode_without_state IsFile FileFaultAt (λ q reply. IsRightReply pivots q.body reply) (λ k q reply. reply_line k q.body (question_origins q.body) reply)
+best_mode pivots = mode_by_item IsFile FileFaultAt (λ q reply. IsRightReply pivots q.body reply) (λ k q reply. reply_line k q.body (question_origins q.body) reply)
 
 -- one right reply to what a sharing file asks
 abbrev pub sharing_mode : Option ℕ → Mode
-sharing_mode pivots = mode_without_state AsksOfSharing SharingFaultAt (IsRightSharing pivots) (λ k x reply. sharing_text x reply)
+sharing_mode pivots = mode_by_item AsksOfSharing SharingFaultAt (IsRightSharing pivots) (λ k x reply. sharing_text x reply)
 
 -- the mode that the words ask for; the boxes had these plans
 abbrev pub mode_of : List Plan → Settings → Mode
@@ -128,6 +119,6 @@ IsOutputInPart plans settings bytes out = OutputInPart (mode_of plans settings) 
 abbrev pub IsPrefixOfOutput : List Plan → Settings → List ℕ → List ℕ → Type 0
 IsPrefixOfOutput plans settings bytes out = (whole : List ℕ) × (status : Status) × IsOutput plans settings bytes whole status × IsPrefix out whole
 
--- the output for a report: the verdict's line for each of its lines, and whether one is invalid
-abbrev pub Verdicts : List ℕ → Bool → List ℕ → Type 0
-Verdicts bytes some_invalid out = Replies check_mode (split_lines bytes) some_invalid out
+-- the output for a report: the line of the verdict on each of its lines
+abbrev pub Verdicts : List ℕ → List LineVerdict → List ℕ → Type 0
+Verdicts bytes verdicts out = Replies check_mode (split_lines bytes) verdicts out

@@ -1,5 +1,5 @@
 //! Mode `copy`: a file whose head asks for copies of variables, and the answers to its questions with these copies.
-ghost use Rattle.std.specs.Prelude.{◌≤◌, All, IfOk, length, map};
+ghost use Rattle.std.specs.Prelude.{[], ◌≤◌, All, IfOk, length, map};
 ghost use Rattle.it_question.specs.Limits.{IsQuestion};
 ghost use Rattle.it_question.specs.Questions.{question_body, question_view};
 ghost use Rattle.it_copy.specs.CopyLines.{AreNamed, copy_view};
@@ -76,7 +76,7 @@ fn reply(
     requires limits { IsQuestion (question_body question.now) }
     requires names { AreNamed copies.now }
     requires few { length copies.now ≤ 4 }
-    ensures { IfOk result (λ text. IsTextOf (copy_mode pivots) tt k (with_copies (map copy_view copies.now) (question_view question.now)) text.items) }
+    ensures { IfOk result (λ text. IsTextOf (copy_mode pivots) [] k (with_copies (map copy_view copies.now) (question_view question.now)) text.items) }
 {
     match extend(alloc, question, copies) {
         Ok(extended) => proof_lines(alloc, pivots, k, &extended),

@@ -1,5 +1,5 @@
 //! Mode `best`: a question file, and the best factors between the sides of its relations.
-ghost use Rattle.std.specs.Prelude.{◌≡◌, ◌≤◌, All, IfOk, length, map};
+ghost use Rattle.std.specs.Prelude.{◌≤◌, [], All, IfOk, length, map};
 ghost use Rattle.it_question.specs.Limits.{IsQuestion};
 ghost use Rattle.it_question.specs.Questions.{question_body, question_view};
 ghost use Rattle.it_cli.specs.InnerEnds.{EndOfBytes, EndOfItems, IsTextOf};
@@ -59,7 +59,7 @@ pub fn factor_line(
     question: &Question,
 ) -> Result<Vec<u8>, AllocError>
     requires { IsQuestion (question_body question.now) }
-    ensures { IfOk result (λ text. IsTextOf (best_mode pivots) tt k (question_view question.now) text.items) }
+    ensures { IfOk result (λ text. IsTextOf (best_mode pivots) [] k (question_view question.now) text.items) }
 {
     let replied = reply(alloc, question, pivots)?;
     reply_line(

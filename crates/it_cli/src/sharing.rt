@@ -53,7 +53,7 @@ fn reply<K: Sink>(alloc: Global, pivots: Option<u32>, sharing: &Sharing, sink: &
 /// The lines of the right reply to what a sharing file asks.
 fn lines(alloc: Global, pivots: Option<u32>, sharing: &Sharing) -> Result<Vec<u8>, AllocError>
     requires { IsSharing (sharing_view sharing.now) }
-    ensures { IfOk result (λ text. IsTextOf (sharing_mode pivots) tt 1 (sharing_view sharing.now) text.items) }
+    ensures { IfOk result (λ text. IsTextOf (sharing_mode pivots) [] 1 (sharing_view sharing.now) text.items) }
 {
     match made(alloc, sharing) {
         Ok(made) => made_lines(alloc, pivots, sharing, &made),
@@ -83,7 +83,7 @@ fn made_lines(
     requires minimal { made.now.minimal ≡ minimal_count (sharing_view sharing.now) }
     requires maximal { made.now.maximal ≡ maximal_count (sharing_view sharing.now) }
     requires few { made.now.minimal + made.now.maximal ≤ 64 }
-    ensures { IfOk result (λ text. IsTextOf (sharing_mode pivots) tt 1 (sharing_view sharing.now) text.items) }
+    ensures { IfOk result (λ text. IsTextOf (sharing_mode pivots) [] 1 (sharing_view sharing.now) text.items) }
 {
     if sharing.best {
         let line = factor_line(alloc, pivots, 1, &made.question)?;

@@ -1,6 +1,7 @@
 -- How a call of `tell` ends: what each status says of the words, of what the source gave and of what the sink took. It has no boxes.
-use Rattle.std.specs.Prelude.{◌≡◌, ℕ, List, [], codes, Bool, false, ◌||◌, ◌⊎◌, Option, Some, None, option_and_then}
+use Rattle.std.specs.Prelude.{◌≡◌, ℕ, List, [], codes, Bool, ◌⊎◌, Option, Some, None, option_and_then}
 use Rattle.it_outside.specs.Traffic.{GaveMore, TookPrefix}
+use Rattle.std.specs.List.{list_any}
 use Rattle.it_outside.specs.Causes.{next_count}
 use Rattle.it_question.specs.Lines.{split_lines}
 use Rattle.it_cli.specs.Ends.{Call, IsTaken, IsUntouched, Wrote, FaultsAre}
@@ -20,14 +21,11 @@ abbrev pub tell_mode : Bool → Mode
 tell_mode with_steps = record {
   Item = List ℕ;
   Reply = Telling;
-  State = Bool;
   Asks = λ bytes lines. lines ≡ split_lines bytes;
   FaultAt = λ bytes line column code. ⊥;
-  start = false;
-  IsRight = λ some_invalid line telling. IsTelling with_steps line telling;
-  after = λ some_invalid line telling. some_invalid || tells_invalid telling;
+  IsRight = λ earlier line telling. IsTelling with_steps line telling;
   text = λ k line telling. telling_text k telling;
-  status = verdict_status;
+  status = λ tellings. verdict_status (list_any tells_invalid tellings);
 }
 
 -- the most bytes of a report

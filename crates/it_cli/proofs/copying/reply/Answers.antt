@@ -1,4 +1,4 @@
-use Rattle.std.proofs.Common.{map}
+use Rattle.std.proofs.Common.{map, []}
 use Rattle.it_run.proofs.AnswerLemmas.{if_ok}
 use Rattle.it_question.specs.Questions.{question_body, question_view}
 use Rattle.it_copy.specs.CopyLines.{copy_view}
@@ -10,7 +10,7 @@ use Rattle.it_cli.proofs.copying.reply.Goals as goal
 
 pub returns-in-Ok : goal.returns-in-Ok
 returns-in-Ok c = if_ok c.proof_lines.result (λ t. IsProofText c.args.pivots c.args.k (question_body c.in-Ok.extended) t.items)
-    (λ t. IsTextOf (copy_mode c.args.pivots) tt c.args.k (with_copies (map copy_view c.args.copies.now) (question_view c.args.question.now)) t.items) c.proof_lines.ensures
+    (λ t. IsTextOf (copy_mode c.args.pivots) [] c.args.k (with_copies (map copy_view c.args.copies.now) (question_view c.args.question.now)) t.items) c.proof_lines.ensures
     (λ t lines. record { reply = Extended (question_body c.in-Ok.extended) lines.answer; right = (c.in-Ok.ensures.extension, lines.right); is = lines.is })
 
 pub returns-in-Err : goal.returns-in-Err
