@@ -34,17 +34,24 @@ most_bytes settings = Some 1048576
 
 -- ---- the modes
 
--- one right answer to each question of a file, by boxes that had these plans before the first
-abbrev pub answer_mode : Budgets → List Plan → Format → Mode
-answer_mode budgets plans format = record {
-  Item = QuestionView;
+-- a mode whose status is always that all is done
+abbrev pub done_mode : {Item Reply : Type 0} → (List ℕ → List Item → Type 0) → (List ℕ → ℕ → ℕ → Code → Type 0)
+    → (List Reply → Item → Reply → Type 0) → (ℕ → Item → Reply → List ℕ) → Mode
+done_mode {Item} {Reply} asks fault_at is_right text = record {
+  Item = Item;
   Reply = Reply;
-  Asks = IsFile;
-  FaultAt = FileFaultAt;
-  IsRight = λ earlier q reply. IsRightAfter budgets plans (flat_map (λ (r : Reply). r.found) earlier) q reply;
-  text = λ k q reply. answer_lines format k q reply.answer;
+  Asks = asks;
+  FaultAt = fault_at;
+  IsRight = is_right;
+  text = text;
   status = λ replies. Done;
 }
+
+-- one right answer to each question of a file, by boxes that had these plans before the first
+abbrev pub answer_mode : Budgets → List Plan → Format → Mode
+answer_mode budgets plans format = done_mode IsFile FileFaultAt
+    (λ (earlier : List Reply) (q : QuestionView) (reply : Reply). IsRightAfter budgets plans (flat_map (λ (r : Reply). r.found) earlier) q reply)
+    (λ k q reply. answer_lines format k q reply.answer)
 
 -- the status after all verdicts are written
 abbrev pub verdict_status : Bool → Status
@@ -63,34 +70,23 @@ check_mode = record {
   status = λ verdicts. verdict_status (list_any is_invalid verdicts);
 }
 
--- a mode whose right replies to an item are the same after any others, and whose status is always that all is done
-abbrev pub mode_by_item : {Item Reply : Type 0} → (List ℕ → List Item → Type 0) → (List ℕ → ℕ → ℕ → Code → Type 0) → (Item → Reply → Type 0) → (ℕ → Item → Reply → List ℕ) → Mode
-mode_by_item {Item} {Reply} asks fault_at is_right text = record {
-  Item = Item;
-  Reply = Reply;
-  Asks = asks;
-  FaultAt = fault_at;
-  IsRight = λ earlier x reply. is_right x reply;
-  text = text;
-  status = λ replies. Done;
-}
-
 -- the line of the counts for a generated file, which is one item; nothing is asked of an input
 abbrev pub bench_mode : Budgets → List Plan → ℕ → ℕ → Mode
-bench_mode budgets plans seed count =
-    mode_by_item (λ bytes items. items ≡ tt {0} ∷ []) (λ bytes line column code. ⊥) (λ item line. IsBenchLine budgets plans seed count line) (λ k item line. line)
+bench_mode budgets plans seed count = done_mode (λ bytes items. items ≡ tt {0} ∷ []) (λ bytes line column code. ⊥)
+    (λ earlier item line. IsBenchLine budgets plans seed count line) (λ k item line. line)
 
 -- one right reply to each question of a file with a head
 abbrev pub copy_mode : Option ℕ → Mode
-copy_mode pivots = mode_by_item AsksWithCopies CopyFileFaultAt (IsRightCopy pivots) (λ k x reply. copy_text k reply)
+copy_mode pivots = done_mode AsksWithCopies CopyFileFaultAt (λ earlier. IsRightCopy pivots) (λ k x reply. copy_text k reply)
 
 -- one right reply to each question of a file that asks for factors
 abbrev pub best_mode : Option ℕ → Mode
-best_mode pivots = mode_by_item IsFile FileFaultAt (λ q reply. IsRightReply pivots q.body reply) (λ k q reply. reply_line k q.body (question_origins q.body) reply)
+best_mode pivots = done_mode IsFile FileFaultAt (λ earlier q reply. IsRightReply pivots q.body reply)
+    (λ k q reply. reply_line k q.body (question_origins q.body) reply)
 
 -- one right reply to what a sharing file asks
 abbrev pub sharing_mode : Option ℕ → Mode
-sharing_mode pivots = mode_by_item AsksOfSharing SharingFaultAt (IsRightSharing pivots) (λ k x reply. sharing_text x reply)
+sharing_mode pivots = done_mode AsksOfSharing SharingFaultAt (λ earlier. IsRightSharing pivots) (λ k x reply. sharing_text x reply)
 
 -- the mode that the words ask for; the boxes had these plans
 abbrev pub mode_of : List Plan → Settings → Mode
