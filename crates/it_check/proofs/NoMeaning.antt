@@ -1,5 +1,6 @@
 -- A counterexample is found valid exactly where it is one and its numbers fit.
 use Rattle.std.proofs.Common.{◌≡◌, ℕ, ◌+◌, ℤ, pos, neg_ℤ, ◌+ℤ◌, ◌≤ℤ◌, List, [], ◌∷◌, map, length, Bool, true, false, cond, not, Option, Some, None, ltb, refl, sym, ap, subst, ◌∙◌, arith}
+use Rattle.std.specs.Option.{option_or}
 use Rattle.std.specs.Bool.{Decides}
 use Rattle.std.specs.Int.Signed.{lt_z}
 use Rattle.std.specs.Ordering.{int_eq}
@@ -20,7 +21,7 @@ use Rattle.it_elemental.specs.Rows.{elemental_row}
 use Rattle.it_elemental.proofs.RowLemmas.{value-row}
 use Rattle.it_elemental.specs.Generators.{Generator, of_elemental, of_constraint, generator_list}
 use Rattle.it_check.specs.Sums.{sum_within}
-use Rattle.it_check.specs.Verdicts.{or_else, valid_unless, violates, violation, of_value, of_generator, of_generators, of_target, no_verdict}
+use Rattle.it_check.specs.Verdicts.{valid_unless, violates, violation, of_value, of_generators, of_target, no_verdict}
 use Rattle.it_check.specs.declared.verdicts.Verdict.{Verdict}
 use Rattle.it_check.specs.declared.verdicts.Verdict.TheVariants.{Valid, BrokenElemental, UnmetConstraint, NotViolated}
 use Rattle.it_check.proofs.SumLemmas.{sum_told, sum_fits}
@@ -62,7 +63,7 @@ value_clean count i k (Some x) q = by_test (violates k x) q
         inside_is_valid v q = cc
     by_test false q = cc
 
-generator_none : (count i : ℕ) (g : Generator) (p : ℕ → ℤ) → of_generator count i g p ≡ None → IsRight p g
+generator_none : (count i : ℕ) (g : Generator) (p : ℕ → ℤ) → of_value count i g.kind (sum_within (pos 0) g.row p) ≡ None → IsRight p g
 generator_none count i g p q = by_option (sum_within (pos 0) g.row p) (λ x e. sum_told (pos 0) g.row p x e) q
   where
     by_option : (o : Option ℤ) → ((x : ℤ) → o ≡ Some x → ValueFits g.row p × (x ≡ pos 0 +ℤ value g.row p)) → of_value count i g.kind o ≡ None → IsRight p g
@@ -73,7 +74,7 @@ generator_none count i g p q = by_option (sum_within (pos 0) g.row p) (λ x e. s
         test_is_false true q = absurd (cc)
         test_is_false false q = refl
 
-none_generator : (count i : ℕ) (g : Generator) (p : ℕ → ℤ) → IsRight p g → of_generator count i g p ≡ None
+none_generator : (count i : ℕ) (g : Generator) (p : ℕ → ℤ) → IsRight p g → of_value count i g.kind (sum_within (pos 0) g.row p) ≡ None
 none_generator count i g p h = ap (of_value count i g.kind) (sum_fits (pos 0) g.row p h.0 ∙ ap Some (+ℤ_idl (value g.row p)))
     ∙ ap (λ b. cond b (Some (violation count i (value g.row p))) None) (meets_not_violated g.kind (value g.row p) h.1)
 
@@ -82,17 +83,17 @@ none_generator count i g p h = ap (of_value count i g.kind) (sum_fits (pos 0) g.
 generators_clean : (count i : ℕ) (gs : List Generator) (p : ℕ → ℤ) → of_generators count i gs p ≡ Some Valid → ⊥
 unfolding of_generators
 generators_clean count i [] p q = cc
-generators_clean count i (g ∷ gs) p q = clean_or (of_generator count i g p) (of_generators count (i + 1) gs p) (value_clean count i g.kind (sum_within (pos 0) g.row p)) (generators_clean count (i + 1) gs p) q
+generators_clean count i (g ∷ gs) p q = clean_or (of_value count i g.kind (sum_within (pos 0) g.row p)) (of_generators count (i + 1) gs p) (value_clean count i g.kind (sum_within (pos 0) g.row p)) (generators_clean count (i + 1) gs p) q
 
 generators_none : (count i : ℕ) (gs : List Generator) (p : ℕ → ℤ) → of_generators count i gs p ≡ None → Every (IsRight p) gs
 unfolding of_generators
 generators_none count i [] p q = tt
-generators_none count i (g ∷ gs) p q = let both = none_both (of_generator count i g p) (of_generators count (i + 1) gs p) q in (generator_none count i g p both.0, generators_none count (i + 1) gs p both.1)
+generators_none count i (g ∷ gs) p q = let both = none_both (of_value count i g.kind (sum_within (pos 0) g.row p)) (of_generators count (i + 1) gs p) q in (generator_none count i g p both.0, generators_none count (i + 1) gs p both.1)
 
 none_generators : (count i : ℕ) (gs : List Generator) (p : ℕ → ℤ) → Every (IsRight p) gs → of_generators count i gs p ≡ None
 unfolding of_generators
 none_generators count i [] p h = refl
-none_generators count i (g ∷ gs) p h = ap (λ o. or_else o (of_generators count (i + 1) gs p)) (none_generator count i g p h.0) ∙ none_generators count (i + 1) gs p h.1
+none_generators count i (g ∷ gs) p h = ap (λ o. option_or o (of_generators count (i + 1) gs p)) (none_generator count i g p h.0) ∙ none_generators count (i + 1) gs p h.1
 
 -- ---- the target
 
@@ -138,7 +139,7 @@ module _ (count : ℕ) (gs : List Generator) (target : Terms) (p : ℕ → ℤ) 
   pub no_valid : Every (IsRight p) gs → ValueFits target p → value target p ≤ℤ neg_ℤ (pos 1) → no_verdict count gs target p ≡ Valid
   unfolding no_verdict
   no_valid h f v =
-      ap (λ o. valid_unless (or_else o (of_target (length gs) (sum_within (pos 0) target p)))) (none_generators count 0 gs p h)
+      ap (λ o. valid_unless (option_or o (of_target (length gs) (sum_within (pos 0) target p)))) (none_generators count 0 gs p h)
       ∙ ap valid_unless (none_target (length gs) target p f v)
 
 -- ---- what is met: the axioms and the constraints

@@ -1,5 +1,6 @@
 -- The verdict on a counterexample, step by step as the code forms it.
 use Rattle.std.proofs.Common.{◌≡◌, ℕ, ◌+◌, ◌<◌, ◌≤◌, ℤ, pos, ◌≤ℤ◌, ◌<ℤ◌, List, length, drop, true, false, cond, Option, Some, None, Result, Ok, Err, OkIff, sym, ap, ◌∙◌, arith}
+use Rattle.std.specs.Option.{option_or}
 use Rattle.std.specs.Result.{result_ok}
 use Rattle.std.specs.Int.Signed.{lt_z}
 use Rattle.std.proofs.lemmas.Int.{ints}
@@ -9,7 +10,7 @@ use Rattle.it_space.specs.declared.problems.Kind.{Kind}
 use Rattle.it_space.specs.Rows.{Terms, ValueFits, value}
 use Rattle.it_elemental.specs.Generators.{Generator, generator_at}
 use Rattle.it_check.specs.Sums.{sum_within}
-use Rattle.it_check.specs.Verdicts.{or_else, valid_unless, violates, violation, of_value, of_generator, of_generators, of_target, no_verdict}
+use Rattle.it_check.specs.Verdicts.{valid_unless, violates, violation, of_value, of_generators, of_target, no_verdict}
 use Rattle.it_check.specs.declared.verdicts.Verdict.{Verdict}
 use Rattle.it_check.specs.declared.verdicts.Verdict.TheVariants.{Width, NotViolated}
 use Rattle.it_check.proofs.SumLemmas.{sum_is}
@@ -17,35 +18,35 @@ use Rattle.it_check.proofs.SumLemmas.{sum_is}
 -- ---- one generator
 
 module _ (count i : ℕ) (g : Generator) (p : ℕ → ℤ) (r : Result ℤ Wide) (o : OkIff r (ValueFits g.row p) (value g.row p)) where
-  generator_is : of_generator count i g p ≡ of_value count i g.kind (result_ok r)
+  generator_is : of_value count i g.kind (sum_within (pos 0) g.row p) ≡ of_value count i g.kind (result_ok r)
   generator_is = ap (of_value count i g.kind) (sum_is r g.row p o)
 
-  pub generator_wide : (e : Wide) → r ≡ Err e → Some (Width i) ≡ of_generator count i g p
+  pub generator_wide : (e : Wide) → r ≡ Err e → Some (Width i) ≡ of_value count i g.kind (sum_within (pos 0) g.row p)
   generator_wide e q = sym (generator_is ∙ ap (λ x. of_value count i g.kind (result_ok x)) q)
 
   module _ (x : ℤ) (q : r ≡ Ok x) (k : Kind) (same : k ≡ g.kind) where
-    tested_generator : of_generator count i g p ≡ cond (violates k x) (Some (violation count i x)) None
+    tested_generator : of_value count i g.kind (sum_within (pos 0) g.row p) ≡ cond (violates k x) (Some (violation count i x)) None
     tested_generator = generator_is ∙ ap (λ x. of_value count i g.kind (result_ok x)) q ∙ ap (λ k. cond (violates k x) (Some (violation count i x)) None) (sym same)
 
-    pub generator_unmet : (v : Verdict) → true ≡ violates k x → v ≡ violation count i x → Some v ≡ of_generator count i g p
+    pub generator_unmet : (v : Verdict) → true ≡ violates k x → v ≡ violation count i x → Some v ≡ of_value count i g.kind (sum_within (pos 0) g.row p)
     generator_unmet v b e = ap Some e ∙ ap (λ b. cond b (Some (violation count i x)) None) b ∙ sym tested_generator
 
-    pub generator_met : false ≡ violates k x → None ≡ of_generator count i g p
+    pub generator_met : false ≡ violates k x → None ≡ of_value count i g.kind (sum_within (pos 0) g.row p)
     generator_met b = ap (λ b. cond b (Some (violation count i x)) None) b ∙ sym tested_generator
 
 -- ---- all generators
 
 generators-step : (count : ℕ) (gs : List Generator) (p : ℕ → ℤ) (i : ℕ) → i < length gs
-    → of_generators count i (drop i gs) p ≡ or_else (of_generator count i (generator_at gs i) p) (of_generators count (i + 1) (drop (i + 1) gs) p)
+    → of_generators count i (drop i gs) p ≡ option_or (of_value count i (generator_at gs i).kind (sum_within (pos 0) (generator_at gs i).row p)) (of_generators count (i + 1) (drop (i + 1) gs) p)
 unfolding of_generators
 generators-step count gs p i h = ap (λ xs. of_generators count i xs p) (drop_more gs i _ h)
 
 module _ (count : ℕ) (gs : List Generator) (p : ℕ → ℤ) (i : ℕ) (inv : of_generators count i (drop i gs) p ≡ of_generators count 0 gs p) where
-  pub generators_found : (v : Verdict) → i < length gs → Some v ≡ of_generator count i (generator_at gs i) p → Some v ≡ of_generators count 0 gs p
-  generators_found v h e = ap (λ o. or_else o (of_generators count (i + 1) (drop (i + 1) gs) p)) e ∙ sym (generators-step count gs p i h) ∙ inv
+  pub generators_found : (v : Verdict) → i < length gs → Some v ≡ of_value count i (generator_at gs i).kind (sum_within (pos 0) (generator_at gs i).row p) → Some v ≡ of_generators count 0 gs p
+  generators_found v h e = ap (λ o. option_or o (of_generators count (i + 1) (drop (i + 1) gs) p)) e ∙ sym (generators-step count gs p i h) ∙ inv
 
-  pub generators_more : i < length gs → None ≡ of_generator count i (generator_at gs i) p → of_generators count (i + 1) (drop (i + 1) gs) p ≡ of_generators count 0 gs p
-  generators_more h e = ap (λ o. or_else o (of_generators count (i + 1) (drop (i + 1) gs) p)) e ∙ sym (generators-step count gs p i h) ∙ inv
+  pub generators_more : i < length gs → None ≡ of_value count i (generator_at gs i).kind (sum_within (pos 0) (generator_at gs i).row p) → of_generators count (i + 1) (drop (i + 1) gs) p ≡ of_generators count 0 gs p
+  generators_more h e = ap (λ o. option_or o (of_generators count (i + 1) (drop (i + 1) gs) p)) e ∙ sym (generators-step count gs p i h) ∙ inv
 
   pub generators_done : length gs ≤ i → None ≡ of_generators count 0 gs p
   unfolding of_generators
@@ -74,8 +75,8 @@ module _ (place : ℕ) (row : Terms) (p : ℕ → ℤ) (r : Result ℤ Wide) (o 
 module _ (count : ℕ) (gs : List Generator) (target : Terms) (p : ℕ → ℤ) where
   pub by_generators : (v : Verdict) → Some v ≡ of_generators count 0 gs p → v ≡ no_verdict count gs target p
   unfolding no_verdict
-  by_generators v e = ap (λ o. valid_unless (or_else o (of_target (length gs) (sum_within (pos 0) target p)))) e
+  by_generators v e = ap (λ o. valid_unless (option_or o (of_target (length gs) (sum_within (pos 0) target p)))) e
 
   pub by_target : (o : Option Verdict) → None ≡ of_generators count 0 gs p → o ≡ of_target (length gs) (sum_within (pos 0) target p) → valid_unless o ≡ no_verdict count gs target p
   unfolding no_verdict
-  by_target o e f = ap valid_unless f ∙ ap (λ o. valid_unless (or_else o (of_target (length gs) (sum_within (pos 0) target p)))) e
+  by_target o e f = ap valid_unless f ∙ ap (λ o. valid_unless (option_or o (of_target (length gs) (sum_within (pos 0) target p)))) e

@@ -1,5 +1,6 @@
 -- A certificate is found valid exactly where it is one and its numbers fit.
 use Rattle.std.proofs.Common.{◌≡◌, ℕ, zero, suc, ◌+◌, ◌<◌, ◌≤◌, ◌⊎◌, inl, inr, ℤ, pos, ◌+ℤ◌, ◌*ℤ◌, ◌≤ℤ◌, List, [], ◌∷◌, length, Bool, true, false, cond, not, ◌&&◌, ltb, Option, Some, None, All, refl, sym, ap, ap₂, subst, ◌∙◌, arith}
+use Rattle.std.specs.Option.{option_or}
 use Rattle.std.specs.Bool.{Decides}
 use Rattle.std.specs.Int.Signed.{lt_z}
 use Rattle.std.specs.Ordering.{int_eq}
@@ -16,7 +17,7 @@ use Rattle.it_space.proofs.EveryLemmas.{every_of, all_of}
 use Rattle.it_space.proofs.TermLemmas.{value-one_at}
 use Rattle.it_elemental.specs.Generators.{Generator, generator_at, forms_of, is_equation}
 use Rattle.it_check.specs.Sums.{product_within, sum_within}
-use Rattle.it_check.specs.Verdicts.{column, or_else, valid_unless, of_scale, of_weight, of_weights, of_numbers, of_coordinate, of_coordinates, yes_verdict}
+use Rattle.it_check.specs.Verdicts.{column, valid_unless, of_scale, of_weight, of_weights, of_numbers, of_coordinate, of_coordinates, yes_verdict}
 use Rattle.it_check.specs.declared.verdicts.Verdict.{Verdict}
 use Rattle.it_check.specs.declared.verdicts.Verdict.TheVariants.{Valid, BadScale, UnknownGenerator, NegativeWeight, Mismatch}
 use Rattle.it_check.proofs.SumLemmas.{product_told, product_fits, sum_told, sum_fits}
@@ -95,7 +96,7 @@ module _ (gs : List Generator) where
   none_weights : (ws : List (ℕ × ℤ)) → Every (IsAllowed (forms_of gs)) ws → of_weights gs ws ≡ None
   unfolding of_weights
   none_weights [] h = refl
-  none_weights (w ∷ ws) h = ap (λ o. or_else o (of_weights gs ws)) (none_weight w h.0) ∙ none_weights ws h.1
+  none_weights (w ∷ ws) h = ap (λ o. option_or o (of_weights gs ws)) (none_weight w h.0) ∙ none_weights ws h.1
 
 -- ---- coordinates
 
@@ -162,7 +163,7 @@ module _ (gs : List Generator) (target : Terms) (w : CertificateView) where
   none_coordinates : (c left : ℕ) → ((k : ℕ) → c ≤ k → k < c + left → Agrees gs target w k) → of_coordinates gs target w c left ≡ None
   unfolding of_coordinates
   none_coordinates c zero f = refl
-  none_coordinates c (suc left) f = ap (λ o. or_else o (of_coordinates gs target w (c + 1) left)) (none_coordinate c (f c (omega arith) (omega arith)))
+  none_coordinates c (suc left) f = ap (λ o. option_or o (of_coordinates gs target w (c + 1) left)) (none_coordinate c (f c (omega arith) (omega arith)))
       ∙ none_coordinates (c + 1) left (λ k h l. f k (omega arith) (omega arith))
 
 -- ---- the sums of a certificate, by coefficients
@@ -193,7 +194,7 @@ module _ (gs : List Generator) (size : ℕ) (target : Terms) (w : CertificateVie
   pub valid_yes : yes_verdict gs size target w ≡ Valid → IsCertificate (size + 1) (forms_of gs) (value target) w × Fits
   unfolding yes_verdict
   valid_yes e =
-      let one = first_part (of_scale w.scale) (or_else (of_weights gs w.weights) (of_coordinates gs target w 1 size)) (scale_clean w.scale) e in
+      let one = first_part (of_scale w.scale) (option_or (of_weights gs w.weights) (of_coordinates gs target w 1 size)) (scale_clean w.scale) e in
       let two = first_part (of_weights gs w.weights) (of_coordinates gs target w 1 size) (weights_clean gs w.weights) one.1 in
       let three = last_part (of_coordinates gs target w 1 size) (coordinates_clean gs target w 1 size) two.1 in (
         to_certificate gs size target w (scale_none w.scale one.0) (all_of (IsAllowed (forms_of gs)) w.weights (weights_none gs w.weights two.0)) (λ c h l. (coordinates_none gs target w 1 size three c h (omega arith)).same),
@@ -203,6 +204,6 @@ module _ (gs : List Generator) (size : ℕ) (target : Terms) (w : CertificateVie
   pub yes_valid : IsCertificate (size + 1) (forms_of gs) (value target) w → Fits → yes_verdict gs size target w ≡ Valid
   unfolding yes_verdict
   yes_valid k f =
-      ap (λ o. valid_unless (or_else o (or_else (of_weights gs w.weights) (of_coordinates gs target w 1 size)))) (none_scale w.scale k.scale_from_one)
-      ∙ ap (λ o. valid_unless (or_else o (of_coordinates gs target w 1 size))) (none_weights gs w.weights (every_of (IsAllowed (forms_of gs)) w.weights k.allowed))
+      ap (λ o. valid_unless (option_or o (option_or (of_weights gs w.weights) (of_coordinates gs target w 1 size)))) (none_scale w.scale k.scale_from_one)
+      ∙ ap (λ o. valid_unless (option_or o (of_coordinates gs target w 1 size))) (none_weights gs w.weights (every_of (IsAllowed (forms_of gs)) w.weights k.allowed))
       ∙ ap valid_unless (none_coordinates gs target w 1 size (λ c h l. let b = f c h (omega arith) in record { left = b.0; right = b.1; same = by_coefficients gs size target w k c h (omega arith) }))

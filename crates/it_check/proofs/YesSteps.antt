@@ -1,5 +1,6 @@
 -- The verdict on a certificate, step by step as the code forms it.
 use Rattle.std.proofs.Common.{◌≡◌, ℕ, suc, ◌+◌, ◌-◌, ◌<◌, ◌≤◌, ℤ, pos, ◌*ℤ◌, List, [], ◌∷◌, length, drop, get_or, All, Bool, true, false, cond, ltb, not, ◌&&◌, Option, Some, None, Result, Ok, Err, OkIff, refl, sym, ap, ◌∙◌, arith}
+use Rattle.std.specs.Option.{option_or}
 use Rattle.std.specs.Int.Signed.{lt_z}
 use Rattle.std.specs.Bool.{Decides}
 use Rattle.std.specs.Ordering.{int_eq}
@@ -14,24 +15,24 @@ use Rattle.std.specs.List.{AllByRecursion as Every}
 use Rattle.it_space.proofs.EveryLemmas.{all_of}
 use Rattle.it_elemental.specs.Generators.{Generator, generator_at, is_equation}
 use Rattle.it_check.specs.Sums.{sum_within}
-use Rattle.it_check.specs.Verdicts.{column, or_else, valid_unless, of_scale, of_weight, of_weights, of_numbers, of_coordinate, of_coordinates, yes_verdict}
+use Rattle.it_check.specs.Verdicts.{column, valid_unless, of_scale, of_weight, of_weights, of_numbers, of_coordinate, of_coordinates, yes_verdict}
 use Rattle.it_check.specs.declared.verdicts.Verdict.{Verdict}
 use Rattle.it_check.specs.declared.verdicts.Verdict.TheVariants.{UnknownGenerator, NegativeWeight, Width, Mismatch}
 use Rattle.it_check.proofs.SumLemmas.{product_is, sum_is}
 
 -- ---- weights
 
-weights-step : (gs : List Generator) (ws : List (ℕ × ℤ)) (i : ℕ) (d : ℕ × ℤ) → i < length ws → of_weights gs (drop i ws) ≡ or_else (of_weight gs (get_or ws i d)) (of_weights gs (drop (i + 1) ws))
+weights-step : (gs : List Generator) (ws : List (ℕ × ℤ)) (i : ℕ) (d : ℕ × ℤ) → i < length ws → of_weights gs (drop i ws) ≡ option_or (of_weight gs (get_or ws i d)) (of_weights gs (drop (i + 1) ws))
 unfolding of_weights
 weights-step gs ws i d h = at_drop_more (of_weights gs) ws i d h
 
 pub weights_found : (gs : List Generator) (ws : List (ℕ × ℤ)) (i : ℕ) (d : ℕ × ℤ) (v : Verdict) → i < length ws → Some v ≡ of_weight gs (get_or ws i d) → of_weights gs (drop i ws) ≡ of_weights gs ws
     → Some v ≡ of_weights gs ws
-weights_found gs ws i d v h e inv = ap (λ o. or_else o (of_weights gs (drop (i + 1) ws))) e ∙ sym (weights-step gs ws i d h) ∙ inv
+weights_found gs ws i d v h e inv = ap (λ o. option_or o (of_weights gs (drop (i + 1) ws))) e ∙ sym (weights-step gs ws i d h) ∙ inv
 
 pub weights_more : (gs : List Generator) (ws : List (ℕ × ℤ)) (i : ℕ) (d : ℕ × ℤ) → i < length ws → None ≡ of_weight gs (get_or ws i d) → of_weights gs (drop i ws) ≡ of_weights gs ws
     → of_weights gs (drop (i + 1) ws) ≡ of_weights gs ws
-weights_more gs ws i d h e inv = ap (λ o. or_else o (of_weights gs (drop (i + 1) ws))) e ∙ sym (weights-step gs ws i d h) ∙ inv
+weights_more gs ws i d h e inv = ap (λ o. option_or o (of_weights gs (drop (i + 1) ws))) e ∙ sym (weights-step gs ws i d h) ∙ inv
 
 pub weights_done : (gs : List Generator) (ws : List (ℕ × ℤ)) (i : ℕ) → length ws ≤ i → of_weights gs (drop i ws) ≡ of_weights gs ws → None ≡ of_weights gs ws
 unfolding of_weights
@@ -43,12 +44,12 @@ unfolding of_weights
 each_generator_known gs [] e = tt
 each_generator_known gs (w ∷ ws) e = by_test (ltb w.0 (length gs)) (Decides-ltb w.0 (length gs)) (λ f. each_generator_known gs ws f) e
   where
-    second_is_none : (a b : Option Verdict) → or_else a b ≡ None → b ≡ None
+    second_is_none : (a b : Option Verdict) → option_or a b ≡ None → b ≡ None
     second_is_none (Some v) b e = absurd (cc)
     second_is_none None b e = e
 
     by_test : (b : Bool) → Decides b (w.0 < length gs) → (of_weights gs ws ≡ None → Every (λ (w : ℕ × ℤ). w.0 < length gs) ws)
-        → or_else (cond b (cond (lt_z w.1 (pos 0) && not (is_equation (generator_at gs w.0).kind)) (Some (NegativeWeight w.0)) None) (Some (UnknownGenerator w.0))) (of_weights gs ws) ≡ None
+        → option_or (cond b (cond (lt_z w.1 (pos 0) && not (is_equation (generator_at gs w.0).kind)) (Some (NegativeWeight w.0)) None) (Some (UnknownGenerator w.0))) (of_weights gs ws) ≡ None
         → (w.0 < length gs) × Every (λ (w : ℕ × ℤ). w.0 < length gs) ws
     by_test true d back e = (d.0 refl, back (second_is_none (cond (lt_z w.1 (pos 0) && not (is_equation (generator_at gs w.0).kind)) (Some (NegativeWeight w.0)) None) (of_weights gs ws) e))
     by_test false d back e = absurd (cc)
@@ -84,7 +85,7 @@ module _ (gs : List Generator) (target : Terms) (w : CertificateView) (c : ℕ) 
         by_test false d = refl
 
 coordinates-step : (gs : List Generator) (target : Terms) (w : CertificateView) (c size : ℕ) → c ≤ size
-    → of_coordinates gs target w c (size + 1 - c) ≡ or_else (of_coordinate gs target w c) (of_coordinates gs target w (c + 1) (size + 1 - (c + 1)))
+    → of_coordinates gs target w c (size + 1 - c) ≡ option_or (of_coordinate gs target w c) (of_coordinates gs target w (c + 1) (size + 1 - (c + 1)))
 unfolding of_coordinates
 coordinates-step gs target w c size h =
     let e : size + 1 - c ≡ suc (size + 1 - (c + 1)) = omega arith in
@@ -92,11 +93,11 @@ coordinates-step gs target w c size h =
 
 pub coordinates_found : (gs : List Generator) (target : Terms) (w : CertificateView) (c size : ℕ) (v : Verdict) → c ≤ size → Some v ≡ of_coordinate gs target w c
     → of_coordinates gs target w c (size + 1 - c) ≡ of_coordinates gs target w 1 size → Some v ≡ of_coordinates gs target w 1 size
-coordinates_found gs target w c size v h e inv = ap (λ o. or_else o (of_coordinates gs target w (c + 1) (size + 1 - (c + 1)))) e ∙ sym (coordinates-step gs target w c size h) ∙ inv
+coordinates_found gs target w c size v h e inv = ap (λ o. option_or o (of_coordinates gs target w (c + 1) (size + 1 - (c + 1)))) e ∙ sym (coordinates-step gs target w c size h) ∙ inv
 
 pub coordinates_more : (gs : List Generator) (target : Terms) (w : CertificateView) (c size : ℕ) → c ≤ size → None ≡ of_coordinate gs target w c
     → of_coordinates gs target w c (size + 1 - c) ≡ of_coordinates gs target w 1 size → of_coordinates gs target w (c + 1) (size + 1 - (c + 1)) ≡ of_coordinates gs target w 1 size
-coordinates_more gs target w c size h e inv = ap (λ o. or_else o (of_coordinates gs target w (c + 1) (size + 1 - (c + 1)))) e ∙ sym (coordinates-step gs target w c size h) ∙ inv
+coordinates_more gs target w c size h e inv = ap (λ o. option_or o (of_coordinates gs target w (c + 1) (size + 1 - (c + 1)))) e ∙ sym (coordinates-step gs target w c size h) ∙ inv
 
 pub coordinates_done : (gs : List Generator) (target : Terms) (w : CertificateView) (c size : ℕ) → size + 1 ≤ c → of_coordinates gs target w c (size + 1 - c) ≡ of_coordinates gs target w 1 size
     → None ≡ of_coordinates gs target w 1 size
@@ -108,13 +109,13 @@ coordinates_done gs target w c size h inv = let e : 0 ≡ size + 1 - c = omega a
 module _ (gs : List Generator) (size : ℕ) (target : Terms) (w : CertificateView) where
   pub by_scale : (v : Verdict) → Some v ≡ of_scale w.scale → v ≡ yes_verdict gs size target w
   unfolding yes_verdict
-  by_scale v e = ap (λ o. valid_unless (or_else o (or_else (of_weights gs w.weights) (of_coordinates gs target w 1 size)))) e
+  by_scale v e = ap (λ o. valid_unless (option_or o (option_or (of_weights gs w.weights) (of_coordinates gs target w 1 size)))) e
 
   pub by_weights : (v : Verdict) → None ≡ of_scale w.scale → Some v ≡ of_weights gs w.weights → v ≡ yes_verdict gs size target w
   unfolding yes_verdict
-  by_weights v e f = ap (λ o. valid_unless (or_else o (of_coordinates gs target w 1 size))) f ∙ ap (λ o. valid_unless (or_else o (or_else (of_weights gs w.weights) (of_coordinates gs target w 1 size)))) e
+  by_weights v e f = ap (λ o. valid_unless (option_or o (of_coordinates gs target w 1 size))) f ∙ ap (λ o. valid_unless (option_or o (option_or (of_weights gs w.weights) (of_coordinates gs target w 1 size)))) e
 
   pub by_coordinates : (o : Option Verdict) → None ≡ of_scale w.scale → None ≡ of_weights gs w.weights → o ≡ of_coordinates gs target w 1 size → valid_unless o ≡ yes_verdict gs size target w
   unfolding yes_verdict
-  by_coordinates o e f g = ap valid_unless g ∙ ap (λ o. valid_unless (or_else o (of_coordinates gs target w 1 size))) f
-      ∙ ap (λ o. valid_unless (or_else o (or_else (of_weights gs w.weights) (of_coordinates gs target w 1 size)))) e
+  by_coordinates o e f g = ap valid_unless g ∙ ap (λ o. valid_unless (option_or o (of_coordinates gs target w 1 size))) f
+      ∙ ap (λ o. valid_unless (option_or o (option_or (of_weights gs w.weights) (of_coordinates gs target w 1 size)))) e

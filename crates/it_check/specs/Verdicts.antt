@@ -1,5 +1,6 @@
 -- The verdict on a certificate and on a counterexample: the first thing wrong with it, in a fixed order.
 use Rattle.std.specs.Prelude.{ℕ, zero, suc, ◌+◌, ℤ, pos, List, [], ◌∷◌, length, Bool, not, ◌&&◌, nat_lt, int_lt, Option, Some, None, if◌then◌else◌}
+use Rattle.std.specs.Option.{option_or}
 use Rattle.std.specs.Ordering.{int_eq}
 use Rattle.it_space.specs.declared.problems.Kind.{Kind}
 use Rattle.it_space.specs.declared.problems.Kind.TheVariants.{Inequality, Equation}
@@ -9,11 +10,6 @@ use Rattle.it_elemental.specs.Generators.{Generator, generator_at, is_equation}
 use Rattle.it_check.specs.Sums.{product_within, sum_within}
 use Rattle.it_check.specs.declared.verdicts.Verdict.{Verdict}
 use Rattle.it_check.specs.declared.verdicts.Verdict.TheVariants.{Valid, BadScale, UnknownGenerator, NegativeWeight, Width, Mismatch, BrokenElemental, UnmetConstraint, NotViolated}
-
--- the first of two findings
-abbrev pub or_else : Option Verdict → Option Verdict → Option Verdict
-or_else (Some v) o = Some v
-or_else None o = o
 
 -- the finding, or that nothing is wrong
 abbrev pub valid_unless : Option Verdict → Verdict
@@ -35,19 +31,11 @@ of_weight gs w =
 -- the first such weight
 unfoldable pub of_weights : List Generator → List (ℕ × ℤ) → Option Verdict
 of_weights gs [] = None
-of_weights gs (w ∷ ws) = or_else (of_weight gs w) (of_weights gs ws)
-
--- the left side at a coordinate: the scale times the target's coefficient
-abbrev pub left_number : Terms → ℤ → ℕ → Option ℤ
-left_number target scale c = product_within scale (coefficient target c)
+of_weights gs (w ∷ ws) = option_or (of_weight gs w) (of_weights gs ws)
 
 -- the generators' coefficients at a coordinate
 abbrev pub column : List Generator → ℕ → ℕ → ℤ
 column gs c i = coefficient (generator_at gs i).row c
-
--- the right side there: the sum of weights times coefficients
-abbrev pub right_number : List Generator → List (ℕ × ℤ) → ℕ → Option ℤ
-right_number gs ws c = sum_within (pos 0) ws (column gs c)
 
 -- one of the two sides is wide, or they differ
 abbrev pub of_numbers : ℕ → Option ℤ → Option ℤ → Option Verdict
@@ -55,18 +43,18 @@ of_numbers c None right = Some (Width c)
 of_numbers c (Some left) None = Some (Width c)
 of_numbers c (Some left) (Some right) = if int_eq left right then None else Some (Mismatch c left right)
 
--- what is wrong at a coordinate
+-- what is wrong at a coordinate: on the left the scale times the target's coefficient, on the right the sum of weights times coefficients
 abbrev pub of_coordinate : List Generator → Terms → CertificateView → ℕ → Option Verdict
-of_coordinate gs target w c = of_numbers c (left_number target w.scale c) (right_number gs w.weights c)
+of_coordinate gs target w c = of_numbers c (product_within w.scale (coefficient target c)) (sum_within (pos 0) w.weights (column gs c))
 
 -- the first thing that is wrong at so many coordinates from coordinate c on
 unfoldable pub of_coordinates : List Generator → Terms → CertificateView → ℕ → ℕ → Option Verdict
 of_coordinates gs target w c zero = None
-of_coordinates gs target w c (suc left) = or_else (of_coordinate gs target w c) (of_coordinates gs target w (c + 1) left)
+of_coordinates gs target w c (suc left) = option_or (of_coordinate gs target w c) (of_coordinates gs target w (c + 1) left)
 
 -- the scale, then each weight in order, then each coordinate
 unfoldable pub yes_verdict : List Generator → ℕ → Terms → CertificateView → Verdict
-yes_verdict gs size target w = valid_unless (or_else (of_scale w.scale) (or_else (of_weights gs w.weights) (of_coordinates gs target w 1 size)))
+yes_verdict gs size target w = valid_unless (option_or (of_scale w.scale) (option_or (of_weights gs w.weights) (of_coordinates gs target w 1 size)))
 
 -- ---- counterexamples
 
@@ -84,14 +72,10 @@ abbrev pub of_value : ℕ → ℕ → Kind → Option ℤ → Option Verdict
 of_value count i kind None = Some (Width i)
 of_value count i kind (Some x) = if violates kind x then Some (violation count i x) else None
 
--- what is wrong with a point at generator i
-abbrev pub of_generator : ℕ → ℕ → Generator → (ℕ → ℤ) → Option Verdict
-of_generator count i g p = of_value count i g.kind (sum_within (pos 0) g.row p)
-
--- the first thing that is wrong at generators from number i on
+-- the first thing that is wrong with a point at generators from number i on
 unfoldable pub of_generators : ℕ → ℕ → List Generator → (ℕ → ℤ) → Option Verdict
 of_generators count i [] p = None
-of_generators count i (g ∷ gs) p = or_else (of_generator count i g p) (of_generators count (i + 1) gs p)
+of_generators count i (g ∷ gs) p = option_or (of_value count i g.kind (sum_within (pos 0) g.row p)) (of_generators count (i + 1) gs p)
 
 -- the target's value: wide, or above -1
 abbrev pub of_target : ℕ → Option ℤ → Option Verdict
@@ -100,4 +84,4 @@ of_target place (Some x) = if int_lt x (pos 0) then None else Some (NotViolated 
 
 -- each generator in order, then the target
 unfoldable pub no_verdict : ℕ → List Generator → Terms → (ℕ → ℤ) → Verdict
-no_verdict count gs target p = valid_unless (or_else (of_generators count 0 gs p) (of_target (length gs) (sum_within (pos 0) target p)))
+no_verdict count gs target p = valid_unless (option_or (of_generators count 0 gs p) (of_target (length gs) (sum_within (pos 0) target p)))

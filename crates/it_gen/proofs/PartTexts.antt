@@ -1,6 +1,6 @@
 -- The parts of a drawn question are written in their forms.
 use Rattle.std.proofs.Common.{◌≡◌, ℕ, zero, suc, ◌+◌, ◌-◌, ◌/◌, ◌^◌, ◌<◌, ◌≤◌, ◌==◌, Bool, true, false, cond, List, [], ◌∷◌, ◌++◌, length, Option, None, codes, refl, sym, ap, subst, arith, append_assoc, append-nil, if◌then◌else◌}
-use Rattle.std.specs.Prelude.{nat_eq, decimal, bit_or, unwrap_or, if◌then◌else◌, Some}
+use Rattle.std.specs.Prelude.{nat_eq, decimal, bit_or, unwrap_or, Some}
 use Rattle.std.specs.Int.{bit_at}
 use Rattle.std.proofs.lemmas.Nat.Bits.{bit_at-lt}
 use Rattle.std.proofs.Math.Dec.{lit<}

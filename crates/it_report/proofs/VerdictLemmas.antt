@@ -1,5 +1,6 @@
 -- The coordinate of a verdict is one of the space, and the verdict on certificates one after the other.
 use Rattle.std.proofs.Common.{◌≡◌, ℕ, zero, suc, ◌+◌, ◌<◌, ◌≤◌, ℤ, pos, nat_lt, int_lt, not, ◌&&◌, List, [], ◌∷◌, Bool, true, false, Option, Some, None, if◌then◌else◌, drop, map, length, get_or, sym, ap, ◌∙◌, refl, arith}
+use Rattle.std.specs.Option.{option_or}
 use Rattle.std.specs.Ordering.{int_eq}
 use Rattle.std.proofs.lemmas.List.{at_drop_all}
 use Rattle.it_space.proofs.ListLemmas.{drop_item}
@@ -7,10 +8,10 @@ use Rattle.it_space.specs.declared.problems.Kind.{Kind}
 use Rattle.it_space.specs.declared.answers.Certificate.{Certificate}
 use Rattle.it_space.specs.Answers.{CertificateView, certificate_view}
 use Rattle.it_space.specs.Problems.{ProblemView}
-use Rattle.it_space.specs.Rows.{Terms}
+use Rattle.it_space.specs.Rows.{Terms, coefficient}
 use Rattle.it_elemental.specs.Generators.{Generator, generator_at, is_equation}
-use Rattle.it_check.specs.Sums.{sum_within}
-use Rattle.it_check.specs.Verdicts.{or_else, valid_unless, of_scale, of_weight, of_weights, left_number, right_number, of_numbers, of_coordinate, of_coordinates, yes_verdict, violates, violation, of_value, of_generator, of_generators, of_target, no_verdict}
+use Rattle.it_check.specs.Sums.{product_within, sum_within}
+use Rattle.it_check.specs.Verdicts.{column, valid_unless, of_scale, of_weight, of_weights, of_numbers, of_coordinate, of_coordinates, yes_verdict, violates, violation, of_value, of_generators, of_target, no_verdict}
 use Rattle.it_check.specs.declared.verdicts.Verdict.{Verdict}
 use Rattle.it_check.specs.declared.verdicts.Verdict.TheVariants.{Valid, BadScale, UnknownGenerator, NegativeWeight, Mismatch, BrokenElemental, UnmetConstraint, NotViolated}
 use Rattle.it_report.specs.RowVerdicts.{proof_verdict, proofs_verdict, is_valid}
@@ -20,7 +21,7 @@ abbrev IsFindingOver : ℕ → Option Verdict → Type 0
 IsFindingOver b None = Unit {0}
 IsFindingOver b (Some v) = IsVerdictOver b v
 
-either_over : (b : ℕ) (x y : Option Verdict) → IsFindingOver b x → IsFindingOver b y → IsFindingOver b (or_else x y)
+either_over : (b : ℕ) (x y : Option Verdict) → IsFindingOver b x → IsFindingOver b y → IsFindingOver b (option_or x y)
 either_over b None y h k = k
 either_over b (Some v) y h k = h
 
@@ -52,7 +53,8 @@ coordinates_over : (b : ℕ) (gs : List Generator) (t : Terms) (w : CertificateV
 unfolding of_coordinates
 coordinates_over b gs t w c zero h = tt
 coordinates_over b gs t w c (suc left) h =
-    either_over b (of_coordinate gs t w c) (of_coordinates gs t w (c + 1) left) (numbers_over b c (left_number t w.scale c) (right_number gs w.weights c) (omega arith))
+    either_over b (of_coordinate gs t w c) (of_coordinates gs t w (c + 1) left)
+    (numbers_over b c (product_within w.scale (coefficient t c)) (sum_within (pos 0) w.weights (column gs c)) (omega arith))
     (coordinates_over b gs t w (c + 1) left (omega arith))
 
 pub yes_over : (gs : List Generator) (size : ℕ) (t : Terms) (w : CertificateView) → IsVerdictOver (size + 1) (yes_verdict gs size t w)
@@ -76,7 +78,7 @@ value_over b count i kind (Some x) = violation_over b count i x (violates kind x
 generators_over : (b count i : ℕ) (gs : List Generator) (p : ℕ → ℤ) → IsFindingOver b (of_generators count i gs p)
 unfolding of_generators
 generators_over b count i [] p = tt
-generators_over b count i (g ∷ gs) p = either_over b (of_generator count i g p) (of_generators count (i + 1) gs p) (value_over b count i g.kind _) (generators_over b count (i + 1) gs p)
+generators_over b count i (g ∷ gs) p = either_over b (of_value count i g.kind (sum_within (pos 0) g.row p)) (of_generators count (i + 1) gs p) (value_over b count i g.kind _) (generators_over b count (i + 1) gs p)
 
 target_over : (b place : ℕ) (o : Option ℤ) → IsFindingOver b (of_target place o)
 target_over b place None = tt
