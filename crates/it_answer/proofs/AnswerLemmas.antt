@@ -1,5 +1,5 @@
 -- From outcomes of targets to the answer.
-use Rattle.std.proofs.Common.{◌≡◌, inl, inr, ℕ, ◌+◌, ◌≤◌, ℤ, pos, neg_ℤ, ◌≤ℤ◌, List, [], ◌∷◌, length, Bool, true, false, Option, refl, sym, ap, subst, ◌∙◌}
+use Rattle.std.proofs.Common.{◌≡◌, inl, inr, ℕ, ◌+◌, ◌≤◌, ℤ, pos, neg_ℤ, ◌≤ℤ◌, List, [], ◌∷◌, map, length, Bool, true, false, Option, refl, sym, ap, subst, ◌∙◌}
 use Rattle.std.proofs.lemmas.List.Elements.{All-nil, All-cons, All-head, All-tail}
 use Rattle.it_space.specs.declared.spaces.Space.{Space}
 use Rattle.it_space.specs.Problems.{ProblemView, IsProblem}
@@ -14,9 +14,12 @@ use Rattle.it_question.specs.Questions.{BodyView, VerbView, Prove, Eliminate}
 use Rattle.it_demand.specs.Canonical.{IsRowOf}
 use Rattle.it_demand.specs.Demands.{AreStated}
 use Rattle.it_demand.specs.Targets.{negation, targets}
-use Rattle.it_canon.specs.QuestionDemands.{variables_of, question_demands as demanded, AreTrueAt}
+use Rattle.it_canon.specs.QuestionDemands.{variables_of, question_demands as demanded, terms_in, AreTrueAt}
 use Rattle.it_demand.specs.LineDemands.{space_of, AreRowsOf}
 use Rattle.it_question.specs.Tables.{problem_names, problem_lines}
+use Rattle.it_demand.specs.RowsOfForms.{terms_of_form}
+use Rattle.it_demand.proofs.FormRows.{rows_are_terms_of_forms}
+use Rattle.it_canon.proofs.PosesLemmas.{one_problem}
 use Rattle.it_canon.proofs.ProblemLemmas.{question_met}
 use Rattle.it_elemental.specs.Generators.{generators}
 use Rattle.it_check.specs.Meaning.{CertifiesRow, RefutesRow}
@@ -31,7 +34,7 @@ use Rattle.it_contain.proofs.PlanLemmas.{after_none}
 use Rattle.it_answer.specs.Forms.{Certifies, CertifiesForm, CertifyAll, all_demands}
 use Rattle.it_answer.specs.Shows.{IsCounterexample, ShowsBy, ViolatesFirst}
 use Rattle.it_answer.specs.DueEliminations.{IsDueElimination}
-use Rattle.it_answer.specs.DueRelations.{IsDueRelation}
+use Rattle.it_answer.specs.DueRelations.{IsDueByRuns, IsDueRelation}
 use Rattle.it_answer.specs.Replies.{Reply}
 use Rattle.it_answer.specs.RightAnswers.{IsDueBy, IsRightAnswer, IsAnswered}
 use Rattle.it_answer.specs.RowAnswers.{CertifyRows, RefutesFirst, ShowsRows, AnswersRows, AnswersForms, answer_after_one, answer_after_two}
@@ -162,9 +165,9 @@ module _ (q : BodyView) (p : ProblemView) (e : p.space ≡ space_of (problem_nam
       → IsAnswered budgets plans q answer plans
   answers_relation budgets plans r answer is a =
       let shown = shown_targets q r answer (to_question_space (λ s. ShowsTargets q (targets s.variables r) answer) (show_targets (targets p.space.variables r) a.rows answer a.are a.answered.shows)) in
+      let rows : a.rows ≡ map (terms_in q) (targets (variables_of q) r) =
+      rows_are_terms_of_forms p.space (targets p.space.variables r) a.rows a.are ∙ ap (λ (s : Space). map (terms_of_form (size_of s)) (targets s.variables r)) e in
       let due : IsDueRelation budgets.pivots q r answer =
-      record {
-        poses = record { problem = p; is_problem = record { space = e; limits = k; constraints = st }; rows = a.rows; targets_are = subst (λ n. AreRowsOf p.space (targets n r) a.rows) (ap (λ (s : Space). s.variables) e) a.are };
-        due = a.answered.due;
-      } in
+      subst (λ (x : ProblemView). IsDueByRuns x budgets.pivots (map (terms_in q) (targets (variables_of q) r)) answer) (one_problem q p (record { space = e; limits = k; constraints = st }))
+      (subst (λ (ts : List Terms). IsDueByRuns p budgets.pivots ts answer) rows a.answered.due) in
       nothing_found budgets plans q answer (right_by_verb budgets plans q (Prove r) (record { answer = answer; found = [] }) is shown (due, refl))

@@ -1,15 +1,18 @@
 -- What is proved of the rows of a pair is proved of the text; from what a search ends with to the answer.
-use Rattle.std.proofs.Common.{◌≡◌, ℕ, ℤ, pos, ◌≤ℤ◌, List, [], ◌∷◌, length, map, refl, sym, ap, subst, ◌∙◌, Option}
+use Rattle.std.proofs.Common.{◌≡◌, ℕ, ◌<◌, ◌^◌, ℤ, pos, ◌≤ℤ◌, List, [], ◌∷◌, length, map, All, refl, sym, ap, ap₂, subst, ◌∙◌, Option}
 use Rattle.std.proofs.lemmas.List.Elements.{All-nil, All-cons}
 use Rattle.it_space.specs.declared.spaces.Space.{Space}
 use Rattle.it_space.specs.Answers.{AnswerView, CertificateView}
-use Rattle.it_space.specs.Problems.{AreMet, problem_view}
+use Rattle.it_space.specs.Problems.{ProblemView, AreMet, problem_view}
 use Rattle.it_space.specs.Rows.{Terms, value}
+use Rattle.it_space.specs.Spaces.{size_of}
 use Rattle.it_polymatroid.specs.Certificates.{Form}
 use Rattle.it_polymatroid.specs.Polymatroid.{IsPolymatroid}
 use Rattle.it_question.specs.Limits.{IsQuestion}
 use Rattle.it_question.specs.Questions.{OwnLinesView, RegionView, BodyView, Contain}
-use Rattle.it_canon.specs.QuestionDemands.{AreTrueAt}
+use Rattle.it_canon.specs.QuestionDemands.{problem_of, terms_in, AreTrueAt}
+use Rattle.it_canon.proofs.PosesLemmas.{one_problem}
+use Rattle.it_demand.specs.RowsOfForms.{terms_of_form}
 use Rattle.it_demand.specs.LineDemands.{space_of, AreAtLeastZero}
 use Rattle.it_question.specs.Tables.{problem_names, problem_names_by, problem_lines, problem_lines_by}
 use Rattle.it_canon.proofs.ProblemLemmas.{question_met}
@@ -19,21 +22,24 @@ use Rattle.it_prove.proofs.RightLemmas.{ends_are_right}
 use Rattle.it_region.specs.declared.types.Candidate.{Candidate}
 use Rattle.it_region.specs.declared.types.Pair.{Pair}
 use Rattle.it_region.specs.Obligations.{ArePulledRows, obligations}
-use Rattle.it_region.specs.Pairs.{IsPair, IsPairOf, IsContainment}
+use Rattle.it_region.specs.Pairs.{IsPair, IsPairOf, IsContainment, pair_obligations}
 use Rattle.it_region.specs.Regions.{IsIn}
+use Rattle.it_region.proofs.ExistenceLemmas.{pair_rows_there}
 use Rattle.it_region.proofs.RegionLemmas.{obligations_contain}
 use Rattle.it_region.proofs.RowLemmas.{rows_same}
-use Rattle.it_region.proofs.TextLemmas.{candidate_parts, text_rows, parts_are}
+use Rattle.it_region.proofs.TextLemmas.{candidate_parts, text_rows, text_terms, parts_are}
 use Rattle.it_contain.specs.declared.types.Contained.{Contained}
+use Rattle.it_contain.specs.declared.types.Shape.{Shape}
 use Rattle.it_contain.specs.declared.types.Contained.TheVariants.{Found, Open}
 use Rattle.it_contain.specs.Proposals.{Plan, plan_after_all}
 use Rattle.it_contain.specs.Shapes.{shape_of}
-use Rattle.it_contain.specs.Search.{SearchEnds, IsProof, IsProofBy, Proofs, goal_of, plan_of, proof_views}
+use Rattle.it_contain.specs.Search.{SearchEnds, IsProof, IsProofBy, Proofs, plan_of, proof_views}
+use Rattle.it_contain.proofs.OneEndLemmas.{first_by_other, open_by_other}
 use Rattle.it_contain.proofs.PlanLemmas.{after_none}
 use Rattle.it_answer.specs.declared.types.Budgets.{Budgets}
 use Rattle.it_answer.specs.Forms.{CertifyAll}
 use Rattle.it_answer.specs.Shows.{ShowsBy, ShowsContained}
-use Rattle.it_answer.specs.DueContainments.{tried_of, IsDueContainment}
+use Rattle.it_answer.specs.DueContainments.{tried_of, IsProofOf, IsDueContainment}
 use Rattle.it_answer.specs.RightAnswers.{IsAnswered, IsRightAnswer}
 use Rattle.it_answer.specs.SearchAnswers.{answer_of_search, found_of}
 use Rattle.it_answer.proofs.AnswerLemmas.{right_by_verb, show_certificate}
@@ -44,6 +50,33 @@ module _ (q : BodyView) (a b : RegionView) (tries : List (List ℕ)) (p : Pair) 
 
   n_is : p.first.space.variables ≡ length a.names.variables
   n_is = ap (λ (s : Space). s.variables) o.first_space
+
+  problem_is : problem_view p.first ≡ problem_of q
+  problem_is = one_problem q (problem_view p.first) (record { space = first_is; limits = l.problem; constraints = o.first })
+
+  -- ---- what proves a candidate, by the pair and by the text
+
+  terms_are : (c : Candidate) → map (terms_of_form (size_of p.first.space)) (pair_obligations p c) ≡ map (terms_in q) (obligations q a b (candidate_parts c))
+  terms_are c = text_terms q a b p o (size_of p.first.space) c ∙ ap (λ (s : Space). map (terms_of_form (size_of s)) (obligations q a b (candidate_parts c))) first_is
+
+  by_text : (budget : Option ℕ) (c : Candidate) (ws : List CertificateView) → IsProofBy p budget c ws → IsProofOf q a b budget c ws
+  by_text budget c ws g = record {
+    places = g.fits.complete;
+    count = g.fits.count ∙ o.parts;
+    within = subst (λ (n : ℕ). All (λ s. s < 2 ^ n) (candidate_parts c)) n_is g.fits.within;
+    proofs = subst (λ (x : ProblemView). AreProofsOf x budget (map (terms_in q) (obligations q a b (candidate_parts c))) ws) problem_is
+        (subst (λ (ts : List Terms). AreProofsOf (problem_view p.first) budget ts ws) (terms_are c) g.proofs);
+  }
+
+  by_pair : (budget : Option ℕ) (c : Candidate) (ws : List CertificateView) → IsProofOf q a b budget c ws → IsProofBy p budget c ws
+  by_pair budget c ws h = record {
+    fits = record { complete = h.places; count = h.count ∙ sym o.parts; within = subst (λ (n : ℕ). All (λ s. s < 2 ^ n) (candidate_parts c)) (sym n_is) h.within };
+    proofs = subst (λ (ts : List Terms). AreProofsOf (problem_view p.first) budget ts ws) (sym (terms_are c))
+        (subst (λ (x : ProblemView). AreProofsOf x budget (map (terms_in q) (obligations q a b (candidate_parts c))) ws) (sym problem_is) h.proofs);
+  }
+
+  shape_is : shape_of p ≡ record { variables = length a.names.variables; parts = b.auxiliaries }
+  shape_is = ap₂ (λ n m. let s : Shape = record { variables = n; parts = m } in s) n_is o.parts
 
   -- ---- certificates by forms
 
@@ -74,50 +107,61 @@ module _ (q : BodyView) (a b : RegionView) (tries : List (List ℕ)) (p : Pair) 
     rows_hold budget (f ∷ fs) (t ∷ ts) (w ∷ ws) r c = All-cons (λ (row : Terms). pos 0 ≤ℤ value row h) t ts
         (yes_is_true (problem_view p.first) t w l.problem r.0.coordinates (ends_are_right (problem_view p.first) t budget (Yes w) l.problem r.0.coordinates c.0).0 h (subst (λ (n : ℕ). IsPolymatroid n h) (sym n_is) inside.polymatroid) constraints_met) (rows_hold budget fs ts ws r.1 c.1)
 
-  proofs_show_containment : (budget : Option ℕ) (c : Candidate) (ws : List CertificateView) → IsProofBy (goal_of p budget) c ws → ShowsContained q a b (candidate_parts c) ws
+  proofs_show_containment : (budget : Option ℕ) (c : Candidate) (ws : List CertificateView) → IsProofBy p budget c ws → ShowsContained q a b (candidate_parts c) ws
   proofs_show_containment budget c ws g =
       let fs : List Form = obligations q a b (candidate_parts c) in
-      let rows = text_rows q a b p o c g.rows g.are in
+      let ts : List Terms = map (terms_of_form (size_of p.first.space)) (pair_obligations p c) in
+      let rows = text_rows q a b p o c ts (pair_rows_there p c l g.fits) in
       let parts = parts_are q a b p o c l g.fits in
       record {
         are_parts = parts;
-        certified = all_certified budget fs g.rows ws rows g.proofs;
-        lies = obligations_contain q a b tries (candidate_parts c) k is parts (λ h inside. (rows_same p.first.space fs g.rows h inside.polymatroid.empty rows).0 (rows_hold h inside budget fs g.rows ws rows g.proofs));
+        certified = all_certified budget fs ts ws rows g.proofs;
+        lies = obligations_contain q a b tries (candidate_parts c) k is parts (λ h inside. (rows_same p.first.space fs ts h inside.polymatroid.empty rows).0 (rows_hold h inside budget fs ts ws rows g.proofs));
       }
 
   -- ---- the answer
 
-  proof_by : (budget : Option ℕ) (c : Candidate) (w : Proofs) → IsProof (goal_of p budget) c w → IsProofBy (goal_of p budget) c (proof_views w)
+  proof_by : (budget : Option ℕ) (c : Candidate) (w : Proofs) → IsProof (IsProofBy p budget) c w → IsProofBy p budget c (proof_views w)
   unfolding IsProof
   proof_by budget c w g = g
 
   module _ (budgets : Budgets) (plans plans_after : List Plan) where
-    right_search : (end : Contained) → SearchEnds (goal_of p budgets.pivots) budgets.tries (plan_of (tried_of b tries) plans (shape_of p)) plans end plans_after
+    -- the candidates of the question
+    abbrev plan : List Candidate
+    plan = plan_of (tried_of b tries) plans (record { variables = length a.names.variables; parts = b.auxiliaries })
+
+    right_search : (end : Contained) → SearchEnds (IsProofBy p budgets.pivots) budgets.tries plan plans end plans_after
         → ShowsBy q (Contain a b tries) (answer_of_search end) × IsDueContainment budgets plans q a b tries (record { answer = answer_of_search end; found = found_of end })
     right_search (Found c w) e =
         let proofs = proof_by budgets.pivots c w e.1 in (
           proofs_show_containment budgets.pivots c (proof_views w) proofs,
-          record { pair = p; pairs = o; due = record { candidate = c; found_is = refl; first = e.0; parts_are = refl; proofs = proofs } },
+          record {
+            candidate = c;
+            found_is = refl;
+            first = first_by_other (IsProofBy p budgets.pivots) (IsProofOf q a b budgets.pivots) (by_text budgets.pivots) (by_pair budgets.pivots) budgets.tries plan c e.0;
+            parts_are = refl;
+            proofs = by_text budgets.pivots c (proof_views w) proofs;
+          },
         )
-    right_search (Open t) e = (tt, record { pair = p; pairs = o; due = (e.0, refl) })
+    right_search (Open t) e = (tt, (open_by_other (IsProofBy p budgets.pivots) (IsProofOf q a b budgets.pivots) (by_text budgets.pivots) (by_pair budgets.pivots) budgets.tries plan t e.0, refl))
 
-    learned_search : (end : Contained) (plan : List Candidate) → SearchEnds (goal_of p budgets.pivots) budgets.tries plan plans end plans_after → plans_after ≡ map (plan_after_all (found_of end)) plans
-    learned_search (Found c w) plan e = e.2
-    learned_search (Open t) plan e = e.1 ∙ sym (after_none plans)
+    learned_search : (end : Contained) → SearchEnds (IsProofBy p budgets.pivots) budgets.tries plan plans end plans_after → plans_after ≡ map (plan_after_all (found_of end)) plans
+    learned_search (Found c w) e = e.2
+    learned_search (Open t) e = e.1 ∙ sym (after_none plans)
 
     pub question_is_answered : (end : Contained) (budget : Option ℕ) (first : List Candidate) (answer : AnswerView) → budget ≡ budgets.pivots → first ≡ tried_of b tries → answer ≡ answer_of_search end
-        → SearchEnds (goal_of p budget) budgets.tries (plan_of first plans (shape_of p)) plans end plans_after → IsAnswered budgets plans q answer plans_after
+        → SearchEnds (IsProofBy p budget) budgets.tries (plan_of first plans (shape_of p)) plans end plans_after → IsAnswered budgets plans q answer plans_after
     question_is_answered end budget first answer budget_is first_are answer_is e =
-        let bounded : SearchEnds (goal_of p budgets.pivots) budgets.tries (plan_of first plans (shape_of p)) plans end plans_after =
-        subst (λ (n : Option ℕ). SearchEnds (goal_of p n) budgets.tries (plan_of first plans (shape_of p)) plans end plans_after) budget_is e in
-        let ends : SearchEnds (goal_of p budgets.pivots) budgets.tries (plan_of (tried_of b tries) plans (shape_of p)) plans end plans_after =
-        subst (λ (cs : List Candidate). SearchEnds (goal_of p budgets.pivots) budgets.tries (plan_of cs plans (shape_of p)) plans end plans_after) first_are bounded in
+        let bounded : SearchEnds (IsProofBy p budgets.pivots) budgets.tries (plan_of first plans (shape_of p)) plans end plans_after =
+        subst (λ (n : Option ℕ). SearchEnds (IsProofBy p n) budgets.tries (plan_of first plans (shape_of p)) plans end plans_after) budget_is e in
+        let ends : SearchEnds (IsProofBy p budgets.pivots) budgets.tries plan plans end plans_after =
+        subst (λ (cs : List Candidate). SearchEnds (IsProofBy p budgets.pivots) budgets.tries cs plans end plans_after) (ap₂ (λ cs s. plan_of cs plans s) first_are shape_is) bounded in
         let right = right_search end ends in
         record {
           found = found_of end;
           right = subst (λ (x : AnswerView). IsRightAnswer budgets plans q (record { answer = x; found = found_of end })) (sym answer_is)
               (right_by_verb budgets plans q (Contain a b tries) (record { answer = answer_of_search end; found = found_of end }) is right.0 right.1);
-          learned = learned_search end (plan_of (tried_of b tries) plans (shape_of p)) ends;
+          learned = learned_search end ends;
         }
 
 pub is_containment : (q : BodyView) (a b : RegionView) (tries : List (List ℕ)) → q.verb ≡ Contain a b tries → IsContainment q.verb

@@ -21,7 +21,7 @@ use Rattle.it_elemental.proofs.RowLemmas.{value-row}
 use Rattle.it_demand.specs.Demands.{Demand, LineDemand, States, AreStated}
 use Rattle.it_demand.proofs.ZipLemmas.{zip-append, zip-length}
 use Rattle.it_elemental.specs.Generators.{Generator, of_elemental, of_constraint, generator_list, generators, generator_at, forms_of, is_equation}
-use Rattle.it_answer.specs.Forms.{demand_of_elemental, demand_of_line, all_demands, demand_at, Certifies, MayStand}
+use Rattle.it_answer.specs.Forms.{demand_of_elemental, all_demands, demand_at, Certifies, MayStand}
 
 -- what isn't an equation is an inequality
 pub inequality_unless_equation : (k : Kind) → is_equation k ≡ false → k ≡ Inequality
@@ -52,9 +52,9 @@ zip-at R (x ∷ xs) (y ∷ ys) (suc i) a b z h = zip-at R xs ys i a b z.1 (omega
 
 pub generators_speak : (s : Space) (ds : List LineDemand) (cs : List Constraint) → AreStated s ds cs → AllZip Speaks (all_demands s.variables ds) (generator_list s.variables cs)
 unfolding all_demands generator_list
-generators_speak s ds cs h = zip-append Speaks (map (demand_of_elemental s.variables) (elementals s.variables)) (map demand_of_line ds) (map (of_elemental s.variables) (elementals s.variables)) (map of_constraint cs)
+generators_speak s ds cs h = zip-append Speaks (map (demand_of_elemental s.variables) (elementals s.variables)) (map (λ (d : LineDemand). d.demand) ds) (map (of_elemental s.variables) (elementals s.variables)) (map of_constraint cs)
     (zip-maps Speaks (demand_of_elemental s.variables) (of_elemental s.variables) (elementals s.variables) (λ e. record { kind = refl; same = λ p z. value-row s.variables e p z }))
-    (zip-both (λ (d : LineDemand) (c : Constraint). States s d.origin d.demand c) Speaks demand_of_line of_constraint (λ d c t. record { kind = t.kind; same = t.row.same }) ds cs h)
+    (zip-both (λ (d : LineDemand) (c : Constraint). States s d.origin d.demand c) Speaks (λ (d : LineDemand). d.demand) of_constraint (λ d c t. record { kind = t.kind; same = t.row.same }) ds cs h)
 
 module _ (ds : List Demand) (gs : List Generator) (z : AllZip Speaks ds gs) where
   same_count : length gs ≡ length ds

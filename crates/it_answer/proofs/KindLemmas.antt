@@ -6,7 +6,7 @@ use Rattle.it_syntax.specs.Meaning.{RelationView}
 use Rattle.it_question.specs.Questions.{BodyView, RegionView, VerbView, Prove, Eliminate, Contain}
 use Rattle.it_contain.specs.Proposals.{Plan}
 use Rattle.it_answer.specs.declared.types.Budgets.{Budgets}
-use Rattle.it_answer.specs.AnswerForms.{IsAnswerBy, IsAnswerTo}
+use Rattle.it_answer.specs.AnswerKinds.{IsAnswerBy, IsAnswerTo}
 use Rattle.it_answer.specs.Replies.{Reply}
 use Rattle.it_answer.specs.Shows.{ShowsBy}
 use Rattle.it_answer.specs.RightAnswers.{IsRightAnswer}

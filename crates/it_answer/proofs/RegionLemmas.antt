@@ -6,7 +6,6 @@ use Rattle.std.proofs.lemmas.List.Elements.{All-nil, All-cons, All-head, All-tai
 use Rattle.it_space.specs.declared.answers.Cause.TheVariants.{Width}
 use Rattle.it_space.specs.declared.answers.Mark.{Mark}
 use Rattle.it_space.specs.declared.answers.Mark.TheVariants as marks
-use Rattle.it_space.specs.declared.problems.Constraint.{Constraint}
 use Rattle.it_space.specs.declared.spaces.Space.{Space}
 use Rattle.it_space.specs.Answers.{AnswerView}
 use Rattle.it_space.specs.Answers.AnswerView.{Undecided, Region}
@@ -17,11 +16,11 @@ use Rattle.it_polymatroid.specs.Polymatroid.{IsPolymatroid}
 use Rattle.it_syntax.specs.Givens.{IsTrueAt}
 use Rattle.it_syntax.specs.Meaning.{RelationView, Holds}
 use Rattle.it_question.specs.Questions.{BodyView, OwnLinesView, VerbView, Eliminate}
-use Rattle.it_demand.specs.Demands.{AreStated}
-use Rattle.it_canon.specs.QuestionDemands.{variables_of, AreTrueAt}
-use Rattle.it_demand.specs.LineDemands.{space_of, given_demands, system_forms, AreRowsOf, AreAtLeastZero}
-use Rattle.it_question.specs.Tables.{problem_names_by, problem_lines, problem_lines_by}
-use Rattle.it_demand.proofs.UniqueRows.{one_constraint_list, one_row_list}
+use Rattle.it_canon.specs.QuestionDemands.{variables_of, problem_of, terms_in, AreTrueAt}
+use Rattle.it_demand.specs.LineDemands.{space_of, system_forms, AreRowsOf, AreAtLeastZero}
+use Rattle.it_question.specs.Tables.{problem_names, problem_names_by, problem_lines, problem_lines_by}
+use Rattle.it_demand.specs.RowsOfForms.{terms_of_form}
+use Rattle.it_demand.proofs.FormRows.{rows_are_terms_of_forms}
 use Rattle.it_eliminate.specs.Elimination.{Member}
 use Rattle.it_eliminate.specs.Projections.{IsPointOf, LacksCoordinate, Extends}
 use Rattle.it_redundant.specs.Reduction.{NeedView, Needed, Unsettled, kept_rows}
@@ -159,34 +158,24 @@ module _ (q : BodyView) (rates : List ℕ) (givens : ProblemView) (rows : List T
   pub region_shows : (end : ProjectedView) (answer : AnswerView) → RegionIsReduced givens rates rows end → answer ≡ answer_of_end end → ShowsBy q (Eliminate rates) answer
   region_shows end answer x is = subst (ShowsBy q (Eliminate rates)) (sym is) (shows_end end x)
 
-  pub region_is_due : (budgets : Budgets) (end : ProjectedView) (answer : AnswerView) → AreStated givens.space (given_demands givens.space.variables 1 q.lines.givens) givens.constraints
-      → AreRowsOf givens.space (system_forms givens.space.variables q.lines.rows) rows → ReducedEnds givens budgets.pivots budgets.rows rows [] [] rates end → answer ≡ answer_of_end end → IsDueElimination budgets q rates answer
-  region_is_due budgets end answer stated are ends is = record {
-    givens = givens;
-    space = same;
-    constraints = subst (λ (s : Space). AreStated givens.space (given_demands s.variables 1 q.lines.givens) givens.constraints) same stated;
-    rows = rows;
-    are_rows = subst (λ (s : Space). AreRowsOf s (system_forms s.variables q.lines.rows) rows) same are;
-    end = end;
-    ends = ends;
-    is = is;
-  }
+pub region_is_due : (budgets : Budgets) (q : BodyView) (rates : List ℕ) (givens : ProblemView) (rows : List Terms) (end : ProjectedView) (answer : AnswerView) → givens ≡ problem_of q
+    → rows ≡ map (terms_in q) (system_forms (variables_of q) q.lines.rows) → ReducedEnds givens budgets.pivots budgets.rows rows [] [] rates end → answer ≡ answer_of_end end → IsDueElimination budgets q rates answer
+region_is_due budgets q rates givens rows end answer posed rows_are ends is = record {
+  end = end;
+  ends = subst (λ (g : ProblemView). ReducedEnds g budgets.pivots budgets.rows (map (terms_in q) (system_forms (variables_of q) q.lines.rows)) [] [] rates end) posed
+      (subst (λ (rs : List Terms). ReducedEnds givens budgets.pivots budgets.rows rs [] [] rates end) rows_are ends);
+  is = is;
+}
+
+-- the rows of the `row` lines are the terms of their forms
+pub system_rows_are : (q : BodyView) (s : Space) (rows : List Terms) → s ≡ space_of (problem_names q) → AreRowsOf s (system_forms s.variables q.lines.rows) rows → rows ≡ map (terms_in q) (system_forms (variables_of q) q.lines.rows)
+system_rows_are q s rows same are = rows_are_terms_of_forms s (system_forms s.variables q.lines.rows) rows are ∙ ap (λ (t : Space). map (terms_of_form (size_of t)) (system_forms t.variables q.lines.rows)) same
 
 -- ---- there is one right answer
 
 pub one_elimination : (budgets : Budgets) (q : BodyView) (rates : List ℕ) (a b : AnswerView) → IsDueElimination budgets q rates a → IsDueElimination budgets q rates b → a ≡ b
-one_elimination budgets q rates a b x y =
-    let n = length q.names.variables in
-    let demands = given_demands n 1 q.lines.givens in
-    let same_space : x.givens.space ≡ y.givens.space = x.space ∙ sym y.space in
-    let same_givens : x.givens ≡ y.givens = ap₂ (λ (s : Space) (cs : List Constraint). record { space = s; constraints = cs }) same_space
-    (one_constraint_list y.givens.space demands x.givens.constraints y.givens.constraints
-    (subst (λ (s : Space). AreStated s demands x.givens.constraints) same_space x.constraints) y.constraints) in
-    let same_rows : x.rows ≡ y.rows = one_row_list (space_of q.names) (system_forms n q.lines.rows) x.rows y.rows x.are_rows y.are_rows in
-    let ends : ReducedEnds y.givens budgets.pivots budgets.rows y.rows [] [] rates x.end =
-    subst (λ (g : ProblemView). ReducedEnds g budgets.pivots budgets.rows y.rows [] [] rates x.end) same_givens
-    (subst (λ (rs : List Terms). ReducedEnds x.givens budgets.pivots budgets.rows rs [] [] rates x.end) same_rows x.ends) in
-    x.is ∙ ap answer_of_end (one_reduced_end y.givens budgets.pivots budgets.rows y.rows [] [] rates x.end y.end ends y.ends) ∙ sym y.is
+one_elimination budgets q rates a b x y = x.is
+    ∙ ap answer_of_end (one_reduced_end (problem_of q) budgets.pivots budgets.rows (map (terms_in q) (system_forms (variables_of q) q.lines.rows)) [] [] rates x.end y.end x.ends y.ends) ∙ sym y.is
 
 -- ---- what follows
 

@@ -1,5 +1,5 @@
 -- No run about a question ends before its first step.
-use Rattle.std.proofs.Common.{inl, inr, ℕ, List, [], ◌∷◌, Option, All}
+use Rattle.std.proofs.Common.{◌≡◌, inl, inr, ℕ, List, [], ◌∷◌, map, Option, All, refl}
 use Rattle.it_space.specs.declared.answers.Cause.TheVariants.{Width}
 use Rattle.it_space.specs.declared.problems.Constraint.{Constraint}
 use Rattle.it_space.specs.Answers as answer_views
@@ -7,12 +7,14 @@ use Rattle.it_space.specs.Bounds.{IsSmall}
 use Rattle.it_space.specs.Problems.{ProblemView, IsProblem}
 use Rattle.it_space.specs.Rows.{Terms}
 use Rattle.it_polymatroid.specs.Certificates.{Form}
-use Rattle.it_syntax.specs.Meaning.{RelationView}
+use Rattle.it_question.specs.Limits.{IsQuestion}
+use Rattle.it_question.proofs.NumberLemmas.{QuestionHasSmallNumbers}
 use Rattle.it_question.specs.Questions.{BodyView, VerbView, Prove, Eliminate, Contain}
 use Rattle.it_demand.specs.Demands.{LineDemand, States}
 use Rattle.it_demand.specs.Targets.{targets}
 use Rattle.it_demand.specs.LineDemands.{AreRowsOf}
-use Rattle.it_canon.specs.QuestionDemands.{question_demands, variables_of, Poses}
+use Rattle.it_canon.specs.QuestionDemands.{question_demands, variables_of, problem_of, terms_in, IsProblemOf}
+use Rattle.it_canon.proofs.ExistenceLemmas.{each_question, question_poses, relation_rows}
 use Rattle.it_demand.proofs.ZipLemmas.{zip-right}
 use Rattle.it_prove.proofs.SmallLemmas.{never_at_start}
 use Rattle.it_region.specs.declared.types.Candidate.{Candidate}
@@ -20,10 +22,10 @@ use Rattle.it_contain.specs.Proposals.{Plan}
 use Rattle.it_answer.specs.declared.types.Budgets.{Budgets}
 use Rattle.it_answer.proofs.RegionLemmas.{not_width}
 use Rattle.it_answer.specs.DueRelations.{CauseIsDue}
-use Rattle.it_answer.specs.RightAnswers.{IsDueBy, NoStepIsZero}
+use Rattle.it_answer.specs.RightAnswers.{IsDueBy, IsRightAnswer, NoStepIsZero}
 
-small_constraints : (q : BodyView) (r : RelationView) (b : Poses q r) → All (λ (c : Constraint). IsSmall c.row) b.problem.constraints
-small_constraints q r b = zip-right (λ (d : LineDemand) (c : Constraint). States b.problem.space d.origin d.demand c) (λ (c : Constraint). IsSmall c.row) (λ d c s. s.row.small) (question_demands q) b.problem.constraints b.is_problem.constraints
+small_constraints : (q : BodyView) (p : ProblemView) → IsProblemOf q p → All (λ (c : Constraint). IsSmall c.row) p.constraints
+small_constraints q p is = zip-right (λ (d : LineDemand) (c : Constraint). States p.space d.origin d.demand c) (λ (c : Constraint). IsSmall c.row) (λ d c s. s.row.small) (question_demands q) p.constraints is.constraints
 
 not_before_start : (p : ProblemView) (budget : Option ℕ) (fs : List Form) (ts : List Terms) → IsProblem p → All (λ (c : Constraint). IsSmall c.row) p.constraints → AreRowsOf p.space fs ts → CauseIsDue p budget ts (Width 0) → ⊥
 not_before_start p budget [] [] k small a c = absurd c
@@ -32,11 +34,14 @@ not_before_start p budget (f ∷ fs) [] k small a c = absurd a
 not_before_start p budget (f ∷ fs) (t ∷ ts) k small a (inl e) = never_at_start p t budget k (record { constraints = small; own = a.0.small }) e
 not_before_start p budget (f ∷ fs) (t ∷ ts) k small a (inr c) = not_before_start p budget fs ts k small a.1 c.1
 
-by_verb : (budgets : Budgets) (plans : List Plan) (q : BodyView) (verb : VerbView) (found : List Candidate) → IsDueBy budgets plans q verb (record { answer = answer_views.Undecided (Width 0); found = found }) → ⊥
-by_verb budgets plans q (Prove r) found d =
-    let b = d.0.poses in not_before_start b.problem budgets.pivots (targets (variables_of q) r) b.rows b.is_problem.limits (small_constraints q r b) b.targets_are d.0.due
-by_verb budgets plans q (Eliminate rates) found d = not_width 0 d.0.end d.0.is
-by_verb budgets plans q (Contain first second tries) found d = d.due
+module _ (q : BodyView) (k : IsQuestion q) (small : QuestionHasSmallNumbers q) (budgets : Budgets) (plans : List Plan) (found : List Candidate) where
+  by_verb : (verb : VerbView) → q.verb ≡ verb → IsDueBy budgets plans q verb (record { answer = answer_views.Undecided (Width 0); found = found }) → ⊥
+  by_verb (Prove r) about d =
+      let is = question_poses q k small in
+      not_before_start (problem_of q) budgets.pivots (targets (variables_of q) r) (map (terms_in q) (targets (variables_of q) r)) is.limits (small_constraints q (problem_of q) is) (relation_rows q k small r about) d.0
+  by_verb (Eliminate rates) about d = not_width 0 d.0.end d.0.is
+  by_verb (Contain first second tries) about d = d
 
 pub no_step_is_zero : NoStepIsZero
-no_step_is_zero budgets plans q found a = by_verb budgets plans q q.verb found a.due
+no_step_is_zero = each_question (λ q. (budgets : Budgets) (plans : List Plan) (found : List Candidate) → IsRightAnswer budgets plans q.body (record { answer = answer_views.Undecided (Width 0); found = found }) → ⊥)
+    (λ q k small budgets plans found a. by_verb q.body k small budgets plans found q.body.verb refl a.due)

@@ -25,7 +25,7 @@ use Rattle.it_demand.proofs.MetLemmas.{IsSatisfied, givens_satisfied, rows_satis
 use Rattle.it_elemental.specs.Generators.{is_equation}
 use Rattle.it_elemental.proofs.GeneratorLemmas.{every_or}
 use Rattle.it_check.proofs.Truth.{at_least, is_zero}
-use Rattle.it_answer.specs.Forms.{CertifiesForm, CertifyAll, all_demands, demand_at, demand_of_elemental, demand_of_line, MayStand}
+use Rattle.it_answer.specs.Forms.{CertifiesForm, CertifyAll, all_demands, demand_at, demand_of_elemental, MayStand}
 use Rattle.it_answer.proofs.FormLemmas.{inequality_unless_equation}
 use Rattle.it_answer.specs.Shows.{AContainmentIsTrue, ANoIsTrue, AYesIsTrue, NeverYesAndNo, Shows, ShowsBy, ViolatesFirst}
 
@@ -55,9 +55,9 @@ module _ (q : BodyView) (m : ℕ → ℤ) (together : AreTrueTogether q m) where
   unfolding all_demands
   all_satisfied =
       let n : ℕ = variables_of q in
-      every-append (IsSatisfied m) (map (demand_of_elemental n) (elementals n)) (map demand_of_line (question_demands q))
+      every-append (IsSatisfied m) (map (demand_of_elemental n) (elementals n)) (map (λ (d : LineDemand). d.demand) (question_demands q))
       (every-map (IsSatisfied m) (demand_of_elemental n) (elementals n) (every_of (λ e. pos 0 ≤ℤ elemental_value n m e) (elementals n) ((elementals_generate n m together.0.empty).1 together.0)))
-      (every-map (IsSatisfied m) demand_of_line (question_demands q) (every_of (λ (d : LineDemand). IsSatisfied m d.demand) (question_demands q) lines_satisfied))
+      (every-map (IsSatisfied m) (λ (d : LineDemand). d.demand) (question_demands q) (every_of (λ (d : LineDemand). IsSatisfied m d.demand) (question_demands q) lines_satisfied))
 
   satisfied_at : (i : ℕ) → IsSatisfied m (demand_at ds i)
   satisfied_at i = every_or (IsSatisfied m) ds i (record { kind = Inequality; form = λ p. pos 0 }) all_satisfied (omega (arith, ints))

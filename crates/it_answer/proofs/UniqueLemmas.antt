@@ -1,31 +1,29 @@
 -- A question has one right answer: its problem and its targets' rows are determined, and each target has one outcome.
-use Rattle.std.proofs.Common.{◌≡◌, inl, inr, ℕ, ℤ, List, [], ◌∷◌, Bool, true, false, Option, All, take, refl, sym, ap, ap₂, subst, ◌∙◌}
+use Rattle.std.proofs.Common.{◌≡◌, inl, inr, ℕ, ℤ, List, [], ◌∷◌, Bool, true, false, Option, All, map, take, refl, sym, ap, ap₂, subst, ◌∙◌}
 use Rattle.std.proofs.lemmas.List.Elements.{All-nil, All-cons}
 use Rattle.it_space.specs.declared.answers.Cause.{Cause}
-use Rattle.it_space.specs.Problems.{ProblemView, problem_view}
+use Rattle.it_space.specs.Problems.{ProblemView}
 use Rattle.it_space.specs.Answers.{AnswerView, CertificateView}
 use Rattle.it_space.specs.Answers as answer_views
 use Rattle.it_space.specs.Rows.{Terms, IsCanonical}
 use Rattle.it_syntax.specs.Meaning.{RelationView}
 use Rattle.it_question.specs.Questions.{BodyView, RegionView, VerbView, Prove, Eliminate, Contain}
-use Rattle.it_demand.proofs.ZipLemmas.{zip-right}
-use Rattle.it_canon.proofs.PosesLemmas.{same_problem, same_rows}
+use Rattle.it_demand.specs.Targets.{targets}
+use Rattle.it_canon.specs.QuestionDemands.{variables_of, problem_of, terms_in}
 use Rattle.it_redundant.specs.ReducedElimination.{ProjectedView}
 use Rattle.it_redundant.specs.ReducedElimination as projections
-use Rattle.it_prove.specs.ProofViews.{Yes, No, Undecided, EndsWith, AreProofsOf}
+use Rattle.it_prove.specs.ProofViews.{Yes, No, Undecided, AreProofsOf}
 use Rattle.it_prove.proofs.ProofLemmas.{one_outcome, proven_ascends}
 use Rattle.it_region.specs.declared.types.Candidate.{Candidate}
-use Rattle.it_region.specs.declared.types.Pair.{Pair}
-use Rattle.it_region.specs.Pairs.{IsPairOf}
+use Rattle.it_region.specs.Obligations.{obligations}
 use Rattle.it_contain.specs.Proposals.{Plan}
-use Rattle.it_contain.specs.Shapes.{shape_of}
-use Rattle.it_contain.specs.Search.{Goal, IsOpen, IsProofBy, goal_of, plan_of}
-use Rattle.it_contain.proofs.OneEndLemmas.{one_first, first_not_open, one_open, one_proof_list, same_shape, first_of_other, open_of_other, proof_of_other}
+use Rattle.it_contain.specs.Search.{Goal, IsOpen}
+use Rattle.it_contain.proofs.OneEndLemmas.{one_first, first_not_open, one_open}
 use Rattle.it_answer.specs.declared.types.Budgets.{Budgets}
 use Rattle.it_answer.proofs.RegionLemmas.{one_elimination}
 use Rattle.it_answer.specs.Replies.{Reply}
 use Rattle.it_answer.specs.DueEliminations.{answer_of_end}
-use Rattle.it_answer.specs.DueContainments.{tried_of, IsFound, IsDueBySearch, IsDueContainment}
+use Rattle.it_answer.specs.DueContainments.{IsFound, IsDueBySearch, IsProofOf}
 use Rattle.it_answer.specs.DueRelations.{PointIsDue, CauseIsDue, IsDueByRuns, IsDueRelation}
 use Rattle.it_answer.specs.RightAnswers.{IsDueBy, OneRightAnswer, ProofsAscend, AYesAscends}
 
@@ -129,62 +127,51 @@ module _ (p : ProblemView) (budget : Option ℕ) where
   one_due ts (answer_views.Open tried) b x y = absurd x
 
 one_for : (budget : Option ℕ) (q : BodyView) (r : RelationView) (a b : AnswerView) → IsDueRelation budget q r a → IsDueRelation budget q r b → a ≡ b
-one_for budget q r a b x y = one_due y.poses.problem budget y.poses.rows a b
-    (subst (λ (p : ProblemView). IsDueByRuns p budget y.poses.rows a) (same_problem q r x.poses y.poses) (subst (λ (ts : List Terms). IsDueByRuns x.poses.problem budget ts a) (same_rows q r x.poses y.poses) x.due)) y.due
+one_for budget q r a b x y = one_due (problem_of q) budget (map (terms_in q) (targets (variables_of q) r)) a b x y
 
 -- ---- what a search finds
 
 abbrev reply_of : AnswerView → List Candidate → Reply
 reply_of answer found = record { answer = answer; found = found }
 
-module _ (budget : Option ℕ) (tries : ℕ) (q : BodyView) (a b : RegionView) (p r : Pair) (o : IsPairOf q a b p) (u : IsPairOf q a b r) (plan : List Candidate) where
-  one_found : (xs ys : List Candidate) (parts others : List ℕ) (ws vs : List CertificateView) → IsFound (goal_of p budget) tries plan xs parts ws → IsFound (goal_of r budget) tries plan ys others vs
+module _ (q : BodyView) (a b : RegionView) (budget : Option ℕ) (tries : ℕ) (plan : List Candidate) where
+  abbrev proves : Goal
+  proves = IsProofOf q a b budget
+
+  one_found : (xs ys : List Candidate) (parts others : List ℕ) (ws vs : List CertificateView) → IsFound proves tries plan xs parts ws → IsFound proves tries plan ys others vs
       → reply_of (answer_views.Contained parts ws) xs ≡ reply_of (answer_views.Contained others vs) ys
   one_found xs ys parts others ws vs x y =
-      let c : x.candidate ≡ y.candidate = one_first (goal_of r budget) tries plan x.candidate y.candidate (first_of_other q a b p r o u budget tries plan x.candidate x.first) y.first in
-      let same_proofs : ws ≡ vs = one_proof_list (goal_of r budget) y.candidate ws vs (subst (λ d. IsProofBy (goal_of r budget) d ws) c (proof_of_other q a b p r o u budget x.candidate ws x.proofs)) y.proofs in
+      let c : x.candidate ≡ y.candidate = one_first proves tries plan x.candidate y.candidate x.first y.first in
+      let proof : proves y.candidate ws = subst (λ d. proves d ws) c x.proofs in
+      let same_proofs : ws ≡ vs = one_yes (problem_of q) budget (map (terms_in q) (obligations q a b (take y.candidate.count y.candidate.parts))) ws vs proof.proofs y.proofs.proofs in
       let same_parts : parts ≡ others = x.parts_are ∙ ap (λ (d : Candidate). take d.count d.parts) c ∙ sym y.parts_are in
       let same_found : xs ≡ ys = x.found_is ∙ ap (λ d. d ∷ []) c ∙ sym y.found_is in
       ap₂ (λ zs cs. reply_of (answer_views.Contained zs ws) cs) same_parts same_found ∙ ap (λ us. reply_of (answer_views.Contained others us) ys) same_proofs
 
-  found_not_open : (xs : List Candidate) (parts : List ℕ) (ws : List CertificateView) (t : ℕ) → IsFound (goal_of p budget) tries plan xs parts ws → IsOpen (goal_of r budget) tries plan t → ⊥
-  found_not_open xs parts ws t x y = first_not_open (goal_of r budget) tries plan x.candidate t (first_of_other q a b p r o u budget tries plan x.candidate x.first) y
+  module _ (xs ys : List Candidate) where
+    found_then : (parts : List ℕ) (ws : List CertificateView) (other : AnswerView) → IsFound proves tries plan xs parts ws → IsDueBySearch proves tries plan ys other → reply_of (answer_views.Contained parts ws) xs ≡ reply_of other ys
+    found_then parts ws (answer_views.Contained others vs) x y = one_found xs ys parts others ws vs x y
+    found_then parts ws (answer_views.Open t) x y = absurd (first_not_open proves tries plan x.candidate t x.first y.0)
+    found_then parts ws (answer_views.Yes vs) x y = absurd y
+    found_then parts ws (answer_views.No is_back values) x y = absurd y
+    found_then parts ws (answer_views.Undecided cause) x y = absurd y
+    found_then parts ws (answer_views.Region rows) x y = absurd y
 
-  open_is_one : (xs ys : List Candidate) (t s : ℕ) → IsOpen (goal_of p budget) tries plan t → IsOpen (goal_of r budget) tries plan s → xs ≡ [] → ys ≡ [] → reply_of (answer_views.Open t) xs ≡ reply_of (answer_views.Open s) ys
-  open_is_one xs ys t s x y e f = ap₂ (λ n cs. reply_of (answer_views.Open n) cs) (one_open (goal_of r budget) tries plan t s (open_of_other q a b p r o u budget tries plan t x) y) (e ∙ sym f)
+    open_then : (t : ℕ) (other : AnswerView) → IsOpen proves tries plan t → xs ≡ [] → IsDueBySearch proves tries plan ys other → reply_of (answer_views.Open t) xs ≡ reply_of other ys
+    open_then t (answer_views.Contained others vs) x e y = absurd (first_not_open proves tries plan y.candidate t y.first x)
+    open_then t (answer_views.Open s) x e y = ap₂ (λ n cs. reply_of (answer_views.Open n) cs) (one_open proves tries plan t s x y.0) (e ∙ sym y.1)
+    open_then t (answer_views.Yes vs) x e y = absurd y
+    open_then t (answer_views.No is_back values) x e y = absurd y
+    open_then t (answer_views.Undecided cause) x e y = absurd y
+    open_then t (answer_views.Region rows) x e y = absurd y
 
-module _ (budget : Option ℕ) (tries : ℕ) (q : BodyView) (a b : RegionView) (p r : Pair) (o : IsPairOf q a b p) (u : IsPairOf q a b r) (plan : List Candidate) (xs ys : List Candidate) where
-  found_then : (parts : List ℕ) (ws : List CertificateView) (other : AnswerView) → IsFound (goal_of p budget) tries plan xs parts ws → IsDueBySearch (goal_of r budget) tries plan ys other
-      → reply_of (answer_views.Contained parts ws) xs ≡ reply_of other ys
-  found_then parts ws (answer_views.Contained others vs) x y = one_found budget tries q a b p r o u plan xs ys parts others ws vs x y
-  found_then parts ws (answer_views.Open t) x y = absurd (found_not_open budget tries q a b p r o u plan xs parts ws t x y.0)
-  found_then parts ws (answer_views.Yes vs) x y = absurd y
-  found_then parts ws (answer_views.No is_back values) x y = absurd y
-  found_then parts ws (answer_views.Undecided cause) x y = absurd y
-  found_then parts ws (answer_views.Region rows) x y = absurd y
-
-  open_then : (t : ℕ) (other : AnswerView) → IsOpen (goal_of p budget) tries plan t → xs ≡ [] → IsDueBySearch (goal_of r budget) tries plan ys other → reply_of (answer_views.Open t) xs ≡ reply_of other ys
-  open_then t (answer_views.Contained others vs) x e y = absurd (found_not_open budget tries q a b r p u o plan ys others vs t y x)
-  open_then t (answer_views.Open s) x e y = open_is_one budget tries q a b p r o u plan xs ys t s x y.0 e y.1
-  open_then t (answer_views.Yes vs) x e y = absurd y
-  open_then t (answer_views.No is_back values) x e y = absurd y
-  open_then t (answer_views.Undecided cause) x e y = absurd y
-  open_then t (answer_views.Region rows) x e y = absurd y
-
-  one_search : (one other : AnswerView) → IsDueBySearch (goal_of p budget) tries plan xs one → IsDueBySearch (goal_of r budget) tries plan ys other → reply_of one xs ≡ reply_of other ys
-  one_search (answer_views.Contained parts ws) other x y = found_then parts ws other x y
-  one_search (answer_views.Open t) other x y = open_then t other x.0 x.1 y
-  one_search (answer_views.Yes ws) other x y = absurd x
-  one_search (answer_views.No is_back values) other x y = absurd x
-  one_search (answer_views.Undecided cause) other x y = absurd x
-  one_search (answer_views.Region rows) other x y = absurd x
-
-one_containment : (budgets : Budgets) (plans : List Plan) (q : BodyView) (a b : RegionView) (tries : List (List ℕ)) (one other : Reply)
-    → IsDueContainment budgets plans q a b tries one → IsDueContainment budgets plans q a b tries other → one ≡ other
-one_containment budgets plans q a b tries one other x y =
-    let plan = plan_of (tried_of b tries) plans (shape_of y.pair) in
-    one_search budgets.pivots budgets.tries q a b x.pair y.pair x.pairs y.pairs plan one.found other.found one.answer other.answer
-    (subst (λ s. IsDueBySearch (goal_of x.pair budgets.pivots) budgets.tries (plan_of (tried_of b tries) plans s) one.found one.answer) (same_shape q a b x.pair y.pair x.pairs y.pairs) x.due) y.due
+    one_search : (one other : AnswerView) → IsDueBySearch proves tries plan xs one → IsDueBySearch proves tries plan ys other → reply_of one xs ≡ reply_of other ys
+    one_search (answer_views.Contained parts ws) other x y = found_then parts ws other x y
+    one_search (answer_views.Open t) other x y = open_then t other x.0 x.1 y
+    one_search (answer_views.Yes ws) other x y = absurd x
+    one_search (answer_views.No is_back values) other x y = absurd x
+    one_search (answer_views.Undecided cause) other x y = absurd x
+    one_search (answer_views.Region rows) other x y = absurd x
 
 -- ---- each verb
 
@@ -194,7 +181,8 @@ without_found one other xs ys same e f = ap₂ reply_of same (e ∙ sym f)
 one_by : (budgets : Budgets) (plans : List Plan) (q : BodyView) (verb : VerbView) (a b : Reply) → IsDueBy budgets plans q verb a → IsDueBy budgets plans q verb b → a ≡ b
 one_by budgets plans q (Prove r) a b x y = without_found a.answer b.answer a.found b.found (one_for budgets.pivots q r a.answer b.answer x.0 y.0) x.1 y.1
 one_by budgets plans q (Eliminate rates) a b x y = without_found a.answer b.answer a.found b.found (one_elimination budgets q rates a.answer b.answer x.0 y.0) x.1 y.1
-one_by budgets plans q (Contain first second tries) a b x y = one_containment budgets plans q first second tries a b x y
+one_by budgets plans q (Contain first second tries) a b x y =
+    one_search q first second budgets.pivots budgets.tries _ a.found b.found a.answer b.answer x y
 
 pub one_right_answer : OneRightAnswer
 one_right_answer budgets plans q a b x y = one_by budgets plans q q.verb a b x.due y.due
@@ -220,20 +208,18 @@ region_ascends answer (projections.Region kept dropped) is = subst ProofsAscend 
 region_ascends answer (projections.Rows rate) is = subst ProofsAscend (sym is) tt
 region_ascends answer (projections.Wide rate) is = subst ProofsAscend (sym is) tt
 
-search_ascends : (goal : Goal) (tries : ℕ) (plan found : List Candidate) (answer : AnswerView) → IsDueBySearch goal tries plan found answer → ProofsAscend answer
-search_ascends goal tries plan found (answer_views.Yes ws) x = absurd x
-search_ascends goal tries plan found (answer_views.No is_back values) x = absurd x
-search_ascends goal tries plan found (answer_views.Undecided cause) x = absurd x
-search_ascends goal tries plan found (answer_views.Region rows) x = absurd x
-search_ascends goal tries plan found (answer_views.Contained parts ws) x =
-    zip-right (λ (t : Terms) (w : CertificateView). EndsWith (problem_view goal.pair.first) t goal.budget (Yes w)) (λ (w : CertificateView). IsCanonical w.weights)
-    (λ t w p. proven_ascends (problem_view goal.pair.first) t goal.budget w p) x.proofs.rows ws x.proofs.proofs
-search_ascends goal tries plan found (answer_views.Open tried) x = tt
+search_ascends : (q : BodyView) (a b : RegionView) (budget : Option ℕ) (tries : ℕ) (plan found : List Candidate) (answer : AnswerView) → IsDueBySearch (IsProofOf q a b budget) tries plan found answer → ProofsAscend answer
+search_ascends q a b budget tries plan found (answer_views.Yes ws) x = absurd x
+search_ascends q a b budget tries plan found (answer_views.No is_back values) x = absurd x
+search_ascends q a b budget tries plan found (answer_views.Undecided cause) x = absurd x
+search_ascends q a b budget tries plan found (answer_views.Region rows) x = absurd x
+search_ascends q a b budget tries plan found (answer_views.Contained parts ws) x = each_ascends (problem_of q) budget (map (terms_in q) (obligations q a b (take x.candidate.count x.candidate.parts))) ws x.proofs.proofs
+search_ascends q a b budget tries plan found (answer_views.Open tried) x = tt
 
 ascends_by : (budgets : Budgets) (plans : List Plan) (q : BodyView) (verb : VerbView) (reply : Reply) → IsDueBy budgets plans q verb reply → ProofsAscend reply.answer
-ascends_by budgets plans q (Prove r) reply d = targets_ascend d.0.poses.problem budgets.pivots d.0.poses.rows reply.answer d.0.due
+ascends_by budgets plans q (Prove r) reply d = targets_ascend (problem_of q) budgets.pivots (map (terms_in q) (targets (variables_of q) r)) reply.answer d.0
 ascends_by budgets plans q (Eliminate rates) reply d = region_ascends reply.answer d.0.end d.0.is
-ascends_by budgets plans q (Contain a b tries) reply d = search_ascends (goal_of d.pair budgets.pivots) budgets.tries (plan_of (tried_of b tries) plans (shape_of d.pair)) reply.found reply.answer d.due
+ascends_by budgets plans q (Contain a b tries) reply d = search_ascends q a b budgets.pivots budgets.tries _ reply.found reply.answer d
 
 pub a_yes_ascends : AYesAscends
 a_yes_ascends budgets plans q reply x = ascends_by budgets plans q q.verb reply x.due

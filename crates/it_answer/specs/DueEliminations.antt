@@ -1,15 +1,14 @@
 -- Which answer to `eliminate` is due, by reduced elimination of the rows of the text.
-use Rattle.std.specs.Prelude.{◌≡◌, ℕ, List, [], length, map}
+use Rattle.std.specs.Prelude.{◌≡◌, ℕ, List, [], map}
 use Rattle.it_space.specs.declared.answers.Cause.TheVariants as causes
 use Rattle.it_space.specs.declared.answers.Mark.{Mark}
 use Rattle.it_space.specs.declared.answers.Mark.TheVariants as marks
 use Rattle.it_space.specs.Answers.{AnswerView}
 use Rattle.it_space.specs.Answers.AnswerView.{Undecided, Region}
-use Rattle.it_space.specs.Problems.{ProblemView}
 use Rattle.it_space.specs.Rows.{Terms}
 use Rattle.it_question.specs.Questions.{BodyView}
-use Rattle.it_demand.specs.Demands.{AreStated}
-use Rattle.it_demand.specs.LineDemands.{space_of, given_demands, system_forms, AreRowsOf}
+use Rattle.it_demand.specs.LineDemands.{system_forms}
+use Rattle.it_canon.specs.QuestionDemands.{variables_of, problem_of, terms_in}
 use Rattle.it_redundant.specs.Reduction.{NeedView, Needed, Unsettled}
 use Rattle.it_redundant.specs.ReducedElimination.{ProjectedView, ReducedEnds}
 use Rattle.it_redundant.specs.ReducedElimination as projections
@@ -30,14 +29,9 @@ answer_of_end (projections.Region kept dropped) = Region (marked_rows kept)
 answer_of_end (projections.Rows rate) = Undecided (causes.Rows rate)
 answer_of_end (projections.Wide rate) = Undecided (causes.WideRate rate)
 
--- What reduced elimination of the listed rates, in their order, from the rows of the `row` lines ends with: an equation's row and the
--- row turned; each reduction under the constraints of the `given` lines.
+-- What reduced elimination of the listed rates, in their order, from the terms of the `row` lines ends with: those of an equation and
+-- those turned; each reduction under the constraints of the `given` lines, which are the question's problem.
 pub record IsDueElimination (budgets : Budgets) (q : BodyView) (rates : List ℕ) (answer : AnswerView) : Type 0 where
-  pub givens : ProblemView
-  pub space : givens.space ≡ space_of q.names
-  pub constraints : AreStated givens.space (given_demands (length q.names.variables) 1 q.lines.givens) givens.constraints
-  pub rows : List Terms
-  pub are_rows : AreRowsOf (space_of q.names) (system_forms (length q.names.variables) q.lines.rows) rows
   pub end : ProjectedView
-  pub ends : ReducedEnds givens budgets.pivots budgets.rows rows [] [] rates end
+  pub ends : ReducedEnds (problem_of q) budgets.pivots budgets.rows (map (terms_in q) (system_forms (variables_of q) q.lines.rows)) [] [] rates end
   pub is : answer ≡ answer_of_end end

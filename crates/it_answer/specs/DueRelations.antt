@@ -1,5 +1,5 @@
 -- Which answer to `prove` is due, by the runs about the rows of the relation's targets.
-use Rattle.std.specs.Prelude.{◌⊎◌, ℕ, ℤ, List, [], ◌∷◌, Bool, true, false, Option}
+use Rattle.std.specs.Prelude.{◌⊎◌, ℕ, ℤ, List, [], ◌∷◌, map, Bool, true, false, Option}
 use Rattle.it_space.specs.declared.answers.Cause.{Cause}
 use Rattle.it_space.specs.Answers.{AnswerView, CertificateView}
 use Rattle.it_space.specs.Answers.AnswerView.{Yes, No, Undecided}
@@ -7,7 +7,8 @@ use Rattle.it_space.specs.Problems.{ProblemView}
 use Rattle.it_space.specs.Rows.{Terms}
 use Rattle.it_syntax.specs.Meaning.{RelationView}
 use Rattle.it_question.specs.Questions.{BodyView}
-use Rattle.it_canon.specs.QuestionDemands.{Poses}
+use Rattle.it_canon.specs.QuestionDemands.{variables_of, problem_of, terms_in}
+use Rattle.it_demand.specs.Targets.{targets}
 use Rattle.it_prove.specs.ProofViews as proof_views
 use Rattle.it_prove.specs.ProofViews.{EndsWith, AreProofsOf}
 
@@ -33,7 +34,6 @@ IsDueByRuns p budget ts (No is_back values) = PointIsDue p budget ts is_back val
 IsDueByRuns p budget ts (Undecided cause) = CauseIsDue p budget ts cause
 IsDueByRuns p budget ts answer = ⊥
 
--- the same about the rows of the relation's targets, under the problem that the question poses
-pub record IsDueRelation (budget : Option ℕ) (q : BodyView) (r : RelationView) (answer : AnswerView) : Type 0 where
-  pub poses : Poses q r
-  pub due : IsDueByRuns poses.problem budget poses.rows answer
+-- the same about the terms of the relation's targets, under the problem that the question poses
+abbrev pub IsDueRelation : Option ℕ → BodyView → RelationView → AnswerView → Type 0
+IsDueRelation budget q r answer = IsDueByRuns (problem_of q) budget (map (terms_in q) (targets (variables_of q) r)) answer

@@ -14,13 +14,9 @@ use Rattle.it_canon.specs.QuestionDemands.{question_demands, variables_of}
 abbrev pub demand_of_elemental : ℕ → Elemental → Demand
 demand_of_elemental n e = record { kind = Inequality; form = λ p. elemental_value n p e }
 
--- what a line demands, without where it comes from
-abbrev pub demand_of_line : LineDemand → Demand
-demand_of_line d = d.demand
-
 -- the elemental inequalities of n variables as demands, then what the lines demand
 unfoldable pub all_demands : ℕ → List LineDemand → List Demand
-all_demands n ds = map (demand_of_elemental n) (elementals n) ++ map demand_of_line ds
+all_demands n ds = map (demand_of_elemental n) (elementals n) ++ map (λ d. d.demand) ds
 
 -- the demand of a number, counted from 0
 abbrev pub demand_at : List Demand → ℕ → Demand

@@ -1,6 +1,6 @@
 pub mod Forms
 pub mod Shows
-pub mod AnswerForms
+pub mod AnswerKinds
 pub mod Replies
 pub mod DueRelations
 pub mod DueEliminations

@@ -1,10 +1,11 @@
 -- Right answers: they show what they say, and they are due; and what follows from it.
-use Rattle.std.specs.Prelude.{◌≡◌, List, [], map, All}
+use Rattle.std.specs.Prelude.{◌≡◌, ℕ, List, [], map, All}
 use Rattle.it_space.specs.declared.answers.Cause.TheVariants.{Width}
 use Rattle.it_space.specs.Answers.{AnswerView}
 use Rattle.it_space.specs.Answers.AnswerView.{Yes, Undecided, Contained}
 use Rattle.it_space.specs.Rows.{IsCanonical}
-use Rattle.it_question.specs.Questions.{BodyView, VerbView, Prove, Eliminate, Contain}
+use Rattle.it_question.specs.Files.{IsFile}
+use Rattle.it_question.specs.Questions.{BodyView, QuestionView, VerbView, Prove, Eliminate, Contain}
 use Rattle.it_region.specs.declared.types.Candidate.{Candidate}
 use Rattle.it_contain.specs.Proposals.{Plan, plan_after_all}
 use Rattle.it_answer.specs.declared.types.Budgets.{Budgets}
@@ -47,6 +48,8 @@ ProofsAscend answer = Unit {0}
 abbrev pub AYesAscends : Type 0
 AYesAscends = (budgets : Budgets) (plans : List Plan) (q : BodyView) (reply : Reply) → IsRightAnswer budgets plans q reply → ProofsAscend reply.answer
 
--- a step that is too wide counts from 1
+-- at a question of a file a step that is too wide counts from 1
 abbrev pub NoStepIsZero : Type 0
-NoStepIsZero = (budgets : Budgets) (plans : List Plan) (q : BodyView) (found : List Candidate) → IsRightAnswer budgets plans q (record { answer = Undecided (Width 0); found = found }) → ⊥
+NoStepIsZero = (bytes : List ℕ) (qs : List QuestionView) → IsFile bytes qs
+    → All (λ q. (budgets : Budgets) (plans : List Plan) (found : List Candidate)
+    → IsRightAnswer budgets plans q.body (record { answer = Undecided (Width 0); found = found }) → ⊥) qs

@@ -22,7 +22,7 @@ pub fn answers_are_determined()
     ensures ascends { AYesAscends }
 {}
 
-/// Rows of a question are small enough for the start of every run, so a step that is too wide is at least step 1.
+/// The rows of a question of a file are small enough for the start of every run, so a step that is too wide is at least step 1.
 pub fn no_step_is_zero()
     ensures { NoStepIsZero }
 {}

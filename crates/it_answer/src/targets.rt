@@ -1,15 +1,14 @@
-//! The rows of which an answer has certificates.
+//! The rows of the forms that an answer speaks of.
 ghost use Rattle.std.specs.Prelude.{◌≡◌, map, IfOk};
 ghost use Rattle.it_space.specs.Answers.{answer_view};
-ghost use Rattle.it_space.specs.Spaces.{size_of};
 ghost use Rattle.it_syntax.specs.Meaning.{relation_view};
 ghost use Rattle.it_question.specs.Limits.{IsQuestion};
 ghost use Rattle.it_question.specs.Questions.{Contain, Prove, question_body, region_view};
-ghost use Rattle.it_demand.specs.LineDemands.{space_of};
-ghost use Rattle.it_question.specs.Tables.{problem_names};
-ghost use Rattle.it_demand.specs.RowsOfForms.{terms_of_form};
+ghost use Rattle.it_demand.specs.Targets.{targets};
+ghost use Rattle.it_canon.specs.QuestionDemands.{terms_in, variables_of};
 ghost use Rattle.it_region.specs.Obligations.{ArePartsOf, obligations};
-ghost use Rattle.it_answer.specs.AnswerForms.{IsAnswerTo, answer_forms};
+ghost use Rattle.it_answer.specs.AnswerKinds.{IsAnswerTo};
+ghost use Rattle.it_region.specs.AnswerForms.{answer_forms};
 
 use it_question::types::{Question, Region, Verb};
 use it_region::{candidate, obligations, pair};
@@ -17,8 +16,8 @@ use it_space::{Answer, Row, VarSet};
 use it_syntax::types::Relation;
 use std::alloc::{AllocError, Global};
 
-/// The rows that an answer's certificates are of, in their order: of a yes those of the targets, of a containment those of the
-/// obligations. Another answer has none.
+/// The rows of what an answer speaks of, in order: about a relation those of its targets, of a containment those of the
+/// obligations of its sets. Another answer has none.
 pub fn target_rows(
     alloc: Global,
     question: &Question,
@@ -26,10 +25,10 @@ pub fn target_rows(
 ) -> Result<Vec<Row>, AllocError>
     requires limits { IsQuestion (question_body question.now) }
     requires fits { IsAnswerTo (question_body question.now) (answer_view answer.now) }
-    ensures { IfOk result (λ v. v.items ≡ map (terms_of_form (size_of (space_of (problem_names (question_body question.now))))) (answer_forms (question_body question.now) (answer_view answer.now))) }
+    ensures { IfOk result (λ v. v.items ≡ map (terms_in (question_body question.now)) (answer_forms (question_body question.now) (answer_view answer.now))) }
 {
     match &question.verb {
-        Verb::Prove(relation) => yes_rows(alloc, question, relation, answer),
+        Verb::Prove(relation) => relation_rows(alloc, question, relation),
         Verb::Eliminate(_) => Ok(Vec::new(alloc)),
         Verb::Contain {
             first,
@@ -39,21 +38,17 @@ pub fn target_rows(
     }
 }
 
-/// The rows of a relation's targets, where the answer is a yes.
-fn yes_rows(
+/// The rows of a relation's targets.
+fn relation_rows(
     alloc: Global,
     question: &Question,
     relation: &Relation,
-    answer: &Answer,
 ) -> Result<Vec<Row>, AllocError>
     requires limits { IsQuestion (question_body question.now) }
     requires proves { (question_body question.now).verb ≡ Prove (relation_view relation.now) }
-    ensures { IfOk result (λ v. v.items ≡ map (terms_of_form (size_of (space_of (problem_names (question_body question.now))))) (answer_forms (question_body question.now) (answer_view answer.now))) }
+    ensures { IfOk result (λ v. v.items ≡ map (terms_in (question_body question.now)) (targets (variables_of (question_body question.now)) (relation_view relation.now))) }
 {
-    match answer {
-        Answer::Yes(_) => it_canon::target_rows(alloc, relation, question.names.space()),
-        _ => Ok(Vec::new(alloc)),
-    }
+    it_canon::target_rows(alloc, relation, question.names.space())
 }
 
 /// The rows of the obligations, where the answer is a containment.
@@ -68,7 +63,7 @@ fn contained_rows(
     requires limits { IsQuestion (question_body question.now) }
     requires contains { (question_body question.now).verb ≡ Contain (region_view first.now) (region_view second.now) tries.now }
     requires fits { IsAnswerTo (question_body question.now) (answer_view answer.now) }
-    ensures { IfOk result (λ v. v.items ≡ map (terms_of_form (size_of (space_of (problem_names (question_body question.now))))) (answer_forms (question_body question.now) (answer_view answer.now))) }
+    ensures { IfOk result (λ v. v.items ≡ map (terms_in (question_body question.now)) (answer_forms (question_body question.now) (answer_view answer.now))) }
 {
     match answer {
         Answer::Contained { parts, .. } => {
@@ -90,7 +85,7 @@ fn obligation_rows(
     requires limits { IsQuestion (question_body question.now) }
     requires contains { (question_body question.now).verb ≡ Contain (region_view first.now) (region_view second.now) tries.now }
     requires parts { ArePartsOf (region_view first.now) (region_view second.now) parts.now }
-    ensures { IfOk result (λ v. v.items ≡ map (terms_of_form (size_of (space_of (problem_names (question_body question.now))))) (obligations (question_body question.now) (region_view first.now) (region_view second.now) parts.now)) }
+    ensures { IfOk result (λ v. v.items ≡ map (terms_in (question_body question.now)) (obligations (question_body question.now) (region_view first.now) (region_view second.now) parts.now)) }
 {
     let pair = pair(alloc, question)?;
     let candidate = candidate(parts);

@@ -1,5 +1,5 @@
 -- A question of a file poses a problem, and one about a relation the rows of its targets.
-use Rattle.std.proofs.Common.{◌≡◌, ℕ, ◌^◌, List, [], ◌∷◌, length, All, refl, sym, ap, subst}
+use Rattle.std.proofs.Common.{◌≡◌, ℕ, ◌^◌, List, [], ◌∷◌, map, length, All, refl, sym, ap, subst}
 use Rattle.std.specs.List.{AllByRecursion as Every}
 use Rattle.it_space.specs.declared.spaces.Space.{Space}
 use Rattle.it_space.specs.declared.problems.Constraint.{Constraint}
@@ -17,12 +17,14 @@ use Rattle.it_question.specs.Questions.{VerbView, Prove, Eliminate, Contain, Bod
 use Rattle.it_question.proofs.FileReadings.{file_limits}
 use Rattle.it_question.proofs.NumberLemmas.{HasSmallNumbers, GivenHasSmallNumbers, VerbHasSmallNumbers, QuestionHasSmallNumbers, file_has_small_numbers}
 use Rattle.it_demand.specs.Demands.{LineDemand, AreStated}
-use Rattle.it_demand.specs.LineDemands.{AreRowsOf, space_of}
+use Rattle.it_demand.specs.LineDemands.{AreRowsOf, space_of, system_forms}
 use Rattle.it_question.specs.Tables.{line_demands, givens_alone, lines_with, problem_names, problem_names_by, problem_lines_by}
-use Rattle.it_canon.specs.QuestionDemands.{variables_of, question_demands, IsProblemOf, Poses}
+use Rattle.it_canon.specs.QuestionDemands.{variables_of, question_demands, problem_of, terms_in, IsProblemOf}
 use Rattle.it_demand.specs.Targets.{targets}
+use Rattle.it_demand.proofs.FormRows.{rows_are_terms_of_forms}
 use Rattle.it_canon.specs.Theorems.{QuestionHasProblem, RelationHasRows}
 use Rattle.it_canon.proofs.DemandForms.{AreLineDemandsUpTo, lines_up_to, targets_up_to}
+use Rattle.it_canon.proofs.PosesLemmas.{one_problem}
 use Rattle.it_canon.proofs.ProblemLemmas.{question_problem}
 use Rattle.it_canon.proofs.QuestionLemmas.{space_is, shared_givens, shared_rows}
 use Rattle.it_canon.proofs.SmallForms.{IsFormUpTo, row_there}
@@ -67,26 +69,37 @@ module _ (q : BodyView) (k : IsQuestion q) (small : QuestionHasSmallNumbers q) w
           (every-append (IsRelationOf n m) q.lines.rows first.lines.rows (every_of (IsRelationOf n m) q.lines.rows rows) (every_of (IsRelationOf n m) first.lines.rows over.0.lines.rows))
           (every-append GivenHasSmallNumbers q.lines.givens first.lines.givens small.0.0 counts.0.0, every-append HasSmallNumbers q.lines.rows first.lines.rows small.0.1 counts.0.1)
 
-  pub question_has_problem : (p : ProblemView) × IsProblemOf q p
-  question_has_problem =
+  pub question_poses : IsProblemOf q (problem_of q)
+  question_poses =
       let cs = constraints_there own_space (space_is q k) (question_demands q) problem_up_to in
       let p : ProblemView = record { space = own_space; constraints = cs.0 } in
-      (p, record { space = refl; limits = question_problem q p k refl cs.1; constraints = cs.1 })
+      let is : IsProblemOf q p = record { space = refl; limits = question_problem q p k refl cs.1; constraints = cs.1 } in
+      subst (IsProblemOf q) (one_problem q p is) is
 
   -- and the rows of its relation's targets
-  pub relation_has_rows : (r : RelationView) → q.verb ≡ Prove r → Poses q r
-  relation_has_rows r about =
+  pub relation_rows : (r : RelationView) → q.verb ≡ Prove r → AreRowsOf own_space (targets (variables_of q) r) (map (terms_in q) (targets (variables_of q) r))
+  relation_rows r about =
       let own : IsRelationOf (length q.names.variables) (length q.names.rates) r = subst (IsVerbOver q.names) about k.verb in
       let over : IsRelationOf own_space.variables own_space.rates r = subst (λ (v : NamesView). IsRelationOf (length v.variables) (length v.rates) r) (sym (ap (problem_names_by q.names) about)) own in
-      let forms = targets_up_to own_space.variables own_space.rates r over (subst VerbHasSmallNumbers about small.1) in
-      let b = question_has_problem in
-      let rows = rows_there b.0.space b.1.limits.space (targets (variables_of q) r) (subst (λ (s : Space). Every (IsFormUpTo (size_of s) (2 ^ 106)) (targets (variables_of q) r)) (sym b.1.space) forms) in
-      record { problem = b.0; is_problem = b.1; rows = rows.0; targets_are = rows.1 }
+      let rows = rows_there own_space (space_is q k) (targets (variables_of q) r) (targets_up_to own_space.variables own_space.rates r over (subst VerbHasSmallNumbers about small.1)) in
+      subst (AreRowsOf own_space (targets (variables_of q) r)) (rows_are_terms_of_forms own_space (targets (variables_of q) r) rows.0 rows.1) rows.1
+
+  -- and those of its `row` lines
+  system_up_to : (rs : List RelationView) → Every (IsRelationOf own_space.variables own_space.rates) rs → Every HasSmallNumbers rs → Every (IsFormUpTo (size_of own_space) (2 ^ 106)) (system_forms own_space.variables rs)
+  system_up_to [] h e = tt
+  system_up_to (r ∷ rs) h e = every-append (IsFormUpTo (size_of own_space) (2 ^ 106)) (targets own_space.variables r) (system_forms own_space.variables rs)
+      (targets_up_to own_space.variables own_space.rates r h.0 e.0) (system_up_to rs h.1 e.1)
+
+  pub system_rows : AreRowsOf own_space (system_forms (variables_of q) q.lines.rows) (map (terms_in q) (system_forms (variables_of q) q.lines.rows))
+  system_rows =
+      let fs = system_forms (variables_of q) q.lines.rows in
+      let rows = rows_there own_space (space_is q k) fs (system_up_to q.lines.rows (every_of (IsRelationOf own_space.variables own_space.rates) q.lines.rows (shared_rows q own_space k refl)) small.0.1) in
+      subst (AreRowsOf own_space fs) (rows_are_terms_of_forms own_space fs rows.0 rows.1) rows.1
 
 -- ---- the questions of a file
 
 -- what follows from the limits and from small numbers
-each_question : (P : QuestionView → Type 0) → ((q : QuestionView) → IsQuestion q.body → QuestionHasSmallNumbers q.body → P q) → (bytes : List ℕ) (qs : List QuestionView) → IsFile bytes qs → All P qs
+pub each_question : (P : QuestionView → Type 0) → ((q : QuestionView) → IsQuestion q.body → QuestionHasSmallNumbers q.body → P q) → (bytes : List ℕ) (qs : List QuestionView) → IsFile bytes qs → All P qs
 each_question P f bytes qs file = all_of P qs (every_from_both qs (every_of (λ (q : QuestionView). IsQuestion q.body) qs (file_limits bytes qs file)) (file_has_small_numbers bytes qs file))
   where
     every_from_both : (qs : List QuestionView) → Every (λ (q : QuestionView). IsQuestion q.body) qs → Every (λ (q : QuestionView). QuestionHasSmallNumbers q.body) qs → Every P qs
@@ -94,7 +107,8 @@ each_question P f bytes qs file = all_of P qs (every_from_both qs (every_of (λ 
     every_from_both (q ∷ qs) h k = (f q h.0 k.0, every_from_both qs h.1 k.1)
 
 pub file_has_problems : QuestionHasProblem
-file_has_problems = each_question (λ q. (p : ProblemView) × IsProblemOf q.body p) (λ q k small. question_has_problem q.body k small)
+file_has_problems = each_question (λ q. IsProblemOf q.body (problem_of q.body)) (λ q k small. question_poses q.body k small)
 
 pub file_has_rows : RelationHasRows
-file_has_rows = each_question (λ q. (r : RelationView) → q.body.verb ≡ Prove r → Poses q.body r) (λ q k small. relation_has_rows q.body k small)
+file_has_rows = each_question (λ q. (r : RelationView) → q.body.verb ≡ Prove r → AreRowsOf (space_of (problem_names q.body)) (targets (variables_of q.body) r) (map (terms_in q.body) (targets (variables_of q.body) r)))
+    (λ q k small. relation_rows q.body k small)

@@ -1,31 +1,23 @@
--- The problem and the rows that a question poses: there is one of each, and the rows are of the problem's space.
-use Rattle.std.proofs.Common.{◌≡◌, suc, List, [], ◌∷◌, length, refl, sym, ap, ap₂, subst, ◌∙◌}
+-- The problem that a question poses is the one that states its demands; and rows are as many as their forms.
+use Rattle.std.proofs.Common.{◌≡◌, suc, List, [], ◌∷◌, map, length, refl, ap, ap₂, subst}
 use Rattle.it_space.specs.declared.problems.Constraint.{Constraint}
 use Rattle.it_space.specs.declared.spaces.Space.{Space}
+use Rattle.it_space.specs.Problems.{ProblemView}
 use Rattle.it_space.specs.Rows.{Terms}
 use Rattle.it_polymatroid.specs.Certificates.{Form}
-use Rattle.it_syntax.specs.Meaning.{RelationView}
-use Rattle.it_question.specs.Questions.{BodyView}
 use Rattle.it_demand.specs.Demands.{AreStated}
-use Rattle.it_demand.specs.Targets.{targets}
-use Rattle.it_demand.specs.LineDemands.{AreRowsOf}
-use Rattle.it_canon.specs.QuestionDemands.{variables_of, question_demands, Poses}
+use Rattle.it_demand.specs.LineDemands.{AreRowsOf, space_of}
+use Rattle.it_question.specs.Tables.{problem_names, constraint_of}
+use Rattle.it_question.proofs.TableLemmas.{stated_are}
+use Rattle.it_canon.specs.QuestionDemands.{question_demands}
 use Rattle.it_canon.specs.Theorems.{OneProblem}
-use Rattle.it_demand.proofs.UniqueRows.{one_constraint_list, one_row_list}
 
 pub one_problem : OneProblem
-one_problem q p r a b = ap₂ (λ (s : Space) (cs : List Constraint). record { space = s; constraints = cs }) same_space (one_constraint_list r.space (question_demands q) p.constraints r.constraints
-    (subst (λ (s : Space). AreStated s (question_demands q) p.constraints) same_space a.constraints) b.constraints)
-  where
-    same_space : p.space ≡ r.space
-    same_space = a.space ∙ sym b.space
-
-pub same_problem : (q : BodyView) (r : RelationView) (a b : Poses q r) → a.problem ≡ b.problem
-same_problem q r a b = one_problem q a.problem b.problem a.is_problem b.is_problem
-
-pub same_rows : (q : BodyView) (r : RelationView) (a b : Poses q r) → a.rows ≡ b.rows
-same_rows q r a b = one_row_list b.problem.space (targets (variables_of q) r) a.rows b.rows
-    (subst (λ (s : Space). AreRowsOf s (targets (variables_of q) r) a.rows) (a.is_problem.space ∙ sym b.is_problem.space) a.targets_are) b.targets_are
+one_problem q p k =
+    let s = space_of (problem_names q) in
+    let ds = question_demands q in
+    let same : p.constraints ≡ map (constraint_of s) ds = stated_are s ds p.constraints (subst (λ (t : Space). AreStated t ds p.constraints) k.space k.constraints) in
+    ap₂ (λ (t : Space) (cs : List Constraint). let r : ProblemView = record { space = t; constraints = cs } in r) k.space same
 
 -- there is one for each form
 pub as_many_rows : (s : Space) (fs : List Form) (ts : List Terms) → AreRowsOf s fs ts → length ts ≡ length fs

@@ -1,5 +1,5 @@
 -- The rows of forms: a form that is the value of few terms with small coefficients has its canonical row.
-use Rattle.std.proofs.Common.{◌≡◌, ℕ, zero, suc, ◌+◌, ◌-◌, ◌≤◌, ◌^◌, ℤ, pos, neg_ℤ, ◌+ℤ◌, ◌*ℤ◌, unsigned_abs, Bool, true, false, cond, nat_eq, List, [], ◌∷◌, ◌++◌, map, length, refl, sym, ap, ap₂, subst, ◌∙◌, arith, lit<}
+use Rattle.std.proofs.Common.{◌≡◌, ℕ, zero, suc, ◌+◌, ◌-◌, ◌<◌, ◌≤◌, ◌^◌, ℤ, pos, neg_ℤ, ◌+ℤ◌, ◌*ℤ◌, unsigned_abs, Bool, true, false, cond, nat_eq, List, [], ◌∷◌, ◌++◌, map, length, refl, sym, ap, ap₂, subst, ◌∙◌, arith, lit<}
 use Rattle.std.specs.List.{AllByRecursion as Every}
 use Rattle.std.proofs.Math.Nat.{pow-le-pow_right}
 use Rattle.std.proofs.lemmas.Int.{ints}
@@ -101,7 +101,7 @@ largest_below : (f : ℕ → ℤ) (m : ℕ) → ((c : ℕ) → unsigned_abs (f c
 largest_below f m h [] = omega arith
 largest_below f m h (c ∷ cs) = omega (arith, h c, largest_below f m h cs)
 
-module _ (s : Space) (k : IsSpace s) (form : Form) (x : IsFormUpTo (size_of s) (2 ^ 106) form) where
+module _ (s : Space) (bound : ℕ) (within : bound < 2 ^ 127) (form : Form) (x : IsFormUpTo (size_of s) bound form) where
   -- its value at the map that is 1 at a coordinate
   abbrev coefficient_at : ℕ → ℤ
   coefficient_at c = value x.terms (one_at c)
@@ -109,38 +109,55 @@ module _ (s : Space) (k : IsSpace s) (form : Form) (x : IsFormUpTo (size_of s) (
   abbrev coefficients : List ℤ
   coefficients = map coefficient_at (span 0 (suc (size_of s)))
 
-  abbrev row : Terms
+  abbrev pub row : Terms
   row = terms_from 1 (map coefficient_at (span 1 (size_of s)))
 
-  all_small : largest coefficients ≤ 2 ^ 106
-  all_small = largest_below coefficient_at (2 ^ 106) (λ c. omega (arith, value-small x.terms c, x.small)) (span 0 (suc (size_of s)))
+  all_small : largest coefficients ≤ bound
+  all_small = largest_below coefficient_at bound (λ c. omega (arith, value-small x.terms c, x.small)) (span 0 (suc (size_of s)))
 
-  row_same : (p : ℕ → ℤ) → p 0 ≡ pos 0 → value row p ≡ form p
+  pub row_same : (p : ℕ → ℤ) → p 0 ≡ pos 0 → value row p ≡ form p
   row_same p z =
       let e : 0 + suc (size_of s) ≡ size_of s + 1 = omega arith in
       row-value coefficients row p refl z ∙ sym (+ℤ_idl (dense_form_from 0 coefficients p)) ∙ dense_is 0 (suc (size_of s)) coefficient_at p
       ∙ ap (λ (n : ℕ). dot n coefficient_at p) e ∙ sym ((value_linear (size_of s) x.terms x.coordinates).sum p z) ∙ x.same p
 
-  row_coordinates : IsUpTo (size_of s) row
+  pub row_coordinates : IsUpTo (size_of s) row
   row_coordinates = let e : length coefficients - 1 ≡ size_of s = omega (arith, length-map-span coefficient_at 0 (suc (size_of s))) in subst (λ (n : ℕ). IsUpTo n row) e (row_up_to coefficients row refl)
 
-  row_is_canonical : IsCanonical row
-  row_is_canonical = row_canonical coefficients row refl (omega (arith, all_small))
+  pub row_is_canonical : IsCanonical row
+  row_is_canonical = row_canonical coefficients row refl (omega (arith, all_small, within))
 
+module _ (s : Space) (k : IsSpace s) (form : Form) (x : IsFormUpTo (size_of s) (2 ^ 106) form) where
   size_few : size_of s + 1 ≤ 1040
   size_few = omega (arith, k.few_rates, powers s.variables k.few)
     where
       powers : (n : ℕ) → n ≤ 10 → 2 ^ n ≤ 2 ^ 10
       powers n h = pow-le-pow_right (lit< tt) h
 
-  row_is_small : IsSmall row
+  within : 2 ^ 106 < 2 ^ 127
+  within = lit< tt
+
+  abbrev own_row : Terms
+  own_row = row s (2 ^ 106) within form x
+
+  row_is_small : IsSmall own_row
   row_is_small =
-      let fit : IsNoLarger coefficients row = row_no_larger coefficients row refl in
+      let coefficients = coefficients s (2 ^ 106) within form x in
+      let fit : IsNoLarger coefficients own_row = row_no_larger coefficients own_row refl in
+      let small = all_small s (2 ^ 106) within form x in
       record {
-        few = omega (arith, fit.few, length-map-span coefficient_at 0 (suc (size_of s)), size_few);
-        each = All-weaker (λ (t : ℕ × ℤ). unsigned_abs t.1 ≤ largest coefficients) (λ (t : ℕ × ℤ). unsigned_abs t.1 ≤ 2 ^ 106) (λ t h. omega (arith, h, all_small)) row fit.each;
+        few = omega (arith, fit.few, length-map-span (coefficient_at s (2 ^ 106) within form x) 0 (suc (size_of s)), size_few);
+        each = All-weaker (λ (t : ℕ × ℤ). unsigned_abs t.1 ≤ largest coefficients) (λ (t : ℕ × ℤ). unsigned_abs t.1 ≤ 2 ^ 106) (λ t h. omega (arith, h, small)) own_row fit.each;
       }
 
   -- the form has its canonical row
   pub row_there : (ts : Terms) × IsRowOf s form ts
-  row_there = (row, record { same = row_same; coordinates = row_coordinates; canonical = row_is_canonical; small = row_is_small })
+  row_there = (
+    own_row,
+    record {
+      same = row_same s (2 ^ 106) within form x;
+      coordinates = row_coordinates s (2 ^ 106) within form x;
+      canonical = row_is_canonical s (2 ^ 106) within form x;
+      small = row_is_small;
+    },
+  )

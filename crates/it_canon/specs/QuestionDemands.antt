@@ -1,14 +1,16 @@
--- The constraints of a question in generator order, the problem that it poses, and the rows of its system.
+-- What the lines of a question demand in generator order, the problem that it poses, and the terms of forms over its coordinates.
 use Rattle.std.specs.Prelude.{◌≡◌, ℕ, ℤ, List, length, All}
 use Rattle.it_space.specs.Problems.{ProblemView, IsProblem}
 use Rattle.it_space.specs.Rows.{Terms}
+use Rattle.it_space.specs.Spaces.{size_of}
+use Rattle.it_polymatroid.specs.Certificates.{Form}
 use Rattle.it_polymatroid.specs.Polymatroid.{IsPolymatroid}
-use Rattle.it_demand.specs.LineDemands.{space_of, AreRowsOf}
-use Rattle.it_question.specs.Tables.{line_demands, problem_names, problem_lines}
-use Rattle.it_syntax.specs.Meaning.{RelationView, Holds}
+use Rattle.it_demand.specs.LineDemands.{space_of}
+use Rattle.it_demand.specs.RowsOfForms.{terms_of_form}
+use Rattle.it_question.specs.Tables.{line_demands, problem_names, problem_lines, problem_of_lines}
+use Rattle.it_syntax.specs.Meaning.{Holds}
 use Rattle.it_syntax.specs.Givens.{IsTrueAt}
 use Rattle.it_question.specs.Questions.{OwnLinesView, BodyView}
-use Rattle.it_demand.specs.Targets.{targets}
 use Rattle.it_demand.specs.Demands.{LineDemand, AreStated}
 
 -- how many variables the problem has
@@ -29,14 +31,15 @@ abbrev pub AreTrueTogether : BodyView → (ℕ → ℤ) → Type 0
 AreTrueTogether q p = IsPolymatroid (variables_of q) p × AreTrueAt (variables_of q) p (problem_lines q)
 
 -- the problem that a question poses
+abbrev pub problem_of : BodyView → ProblemView
+problem_of q = problem_of_lines (problem_names q) (problem_lines q)
+
+-- the terms of a form over the coordinates of that problem
+abbrev pub terms_in : BodyView → Form → Terms
+terms_in q form = terms_of_form (size_of (space_of (problem_names q))) form
+
+-- a problem whose constraints state what the question demands, within the limits: there is no other than `problem_of`
 pub record IsProblemOf (q : BodyView) (p : ProblemView) : Type 0 where
   pub space : p.space ≡ space_of (problem_names q)
   pub limits : IsProblem p
   pub constraints : AreStated p.space (question_demands q) p.constraints
-
--- the problem and the targets' rows that a question about a relation poses
-pub record Poses (q : BodyView) (r : RelationView) : Type 0 where
-  pub problem : ProblemView
-  pub is_problem : IsProblemOf q problem
-  pub rows : List Terms
-  pub targets_are : AreRowsOf problem.space (targets (variables_of q) r) rows

@@ -1,25 +1,29 @@
 -- A question of a file poses a problem, and no other, and its table isn't too large.
-use Rattle.std.specs.Prelude.{◌≡◌, ℕ, ◌≤◌, List, All}
+use Rattle.std.specs.Prelude.{◌≡◌, ℕ, ◌≤◌, List, map, All}
 use Rattle.it_space.specs.Problems.{ProblemView}
 use Rattle.it_closure.specs.Sizes.{table_size}
 use Rattle.it_syntax.specs.Meaning.{RelationView}
+use Rattle.it_demand.specs.LineDemands.{space_of, AreRowsOf}
+use Rattle.it_demand.specs.Targets.{targets}
 use Rattle.it_question.specs.Files.{IsFile}
 use Rattle.it_question.specs.Questions.{BodyView, QuestionView, Prove}
-use Rattle.it_question.specs.Tables.{most_entries}
-use Rattle.it_canon.specs.QuestionDemands.{IsProblemOf, Poses}
+use Rattle.it_question.specs.Tables.{problem_names, most_entries}
+use Rattle.it_canon.specs.QuestionDemands.{variables_of, problem_of, terms_in, IsProblemOf}
 
--- each question of a file poses a problem
+-- the constraints of the problem that a question of a file poses state what its lines demand, within the limits
 abbrev pub QuestionHasProblem : Type 0
-QuestionHasProblem = (bytes : List ℕ) (qs : List QuestionView) → IsFile bytes qs → All (λ q. (p : ProblemView) × IsProblemOf q.body p) qs
+QuestionHasProblem = (bytes : List ℕ) (qs : List QuestionView) → IsFile bytes qs → All (λ q. IsProblemOf q.body (problem_of q.body)) qs
 
--- each question of a file about a relation poses it with the rows of the relation's targets
+-- where it is about a relation, the terms of the relation's targets are their rows
 abbrev pub RelationHasRows : Type 0
-RelationHasRows = (bytes : List ℕ) (qs : List QuestionView) → IsFile bytes qs → All (λ q. (r : RelationView) → q.body.verb ≡ Prove r → Poses q.body r) qs
+RelationHasRows = (bytes : List ℕ) (qs : List QuestionView) → IsFile bytes qs
+    → All (λ q. (r : RelationView) → q.body.verb ≡ Prove r
+    → AreRowsOf (space_of (problem_names q.body)) (targets (variables_of q.body) r) (map (terms_in q.body) (targets (variables_of q.body) r))) qs
 
 -- the table with which the run about the problem of a question of a file begins isn't too large
 abbrev pub TableIsSmall : Type 0
 TableIsSmall = (bytes : List ℕ) (qs : List QuestionView) → IsFile bytes qs → All (λ q. (p : ProblemView) → IsProblemOf q.body p → table_size p ≤ most_entries) qs
 
--- a question poses one problem
+-- a problem that states what a question demands is the one that it poses
 abbrev pub OneProblem : Type 0
-OneProblem = (q : BodyView) (p r : ProblemView) → IsProblemOf q p → IsProblemOf q r → p ≡ r
+OneProblem = (q : BodyView) (p : ProblemView) → IsProblemOf q p → p ≡ problem_of q

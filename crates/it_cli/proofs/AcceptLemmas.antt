@@ -1,5 +1,5 @@
 -- The verdict on the line of a right answer: `Valid` for a yes, a no and a containment, `Skipped` for the others.
-use Rattle.std.proofs.Common.{◌≡◌, ℕ, zero, suc, ◌+◌, ◌<◌, ◌≤◌, ◌^◌, ℤ, pos, neg_ℤ, ◌≤ℤ◌, List, [], ◌∷◌, length, decimal, slice_index_or, Bool, true, false, Option, Some, IfSome, Ok, All, IsUtf8, IsAscii, if◌then◌else◌, refl, sym, ap, subst, ◌∙◌, arith, inl, inr, lit≤}
+use Rattle.std.proofs.Common.{◌≡◌, ℕ, zero, suc, ◌+◌, ◌<◌, ◌≤◌, ◌^◌, ℤ, pos, neg_ℤ, ◌≤ℤ◌, List, [], ◌∷◌, map, length, decimal, slice_index_or, Bool, true, false, Option, Some, IfSome, Ok, All, IsUtf8, IsAscii, if◌then◌else◌, refl, sym, ap, subst, ◌∙◌, arith, inl, inr, lit≤}
 use Rattle.std.specs.List.{AllByRecursion as Every}
 use Rattle.std.proofs.lemmas.Fmt.{IsAscii-decimal_wide}
 use Rattle.std.proofs.lemmas.List.Elements.{All-head, All-tail, All-weaker}
@@ -12,7 +12,7 @@ use Rattle.it_space.specs.declared.answers.Cause.TheVariants as causes
 use Rattle.it_space.specs.declared.answers.Mark.{Mark}
 use Rattle.it_space.specs.Answers.{AnswerView, CertificateView}
 use Rattle.it_space.specs.Answers.AnswerView.{Yes, No, Undecided, Region, Contained, Open}
-use Rattle.it_space.specs.Problems.{ProblemView, IsProblem, problem_view}
+use Rattle.it_space.specs.Problems.{ProblemView, IsProblem}
 use Rattle.it_space.specs.Rows.{Terms, map_of, value}
 use Rattle.it_space.specs.Spaces.{size_of}
 use Rattle.it_polymatroid.specs.Certificates.{Form}
@@ -33,16 +33,20 @@ use Rattle.it_question.specs.AsciiTexts.{IsAsciiQuestion}
 use Rattle.it_question.specs.Questions.{BodyView, QuestionView, RegionView, VerbView, Prove, Eliminate, Contain}
 use Rattle.it_question.specs.Files.{IsFile}
 use Rattle.it_question.specs.Limits.{IsQuestion, IsVerbOver}
+use Rattle.it_question.proofs.FileReadings.{file_limits}
+use Rattle.it_question.proofs.NumberLemmas.{QuestionHasSmallNumbers, file_has_small_numbers}
 use Rattle.it_question.proofs.AsciiLemmas.{texts_are_ascii}
 use Rattle.it_demand.specs.Canonical.{IsRowOf}
 use Rattle.it_demand.specs.Targets.{targets}
 use Rattle.it_demand.specs.LineDemands.{AreRowsOf, space_of}
 use Rattle.it_question.specs.Tables.{problem_names, problem_lines}
-use Rattle.it_canon.specs.QuestionDemands.{variables_of, question_demands, AreTrueAt, Poses}
+use Rattle.it_canon.specs.QuestionDemands.{variables_of, question_demands, problem_of, terms_in, AreTrueAt, IsProblemOf}
+use Rattle.it_canon.proofs.ExistenceLemmas.{question_poses, relation_rows, system_rows}
 use Rattle.it_canon.proofs.ProblemLemmas.{question_met}
 use Rattle.it_region.specs.declared.types.Candidate.{Candidate}
 use Rattle.it_region.specs.Obligations.{obligations, ArePulledRows}
-use Rattle.it_region.proofs.TextLemmas.{text_rows}
+use Rattle.it_region.specs.AnswerForms.{answer_forms_by}
+use Rattle.it_region.proofs.ExistenceLemmas.{obligation_rows_there}
 use Rattle.it_contain.specs.Proposals.{Plan}
 use Rattle.it_answer.specs.declared.types.Budgets.{Budgets}
 use Rattle.it_answer.specs.Forms.{all_demands, CertifiesForm, CertifyAll, Certifies}
@@ -62,14 +66,13 @@ use Rattle.it_certificate.specs.Reports.{ReadsReport}
 use Rattle.it_certificate.specs.Values.{answer_value, answer_text, step_or_rate_word}
 use Rattle.it_report.specs.RowVerdicts.{is_valid, proof_verdict, proofs_verdict, point_verdict}
 use Rattle.it_report.specs.LineVerdicts.{LineVerdict, Skipped, Judged, is_invalid}
-use Rattle.it_report.specs.Judging.{judged_forms_by, is_passed_over, IsJudged, IsVerdict}
-use Rattle.it_report.proofs.JudgingLemmas.{has_verdict, judged_by_targets}
+use Rattle.it_report.specs.Judging.{answer_verdict, IsAnswerVerdict, IsVerdict}
 use Rattle.it_report.proofs.OneLemmas.{one_verdict}
 use Rattle.it_cli.proofs.DataLemmas.{IsPlain, yes_plain, no_plain, undecided_plain, region_plain, contained_plain, open_plain, answer_text_utf8, answer_text_back}
 use Rattle.it_cli.proofs.RegionFits.{right_region_fits}
 use Rattle.it_cli.proofs.FeedLemmas.{IsNoFeed, answer_text_clear}
 use Rattle.it_cli.proofs.JsonLemmas.{right_prove_fits, eliminated_cause_fits, all_weights_written, yes_same, no_same}
-use Rattle.it_cli.proofs.ContainedFits.{pair_is_problem, contained_fits}
+use Rattle.it_cli.proofs.ContainedFits.{contained_fits}
 use Rattle.it_cli.proofs.NameFits.{rates_found}
 use Rattle.it_cli.specs.Accepted.{ReportsAreAccepted}
 
@@ -91,49 +94,49 @@ point_fits p t values (Point qs) (inr h) = let e = h.1 in absurd (cc)
 point_fits p t values (Pivots k) e = absurd (cc)
 point_fits p t values (Width k) e = absurd (cc)
 
-module _ (q : BodyView) (r : RelationView) (b : Poses q r) (budget : Option ℕ) where
-  to_problem : (P : Space → Type 0) → P (space_of (problem_names q)) → P b.problem.space
-  to_problem P x = subst P (sym b.is_problem.space) x
+module _ (q : BodyView) (posed : IsProblemOf q (problem_of q)) (budget : Option ℕ) where
+  to_problem : (P : Space → Type 0) → P (space_of (problem_names q)) → P (problem_of q).space
+  to_problem P x = subst P (sym posed.space) x
 
-  certifies_row : (f : Form) (t : Terms) (w : CertificateView) → IsRowOf b.problem.space f t → CertifiesForm q f w → CertifiesRow b.problem t w
+  certifies_row : (f : Form) (t : Terms) (w : CertificateView) → IsRowOf (problem_of q).space f t → CertifiesForm q f w → CertifiesRow (problem_of q) t w
   certifies_row f t w row c =
-      let p = b.problem in
-      by_rows (all_demands p.space.variables (question_demands q)) (generators p) (generators_speak p.space (question_demands q) p.constraints b.is_problem.constraints) (size_of p.space + 1) (value t) f row.same w
+      let p = problem_of q in
+      by_rows (all_demands p.space.variables (question_demands q)) (generators p) (generators_speak p.space (question_demands q) p.constraints posed.constraints) (size_of p.space + 1) (value t) f row.same w
       (to_problem (λ s. Certifies (all_demands s.variables (question_demands q)) f w) c)
 
-  refutes_row : (f : Form) (t : Terms) (values : List ℤ) → IsRowOf b.problem.space f t → IsCounterexample q f values → RefutesRow b.problem t values
+  refutes_row : (f : Form) (t : Terms) (values : List ℤ) → IsRowOf (problem_of q).space f t → IsCounterexample q f values → RefutesRow (problem_of q) t values
   refutes_row f t values row c = record {
     complete = to_problem (λ s. length values ≡ size_of s) c.complete;
     polymatroid = to_problem (λ s. IsPolymatroid s.variables (map_of values)) c.polymatroid;
-    met = (question_met q b.problem.space b.problem.constraints b.is_problem.space b.is_problem.constraints (map_of values) refl).1 (to_problem (λ s. AreTrueAt s.variables (map_of values) (problem_lines q)) c.lines_hold);
+    met = (question_met q (problem_of q).space (problem_of q).constraints posed.space posed.constraints (map_of values) refl).1 (to_problem (λ s. AreTrueAt s.variables (map_of values) (problem_lines q)) c.lines_hold);
     violated = subst (λ (x : ℤ). x ≤ℤ neg_ℤ (pos 1)) (sym (row.same (map_of values) refl)) c.violated;
   }
 
-  proof_valid : (f : Form) (t : Terms) (w : CertificateView) → IsRowOf b.problem.space f t → CertifiesForm q f w → EndsWith b.problem t budget (proof_views.Yes w) → proof_verdict b.problem t w ≡ Valid
-  proof_valid f t w row c d = (valid_yes_is b.problem t w b.is_problem.limits row.coordinates).1 (certifies_row f t w row c, certificate_fits b.problem t w d.end d.follows)
+  proof_valid : (f : Form) (t : Terms) (w : CertificateView) → IsRowOf (problem_of q).space f t → CertifiesForm q f w → EndsWith (problem_of q) t budget (proof_views.Yes w) → proof_verdict (problem_of q) t w ≡ Valid
+  proof_valid f t w row c d = (valid_yes_is (problem_of q) t w posed.limits row.coordinates).1 (certifies_row f t w row c, certificate_fits (problem_of q) t w d.end d.follows)
 
-  proofs_valid : (fs : List Form) (ts : List Terms) (ws : List CertificateView) → AreRowsOf b.problem.space fs ts → CertifyAll q fs ws → AreProofsOf b.problem budget ts ws → proofs_verdict b.problem ts ws ≡ Valid
+  proofs_valid : (fs : List Form) (ts : List Terms) (ws : List CertificateView) → AreRowsOf (problem_of q).space fs ts → CertifyAll q fs ws → AreProofsOf (problem_of q) budget ts ws → proofs_verdict (problem_of q) ts ws ≡ Valid
   unfolding proofs_verdict
   proofs_valid [] [] ws z c d = refl
   proofs_valid [] (t ∷ ts) ws z c d = absurd z
   proofs_valid (f ∷ fs) [] ws z c d = absurd z
   proofs_valid (f ∷ fs) (t ∷ ts) [] z c d = absurd c
   proofs_valid (f ∷ fs) (t ∷ ts) (w ∷ ws) z c d =
-      ap (λ v. if is_valid v then proofs_verdict b.problem ts ws else v) (proof_valid f t w z.0 c.0 d.0) ∙ proofs_valid fs ts ws z.1 c.1 d.1
+      ap (λ v. if is_valid v then proofs_verdict (problem_of q) ts ws else v) (proof_valid f t w z.0 c.0 d.0) ∙ proofs_valid fs ts ws z.1 c.1 d.1
 
-  point_valid : (fs : List Form) (ts : List Terms) (back : Bool) (values : List ℤ) → AreRowsOf b.problem.space fs ts → ViolatesFirst q fs back values → PointIsDue b.problem budget ts back values
-      → point_verdict b.problem ts back values ≡ Valid
+  point_valid : (fs : List Form) (ts : List Terms) (back : Bool) (values : List ℤ) → AreRowsOf (problem_of q).space fs ts → ViolatesFirst q fs back values → PointIsDue (problem_of q) budget ts back values
+      → point_verdict (problem_of q) ts back values ≡ Valid
   unfolding point_verdict
   point_valid [] ts back values z c d = absurd c
   point_valid (f ∷ fs) [] back values z c d = absurd z
   point_valid (f ∷ fs) (t ∷ ts) false values z c d =
       let refuted = refutes_row f t values z.0 c in
-      (valid_no_is b.problem t values b.is_problem.limits z.0.coordinates refuted.complete).1 (refuted, point_fits b.problem t values d.end d.follows)
+      (valid_no_is (problem_of q) t values posed.limits z.0.coordinates refuted.complete).1 (refuted, point_fits (problem_of q) t values d.end d.follows)
   point_valid (f ∷ []) (t ∷ ts) true values z c d = absurd c
   point_valid (f ∷ g ∷ fs) (t ∷ []) true values z c d = absurd d
   point_valid (f ∷ g ∷ fs) (t ∷ u ∷ ts) true values z c d =
       let refuted = refutes_row g u values z.1.0 c.1 in
-      (valid_no_is b.problem u values b.is_problem.limits z.1.0.coordinates refuted.complete).1 (refuted, point_fits b.problem u values d.1.end d.1.follows)
+      (valid_no_is (problem_of q) u values posed.limits z.1.0.coordinates refuted.complete).1 (refuted, point_fits (problem_of q) u values d.1.end d.1.follows)
 
 -- ---- the proofs of a candidate are valid
 
@@ -198,10 +201,24 @@ module _ (back : ReadsBack) (q : QuestionView) (short : length q.text ≤ 104857
   clear_of : (a : AnswerView) → IsPlain (answer_value q.text q.body.names a) → Every IsNoFeed (line_of a)
   clear_of a plain = answer_text_clear q.text q.body.names a plain
 
-  judged_is_accepted : (a : AnswerView) (line : List ℕ) → Every IsNoFeed line → IsJudged q.body a (problem_names q.body) Valid → ReadsReport line (Ok (q, a)) → IsAccepted line
+  -- the question keeps the limits, and its problem and its rows are there
+  limits : IsQuestion q.body
+  limits = All-head (λ (x : QuestionView). IsQuestion x.body) q [] (file_limits q.text (q ∷ []) file)
+
+  small : QuestionHasSmallNumbers q.body
+  small = (file_has_small_numbers q.text (q ∷ []) file).0
+
+  posed : IsProblemOf q.body (problem_of q.body)
+  posed = question_poses q.body limits small
+
+  verdict_by_verb : (a : AnswerView) (verb : VerbView) → q.body.verb ≡ verb → answer_verdict (problem_of q.body) (map (terms_in q.body) (answer_forms_by q.body verb a)) a ≡ Some Valid
+      → IsAnswerVerdict q.body a (Judged (problem_names q.body) Valid)
+  verdict_by_verb a verb about e = (refl, ap (λ v. answer_verdict (problem_of q.body) (map (terms_in q.body) (answer_forms_by q.body v a)) a) about ∙ e)
+
+  judged_is_accepted : (a : AnswerView) (line : List ℕ) → Every IsNoFeed line → IsAnswerVerdict q.body a (Judged (problem_names q.body) Valid) → ReadsReport line (Ok (q, a)) → IsAccepted line
   judged_is_accepted a line clear verdict reads = accepted_by_verdict line (Judged (problem_names q.body) Valid) clear (record { question = q; answer = a; reads = reads; verdict = verdict }) refl
 
-  skipped_is_accepted : (a : AnswerView) (line : List ℕ) → Every IsNoFeed line → is_passed_over a ≡ true → ReadsReport line (Ok (q, a)) → IsAccepted line
+  skipped_is_accepted : (a : AnswerView) (line : List ℕ) → Every IsNoFeed line → IsAnswerVerdict q.body a Skipped → ReadsReport line (Ok (q, a)) → IsAccepted line
   skipped_is_accepted a line clear e reads = accepted_by_verdict line Skipped clear (record { question = q; answer = a; reads = reads; verdict = e }) refl
 
   undecided_accepted : (c : Cause) → HasQuestionShape q.body (Undecided c) → IsCauseFor q.body.names c → IsAccepted (line_of (Undecided c))
@@ -212,7 +229,7 @@ module _ (back : ReadsBack) (q : QuestionView) (short : length q.text ≤ 104857
   region_accepted : (budgets : Budgets) (rates : List ℕ) (rows : List (Mark × Terms)) → IsQuestion q.body → q.body.verb ≡ Eliminate rates → ShowsRegion q.body rates rows → IsDueElimination budgets q.body rates (Region rows)
       → IsAccepted (line_of (Region rows))
   region_accepted budgets rates rows k about shown due =
-      let fits = right_region_fits budgets q.body rates rows k shown due in
+      let fits = right_region_fits budgets q.body rates rows k (system_rows q.body limits small) shown due in
       let plain = region_plain q.text q.body.names text_is rows (λ i d l. (fits i d l).terms) in
       skipped_is_accepted (Region rows) (line_of (Region rows)) (clear_of (Region rows) plain) refl
       (line_reads (Region rows) (question_fits q.body (Region rows) (Eliminate rates) about fits) plain)
@@ -220,27 +237,28 @@ module _ (back : ReadsBack) (q : QuestionView) (short : length q.text ≤ 104857
   module _ (budgets : Budgets) (few : IfSome budgets.pivots (λ n. n < 2 ^ 32)) where
     yes_accepted : (r : RelationView) (ws : List CertificateView) → q.body.verb ≡ Prove r → ProofsAscend (Yes ws) → ShowsBy q.body (Prove r) (Yes ws) → IsDueRelation budgets.pivots q.body r (Yes ws) → IsAccepted (line_of (Yes ws))
     yes_accepted r ws about ascend shown due =
-        let fits = right_prove_fits budgets.pivots q.body r (Yes ws) few about shown due in
-        let e = proofs_valid q.body r due.poses budgets.pivots (targets (variables_of q.body) r) due.poses.rows ws due.poses.targets_are shown due.due in
+        let fits = right_prove_fits budgets.pivots q.body r (Yes ws) few posed about shown due in
+        let e = proofs_valid q.body posed budgets.pivots (targets (variables_of q.body) r) (map (terms_in q.body) (targets (variables_of q.body) r)) ws (relation_rows q.body limits small r about) shown due in
         let plain = yes_plain q.text q.body.names text_is ws fits.1 in
         let reads = line_reads (Yes ws) (question_fits q.body (Yes ws) (Prove r) about fits) plain in
-        judged_is_accepted (Yes ws) (line_of (Yes ws)) (clear_of (Yes ws) plain) (judged_by_targets q.body r about due.poses (Yes ws) Valid (ap Some e))
+        judged_is_accepted (Yes ws) (line_of (Yes ws)) (clear_of (Yes ws) plain) (verdict_by_verb (Yes ws) (Prove r) about (ap Some e))
         (subst (λ us. ReadsReport (line_of (Yes ws)) (Ok (q, Yes us))) (all_weights_written ws ascend) reads)
 
     no_accepted : (r : RelationView) (is_back : Bool) (values : List ℤ) → q.body.verb ≡ Prove r → ShowsBy q.body (Prove r) (No is_back values) → IsDueRelation budgets.pivots q.body r (No is_back values)
         → IsAccepted (line_of (No is_back values))
     no_accepted r is_back values about shown due =
-        let fits = right_prove_fits budgets.pivots q.body r (No is_back values) few about shown due in
-        let e = point_valid q.body r due.poses budgets.pivots (targets (variables_of q.body) r) due.poses.rows is_back values due.poses.targets_are shown due.due in
+        let fits = right_prove_fits budgets.pivots q.body r (No is_back values) few posed about shown due in
+        let rows = relation_rows q.body limits small r about in
+        let e = point_valid q.body posed budgets.pivots (targets (variables_of q.body) r) (map (terms_in q.body) (targets (variables_of q.body) r)) is_back values rows shown due in
         let plain = no_plain q.text q.body.names text_is is_back values fits.1 in
-        judged_is_accepted (No is_back values) (line_of (No is_back values)) (clear_of (No is_back values) plain) (judged_by_targets q.body r about due.poses (No is_back values) Valid (ap Some e))
+        judged_is_accepted (No is_back values) (line_of (No is_back values)) (clear_of (No is_back values) plain) (verdict_by_verb (No is_back values) (Prove r) about (ap Some e))
         (line_reads (No is_back values) (question_fits q.body (No is_back values) (Prove r) about fits) plain)
 
     prove_accepted : (r : RelationView) (a : AnswerView) → q.body.verb ≡ Prove r → ProofsAscend a → ShowsBy q.body (Prove r) a → IsDueRelation budgets.pivots q.body r a → IsAccepted (line_of a)
     prove_accepted r (Yes ws) about ascend shown due = yes_accepted r ws about ascend shown due
     prove_accepted r (No is_back values) about ascend shown due = no_accepted r is_back values about shown due
     prove_accepted r (Undecided c) about ascend shown due =
-        let fits = right_prove_fits budgets.pivots q.body r (Undecided c) few about shown due in
+        let fits = right_prove_fits budgets.pivots q.body r (Undecided c) few posed about shown due in
         undecided_accepted c (question_fits q.body (Undecided c) (Prove r) about fits) fits
     prove_accepted r (Region rows) about ascend shown due = absurd shown
     prove_accepted r (Contained parts proofs) about ascend shown due = absurd shown
@@ -262,24 +280,23 @@ module _ (back : ReadsBack) (q : QuestionView) (short : length q.text ≤ 104857
         → IsAccepted (line_of (Contained parts ws))
     contained_accepted plans first second tries parts ws found about k ascend shown due =
         let a = Contained parts ws in
-        let p = problem_view due.pair.first in
-        let is = pair_is_problem q.body k first second tries about due.pair due.pairs in
-        let c = due.due.candidate in
-        let proofs = due.due.proofs in
-        let fits = contained_fits q.body k first second tries about budgets plans parts ws found shown due in
+        let forms = obligations q.body first second parts in
+        let rows = map (terms_in q.body) forms in
+        let fits = contained_fits q.body k posed first second tries about budgets plans parts ws found shown due in
         let plain = contained_plain q.text q.body.names text_is parts ws (All-weaker (λ s. (s < 2 ^ 32) × (s < 2 ^ length first.names.variables)) (λ s. s < 2 ^ 32) (λ s h. h.0) parts fits.sets) fits.numbers in
         let reads = line_reads a (question_fits q.body a (Contain first second tries) about fits) plain in
-        let rows : ArePulledRows p.space (obligations q.body first second parts) proofs.rows =
-        subst (λ ps. ArePulledRows p.space (obligations q.body first second ps) proofs.rows) (sym due.due.parts_are) (text_rows q.body first second due.pair due.pairs c proofs.rows proofs.are) in
-        let e = proofs_by_valid p budgets.pivots (obligations q.body first second parts) proofs.rows ws is.limits rows proofs.proofs in
-        let verdict = has_verdict q.body p is a proofs.rows (problem_names q.body) Valid (subst (λ fs. ArePulledRows p.space fs proofs.rows) (sym (ap (λ v. judged_forms_by q.body v a) about)) rows) refl (ap Some e) in
+        let proofs : AreProofsOf (problem_of q.body) budgets.pivots rows ws =
+        subst (λ ps. AreProofsOf (problem_of q.body) budgets.pivots (map (terms_in q.body) (obligations q.body first second ps)) ws) (sym due.parts_are) due.proofs.proofs in
+        let are = obligation_rows_there q.body limits small first second tries about parts shown.are_parts in
+        let e = proofs_by_valid (problem_of q.body) budgets.pivots forms rows ws posed.limits are proofs in
+        let verdict = verdict_by_verb a (Contain first second tries) about (ap Some e) in
         judged_is_accepted a (line_of a) (clear_of a plain) verdict
         (subst (λ us. ReadsReport (line_of a) (Ok (q, Contained parts us))) (all_weights_written ws ascend) reads)
 
     open_accepted : (plans : List Plan) (first second : RegionView) (tries : List (List ℕ)) (tried : ℕ) (found : List Candidate) → budgets.tries < 2 ^ 32 → q.body.verb ≡ Contain first second tries
         → IsDueContainment budgets plans q.body first second tries (record { answer = Open tried; found = found }) → IsAccepted (line_of (Open tried))
     open_accepted plans first second tries tried found short about due =
-        let l : tried < 2 ^ 32 = let is = due.due.0.tried_is in omega (arith, is, short) in
+        let l : tried < 2 ^ 32 = let is = due.0.tried_is in omega (arith, is, short) in
         let plain = open_plain q.text q.body.names text_is tried l in
         skipped_is_accepted (Open tried) (line_of (Open tried)) (clear_of (Open tried) plain) refl
         (line_reads (Open tried) (question_fits q.body (Open tried) (Contain first second tries) about l) plain)

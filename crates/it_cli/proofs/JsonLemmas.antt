@@ -31,16 +31,16 @@ use Rattle.it_syntax.specs.Meaning.{RelationView}
 use Rattle.it_syntax.specs.NamesViews.{NamesView}
 use Rattle.it_question.specs.Questions.{BodyView, Prove}
 use Rattle.it_demand.specs.Canonical.{form_of}
-use Rattle.it_demand.specs.Demands.{Demand, States, AreStated, kind_of}
+use Rattle.it_demand.specs.Demands.{Demand, States, AreStated, kind_of, LineDemand}
 use Rattle.it_demand.specs.Targets.{targets, demanded_forms}
-use Rattle.it_canon.specs.QuestionDemands.{variables_of, question_demands, Poses}
-use Rattle.it_demand.specs.LineDemands.{space_of}
+use Rattle.it_canon.specs.QuestionDemands.{variables_of, question_demands, problem_of, terms_in, IsProblemOf}
+use Rattle.it_demand.specs.LineDemands.{space_of, system_forms}
 use Rattle.it_question.specs.Tables.{problem_names, problem_names_by}
 use Rattle.it_demand.proofs.ZipLemmas.{zip-length}
 use Rattle.it_eliminate.specs.Elimination.{Member}
 use Rattle.it_redundant.specs.ReducedElimination.{ProjectedView}
 use Rattle.it_answer.specs.declared.types.Budgets.{Budgets}
-use Rattle.it_answer.specs.Forms.{all_demands, demand_of_elemental, demand_of_line, CertifyAll, MayStand}
+use Rattle.it_answer.specs.Forms.{all_demands, demand_of_elemental, CertifyAll, MayStand}
 use Rattle.it_answer.specs.Shows.{ShowsBy, ViolatesFirst}
 use Rattle.it_answer.specs.DueEliminations.{answer_of_end, IsDueElimination}
 use Rattle.it_answer.specs.DueRelations.{PointIsDue, CauseIsDue, IsDueRelation}
@@ -192,10 +192,10 @@ module _ (q : BodyView) (p : ProblemView) (space : p.space ≡ space_of (problem
   few_generators =
       let n = variables_of q in
       let es = map (demand_of_elemental (variables_of q)) (elementals (variables_of q)) in
-      let ds = map demand_of_line (question_demands q) in
+      let ds = map (λ (d : LineDemand). d.demand) (question_demands q) in
       let sum = length-append es ds in
       let first = length-map (elementals (variables_of q)) (demand_of_elemental (variables_of q)) in
-      let second = length-map (question_demands q) demand_of_line in
+      let second = length-map (question_demands q) (λ (d : LineDemand). d.demand) in
       let e : 20000 + 2 ^ 20 ≤ 2 ^ 32 = lit≤ tt in
       omega (arith, sum, first, second, few_elementals (variables_of q) few_variables, demands_counted, e)
 
@@ -214,14 +214,14 @@ module _ (q : BodyView) (p : ProblemView) (space : p.space ≡ space_of (problem
   all_counted (f ∷ fs) [] c = absurd c
   all_counted (f ∷ fs) (w ∷ ws) c = ap suc (all_counted fs ws c.1)
 
-module _ (q : BodyView) (r : RelationView) (b : Poses q r) where
+module _ (q : BodyView) (posed : IsProblemOf q (problem_of q)) where
   -- ---- points
 
-  values_due : (budget : Option ℕ) (ts : List Terms) (back : Bool) (values : List ℤ) → PointIsDue b.problem budget ts back values → All IsWithin values
+  values_due : (budget : Option ℕ) (ts : List Terms) (back : Bool) (values : List ℤ) → PointIsDue (problem_of q) budget ts back values → All IsWithin values
   values_due budget [] back values d = absurd d
-  values_due budget (t ∷ ts) false values d = values_by_end b.problem t b.is_problem.limits values d.end d.follows
+  values_due budget (t ∷ ts) false values d = values_by_end (problem_of q) t posed.limits values d.end d.follows
   values_due budget (t ∷ []) true values d = absurd d
-  values_due budget (t ∷ u ∷ ts) true values d = values_by_end b.problem u b.is_problem.limits values d.1.end d.1.follows
+  values_due budget (t ∷ u ∷ ts) true values d = values_by_end (problem_of q) u posed.limits values d.1.end d.1.follows
 
   second_only : (s : Sign) (f : Form) (back : Bool) (values : List ℤ) → ViolatesFirst q (demanded_forms (kind_of s) f) back values → back ≡ true → is_equation (kind_of s) ≡ true
   second_only AtLeast f true values c e = absurd c
@@ -232,28 +232,28 @@ module _ (q : BodyView) (r : RelationView) (b : Poses q r) where
 
   -- ---- causes
 
-  cause_due : (budget : Option ℕ) → IfSome budget (λ n. n < 2 ^ 32) → (ts : List Terms) (c : Cause) → CauseIsDue b.problem budget ts c → IsCauseFor q.names c
+  cause_due : (budget : Option ℕ) → IfSome budget (λ n. n < 2 ^ 32) → (ts : List Terms) (c : Cause) → CauseIsDue (problem_of q) budget ts c → IsCauseFor q.names c
   cause_due budget few [] c d = absurd d
-  cause_due budget few (t ∷ ts) c (inl e) = cause_by_end q.names b.problem t c e.end (run_end_up_to b.problem t budget e.end few e.run) e.follows
+  cause_due budget few (t ∷ ts) c (inl e) = cause_by_end q.names (problem_of q) t c e.end (run_end_up_to (problem_of q) t budget e.end few e.run) e.follows
   cause_due budget few (t ∷ ts) c (inr d) = cause_due budget few ts c d.1
 
 -- a right answer to `prove` fits its question
-pub right_prove_fits : (budget : Option ℕ) (q : BodyView) (r : RelationView) (a : AnswerView) → IfSome budget (λ n. n < 2 ^ 32) → q.verb ≡ Prove r → ShowsBy q (Prove r) a → IsDueRelation budget q r a → HasVerbShape q.names (Prove r) a
-right_prove_fits budget q r (Yes ws) few verb shown due =
-    let b = due.poses in (
-      all_counted q b.problem b.is_problem.space b.is_problem.limits b.is_problem.constraints (targets (variables_of q) r) ws shown ∙ targets_counted (variables_of q) (length q.names.variables) r,
-      all_numbered q b.problem b.is_problem.space b.is_problem.limits b.is_problem.constraints (targets (variables_of q) r) ws shown (proofs_scaled b.problem budget b.rows ws due.due),
-    )
-right_prove_fits budget q r (No back values) few verb shown due =
+pub right_prove_fits : (budget : Option ℕ) (q : BodyView) (r : RelationView) (a : AnswerView) → IfSome budget (λ n. n < 2 ^ 32) → IsProblemOf q (problem_of q) → q.verb ≡ Prove r → ShowsBy q (Prove r) a → IsDueRelation budget q r a
+    → HasVerbShape q.names (Prove r) a
+right_prove_fits budget q r (Yes ws) few posed verb shown due = (
+  all_counted q (problem_of q) posed.space posed.limits posed.constraints (targets (variables_of q) r) ws shown ∙ targets_counted (variables_of q) (length q.names.variables) r,
+  all_numbered q (problem_of q) posed.space posed.limits posed.constraints (targets (variables_of q) r) ws shown (proofs_scaled (problem_of q) budget (map (terms_in q) (targets (variables_of q) r)) ws due),
+)
+right_prove_fits budget q r (No back values) few posed verb shown due =
     let own : space_of (problem_names q) ≡ space_of q.names = ap (λ (v : _). space_of (problem_names_by q.names v)) verb in (
       point_size q (targets (variables_of q) r) back values shown ∙ ap size_of own,
-      values_due q r due.poses budget due.poses.rows back values due.due,
-      second_only q r due.poses r.sign (form_of (variables_of q) r) back values shown,
+      values_due q posed budget (map (terms_in q) (targets (variables_of q) r)) back values due,
+      second_only q posed r.sign (form_of (variables_of q) r) back values shown,
     )
-right_prove_fits budget q r (Undecided cause) few verb shown due = cause_due q r due.poses budget few due.poses.rows cause due.due
-right_prove_fits budget q r (Region rows) few verb shown due = absurd shown
-right_prove_fits budget q r (Contained parts proofs) few verb shown due = absurd shown
-right_prove_fits budget q r (Open tried) few verb shown due = absurd shown
+right_prove_fits budget q r (Undecided cause) few posed verb shown due = cause_due q posed budget few (map (terms_in q) (targets (variables_of q) r)) cause due
+right_prove_fits budget q r (Region rows) few posed verb shown due = absurd shown
+right_prove_fits budget q r (Contained parts proofs) few posed verb shown due = absurd shown
+right_prove_fits budget q r (Open tried) few posed verb shown due = absurd shown
 
 -- ---- eliminations that end with a cause
 
@@ -264,7 +264,7 @@ answer_cause_same c d e = cc
 pub eliminated_cause_fits : (budgets : Budgets) (q : BodyView) (rates : List ℕ) (cause : Cause) → ((r : ℕ) → Member r rates → IsFoundIn q.names r × (step_of (get_or q.names.rates r []) ≡ None))
     → IsDueElimination budgets q rates (Undecided cause) → IsCauseFor q.names cause
 eliminated_cause_fits budgets q rates cause named due =
-    by_end due.end (end_of_rates due.givens budgets.pivots budgets.rows due.rows [] [] rates due.end due.ends) due.is
+    by_end due.end (end_of_rates (problem_of q) budgets.pivots budgets.rows (map (terms_in q) (system_forms (variables_of q) q.lines.rows)) [] [] rates due.end due.ends) due.is
   where
     by_end : (end : ProjectedView) → IsEndOf rates end → Undecided cause ≡ answer_of_end end → IsCauseFor q.names cause
     by_end (projections.Region kept dropped) h is = absurd (cc)

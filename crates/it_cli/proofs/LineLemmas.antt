@@ -29,9 +29,9 @@ use Rattle.it_certificate.specs.Values.{IsWritable}
 use Rattle.it_question.specs.Limits.{IsQuestion, IsRegionOf, IsVerbOver}
 use Rattle.it_question.specs.Questions.{BodyView, QuestionView, RegionView, VerbView, Prove, Eliminate, Contain}
 use Rattle.it_demand.specs.Demands.{LineDemand, States, AreStated}
-use Rattle.it_canon.specs.QuestionDemands.{question_demands, variables_of}
+use Rattle.it_canon.specs.QuestionDemands.{question_demands, problem_of, terms_in, variables_of}
 use Rattle.it_question.specs.Tables.{problem_names, problem_names_by}
-use Rattle.it_demand.specs.LineDemands.{space_of}
+use Rattle.it_demand.specs.LineDemands.{space_of, system_forms}
 use Rattle.it_demand.proofs.ZipLemmas.{zip-length}
 use Rattle.it_run.specs.Runs.RunEndView.{Weights, Point, Pivots, Width}
 use Rattle.it_run.specs.Runs.{RunEndView}
@@ -49,13 +49,13 @@ use Rattle.it_demand.specs.Targets.{targets}
 use Rattle.it_answer.specs.RightAnswers.{IsDueBy, IsRightAnswer}
 use Rattle.it_print.specs.Lines.{IsCauseOf, IsPrintable, IsRowOver, answer_line, auxiliary_names, origins_of}
 use Rattle.it_print.specs.ProofLines.{generator_rows, proof_text}
-use Rattle.it_answer.specs.AnswerForms.{answer_forms}
+use Rattle.it_region.specs.AnswerForms.{answer_forms}
 use Rattle.it_answer.proofs.UniqueLemmas.{undecided_same}
 use Rattle.it_region.specs.declared.types.Candidate.{Candidate}
 use Rattle.it_region.specs.Obligations.{ArePartsOf, obligations}
 use Rattle.it_contain.specs.Proposals.{Plan}
 use Rattle.it_settings.specs.declared.types.Format.TheVariants.{Text, Proof}
-use Rattle.it_cli.specs.Right.{answer_lines, terms_in}
+use Rattle.it_cli.specs.Right.{answer_lines}
 use Rattle.it_cli.proofs.ProofLemmas.{generator_rows_are}
 use Rattle.it_cli.proofs.RateLemmas.{IsEndOf, end_of_rates}
 use Rattle.it_print.proofs.RowLemmas.{row_over}
@@ -133,7 +133,7 @@ printable_proof budget q r m (answers.No is_back point) k few shown due =
     let size : length point ≡ size_of (space_of (problem_names q)) = point_size q (targets (variables_of q) r) is_back point shown in
     let names = few_names q k in
     (omega (arith, size, pow_pos (variables_of q)), omega (arith, size, pow_mono {i = variables_of q} {j = 10} names.0, names.1))
-printable_proof budget q r m (answers.Undecided cause) k few shown due = cause_of_due due.poses.problem budget (length (problem_names q).rates) due.poses.rows cause due.due
+printable_proof budget q r m (answers.Undecided cause) k few shown due = cause_of_due (problem_of q) budget (length (problem_names q).rates) (map (terms_in q) (targets (variables_of q) r)) cause due
 printable_proof budget q r m (answers.Region rows) k few shown due = absurd shown
 printable_proof budget q r m (answers.Contained parts proofs) k few shown due = absurd shown
 printable_proof budget q r m (answers.Open tried) k few shown due = absurd shown
@@ -161,7 +161,7 @@ printable_region budgets q rates m (answers.Yes proofs) names within shown due =
 printable_region budgets q rates m (answers.No is_back point) names within shown due = absurd shown
 printable_region budgets q rates m (answers.Undecided cause) names within shown due =
     subst (λ (v : NamesView). IsCauseOf (length v.rates) cause) (sym names) (subst (IsCauseIn (length q.names.rates)) (sym due.is)
-    (cause_of_end (length q.names.rates) rates due.end within (end_of_rates due.givens budgets.pivots budgets.rows due.rows [] [] rates due.end due.ends)))
+    (cause_of_end (length q.names.rates) rates due.end within (end_of_rates (problem_of q) budgets.pivots budgets.rows (map (terms_in q) (system_forms (variables_of q) q.lines.rows)) [] [] rates due.end due.ends)))
 printable_region budgets q rates m (answers.Region rows) names within shown due = subst (λ (v : NamesView). All (λ (row : Mark × Terms). IsRowOver v row.1) rows.items) (sym names) (region_rows_over q.names rows.items shown.coordinates)
 printable_region budgets q rates m (answers.Contained parts proofs) names within shown due = absurd shown
 printable_region budgets q rates m (answers.Open tried) names within shown due = absurd shown

@@ -16,13 +16,13 @@ use Rattle.it_question.specs.Questions.{BodyView}
 use Rattle.it_demand.specs.Demands.{AreStated, LineDemand}
 use Rattle.it_demand.specs.LineDemands.{space_of}
 use Rattle.it_question.specs.Tables.{problem_names}
-use Rattle.it_canon.specs.QuestionDemands.{question_demands, variables_of}
+use Rattle.it_canon.specs.QuestionDemands.{question_demands, terms_in, variables_of}
 use Rattle.it_demand.proofs.FormRows.{no_terms}
 use Rattle.it_print.specs.Lines.{IsRowOver}
 use Rattle.it_print.specs.ProofLines.{generator_rows}
 use Rattle.it_print.proofs.GeneratorRows.{generators_are, form_up_to}
-use Rattle.it_answer.specs.Forms.{all_demands, demand_of_elemental, demand_of_line}
-use Rattle.it_cli.specs.Right.{row_of_demand, question_generators, terms_in}
+use Rattle.it_answer.specs.Forms.{all_demands, demand_of_elemental}
+use Rattle.it_cli.specs.Right.{row_of_demand, question_generators}
 use Rattle.it_print.proofs.RowLemmas.{row_over}
 
 -- a place of a list, through a function
@@ -35,8 +35,8 @@ generators_are_demands : (q : BodyView) (cs : List Constraint) → AreStated (sp
     → generator_list (variables_of q) cs ≡ map (row_of_demand q) (all_demands (variables_of q) (question_demands q))
 unfolding all_demands
 generators_are_demands q cs stated = generators_are (space_of (problem_names q)) (question_demands q) cs stated
-    ∙ ap₂ (λ (xs ys : List Generator). xs ++ ys) (sym (map-map (row_of_demand q) (demand_of_elemental (variables_of q)) (elementals (variables_of q)))) (sym (map-map (row_of_demand q) demand_of_line (question_demands q)))
-    ∙ sym (map-append (row_of_demand q) (map (demand_of_elemental (variables_of q)) (elementals (variables_of q))) (map demand_of_line (question_demands q)))
+    ∙ ap₂ (λ (xs ys : List Generator). xs ++ ys) (sym (map-map (row_of_demand q) (demand_of_elemental (variables_of q)) (elementals (variables_of q)))) (sym (map-map (row_of_demand q) (λ (d : LineDemand). d.demand) (question_demands q)))
+    ∙ sym (map-append (row_of_demand q) (map (demand_of_elemental (variables_of q)) (elementals (variables_of q))) (map (λ (d : LineDemand). d.demand) (question_demands q)))
 
 pub generator_rows_are : (q : BodyView) (cs : List Constraint) → AreStated (space_of (problem_names q)) (question_demands q) cs → generator_rows (problem_names q) cs ≡ question_generators q
 generator_rows_are q cs stated = fun_ext (λ g. ap (λ (gs : List Generator). generator_at gs g) (generators_are_demands q cs stated)

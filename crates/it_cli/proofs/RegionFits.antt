@@ -1,5 +1,5 @@
 -- The rows of a right region are canonical, so that the region fits its question.
-use Rattle.std.proofs.Common.{◌≡◌, ◌≢◌, ◌⊎◌, inl, inr, ℕ, ◌+◌, ◌<◌, ◌≤◌, ◌^◌, ℤ, pos, neg_ℤ, ◌<ℤ◌, List, [], ◌∷◌, length, All, Option, sym, ap, subst, ◌∙◌, arith}
+use Rattle.std.proofs.Common.{◌≡◌, ◌≢◌, ◌⊎◌, inl, inr, ℕ, ◌+◌, ◌<◌, ◌≤◌, ◌^◌, ℤ, pos, neg_ℤ, ◌<ℤ◌, List, [], ◌∷◌, map, length, All, Option, sym, ap, subst, ◌∙◌, arith}
 use Rattle.std.proofs.lemmas.Int.{ints}
 use Rattle.std.proofs.lemmas.Bool.{cases_eq}
 use Rattle.std.proofs.lemmas.List.Elements.{All-nil, All-cons, All-head, All-tail}
@@ -23,7 +23,9 @@ use Rattle.it_space.proofs.TermLemmas.{rises-cancelled_row, coefficient-cancelle
 use Rattle.it_polymatroid.specs.Certificates.{Form}
 use Rattle.it_question.specs.Questions.{BodyView}
 use Rattle.it_question.specs.Limits.{IsQuestion}
-use Rattle.it_demand.specs.LineDemands.{AreRowsOf, space_of}
+use Rattle.it_demand.specs.LineDemands.{AreRowsOf, space_of, system_forms}
+use Rattle.it_question.specs.Tables.{problem_names}
+use Rattle.it_canon.specs.QuestionDemands.{problem_of, terms_in, variables_of}
 use Rattle.it_eliminate.specs.Elimination.{EliminationEnds, PairsFit, with_row, with_lowest_rows, ordered_rows, results, next_list}
 use Rattle.it_eliminate.specs.Elimination as elimination
 use Rattle.it_eliminate.proofs.MemberLemmas.{every_member, member_every}
@@ -119,13 +121,17 @@ marked_canonical (k ∷ kept) h = (h.0, marked_canonical kept h.1)
 answer_same : (rows others : List (Mark × Terms)) → Region rows ≡ Region others → rows ≡ others
 answer_same rows others e = cc
 
-rows_canonical : (budgets : Budgets) (q : BodyView) (rates : List ℕ) (rows : List (Mark × Terms)) → IsDueElimination budgets q rates (Region rows) → Every IsCanonical (region_rows rows)
-rows_canonical budgets q rates rows due = by_end due.end due.ends due.is
+-- where the terms of the lines' forms are their rows
+abbrev HasSystemRows : BodyView → Type 0
+HasSystemRows q = AreRowsOf (space_of (problem_names q)) (system_forms (variables_of q) q.lines.rows) (map (terms_in q) (system_forms (variables_of q) q.lines.rows))
+
+rows_canonical : (budgets : Budgets) (q : BodyView) (rates : List ℕ) (rows : List (Mark × Terms)) → HasSystemRows q → IsDueElimination budgets q rates (Region rows) → Every IsCanonical (region_rows rows)
+rows_canonical budgets q rates rows are due = by_end due.end due.ends due.is
   where
-    by_end : (end : ProjectedView) → ReducedEnds due.givens budgets.pivots budgets.rows due.rows [] [] rates end → Region rows ≡ answer_of_end end → Every IsCanonical (region_rows rows)
+    by_end : (end : ProjectedView) → ReducedEnds (problem_of q) budgets.pivots budgets.rows (map (terms_in q) (system_forms (variables_of q) q.lines.rows)) [] [] rates end → Region rows ≡ answer_of_end end → Every IsCanonical (region_rows rows)
     by_end (projections.Region kept dropped) e is =
         subst (λ (rs : List (Mark × Terms)). Every IsCanonical (region_rows rs)) (sym (answer_same rows (marked_rows kept) is))
-        (marked_canonical kept (kept_canonical due.givens budgets.pivots budgets.rows due.rows [] kept [] dropped rates (stated_canonical _ _ due.rows due.are_rows) tt e))
+        (marked_canonical kept (kept_canonical (problem_of q) budgets.pivots budgets.rows (map (terms_in q) (system_forms (variables_of q) q.lines.rows)) [] kept [] dropped rates (stated_canonical _ _ _ are) tt e))
     by_end (projections.Rows r) e is = absurd (cc)
     by_end (projections.Wide r) e is = absurd (cc)
 
@@ -144,6 +150,6 @@ rows_fit size (r ∷ rows) few up canonical =
 few_coordinates : (q : BodyView) → IsQuestion q → size_of (space_of q.names) < 2 ^ 32
 few_coordinates q k = omega (arith, pow_mono {i = length q.names.variables} {j = 10} k.few, k.few_rates)
 
-pub right_region_fits : (budgets : Budgets) (q : BodyView) (rates : List ℕ) (rows : List (Mark × Terms)) → IsQuestion q → ShowsRegion q rates rows → IsDueElimination budgets q rates (Region rows)
+pub right_region_fits : (budgets : Budgets) (q : BodyView) (rates : List ℕ) (rows : List (Mark × Terms)) → IsQuestion q → HasSystemRows q → ShowsRegion q rates rows → IsDueElimination budgets q rates (Region rows)
     → All (IsRowIn (size_of (space_of q.names))) rows
-right_region_fits budgets q rates rows k shown due = rows_fit (size_of (space_of q.names)) rows (few_coordinates q k) shown.coordinates (rows_canonical budgets q rates rows due)
+right_region_fits budgets q rates rows k are shown due = rows_fit (size_of (space_of q.names)) rows (few_coordinates q k) shown.coordinates (rows_canonical budgets q rates rows are due)

@@ -1,10 +1,12 @@
 -- Without a budget no run ends for want of steps.
-use Rattle.std.proofs.Common.{◌≡◌, inl, inr, ℕ, List, [], ◌∷◌, Option, None, subst}
+use Rattle.std.proofs.Common.{◌≡◌, inl, inr, ℕ, List, [], ◌∷◌, map, Option, None, subst}
 use Rattle.it_space.specs.declared.answers.Cause.TheVariants as causes
 use Rattle.it_space.specs.Answers.AnswerView.{Undecided}
 use Rattle.it_space.specs.Problems.{ProblemView}
 use Rattle.it_space.specs.Rows.{Terms}
 use Rattle.it_question.specs.Questions.{BodyView, VerbView, Prove, Eliminate, Contain}
+use Rattle.it_demand.specs.Targets.{targets}
+use Rattle.it_canon.specs.QuestionDemands.{problem_of, terms_in, variables_of}
 use Rattle.it_redundant.specs.ReducedElimination.{ProjectedView}
 use Rattle.it_redundant.specs.ReducedElimination as projections
 use Rattle.it_region.specs.declared.types.Candidate.{Candidate}
@@ -30,9 +32,9 @@ module _ (never : proofs.NeverOutOfSteps) where
   by_verb : (budgets : Budgets) (plans : List Plan) (q : BodyView) (verb : VerbView) (steps : ℕ) (found : List Candidate) → budgets.pivots ≡ None
       → IsDueBy budgets plans q verb (record { answer = Undecided (causes.Pivots steps); found = found }) → ⊥
   by_verb budgets plans q (Prove r) steps found none due =
-      let b = due.0.poses in no_cause b.problem steps b.rows (subst (λ (o : Option ℕ). CauseIsDue b.problem o b.rows (causes.Pivots steps)) none due.0.due)
+      let rows = map (terms_in q) (targets (variables_of q) r) in no_cause (problem_of q) steps rows (subst (λ (o : Option ℕ). CauseIsDue (problem_of q) o rows (causes.Pivots steps)) none due.0)
   by_verb budgets plans q (Eliminate rates) steps found none due = no_steps_at_region_end steps due.0.end due.0.is
-  by_verb budgets plans q (Contain a b tries) steps found none due = absurd due.due
+  by_verb budgets plans q (Contain a b tries) steps found none due = absurd due
 
   pub never_out_of_steps : NoLineIsOutOfSteps
   never_out_of_steps budgets plans q steps found none right = by_verb budgets plans q q.verb steps found none right.due

@@ -4,16 +4,10 @@ use Rattle.it_settings.specs.declared.types.Format.{Format}
 use Rattle.it_settings.specs.declared.types.Format.TheVariants.{Text, Json, Proof}
 use Rattle.it_space.specs.declared.problems.Origin.{Origin}
 use Rattle.it_space.specs.Answers.{AnswerView}
-use Rattle.it_space.specs.Rows.{Terms}
-use Rattle.it_space.specs.Spaces.{size_of}
-use Rattle.it_polymatroid.specs.Certificates.{Form}
 use Rattle.it_elemental.specs.Generators.{Generator}
 use Rattle.it_question.specs.Questions.{BodyView, QuestionView}
 use Rattle.it_demand.specs.Demands.{Demand}
-use Rattle.it_demand.specs.LineDemands.{space_of}
-use Rattle.it_question.specs.Tables.{problem_names}
-use Rattle.it_canon.specs.QuestionDemands.{question_demands, variables_of}
-use Rattle.it_demand.specs.RowsOfForms.{terms_of_form}
+use Rattle.it_canon.specs.QuestionDemands.{question_demands, terms_in, variables_of}
 use Rattle.it_region.specs.declared.types.Candidate.{Candidate}
 use Rattle.it_contain.specs.Proposals.{Plan, plan_after_all}
 use Rattle.it_certificate.specs.Values.{answer_text}
@@ -21,7 +15,7 @@ use Rattle.it_print.specs.Lines.{answer_line}
 use Rattle.it_print.specs.ProofLines.{proof_text}
 use Rattle.it_answer.specs.declared.types.Budgets.{Budgets}
 use Rattle.it_answer.specs.Forms.{all_demands, demand_at}
-use Rattle.it_answer.specs.AnswerForms.{answer_forms}
+use Rattle.it_region.specs.AnswerForms.{answer_forms}
 use Rattle.it_answer.specs.Replies.{Reply}
 use Rattle.it_answer.specs.RightAnswers.{IsRightAnswer}
 
@@ -38,10 +32,6 @@ IsRightAfter budgets plans before q reply = IsRightAnswer budgets (map (plan_aft
 -- where the constraints of a question come from
 abbrev pub question_origins : BodyView → List Origin
 question_origins q = map (λ d. d.origin) (question_demands q)
-
--- a form's terms over the coordinates of the question
-abbrev pub terms_in : BodyView → Form → Terms
-terms_in q form = terms_of_form (size_of (space_of (problem_names q))) form
 
 -- what a demand says, as a row
 abbrev pub row_of_demand : BodyView → Demand → Generator

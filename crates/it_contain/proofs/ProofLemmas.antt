@@ -1,19 +1,22 @@
 -- Proofs of obligations: of one target, of all, and of a candidate.
-use Rattle.std.proofs.Common.{◌≡◌, ℕ, zero, suc, ◌<◌, ◌≤◌, ℤ, List, [], ◌∷◌, ◌++◌, length, drop, get_or, sym, ap, subst, ◌∙◌, arith, Option, Some, None, append-nil}
+use Rattle.std.proofs.Common.{◌≡◌, ℕ, zero, suc, ◌<◌, ◌≤◌, ℤ, List, [], ◌∷◌, ◌++◌, map, length, drop, get_or, sym, ap, subst, ◌∙◌, arith, Option, Some, None, append-nil}
 use Rattle.std.proofs.lemmas.List.{drop_all}
 use Rattle.it_space.specs.declared.answers.Cause.{Cause}
 use Rattle.it_space.specs.Answers.{CertificateView}
 use Rattle.it_space.specs.Problems.{ProblemView, problem_view}
 use Rattle.it_space.specs.Rows.{Terms}
+use Rattle.it_space.specs.Spaces.{size_of}
+use Rattle.it_demand.specs.RowsOfForms.{terms_of_form}
 use Rattle.it_prove.specs.declared.types.Proof.{Proof}
 use Rattle.it_prove.specs.declared.types.Proof.TheVariants as proofs
 use Rattle.it_prove.specs.ProofViews.{ProofView, Yes, No, Undecided, proof_view, EndsWith, AreProofsOf}
 use Rattle.it_prove.proofs.ProofLemmas.{one_outcome}
 use Rattle.it_region.specs.declared.types.Candidate.{Candidate}
+use Rattle.it_region.specs.declared.types.Pair.{Pair}
 use Rattle.it_region.specs.Obligations.{ArePulledRows}
 use Rattle.it_region.specs.Pairs.{FitsPair, pair_obligations}
-use Rattle.it_region.proofs.TextLemmas.{pulled_rows_told}
-use Rattle.it_contain.specs.Search.{Goal, IsProof, IsProved, Proofs}
+use Rattle.it_region.proofs.TextLemmas.{pulled_rows_are}
+use Rattle.it_contain.specs.Search.{IsProof, IsProofBy, IsProved, Proofs}
 use Rattle.it_contain.specs.SearchSteps.{ProvesOne, ProvesAll, Judges}
 
 -- ---- one target
@@ -55,12 +58,15 @@ none_at q budget ts i t l is n ws a = let p = each_proof q budget ts ws i t l is
 
 -- ---- a candidate
 
-pub not_fitting : (goal : Goal) (c : Candidate) → (FitsPair goal.pair c → ⊥) → Judges goal c None
-unfolding IsProved
-not_fitting goal c n p = n p.1.fits
+module _ (p : Pair) (budget : Option ℕ) (c : Candidate) where
+  pub not_fitting : (FitsPair p c → ⊥) → Judges (IsProofBy p budget) c None
+  unfolding IsProved
+  not_fitting n h = n h.1.fits
 
-pub proofs_judge : (goal : Goal) (c : Candidate) (rows : List Terms) (o : Option Proofs) → FitsPair goal.pair c → ArePulledRows goal.pair.first.space (pair_obligations goal.pair c) rows → ProvesAll (problem_view goal.pair.first) goal.budget rows o → Judges goal c o
-unfolding IsProved IsProof
-proofs_judge goal c rows (Some w) f a p = record { fits = f; rows = rows; are = a; proofs = p }
-proofs_judge goal c rows None f a n = λ x.
-    n x.0 (subst (λ (ts : List Terms). AreProofsOf (problem_view goal.pair.first) goal.budget ts x.0) (pulled_rows_told goal.pair.first.space (pair_obligations goal.pair c) x.1.rows rows x.1.are a) x.1.proofs)
+  pub proofs_judge : (rows : List Terms) (o : Option Proofs) → FitsPair p c → ArePulledRows p.first.space (pair_obligations p c) rows → ProvesAll (problem_view p.first) budget rows o → Judges (IsProofBy p budget) c o
+  unfolding IsProved IsProof
+  proofs_judge rows o f a proves = by_option o (subst (λ (ts : List Terms). ProvesAll (problem_view p.first) budget ts o) (pulled_rows_are p.first.space (pair_obligations p c) rows a) proves)
+    where
+      by_option : (o : Option Proofs) → ProvesAll (problem_view p.first) budget (map (terms_of_form (size_of p.first.space)) (pair_obligations p c)) o → Judges (IsProofBy p budget) c o
+      by_option (Some w) h = record { fits = f; proofs = h }
+      by_option None n = λ x. n x.0 x.1.proofs

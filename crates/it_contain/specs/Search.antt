@@ -5,33 +5,25 @@ use Rattle.std.specs.List.{flat_map}
 use Rattle.it_space.specs.declared.answers.Certificate.{Certificate}
 use Rattle.it_space.specs.Answers.{CertificateView, certificate_view}
 use Rattle.it_space.specs.Problems.{problem_view}
-use Rattle.it_space.specs.Rows.{Terms}
+use Rattle.it_space.specs.Spaces.{size_of}
+use Rattle.it_demand.specs.RowsOfForms.{terms_of_form}
 use Rattle.it_prove.specs.ProofViews.{AreProofsOf}
 use Rattle.it_region.specs.declared.types.Candidate.{Candidate}
 use Rattle.it_contain.specs.declared.types.Contained.{Contained}
 use Rattle.it_contain.specs.declared.types.Contained.TheVariants.{Found, Open}
 use Rattle.it_region.specs.declared.types.Pair.{Pair}
 use Rattle.it_contain.specs.declared.types.Shape.{Shape}
-use Rattle.it_region.specs.Obligations.{ArePulledRows}
 use Rattle.it_region.specs.Pairs.{FitsPair, pair_obligations}
 use Rattle.it_contain.specs.Proposals.{Plan, plan_after}
 
--- what is looked for: a candidate that shows that the pair's first region lies in the second, by runs with a budget of steps or
--- without one
-pub record Goal : Type 0 where
-  pub pair : Pair
-  pub budget : Option ℕ
+-- what is looked for: which certificates prove a candidate
+abbrev pub Goal : Type 1
+Goal = Candidate → List CertificateView → Type 0
 
--- that of a pair and a budget
-abbrev pub goal_of : Pair → Option ℕ → Goal
-goal_of p budget = record { pair = p; budget = budget }
-
--- the candidate fits, and the run about each of its obligations ends with a proof
-pub record IsProofBy (goal : Goal) (c : Candidate) (ws : List CertificateView) : Type 0 where
-  pub fits : FitsPair goal.pair c
-  pub rows : List Terms
-  pub are : ArePulledRows goal.pair.first.space (pair_obligations goal.pair c) rows
-  pub proofs : AreProofsOf (problem_view goal.pair.first) goal.budget rows ws
+-- the candidate fits the pair, and the run about each of its obligations, with a budget of steps or without one, ends with a proof
+pub record IsProofBy (p : Pair) (budget : Option ℕ) (c : Candidate) (ws : List CertificateView) : Type 0 where
+  pub fits : FitsPair p c
+  pub proofs : AreProofsOf (problem_view p.first) budget (map (terms_of_form (size_of p.first.space)) (pair_obligations p c)) ws
 
 -- the certificates of a candidate's obligations, in order
 abbrev pub Proofs : Type 0
@@ -43,13 +35,13 @@ proof_views proofs = map certificate_view proofs.items
 
 -- these certificates prove the candidate
 unfoldable pub IsProof : Goal → Candidate → Proofs → Type 0
-IsProof goal c proofs = IsProofBy goal c (proof_views proofs)
+IsProof goal c proofs = goal c (proof_views proofs)
 
 -- some certificates do
 unfoldable pub IsProved : Goal → Candidate → Type 0
-IsProved goal c = (ws : List CertificateView) × IsProofBy goal c ws
+IsProved goal c = (ws : List CertificateView) × goal c ws
 
--- it doesn't fit, or the run about one of its obligations doesn't end with a proof
+-- none do
 abbrev pub IsUnproved : Goal → Candidate → Type 0
 IsUnproved goal c = IsProved goal c → ⊥
 
@@ -67,17 +59,9 @@ pub record IsOpen (goal : Goal) (tries : ℕ) (plan : List Candidate) (tried : �
   pub unproved : All (IsUnproved goal) (take tries plan)
   pub tried_is : tried ≡ min tries (length plan)
 
--- the list that each box sets at a beginning, in order
-abbrev pub lists_of : Shape → List Plan → List (List Candidate)
-lists_of shape plans = map (λ p. p shape []) plans
-
--- the lists one after the other
-abbrev pub joined_lists : List (List Candidate) → List Candidate
-joined_lists lists = flat_map (λ xs. xs) lists
-
--- the candidates of a search: those of a list, and then those of the boxes
+-- the candidates of a search: those of a list, and then those that each box sets at a beginning, in order
 unfoldable pub plan_of : List Candidate → List Plan → Shape → List Candidate
-plan_of first plans shape = first ++ joined_lists (lists_of shape plans)
+plan_of first plans shape = first ++ flat_map (λ plan. plan shape []) plans
 
 -- The end of a search over boxes with these plans: what it found, and the plans that they have then.
 abbrev pub SearchEnds : Goal → ℕ → List Candidate → List Plan → Contained → List Plan → Type 0

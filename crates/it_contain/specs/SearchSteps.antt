@@ -1,5 +1,6 @@
 -- Parts of a search. No public clause cites this module: it serves the proofs of the search.
-use Rattle.std.specs.Prelude.{◌≡◌, ℕ, List, ◌++◌, map, length, Option, Some, None, All}
+use Rattle.std.specs.Prelude.{◌≡◌, ℕ, List, [], ◌++◌, map, length, Option, Some, None, All}
+use Rattle.std.specs.List.{flat_map}
 use Rattle.it_space.specs.declared.answers.Certificate.{Certificate}
 use Rattle.it_space.specs.Answers.{CertificateView, certificate_view}
 use Rattle.it_space.specs.Problems.{ProblemView}
@@ -10,8 +11,17 @@ use Rattle.it_region.specs.declared.types.Candidate.{Candidate}
 use Rattle.it_contain.specs.declared.outcomes.Outcomes.{Outcomes}
 use Rattle.it_contain.specs.declared.types.Contained.{Contained}
 use Rattle.it_contain.specs.declared.types.Contained.TheVariants.{Found, Open}
+use Rattle.it_contain.specs.declared.types.Shape.{Shape}
 use Rattle.it_contain.specs.Proposals.{Plan, plan_after}
 use Rattle.it_contain.specs.Search.{Goal, Proofs, proof_views, IsProof, IsUnproved}
+
+-- the list that each box sets at a beginning, in order
+abbrev pub lists_of : Shape → List Plan → List (List Candidate)
+lists_of shape plans = map (λ p. p shape []) plans
+
+-- the lists one after the other
+abbrev pub joined_lists : List (List Candidate) → List Candidate
+joined_lists lists = flat_map (λ xs. xs) lists
 
 -- whether a target is proved
 abbrev pub ProvesOne : ProblemView → Option ℕ → Terms → Option Certificate → Type 0

@@ -3,7 +3,7 @@
 ghost use Rattle.std.specs.Prelude.{◌≡◌, ◌<◌, ◌+◌, [], map, drop, get_or, vec_len};
 ghost use Rattle.it_contain.specs.Shapes.{IsShape};
 ghost use Rattle.it_contain.specs.Proposals.{Takes, plan_after};
-ghost use Rattle.it_contain.specs.Search.{lists_of};
+ghost use Rattle.it_contain.specs.SearchSteps.{lists_of};
 
 use crate::proposer::Proposer;
 use crate::types::Shape;

@@ -4,7 +4,7 @@ ghost use Rattle.it_space.specs.Problems.{IsProblem, problem_view};
 ghost use Rattle.it_space.specs.Rows.{IsUpTo};
 ghost use Rattle.it_space.specs.Spaces.{size_of};
 ghost use Rattle.it_region.specs.Pairs.{IsPair};
-ghost use Rattle.it_contain.specs.Search.{goal_of};
+ghost use Rattle.it_contain.specs.Search.{IsProofBy};
 ghost use Rattle.it_contain.specs.SearchSteps.{ProvesOne, ProvesAll, Judges, AreOutcomes};
 
 use crate::outcomes::{Outcomes, copy_outcome};
@@ -70,7 +70,7 @@ pub(crate) fn proofs_of_candidate(
 ) -> Result<Option<Vec<Certificate>>, AllocError>
     requires pair { IsPair pair.now }
     requires outcomes { AreOutcomes (problem_view pair.now.first) budget outcomes.old }
-    ensures judges { IfOk result (λ o. Judges (goal_of pair.now budget) candidate.now o) }
+    ensures judges { IfOk result (λ o. Judges (IsProofBy pair.now budget) candidate.now o) }
     ensures outcomes { OnOk result (AreOutcomes (problem_view pair.now.first) budget outcomes.new) }
 {
     if !fits(pair, candidate) {

@@ -23,7 +23,7 @@ pub(crate) struct Outcomes {
     pub(crate) closed: ClosedProblem,
 }
 
-// written out, so that letting an outcomes go is one call
+// written out, so that letting outcomes go is one call
 impl Drop for Outcomes {
     fn drop(self) {
         let Outcomes {

@@ -3,7 +3,7 @@ ghost use Rattle.std.specs.Prelude.{◌<◌, ◌+◌, [], map, drop, get_or, vec
 ghost use Rattle.it_space.specs.Problems.{problem_view};
 ghost use Rattle.it_region.specs.Pairs.{IsPair};
 ghost use Rattle.it_contain.specs.Shapes.{IsShape, shape_of};
-ghost use Rattle.it_contain.specs.Search.{plan_of, SearchEnds, goal_of};
+ghost use Rattle.it_contain.specs.Search.{plan_of, SearchEnds, IsProofBy};
 ghost use Rattle.it_contain.specs.SearchSteps.{Tries, KeepsLater, AreOutcomes};
 
 use crate::boxes::{begin_all, next_at, teach_all, tell_all};
@@ -36,7 +36,7 @@ pub fn contain(
     budget: Budget,
 ) -> Result<Contained, AllocError>
     requires pair { IsPair pair.now }
-    ensures { IfOk result (λ r. SearchEnds (goal_of pair.now budget) tries (plan_of first.now (map plan boxes.old.items) (shape_of pair.now)) (map plan boxes.old.items) r (map plan boxes.new.items)) }
+    ensures { IfOk result (λ r. SearchEnds (IsProofBy pair.now budget) tries (plan_of first.now (map plan boxes.old.items) (shape_of pair.now)) (map plan boxes.old.items) r (map plan boxes.new.items)) }
 {
     let shape = Shape {
         variables: pair.first.space.variables,
@@ -59,7 +59,7 @@ fn try_one(
 ) -> Result<Option<Vec<Certificate>>, AllocError>
     requires pair { IsPair goal.now.pair.now }
     requires outcomes { AreOutcomes (problem_view goal.now.pair.now.first) goal.now.budget outcomes.old }
-    ensures tries { IfOk result (λ o. Tries (goal_of goal.now.pair.now goal.now.budget) candidate.now o (map pending boxes.old.items) (map plan boxes.old.items) (map pending boxes.new.items) (map plan boxes.new.items)) }
+    ensures tries { IfOk result (λ o. Tries (IsProofBy goal.now.pair.now goal.now.budget) candidate.now o (map pending boxes.old.items) (map plan boxes.old.items) (map pending boxes.new.items) (map plan boxes.new.items)) }
     ensures outcomes { OnOk result (AreOutcomes (problem_view goal.now.pair.now.first) goal.now.budget outcomes.new) }
 {
     match proofs_of_candidate(alloc, goal.pair, candidate, goal.budget, outcomes)? {
@@ -85,7 +85,7 @@ fn try_list(
 ) -> Result<Contained, AllocError>
     requires pair { IsPair goal.now.pair.now }
     requires outcomes { AreOutcomes (problem_view goal.now.pair.now.first) goal.now.budget outcomes.old }
-    ensures ends { IfOk result (λ r. SearchEnds (goal_of goal.now.pair.now goal.now.budget) tries first.now (map plan boxes.old.items) r (map plan boxes.new.items)) }
+    ensures ends { IfOk result (λ r. SearchEnds (IsProofBy goal.now.pair.now goal.now.budget) tries first.now (map plan boxes.old.items) r (map plan boxes.new.items)) }
     ensures later { IfOk result (λ r. KeepsLater r (map pending boxes.old.items) (map pending boxes.new.items)) }
     ensures outcomes { OnOk result (AreOutcomes (problem_view goal.now.pair.now.first) goal.now.budget outcomes.new) }
 {
@@ -114,7 +114,7 @@ fn try_box(
     requires pair { IsPair goal.now.pair.now }
     requires outcomes { AreOutcomes (problem_view goal.now.pair.now.first) goal.now.budget outcomes.old }
     requires box_is { i < vec_len boxes.old }
-    ensures ends { IfOk result (λ r. SearchEnds (goal_of goal.now.pair.now goal.now.budget) tries (get_or (map pending boxes.old.items) i []) (map plan boxes.old.items) r (map plan boxes.new.items)) }
+    ensures ends { IfOk result (λ r. SearchEnds (IsProofBy goal.now.pair.now goal.now.budget) tries (get_or (map pending boxes.old.items) i []) (map plan boxes.old.items) r (map plan boxes.new.items)) }
     ensures later { IfOk result (λ r. KeepsLater r (drop (i + 1) (map pending boxes.old.items)) (drop (i + 1) (map pending boxes.new.items))) }
     ensures outcomes { OnOk result (AreOutcomes (problem_view goal.now.pair.now.first) goal.now.budget outcomes.new) }
 {
@@ -143,7 +143,7 @@ fn try_all(
     requires pair { IsPair goal.now.pair.now }
     requires outcomes { AreOutcomes (problem_view goal.now.pair.now.first) goal.now.budget outcomes.old }
     requires shape { IsShape shape }
-    ensures { IfOk result (λ r. SearchEnds (goal_of goal.now.pair.now goal.now.budget) tries (plan_of first.now (map plan boxes.old.items) shape) (map plan boxes.old.items) r (map plan boxes.new.items)) }
+    ensures { IfOk result (λ r. SearchEnds (IsProofBy goal.now.pair.now goal.now.budget) tries (plan_of first.now (map plan boxes.old.items) shape) (map plan boxes.old.items) r (map plan boxes.new.items)) }
 {
     begin_all(boxes, shape);
     let mut count = match try_list(alloc, goal, first, boxes, tries, outcomes)? {

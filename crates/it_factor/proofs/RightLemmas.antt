@@ -18,7 +18,7 @@ use Rattle.it_question.specs.Questions.{BodyView, VerbView, Prove}
 use Rattle.it_question.specs.Tables.{problem_lines, problem_names}
 use Rattle.it_demand.specs.Canonical.{IsRowOf}
 use Rattle.it_demand.specs.LineDemands.{space_of}
-use Rattle.it_canon.specs.QuestionDemands.{AreTrueAt, IsProblemOf, question_demands, variables_of}
+use Rattle.it_canon.specs.QuestionDemands.{AreTrueAt, IsProblemOf, question_demands, variables_of, terms_in}
 use Rattle.it_canon.specs.Sides.{left_form, right_form}
 use Rattle.it_canon.proofs.ProblemLemmas.{question_met}
 use Rattle.it_answer.specs.Forms.{Certifies, CertifiesForm, all_demands}
@@ -29,6 +29,10 @@ use Rattle.it_best.proofs.CertificateLemmas.{linear-factor, linear-neg}
 use Rattle.it_factor.specs.Replies.{ReplyView, Found, Other}
 use Rattle.it_factor.specs.RightReplies.{IsRightFactor, IsRightReply, asked_by, at_least, question_ground}
 use Rattle.it_factor.specs.RowReplies.{IsFoundByRows, IsReplyByRows}
+use Rattle.it_demand.specs.RowsOfForms.{terms_of_form}
+use Rattle.it_demand.proofs.FormRows.{row_is_terms_of_form}
+use Rattle.it_canon.proofs.PosesLemmas.{one_problem}
+use Rattle.it_best.specs.Ends.{EndsWith}
 
 module _ (q : BodyView) (p : ProblemView) (posed : IsProblemOf q p) where
   in_question_space : (P : Space → Type 0) → P p.space → P (space_of (problem_names q))
@@ -83,6 +87,10 @@ module _ (q : BodyView) (p : ProblemView) (posed : IsProblemOf q p) where
     )
     best_by_text (Undecided cause) i = tt
 
+  -- a row of the problem's space is the terms of its form
+  row_is : (form : ℕ → Form) (t : Terms) → IsRowOf p.space (form p.space.variables) t → t ≡ terms_in q (form (variables_of q))
+  row_is form t is = row_is_terms_of_form p.space (form p.space.variables) t is ∙ ap (λ (s : Space). terms_of_form (size_of s) (form s.variables)) posed.space
+
   -- what is found by rows is right by the text, and due
   pub right_factor : (budget : Option ℕ) (r : RelationView) (best : BestView) → IsFoundByRows p budget r best → IsRightFactor budget q r best
   right_factor budget r best f =
@@ -90,7 +98,9 @@ module _ (q : BodyView) (p : ProblemView) (posed : IsProblemOf q p) where
       let left_is : IsRowOf p.space (left_form (variables_of q) r) f.left = subst (λ n. IsRowOf p.space (left_form n r) f.left) variables f.left_is in
       let right_is : IsRowOf p.space (right_form (variables_of q) r) f.right = subst (λ n. IsRowOf p.space (right_form n r) f.right) variables f.right_is in record {
         shows = best_by_text (left_form (variables_of q) r) (right_form (variables_of q) r) f.left f.right left_is right_is best f.right_of_rows;
-        due = record { problem = p; is_problem = posed; left = f.left; left_is = left_is; right = f.right; right_is = right_is; ends = f.ends };
+        due = subst (λ (x : ProblemView). EndsWith x (terms_in q (left_form (variables_of q) r)) (terms_in q (right_form (variables_of q) r)) budget best) (one_problem q p posed)
+            (subst (λ (t : Terms). EndsWith p (terms_in q (left_form (variables_of q) r)) t budget best) (row_is (λ n. right_form n r) f.right f.right_is)
+            (subst (λ (t : Terms). EndsWith p t f.right budget best) (row_is (λ n. left_form n r) f.left f.left_is) f.ends));
       }
 
   right_by_asked : (budget : Option ℕ) (asked : Option RelationView) (reply : ReplyView) → asked_by q.verb ≡ asked → IsReplyByRows p budget asked reply → IsRightReply budget q reply

@@ -2,17 +2,14 @@
 -- what follows from it.
 use Rattle.std.specs.Prelude.{◌≡◌, ℕ, ℤ, pos, ◌*ℤ◌, ◌≤ℤ◌, List, Option, Some, None}
 use Rattle.it_space.specs.Answers.{CertificateView}
-use Rattle.it_space.specs.Problems.{ProblemView}
-use Rattle.it_space.specs.Rows.{Terms}
 use Rattle.it_space.specs.Spaces.{size_of}
 use Rattle.it_syntax.specs.Meaning.{RelationView}
 use Rattle.it_syntax.specs.declared.types.Sign.{Sign}
 use Rattle.it_syntax.specs.declared.types.Sign.TheVariants.{AtLeast}
 use Rattle.it_question.specs.Questions.{BodyView, VerbView, Prove}
 use Rattle.it_question.specs.Tables.{problem_names}
-use Rattle.it_demand.specs.Canonical.{IsRowOf}
 use Rattle.it_demand.specs.LineDemands.{space_of}
-use Rattle.it_canon.specs.QuestionDemands.{AreTrueTogether, IsProblemOf, variables_of}
+use Rattle.it_canon.specs.QuestionDemands.{AreTrueTogether, problem_of, terms_in, variables_of}
 use Rattle.it_canon.specs.Sides.{left_form, right_form}
 use Rattle.it_answer.specs.Forms.{CertifiesForm}
 use Rattle.it_best.specs.declared.types.BestCause.TheVariants.{Pivots}
@@ -52,15 +49,9 @@ HoldsFor q r num den = HoldsFactor (question_ground q) (left_form (variables_of 
 
 -- ---- by the runs
 
--- what the runs about the rows of both sides end with, under the problem that the question poses
-pub record IsDueFactor (budget : Option ℕ) (q : BodyView) (r : RelationView) (best : BestView) : Type 0 where
-  pub problem : ProblemView
-  pub is_problem : IsProblemOf q problem
-  pub left : Terms
-  pub left_is : IsRowOf problem.space (left_form (variables_of q) r) left
-  pub right : Terms
-  pub right_is : IsRowOf problem.space (right_form (variables_of q) r) right
-  pub ends : EndsWith problem left right budget best
+-- what the runs about the terms of both sides end with, under the problem that the question poses
+abbrev pub IsDueFactor : Option ℕ → BodyView → RelationView → BestView → Type 0
+IsDueFactor budget q r best = EndsWith (problem_of q) (terms_in q (left_form (variables_of q) r)) (terms_in q (right_form (variables_of q) r)) budget best
 
 -- ---- right replies
 

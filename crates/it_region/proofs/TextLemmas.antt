@@ -1,5 +1,5 @@
 -- The obligations of a pair are those of the text that it is of.
-use Rattle.std.proofs.Common.{◌≡◌, ℕ, ◌<◌, ◌≤◌, ◌^◌, ℤ, pos, neg_ℤ, List, [], ◌∷◌, ◌++◌, length, take, get_or, refl, sym, ap, subst, ◌∙◌, arith, All}
+use Rattle.std.proofs.Common.{◌≡◌, ℕ, zero, suc, ◌+◌, ◌<◌, ◌≤◌, ◌^◌, ℤ, pos, neg_ℤ, List, [], ◌∷◌, ◌++◌, map, length, take, get_or, refl, sym, ap, ap₂, subst, ◌∙◌, arith, All}
 use Rattle.std.specs.List.{AllZip}
 use Rattle.std.proofs.Math.Seq.{take-append_seam}
 use Rattle.std.proofs.lemmas.List.{length-take-le, take-take}
@@ -8,12 +8,17 @@ use Rattle.it_space.specs.declared.spaces.Space.{Space}
 use Rattle.it_space.specs.declared.problems.Kind.{Kind}
 use Rattle.it_space.specs.declared.problems.Kind.TheVariants.{Inequality, Equation}
 use Rattle.it_space.specs.declared.problems.Constraint.{Constraint}
-use Rattle.it_space.specs.Rows.{Terms, value}
+use Rattle.it_space.specs.Rows.{Terms, one_at, value}
 use Rattle.it_space.specs.Spaces.{size_of}
+use Rattle.it_space.specs.Sums.{terms_from}
 use Rattle.it_polymatroid.specs.Certificates.{Form}
+use Rattle.it_polymatroid.specs.Elementals.{span}
+use Rattle.it_polymatroid.proofs.Forms.{one_at-zero}
 use Rattle.it_question.specs.Questions.{BodyView, RegionView}
 use Rattle.it_demand.specs.Demands.{LineDemand, AreStated}
 use Rattle.it_demand.specs.LineDemands.{AreRowsOf}
+use Rattle.it_demand.specs.RowsOfForms.{terms_of_form}
+use Rattle.it_demand.proofs.FormRows.{told_by_form}
 use Rattle.it_demand.proofs.UniqueRows.{told_by_values, zip-told}
 use Rattle.it_demand.proofs.ZipLemmas.{zip-append}
 use Rattle.it_region.specs.declared.types.Candidate.{Candidate}
@@ -30,6 +35,14 @@ pulled_row_told s form t u a b = told_by_values (size_of s) t u a.coordinates b.
 
 pub pulled_rows_told : (s : Space) (fs : List Form) (ts us : List Terms) → ArePulledRows s fs ts → ArePulledRows s fs us → ts ≡ us
 pulled_rows_told s fs ts us a b = zip-told (IsPulledRow s) (pulled_row_told s) fs ts us a b
+
+-- they are the terms of the forms
+pub pulled_rows_are : (s : Space) (forms : List Form) (rows : List Terms) → ArePulledRows s forms rows → rows ≡ map (terms_of_form (size_of s)) forms
+pulled_rows_are s [] [] a = refl
+pulled_rows_are s [] (row ∷ rows) a = absurd a
+pulled_rows_are s (form ∷ forms) [] a = absurd a
+pulled_rows_are s (form ∷ forms) (row ∷ rows) a =
+    ap₂ (λ (t : Terms) (ts : List Terms). t ∷ ts) (told_by_form (size_of s) form row a.0.canonical a.0.coordinates a.0.same) (pulled_rows_are s forms rows a.1)
 
 -- a row from a question file is one
 pub rows_as_pulled : (s : Space) (fs : List Form) (ts : List Terms) → AreRowsOf s fs ts → ArePulledRows s fs ts
@@ -64,6 +77,17 @@ rows_of_text s (f ∷ fs) [] rows h a = absurd h
 rows_of_text s (f ∷ fs) (g ∷ gs) [] h a = absurd a
 rows_of_text s (f ∷ fs) (g ∷ gs) (t ∷ ts) h a = (record { same = λ p z. a.0.same p z ∙ h.0 p z; coordinates = a.0.coordinates; canonical = a.0.canonical }, rows_of_text s fs gs ts h.1 a.1)
 
+terms_same : (size : ℕ) (fs gs : List Form) → AllZip AreOne fs gs → map (terms_of_form size) fs ≡ map (terms_of_form size) gs
+unfolding terms_of_form
+terms_same size [] [] h = refl
+terms_same size [] (g ∷ gs) h = absurd h
+terms_same size (f ∷ fs) [] h = absurd h
+terms_same size (f ∷ fs) (g ∷ gs) h = ap₂ (λ (t : Terms) (ts : List Terms). t ∷ ts) (ap (terms_from 1) (coefficients_same 1 size (omega arith))) (terms_same size fs gs h.1)
+  where
+    coefficients_same : (from count : ℕ) → 1 ≤ from → map (λ c. f (one_at c)) (span from count) ≡ map (λ c. g (one_at c)) (span from count)
+    coefficients_same from zero l = refl
+    coefficients_same from (suc count) l = ap₂ (λ (x : ℤ) (xs : List ℤ). x ∷ xs) (h.0 (one_at from) (one_at-zero from l)) (coefficients_same (from + 1) count (omega (arith, l)))
+
 -- ---- a pair of a question
 
 -- the parts that a candidate has
@@ -87,6 +111,12 @@ module _ (q : BodyView) (a b : RegionView) (p : Pair) (o : IsPairOf q a b p) whe
   text_rows c rows r = subst (λ (f : ℕ → ℕ). ArePulledRows p.first.space (demand_obligations f (own_demands q b)) rows) (coordinate_is c)
       (rows_of_text p.first.space (pair_obligations p c) (demand_obligations (candidate_coordinate p c) (own_demands q b)) rows
       (forms_same p.space (candidate_coordinate p c) (own_demands q b) p.own.items (coordinate_of_empty_set p.first.space.variables p.space.variables p.common (candidate_parts c)) o.own) r)
+
+  -- and so are their terms
+  pub text_terms : (size : ℕ) (c : Candidate) → map (terms_of_form size) (pair_obligations p c) ≡ map (terms_of_form size) (obligations q a b (candidate_parts c))
+  text_terms size c = terms_same size (pair_obligations p c) (demand_obligations (candidate_coordinate p c) (own_demands q b))
+      (forms_same p.space (candidate_coordinate p c) (own_demands q b) p.own.items (coordinate_of_empty_set p.first.space.variables p.space.variables p.common (candidate_parts c)) o.own)
+      ∙ ap (λ (f : ℕ → ℕ). map (terms_of_form size) (demand_obligations f (own_demands q b))) (coordinate_is c)
 
   -- the parts of a candidate that fits
   pub parts_are : (c : Candidate) → IsPair p → FitsPair p c → ArePartsOf a b (candidate_parts c)

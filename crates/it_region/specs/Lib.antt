@@ -4,3 +4,4 @@ pub mod Obligations
 pub mod Pairs
 pub mod PairSteps
 pub mod Theorems
+pub mod AnswerForms

@@ -1,5 +1,5 @@
 -- The line about a report's line, step by step as the code forms it.
-use Rattle.std.proofs.Common.{◌≡◌, ℕ, ℤ, lit<, ◌^◌, ◌<◌, ◌≤◌, List, length, take, Bool, true, false, Some, Result, Ok, Err, IfOk, refl, sym, ap, ◌∙◌, subst, arith}
+use Rattle.std.proofs.Common.{◌≡◌, ℕ, ℤ, lit<, ◌^◌, ◌<◌, ◌≤◌, List, length, take, Bool, true, false, Some, Result, Ok, Err, IfOk, refl, sym, ap, ◌∙◌, subst, arith, map}
 use Rattle.std.proofs.lemmas.List.Elements.{All-weaker}
 use Rattle.it_space.specs.declared.spaces.Space.{Space}
 use Rattle.it_space.specs.Answers.{AnswerView, CertificateView}
@@ -19,22 +19,25 @@ use Rattle.it_demand.specs.Demands.{AreStated, kind_of}
 use Rattle.it_demand.specs.Targets.{targets, demanded_forms}
 use Rattle.it_demand.specs.LineDemands.{AreRowsOf, space_of}
 use Rattle.it_question.specs.Tables.{problem_names, problem_names_by}
-use Rattle.it_canon.specs.QuestionDemands.{question_demands, IsProblemOf, Poses}
+use Rattle.it_canon.specs.QuestionDemands.{question_demands, IsProblemOf, terms_in}
 use Rattle.it_region.specs.declared.types.Candidate.{Candidate}
 use Rattle.it_region.specs.declared.types.Pair.{Pair}
 use Rattle.it_region.specs.Obligations.{obligations, ArePartsOf, ArePulledRows}
 use Rattle.it_region.specs.Pairs.{IsPair, IsPairOf, Pairs, IsContainment, FitsPair, pair_obligations}
-use Rattle.it_region.proofs.TextLemmas.{text_rows, parts_fit, rows_as_pulled}
+use Rattle.it_region.proofs.TextLemmas.{text_rows, parts_fit, rows_as_pulled, pulled_rows_are}
 use Rattle.it_certificate.specs.AnswerShapes.{HasQuestionShape, HasVerbShape, HasContainmentShape}
 use Rattle.it_certificate.specs.declared.keys.ReportFault.{ReportFault}
-use Rattle.it_certificate.specs.declared.keys.ReportFault.TheVariants as faults
 use Rattle.it_certificate.specs.Reports.{ReadsReport, Reports}
 use Rattle.it_check.specs.declared.verdicts.Verdict.{Verdict}
 use Rattle.it_region.proofs.PairLemmas.{pair_of_verb}
 use Rattle.it_report.specs.RowVerdicts.{place_named}
 use Rattle.it_report.specs.LineVerdicts.{LineVerdict, NotJson, Shape, Skipped, Judged, IsLineOf}
-use Rattle.it_report.specs.Judging.{judged_forms_by, judged_forms, answer_verdict, IsJudged, IsAnswerVerdict, IsVerdict, IsJudgedLine}
+use Rattle.it_report.specs.Judging.{answer_verdict, IsAnswerVerdict, IsVerdict, IsJudgedLine}
 use Rattle.it_report.specs.Steps.{IsAboutRelation, IsFaultLine, IsJudgedAnswer}
+use Rattle.it_demand.specs.RowsOfForms.{terms_of_form}
+use Rattle.it_canon.proofs.PosesLemmas.{one_problem}
+use Rattle.it_region.specs.AnswerForms.{answer_forms_by, answer_forms}
+use Rattle.it_certificate.specs.declared.keys.ReportFault.TheVariants as faults
 
 -- ---- lines
 
@@ -55,7 +58,7 @@ module _ {L E : Type 0} (text : L → List ℕ) (invalid : L → Bool) (k : ℕ)
   answer_is_judged line q a (Ok j) h judged = record { verdict = judged.verdict; is = read_verdict line q a judged.verdict h judged.is; told = judged.told }
   answer_is_judged line q a (Err e) h judged = tt
 
-  pub verdict_is_told : (q : BodyView) (a : AnswerView) (names : NamesView) (v : Verdict) (r : Result L E) → IsJudged q a names v → IfOk r (λ j. IsLineOf k (Judged names v) (text j) (invalid j)) → IfOk r (λ j. IsJudgedAnswer k q a (text j) (invalid j))
+  pub verdict_is_told : (q : BodyView) (a : AnswerView) (names : NamesView) (v : Verdict) (r : Result L E) → IsAnswerVerdict q a (Judged names v) → IfOk r (λ j. IsLineOf k (Judged names v) (text j) (invalid j)) → IfOk r (λ j. IsJudgedAnswer k q a (text j) (invalid j))
   verdict_is_told q a names v (Ok j) h told = record { verdict = Judged names v; is = h; told = told }
   verdict_is_told q a names v (Err e) h told = tt
 
@@ -92,24 +95,22 @@ contained_is_about_regions q parts ws h = by_verb q.verb (verb_fits q (Contained
 -- ---- the problem and the rows
 
 pub has_verdict : (q : BodyView) (p : ProblemView) → IsProblemOf q p → (a : AnswerView) (ts : List Terms) (names : NamesView) (v : Verdict)
-    → ArePulledRows p.space (judged_forms q a) ts → names ≡ problem_names q → answer_verdict p ts a ≡ Some v → IsJudged q a names v
-has_verdict q p is a ts names v are own e = record { problem = p; is_problem = is; rows = ts; are = are; own_names = own; verdict = e }
+    → ArePulledRows p.space (answer_forms q a) ts → names ≡ problem_names q → answer_verdict p ts a ≡ Some v → IsAnswerVerdict q a (Judged names v)
+has_verdict q p is a ts names v are own e =
+    let rows : ts ≡ map (terms_in q) (answer_forms q a) =
+    pulled_rows_are p.space (answer_forms q a) ts are ∙ ap (λ (s : Space). map (terms_of_form (size_of s)) (answer_forms q a)) is.space in
+    (own, ap (λ x. answer_verdict x (map (terms_in q) (answer_forms q a)) a) (sym (one_problem q p is)) ∙ ap (λ us. answer_verdict p us a) (sym rows) ∙ e)
 
 -- ---- a relation
-
--- by the rows of its targets
-pub judged_by_targets : (q : BodyView) (r : RelationView) → q.verb ≡ Prove r → (b : Poses q r) (a : AnswerView) (v : Verdict) → answer_verdict b.problem b.rows a ≡ Some v → IsJudged q a (problem_names q) v
-judged_by_targets q r about b a v e = has_verdict q b.problem b.is_problem a b.rows (problem_names q) v
-    (rows_as_pulled b.problem.space (judged_forms q a) b.rows (subst (λ fs. AreRowsOf b.problem.space fs b.rows) (sym (ap (λ v. judged_forms_by q v a) about)) b.targets_are)) refl e
 
 module _ (q : BodyView) (r : RelationView) (about : q.verb ≡ Prove r) where
   relation_names : problem_names q ≡ q.names
   relation_names = ap (λ v. problem_names_by q.names v) about
 
   -- the targets' rows
-  pub target_rows_are : (a : AnswerView) (s : Space) (ts : List Terms) → s ≡ space_of (problem_names q) → AreRowsOf s (targets s.variables r) ts → ArePulledRows s (judged_forms q a) ts
-  target_rows_are a s ts e are = rows_as_pulled s (judged_forms q a) ts
-      (subst (λ fs. AreRowsOf s fs ts) (ap (λ n. targets n r) (ap (λ s. s.variables) e) ∙ sym (ap (λ v. judged_forms_by q v a) about)) are)
+  pub target_rows_are : (a : AnswerView) (s : Space) (ts : List Terms) → s ≡ space_of (problem_names q) → AreRowsOf s (targets s.variables r) ts → ArePulledRows s (answer_forms q a) ts
+  target_rows_are a s ts e are = rows_as_pulled s (answer_forms q a) ts
+      (subst (λ fs. AreRowsOf s fs ts) (ap (λ n. targets n r) (ap (λ s. s.variables) e) ∙ sym (ap (λ v. answer_forms_by q v a) about)) are)
 
   pub point_is_complete : (back : Bool) (values : List ℤ) (s : Space) → s ≡ space_of (problem_names q) → HasQuestionShape q (No back values) → length values ≡ size_of s
   point_is_complete back values s e h = (verb_fits q (No back values) (Prove r) about h).0 ∙ sym (ap size_of (e ∙ ap space_of relation_names))
@@ -167,6 +168,6 @@ module _ (q : BodyView) (p : Pair) (parts : List ℕ) (ws : List CertificateView
   candidate_fits c four count same = of_pair (FitsPair p c) (λ first second tries e o h. parts_fit q first second p o c parts four count same h)
 
   -- the obligations' rows
-  pub obligation_rows_are : (c : Candidate) (ts : List Terms) → take c.count c.parts ≡ parts → ArePulledRows p.first.space (pair_obligations p c) ts → ArePulledRows p.first.space (judged_forms q (Contained parts ws)) ts
-  obligation_rows_are c ts same are = of_pair (ArePulledRows p.first.space (judged_forms q (Contained parts ws)) ts) (λ first second tries e o h.
-      subst (λ fs. ArePulledRows p.first.space fs ts) (ap (obligations q first second) same ∙ sym (ap (λ v. judged_forms_by q v (Contained parts ws)) e)) (text_rows q first second p o c ts are))
+  pub obligation_rows_are : (c : Candidate) (ts : List Terms) → take c.count c.parts ≡ parts → ArePulledRows p.first.space (pair_obligations p c) ts → ArePulledRows p.first.space (answer_forms q (Contained parts ws)) ts
+  obligation_rows_are c ts same are = of_pair (ArePulledRows p.first.space (answer_forms q (Contained parts ws)) ts) (λ first second tries e o h.
+      subst (λ fs. ArePulledRows p.first.space fs ts) (ap (obligations q first second) same ∙ sym (ap (λ v. answer_forms_by q v (Contained parts ws)) e)) (text_rows q first second p o c ts are))

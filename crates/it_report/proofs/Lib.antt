@@ -3,5 +3,4 @@ pub mod JudgingLemmas
 pub mod CountLemmas
 pub mod OneLemmas
 pub mod TruthLemmas
-pub mod ObligationForms
 pub mod ExistenceLemmas

@@ -1,24 +1,17 @@
 -- A line has one verdict.
-use Rattle.std.proofs.Common.{◌≡◌, ℕ, List, true, Some, None, Result, Ok, Err, IsUtf8, refl, sym, ap, ap₂, subst, ◌∙◌}
+use Rattle.std.proofs.Common.{◌≡◌, ℕ, List, Some, None, Result, Ok, Err, IsUtf8, refl, sym, ap, ap₂, subst, ◌∙◌}
 use Rattle.serde_json.specs.Read.{read}
 use Rattle.serde_json.specs.Data.{Data}
-use Rattle.it_space.specs.declared.spaces.Space.{Space}
 use Rattle.it_space.specs.Answers.{AnswerView}
-use Rattle.it_space.specs.Answers.AnswerView.{Yes, No, Undecided, Region, Contained, Open}
-use Rattle.it_space.specs.Problems.{ProblemView}
-use Rattle.it_space.specs.Rows.{Terms}
 use Rattle.it_space.proofs.OptionLemmas.{some_same}
 use Rattle.it_syntax.specs.NamesViews.{NamesView}
-use Rattle.it_question.specs.Questions.{BodyView, QuestionView}
-use Rattle.it_canon.proofs.PosesLemmas.{one_problem}
-use Rattle.it_region.specs.Obligations.{ArePulledRows}
-use Rattle.it_region.proofs.TextLemmas.{pulled_rows_told}
+use Rattle.it_question.specs.Questions.{QuestionView}
 use Rattle.it_certificate.specs.declared.keys.Key.{Key}
 use Rattle.it_certificate.specs.Reports.{ReadsReport}
 use Rattle.it_certificate.proofs.OneLemmas.{one_reading}
 use Rattle.it_check.specs.declared.verdicts.Verdict.{Verdict}
 use Rattle.it_report.specs.LineVerdicts.{LineVerdict, NotJson, Shape, Skipped, Judged}
-use Rattle.it_report.specs.Judging.{judged_forms, answer_verdict, is_passed_over, IsJudged, HasAnswer}
+use Rattle.it_report.specs.Judging.{IsAnswerVerdict, HasAnswer}
 use Rattle.it_report.specs.Meaning.{OneVerdict}
 
 abbrev pub Reading : Type 0
@@ -48,29 +41,13 @@ one_pair x y e = cc
 none_judged : (v : Verdict) → None ≡ Some v → ⊥
 none_judged v e = cc
 
-passed_or_judged : (p : ProblemView) (ts : List Terms) (a : AnswerView) (v : Verdict) → is_passed_over a ≡ true → answer_verdict p ts a ≡ Some v → ⊥
-passed_or_judged p ts (Yes ws) v h e = absurd (cc)
-passed_or_judged p ts (No back values) v h e = absurd (cc)
-passed_or_judged p ts (Undecided cause) v h e = none_judged v e
-passed_or_judged p ts (Region rows) v h e = none_judged v e
-passed_or_judged p ts (Contained parts proofs) v h e = absurd (cc)
-passed_or_judged p ts (Open tried) v h e = none_judged v e
+judged_once : (x y : Reading) → x ≡ y → (m n : NamesView) (v w : Verdict) → IsAnswerVerdict x.0.body x.1 (Judged m v) → IsAnswerVerdict y.0.body y.1 (Judged n w) → Judged m v ≡ Judged n w
+judged_once x y e m n v w h k =
+    let same : IsAnswerVerdict x.0.body x.1 (Judged n w) = subst (λ z. IsAnswerVerdict z.0.body z.1 (Judged n w)) (sym e) k in
+    ap₂ Judged (h.0 ∙ sym same.0) (some_same v w (sym h.1 ∙ same.1))
 
--- the forms of an answer have one list of rows
-one_row_list : (q : BodyView) (a : AnswerView) (m n : NamesView) (v w : Verdict) (h : IsJudged q a m v) (k : IsJudged q a n w) → h.rows ≡ k.rows
-one_row_list q a m n v w h k =
-    pulled_rows_told k.problem.space (judged_forms q a) h.rows k.rows (subst (λ (s : Space). ArePulledRows s (judged_forms q a) h.rows) (h.is_problem.space ∙ sym k.is_problem.space) h.are) k.are
-
-same_judged : (q : BodyView) (a : AnswerView) (m n : NamesView) (v w : Verdict) → IsJudged q a m v → IsJudged q a n w → Judged m v ≡ Judged n w
-same_judged q a m n v w h k =
-    ap₂ Judged (h.own_names ∙ sym k.own_names)
-    (some_same v w (sym h.verdict ∙ ap₂ (λ p ts. answer_verdict p ts a) (one_problem q h.problem k.problem h.is_problem k.is_problem) (one_row_list q a m n v w h k) ∙ k.verdict))
-
-judged_once : (x y : Reading) → x ≡ y → (m n : NamesView) (v w : Verdict) → IsJudged x.0.body x.1 m v → IsJudged y.0.body y.1 n w → Judged m v ≡ Judged n w
-judged_once x y e m n v w h k = same_judged x.0.body x.1 m n v w h (subst (λ z. IsJudged z.0.body z.1 n w) (sym e) k)
-
-passed_once : (x y : Reading) → x ≡ y → (n : NamesView) (w : Verdict) → is_passed_over x.1 ≡ true → IsJudged y.0.body y.1 n w → ⊥
-passed_once x y e n w h k = passed_or_judged k.problem k.rows y.1 w (subst (λ z. is_passed_over z.1 ≡ true) e h) k.verdict
+skipped_once : (x y : Reading) → x ≡ y → (n : NamesView) (w : Verdict) → IsAnswerVerdict x.0.body x.1 Skipped → IsAnswerVerdict y.0.body y.1 (Judged n w) → ⊥
+skipped_once x y e n w h k = none_judged w (sym (subst (λ z. IsAnswerVerdict z.0.body z.1 Skipped) e h) ∙ k.1)
 
 abbrev pair : (line : List ℕ) (v : LineVerdict) → HasAnswer line v → Reading
 pair line v h = (h.question, h.answer)
@@ -90,8 +67,8 @@ one_verdict line (Shape k) (Judged n w) a b = absurd (no_key k (b.question, b.an
 one_verdict line Skipped NotJson a b = absurd (has_json line (Ok (a.question, a.answer)) a.reads b)
 one_verdict line Skipped (Shape j) a b = absurd (no_key j (a.question, a.answer) (one_reading line (Err j) (Ok (a.question, a.answer)) b a.reads))
 one_verdict line Skipped Skipped a b = refl
-one_verdict line Skipped (Judged n w) a b = absurd (passed_once (a.question, a.answer) (b.question, b.answer) (one_answer line Skipped (Judged n w) a b) n w a.verdict b.verdict)
+one_verdict line Skipped (Judged n w) a b = absurd (skipped_once (a.question, a.answer) (b.question, b.answer) (one_answer line Skipped (Judged n w) a b) n w a.verdict b.verdict)
 one_verdict line (Judged m v) NotJson a b = absurd (has_json line (Ok (a.question, a.answer)) a.reads b)
 one_verdict line (Judged m v) (Shape j) a b = absurd (no_key j (a.question, a.answer) (one_reading line (Err j) (Ok (a.question, a.answer)) b a.reads))
-one_verdict line (Judged m v) Skipped a b = absurd (passed_once (b.question, b.answer) (a.question, a.answer) (one_answer line Skipped (Judged m v) b a) m v b.verdict a.verdict)
+one_verdict line (Judged m v) Skipped a b = absurd (skipped_once (b.question, b.answer) (a.question, a.answer) (one_answer line Skipped (Judged m v) b a) m v b.verdict a.verdict)
 one_verdict line (Judged m v) (Judged n w) a b = judged_once (a.question, a.answer) (b.question, b.answer) (one_answer line (Judged m v) (Judged n w) a b) m n v w a.verdict b.verdict

@@ -1,7 +1,8 @@
 -- The claim of a valid line is true.
-use Rattle.std.proofs.Common.{◌≡◌, ℕ, zero, suc, ◌<◌, ℤ, pos, neg_ℤ, ◌≤ℤ◌, List, [], ◌∷◌, length, get_or, Bool, Option, Some, None, Result, Ok, Err, All, if◌then◌else◌, refl, sym, ap, subst, ◌∙◌, arith}
+use Rattle.std.proofs.Common.{◌≡◌, ℕ, zero, suc, ◌<◌, ℤ, pos, neg_ℤ, ◌≤ℤ◌, List, [], ◌∷◌, map, length, get_or, Bool, Option, Some, None, Result, Ok, Err, All, if◌then◌else◌, refl, sym, ap, subst, ◌∙◌, arith}
 use Rattle.std.specs.Prelude.{ok_or}
 use Rattle.std.proofs.lemmas.List.Elements.{All-nil, All-cons, All-head}
+use Rattle.std.proofs.lemmas.List.{length-map}
 use Rattle.serde_json.specs.Data.{Data}
 use Rattle.it_space.specs.declared.spaces.Space.{Space}
 use Rattle.it_space.specs.Answers.{AnswerView, CertificateView}
@@ -13,21 +14,23 @@ use Rattle.it_space.proofs.OptionLemmas.{some_same}
 use Rattle.it_polymatroid.specs.Certificates.{Form}
 use Rattle.it_polymatroid.specs.Polymatroid.{IsPolymatroid}
 use Rattle.it_syntax.specs.Meaning.{RelationView, multiple_of, side_at}
-use Rattle.it_syntax.specs.NamesViews.{NamesView}
 use Rattle.it_question.specs.Limits.{IsQuestion}
 use Rattle.it_question.specs.Questions.{BodyView, QuestionView, RegionView, VerbView, Prove, Eliminate, Contain}
 use Rattle.it_question.proofs.FileReadings.{file_limits}
+use Rattle.it_question.proofs.NumberLemmas.{QuestionHasSmallNumbers, file_has_small_numbers}
 use Rattle.it_demand.specs.Canonical.{form_of}
 use Rattle.it_demand.specs.Targets.{targets}
 use Rattle.it_demand.specs.LineDemands.{space_of}
 use Rattle.it_question.specs.Tables.{problem_names, problem_names_by, problem_lines, problem_lines_by}
-use Rattle.it_canon.specs.QuestionDemands.{AreTrueAt, IsProblemOf}
+use Rattle.it_canon.specs.QuestionDemands.{variables_of, problem_of, terms_in, AreTrueAt, IsProblemOf}
+use Rattle.it_canon.proofs.ExistenceLemmas.{question_poses, relation_rows}
 use Rattle.it_demand.proofs.MetLemmas.{targets_met}
 use Rattle.it_canon.proofs.ProblemLemmas.{question_met}
-use Rattle.it_demand.proofs.ZipLemmas.{zip-length}
 use Rattle.it_region.specs.Obligations.{obligations, IsPulledRow, ArePulledRows}
 use Rattle.it_region.specs.Regions.{LiesIn}
+use Rattle.it_region.proofs.ExistenceLemmas.{obligation_rows_there}
 use Rattle.it_region.proofs.RegionLemmas.{obligations_contain}
+use Rattle.it_region.proofs.TextLemmas.{rows_as_pulled}
 use Rattle.it_certificate.specs.declared.keys.Key.{Key}
 use Rattle.it_certificate.specs.declared.keys.Key.TheVariants as keys
 use Rattle.it_certificate.specs.declared.kinds.AnswerKind.{AnswerKind}
@@ -42,7 +45,9 @@ use Rattle.it_check.specs.declared.verdicts.Verdict.{Verdict}
 use Rattle.it_check.specs.declared.verdicts.Verdict.TheVariants.{Valid, BadScale, UnknownGenerator, NegativeWeight, Width, Mismatch, BrokenElemental, UnmetConstraint, NotViolated}
 use Rattle.it_check.proofs.Truth.{valid_yes_is, valid_no_is, yes_is_true}
 use Rattle.it_report.specs.RowVerdicts.{is_valid, proof_verdict, proofs_verdict, point_verdict, place_named}
-use Rattle.it_report.specs.Judging.{judged_forms_by, answer_verdict, IsJudged}
+use Rattle.it_report.specs.LineVerdicts.{Judged}
+use Rattle.it_report.specs.Judging.{answer_verdict, verdict_of, IsAnswerVerdict}
+use Rattle.it_region.specs.AnswerForms.{answer_forms_by}
 use Rattle.it_report.specs.Meaning.{IsClaimTrueBy, ValidIsTrue}
 use Rattle.it_report.proofs.JudgingLemmas.{verb_fits, target_is_there, point_is_complete, parts_as_named}
 use Rattle.it_report.proofs.CountLemmas.{obligations_counted, targets_counted}
@@ -85,6 +90,14 @@ question_read line q a h = subst (IsQuestionAt h.value) (read_is h.reads.own h.v
 
 pub limits_question : (line : List ℕ) (q : QuestionView) (a : AnswerView) → ReadsReport line (Ok (q, a)) → IsQuestion q.body
 limits_question line q a h = of_question h.value q (question_read line q a h)
+
+-- and has small numbers
+numbers_of_question : (d : Data) (q : QuestionView) → IsQuestionOf d q → QuestionHasSmallNumbers q.body
+unfolding IsQuestionOf
+numbers_of_question d q h = (file_has_small_numbers h.0 (q ∷ []) h.1.1.1).0
+
+pub small_numbers : (line : List ℕ) (q : QuestionView) (a : AnswerView) → ReadsReport line (Ok (q, a)) → QuestionHasSmallNumbers q.body
+small_numbers line q a h = numbers_of_question h.value q (question_read line q a h)
 
 -- ---- valid certificates
 
@@ -165,32 +178,45 @@ module _ (q : BodyView) (p : ProblemView) (is : IsProblemOf q p) where
       let lines : AreTrueAt variable_count m (problem_lines q) = subst (λ v. AreTrueAt (length (problem_names_by q.names v).variables) m (problem_lines_by q.lines v)) (sym about) inside.lines_hold in
       all_hold m polymatroid lines (obligations q first second parts) ts ws are (fits.obligations ∙ sym (obligations_counted q first second parts)) e)
 
-judged_true : (q : BodyView) (verb : VerbView) (a : AnswerView) (names : NamesView) → q.verb ≡ verb → IsQuestion q → HasQuestionShape q a → IsJudged q a names Valid → IsClaimTrueBy q verb a
-judged_true q (Prove r) a names about k fits j = by_answer a fits (subst (λ v. ArePulledRows j.problem.space (judged_forms_by q v a) j.rows) about j.are) j.verdict
+judged_true : (q : BodyView) (verb : VerbView) (a : AnswerView) → q.verb ≡ verb → IsQuestion q → QuestionHasSmallNumbers q → HasQuestionShape q a → verdict_of q a ≡ Some Valid → IsClaimTrueBy q verb a
+judged_true q (Prove r) a about k small fits e =
+    by_answer a fits (subst (λ v. answer_verdict (problem_of q) (map (terms_in q) (answer_forms_by q v a)) a ≡ Some Valid) about e)
   where
-    by_answer : (a : AnswerView) → HasQuestionShape q a → ArePulledRows j.problem.space (targets (length (problem_names q).variables) r) j.rows → answer_verdict j.problem j.rows a ≡ Some Valid → IsClaimTrueBy q (Prove r) a
-    by_answer (Yes ws) fits are e = yes_true q j.problem j.is_problem r j.rows ws are (verb_fits q (Yes ws) (Prove r) about fits).0 (some_same (proofs_verdict j.problem j.rows ws) Valid e)
-    by_answer (No back values) fits are e = no_true q j.problem j.is_problem r j.rows back values are
-        (point_is_complete q r about back values j.problem.space j.is_problem.space fits)
-        (target_is_there q r about back values (length (problem_names q).variables) j.rows (zip-length (IsPulledRow j.problem.space) (targets (length (problem_names q).variables) r) j.rows are) fits)
-        (some_same (point_verdict j.problem j.rows back values) Valid e)
-    by_answer (Undecided cause) fits are e = tt
-    by_answer (Region rows) fits are e = tt
-    by_answer (Contained parts proofs) fits are e = tt
-    by_answer (Open tried) fits are e = tt
-judged_true q (Eliminate rates) a names about k fits j = tt
-judged_true q (Contain first second tries) a names about k fits j = by_answer a fits (subst (λ v. ArePulledRows j.problem.space (judged_forms_by q v a) j.rows) about j.are) j.verdict
+    is : IsProblemOf q (problem_of q)
+    is = question_poses q k small
+
+    are : ArePulledRows (space_of (problem_names q)) (targets (variables_of q) r) (map (terms_in q) (targets (variables_of q) r))
+    are = rows_as_pulled (space_of (problem_names q)) (targets (variables_of q) r) (map (terms_in q) (targets (variables_of q) r)) (relation_rows q k small r about)
+
+    by_answer : (a : AnswerView) → HasQuestionShape q a → answer_verdict (problem_of q) (map (terms_in q) (targets (variables_of q) r)) a ≡ Some Valid → IsClaimTrueBy q (Prove r) a
+    by_answer (Yes ws) fits e = yes_true q (problem_of q) is r (map (terms_in q) (targets (variables_of q) r)) ws are (verb_fits q (Yes ws) (Prove r) about fits).0
+        (some_same (proofs_verdict (problem_of q) (map (terms_in q) (targets (variables_of q) r)) ws) Valid e)
+    by_answer (No back values) fits e = no_true q (problem_of q) is r (map (terms_in q) (targets (variables_of q) r)) back values are
+        (point_is_complete q r about back values (space_of (problem_names q)) refl fits)
+        (target_is_there q r about back values (variables_of q) (map (terms_in q) (targets (variables_of q) r)) (length-map (targets (variables_of q) r) (terms_in q)) fits)
+        (some_same (point_verdict (problem_of q) (map (terms_in q) (targets (variables_of q) r)) back values) Valid e)
+    by_answer (Undecided cause) fits e = tt
+    by_answer (Region rows) fits e = tt
+    by_answer (Contained parts proofs) fits e = tt
+    by_answer (Open tried) fits e = tt
+judged_true q (Eliminate rates) a about k small fits e = tt
+judged_true q (Contain first second tries) a about k small fits e =
+    by_answer a fits (subst (λ v. answer_verdict (problem_of q) (map (terms_in q) (answer_forms_by q v a)) a ≡ Some Valid) about e)
   where
-    by_answer : (a : AnswerView) → HasQuestionShape q a → ArePulledRows j.problem.space (judged_forms_by q (Contain first second tries) a) j.rows → answer_verdict j.problem j.rows a ≡ Some Valid → IsClaimTrueBy q (Contain first second tries) a
-    by_answer (Yes ws) fits are e = tt
-    by_answer (No back values) fits are e = tt
-    by_answer (Undecided cause) fits are e = tt
-    by_answer (Region rows) fits are e = tt
-    by_answer (Contained parts ws) fits are e = contained_true q j.problem j.is_problem first second tries parts j.rows ws about k are
-        (verb_fits q (Contained parts ws) (Contain first second tries) about fits) (some_same (proofs_verdict j.problem j.rows ws) Valid e)
-    by_answer (Open tried) fits are e = tt
+    by_answer : (a : AnswerView) → HasQuestionShape q a → answer_verdict (problem_of q) (map (terms_in q) (answer_forms_by q (Contain first second tries) a)) a ≡ Some Valid → IsClaimTrueBy q (Contain first second tries) a
+    by_answer (Yes ws) fits e = tt
+    by_answer (No back values) fits e = tt
+    by_answer (Undecided cause) fits e = tt
+    by_answer (Region rows) fits e = tt
+    by_answer (Contained parts ws) fits e =
+        let shape = verb_fits q (Contained parts ws) (Contain first second tries) about fits in
+        let rows = map (terms_in q) (obligations q first second parts) in
+        contained_true q (problem_of q) (question_poses q k small) first second tries parts rows ws about k
+        (obligation_rows_there q k small first second tries about parts (parts_as_named first second parts ws shape)) shape (some_same (proofs_verdict (problem_of q) rows ws) Valid e)
+    by_answer (Open tried) fits e = tt
 
 pub valid_is_true : ValidIsTrue
 valid_is_true line names q a h reads =
     let e = one_pair (h.question, h.answer) (q, a) (one_reading line (Ok (h.question, h.answer)) (Ok (q, a)) h.reads reads) in
-    judged_true q.body q.body.verb a names refl (limits_question line q a reads) (fits_question line q a reads) (subst (λ x. IsJudged x.0.body x.1 names Valid) e h.verdict)
+    let judged : IsAnswerVerdict q.body a (Judged names Valid) = subst (λ x. IsAnswerVerdict x.0.body x.1 (Judged names Valid)) e h.verdict in
+    judged_true q.body q.body.verb a refl (limits_question line q a reads) (small_numbers line q a reads) (fits_question line q a reads) judged.1

@@ -16,7 +16,8 @@ use Rattle.it_question.specs.Questions.{BodyView, QuestionView, VerbView, Prove,
 use Rattle.it_question.specs.Tables.{problem_names}
 use Rattle.it_check.specs.declared.verdicts.Verdict.{Verdict}
 use Rattle.it_print.specs.Lines.{certificate_text, row_text, values_text}
-use Rattle.it_report.specs.Judging.{HasAnswer, IsVerdict, is_passed_over, judged_forms}
+use Rattle.it_report.specs.Judging.{HasAnswer, IsVerdict, verdict_of}
+use Rattle.it_region.specs.AnswerForms.{answer_forms}
 use Rattle.it_report.specs.LineVerdicts.{LineVerdict, NotJson, Shape, Skipped, Judged, is_invalid}
 use Rattle.it_report.specs.Meaning.{IsClaimTrueBy}
 use Rattle.it_report.proofs.ExistenceLemmas.{each_line_is_judged}
@@ -90,11 +91,11 @@ point_there q values = (codes "as point " ++ values_text (problem_names q) value
 
 details_there : (q : BodyView) (with_steps : Bool) (a : AnswerView) → (out : List ℕ) × AreDetails q with_steps a out
 unfolding AreDetails
-details_there q with_steps (Yes proofs) = lines_there proof_lines (AreProofTexts q with_steps) (proof_there q with_steps) (zip (judged_forms q (Yes proofs)) proofs)
+details_there q with_steps (Yes proofs) = lines_there proof_lines (AreProofTexts q with_steps) (proof_there q with_steps) (zip (answer_forms q (Yes proofs)) proofs)
 details_there q with_steps (No back values) = let point = point_there q values in (indented_line point.0, (point.0, (point.1, refl)))
 details_there q with_steps (Undecided cause) = ([], refl)
 details_there q with_steps (Region rows) = lines_there indented_line (IsMarkedRowText (problem_names q)) (row_there (problem_names q)) rows
-details_there q with_steps (Contained parts proofs) = lines_there proof_lines (AreProofTexts q with_steps) (proof_there q with_steps) (zip (judged_forms q (Contained parts proofs)) proofs)
+details_there q with_steps (Contained parts proofs) = lines_there proof_lines (AreProofTexts q with_steps) (proof_there q with_steps) (zip (answer_forms q (Contained parts proofs)) proofs)
 details_there q with_steps (Open tried) = ([], refl)
 
 answer_there : (with_steps : Bool) (line : List ℕ) (v : LineVerdict) → IsVerdict line v → is_invalid v ≡ false → HasAnswer line v → (telling : Telling) × IsTelling with_steps line telling
@@ -117,19 +118,19 @@ each_line_is_told with_steps line = let judged = (each_line_is_judged 1 line).2 
 
 -- ---- what is told is true
 
-passed_over_claims_nothing : (q : BodyView) (verb : VerbView) (a : AnswerView) → is_passed_over a ≡ true → IsClaimTrueBy q verb a
-passed_over_claims_nothing q verb (Yes ws) e = absurd (true≢false (sym e))
-passed_over_claims_nothing q verb (No back values) e = absurd (true≢false (sym e))
-passed_over_claims_nothing q verb (Contained parts proofs) e = absurd (true≢false (sym e))
-passed_over_claims_nothing q (Prove r) (Undecided cause) e = tt
-passed_over_claims_nothing q (Prove r) (Region rows) e = tt
-passed_over_claims_nothing q (Prove r) (Open tried) e = tt
-passed_over_claims_nothing q (Eliminate rates) (Undecided cause) e = tt
-passed_over_claims_nothing q (Eliminate rates) (Region rows) e = tt
-passed_over_claims_nothing q (Eliminate rates) (Open tried) e = tt
-passed_over_claims_nothing q (Contain first second tries) (Undecided cause) e = tt
-passed_over_claims_nothing q (Contain first second tries) (Region rows) e = tt
-passed_over_claims_nothing q (Contain first second tries) (Open tried) e = tt
+none_claims_nothing : (q : BodyView) (verb : VerbView) (a : AnswerView) → verdict_of q a ≡ None → IsClaimTrueBy q verb a
+none_claims_nothing q verb (Yes ws) e = absurd cc
+none_claims_nothing q verb (No back values) e = absurd cc
+none_claims_nothing q verb (Contained parts proofs) e = absurd cc
+none_claims_nothing q (Prove r) (Undecided cause) e = tt
+none_claims_nothing q (Prove r) (Region rows) e = tt
+none_claims_nothing q (Prove r) (Open tried) e = tt
+none_claims_nothing q (Eliminate rates) (Undecided cause) e = tt
+none_claims_nothing q (Eliminate rates) (Region rows) e = tt
+none_claims_nothing q (Eliminate rates) (Open tried) e = tt
+none_claims_nothing q (Contain first second tries) (Undecided cause) e = tt
+none_claims_nothing q (Contain first second tries) (Region rows) e = tt
+none_claims_nothing q (Contain first second tries) (Open tried) e = tt
 
 pub told_answers_are_true : ToldAnswersAreTrue
 told_answers_are_true with_steps line q a details (h, lines) = by_verdict h.verdict h.is h.accepted
@@ -139,6 +140,6 @@ told_answers_are_true with_steps line q a details (h, lines) = by_verdict h.verd
     by_verdict (Shape key) is accepted = absurd (true≢false accepted)
     by_verdict Skipped is accepted =
         let same = one_pair (is.question, is.answer) (q, a) (one_reading line _ _ is.reads h.reads) in
-        passed_over_claims_nothing q.body q.body.verb a (subst (λ (x : QuestionView × AnswerView). is_passed_over x.1 ≡ true) same is.verdict)
+        none_claims_nothing q.body q.body.verb a (subst (λ (x : QuestionView × AnswerView). verdict_of x.0.body x.1 ≡ None) same is.verdict)
     by_verdict (Judged names v) is accepted =
         valid_is_true line names q a (subst (λ (w : Verdict). IsVerdict line (Judged names w)) (not_invalid_is_valid v accepted) is) h.reads

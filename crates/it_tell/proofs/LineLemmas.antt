@@ -15,6 +15,8 @@ use Rattle.it_print.specs.Lines.{IsPrintable}
 use Rattle.it_report.specs.Judging.{HasAnswer, IsAnswerVerdict, IsJudgedLine, IsVerdict}
 use Rattle.it_report.specs.LineVerdicts.{LineVerdict, NotJson, Shape, Skipped, Judged, is_invalid}
 use Rattle.it_report.proofs.OneLemmas.{Reading, as_read, one_pair}
+use Rattle.it_canon.proofs.ExistenceLemmas.{question_poses}
+use Rattle.it_report.proofs.TruthLemmas.{small_numbers}
 use Rattle.it_tell.specs.Tellings.{Answered, Invalid, IsAccepted}
 use Rattle.it_tell.specs.Steps.{IsAnsweredText, IsToldLine}
 use Rattle.it_tell.proofs.PrintableLemmas.{printable}
@@ -73,7 +75,7 @@ module _ (line : List ℕ) (q : QuestionView) (a : AnswerView) (reads : ReadsRep
 
 pub can_be_printed : (line : List ℕ) (q : QuestionView) (a : Answer) → ReadsReport line (Ok (q, answer_view a)) → IsQuestion q.body → HasQuestionShape q.body (answer_view a) → HasVerdict line
     → IsPrintable q.body (length (question_demands q.body)) a
-can_be_printed line q a reads k fits h = printable q.body k h.verdict h.accepted a fits (on_answer line q (answer_view a) reads h)
+can_be_printed line q a reads k fits h = printable q.body k (question_poses q.body k (small_numbers line q (answer_view a) reads)) h.verdict h.accepted a fits (on_answer line q (answer_view a) reads h)
 
 pub answered_line : (with_steps : Bool) (k : ℕ) (line text : List ℕ) (q : QuestionView) (a : AnswerView) → ReadsReport line (Ok (q, a)) → HasVerdict line → IsAnsweredText with_steps k q.body a text → IsToldLine with_steps k line text false
 unfolding IsAnsweredText

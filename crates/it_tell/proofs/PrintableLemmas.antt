@@ -1,19 +1,17 @@
 -- Answers that were read and aren't invalid can be written: their generators are there, and their points, rows and causes are of the
 -- question's names.
-use Rattle.std.proofs.Common.{◌≡◌, ℕ, ℤ, ◌+◌, ◌<◌, ◌≤◌, List, [], ◌∷◌, map, length, drop, Bool, true, false, not, Some, All, if◌then◌else◌, refl, sym, ap, ap₂, subst, ◌∙◌, arith}
+use Rattle.std.proofs.Common.{◌≡◌, ℕ, ℤ, ◌+◌, ◌<◌, ◌≤◌, List, [], ◌∷◌, map, length, drop, Bool, true, false, not, Some, All, if◌then◌else◌, refl, sym, ap, ap₂, subst, ◌∙◌, arith, None}
 use Rattle.std.specs.Prelude.{bytes_eq, get_or}
 use Rattle.std.proofs.lemmas.List.{length-map}
-use Rattle.std.proofs.lemmas.List.Elements.{All-nil, All-cons, All-weaker}
+use Rattle.std.proofs.lemmas.List.Elements.{All-nil, All-cons, All-weaker, All-head, All-tail}
 use Rattle.std.proofs.lemmas.List.Quantifiers.{position-Some}
 use Rattle.std.proofs.lemmas.Bool.{true≢false}
 use Rattle.std.proofs.lemmas.Nat.{pow_pos}
 use Rattle.std.proofs.Math.Pow.{pow_mono}
 use Rattle.std.proofs.Math.Seq.{drop-append_seam}
 use Rattle.it_space.specs.declared.answers.Answer.{Answer}
-use Rattle.it_space.specs.declared.answers.Answer.TheVariants as answers
 use Rattle.it_space.specs.declared.answers.Certificate.{Certificate}
 use Rattle.it_space.specs.declared.answers.Cause.{Cause}
-use Rattle.it_space.specs.declared.answers.Cause.TheVariants as causes
 use Rattle.it_space.specs.declared.answers.Mark.{Mark}
 use Rattle.it_space.specs.Answers.{AnswerView, CertificateView, answer_view, certificate_view}
 use Rattle.it_space.specs.Answers.AnswerView.{Yes, Contained}
@@ -31,20 +29,23 @@ use Rattle.it_question.specs.Limits.{IsQuestion, IsVerbOver}
 use Rattle.it_question.specs.Questions.{BodyView, RegionView, VerbView, Prove, Eliminate, Contain}
 use Rattle.it_question.specs.Tables.{problem_names, problem_names_by}
 use Rattle.it_demand.specs.LineDemands.{space_of}
-use Rattle.it_canon.specs.QuestionDemands.{IsProblemOf, question_demands, variables_of}
-use Rattle.it_region.specs.Obligations.{ArePulledRows}
+use Rattle.it_canon.specs.QuestionDemands.{IsProblemOf, question_demands, variables_of, problem_of, terms_in}
 use Rattle.it_certificate.specs.AnswerShapes.{HasQuestionShape, HasVerbShape, IsCauseFor, IsRowIn}
 use Rattle.it_check.specs.declared.verdicts.Verdict.{Verdict}
 use Rattle.it_check.specs.declared.verdicts.Verdict.TheVariants.{Valid, BadScale, UnknownGenerator, NegativeWeight, Width, Mismatch, BrokenElemental, UnmetConstraint, NotViolated}
 use Rattle.it_check.proofs.Truth.{valid_yes_is}
 use Rattle.it_print.specs.Lines.{AreListed, IsCauseOf, IsPrintable, IsRowOver, auxiliary_names}
 use Rattle.it_print.proofs.RowLemmas.{row_over}
-use Rattle.it_report.specs.Judging.{IsAnswerVerdict, IsJudged, answer_verdict, is_passed_over, judged_forms, judged_forms_by}
+use Rattle.it_report.specs.Judging.{IsAnswerVerdict, verdict_of}
 use Rattle.it_report.specs.LineVerdicts.{LineVerdict, NotJson, Shape, Skipped, Judged, is_invalid}
 use Rattle.it_report.specs.RowVerdicts.{is_valid, proof_verdict, proofs_verdict}
 use Rattle.it_report.proofs.CountLemmas.{obligations_counted, targets_counted}
 use Rattle.it_report.proofs.JudgingLemmas.{verb_fits}
 use Rattle.it_cli.proofs.LineLemmas.{few_constraints}
+use Rattle.it_print.proofs.GeneratorRows.{form_up_to}
+use Rattle.it_region.specs.AnswerForms.{answer_forms, answer_forms_by}
+use Rattle.it_space.specs.declared.answers.Answer.TheVariants as answers
+use Rattle.it_space.specs.declared.answers.Cause.TheVariants as causes
 
 -- ---- verdicts
 
@@ -68,11 +69,11 @@ each_valid v u e = by_test (is_valid v) refl e
     by_test false is e = absurd (true≢false (sym (ap is_valid e) ∙ is))
 
 -- an answer that is judged and not invalid has the verdict `Valid`
-judged_valid : (q : BodyView) (a : AnswerView) (v : LineVerdict) → is_passed_over a ≡ false → IsAnswerVerdict q a v → is_invalid v ≡ false → (names : NamesView) × IsJudged q a names Valid
-judged_valid q a NotJson judged is e = absurd is
-judged_valid q a (Shape key) judged is e = absurd is
-judged_valid q a Skipped judged is e = absurd (true≢false (sym is ∙ judged))
-judged_valid q a (Judged names v) judged is e = (names, subst (IsJudged q a names) (not_invalid_is_valid v e) is)
+judged_valid : (q : BodyView) (a : AnswerView) (v : LineVerdict) (w : Verdict) → verdict_of q a ≡ Some w → IsAnswerVerdict q a v → is_invalid v ≡ false → w ≡ Valid
+judged_valid q a NotJson w judged is e = absurd is
+judged_valid q a (Shape key) w judged is e = absurd is
+judged_valid q a Skipped w judged is e = let none : Some w ≡ None = sym judged ∙ is in absurd cc
+judged_valid q a (Judged names u) w judged is e = some_same w u (sym judged ∙ is.1) ∙ not_invalid_is_valid u e
 
 -- ---- certificates
 
@@ -86,37 +87,39 @@ module _ (q : BodyView) (p : ProblemView) (is : IsProblemOf q p) where
   generators_there t c u e = All-weaker (IsAllowed (forms_of (generators p))) (λ (w : ℕ × ℤ). w.0 < length (elementals (variables_of q)) + length (question_demands q))
       (λ w a. omega (arith, a.0, generators_counted)) c.weights.items ((valid_yes_is p t (certificate_view c) is.limits u).0 e).0.allowed
 
-  all_listed : (fs : List Form) (ts : List Terms) (cs : List Certificate) → ArePulledRows p.space fs ts → length cs ≡ length fs → proofs_verdict p ts (map certificate_view cs) ≡ Valid
-      → AreListed (variables_of q) (length (question_demands q)) cs
+  -- the generators of certificates, one for each row, are there
+  all_listed : (ts : List Terms) (cs : List Certificate) → All (IsUpTo (size_of p.space)) ts → length cs ≡ length ts → proofs_verdict p ts (map certificate_view cs) ≡ Valid → AreListed (variables_of q) (length (question_demands q)) cs
   unfolding proofs_verdict
-  all_listed fs ts [] z l e = All-nil (λ (c : Certificate). All (λ (w : ℕ × ℤ). w.0 < length (elementals (variables_of q)) + length (question_demands q)) c.weights.items)
-  all_listed [] ts (c ∷ cs) z l e = absurd (omega (arith, l))
-  all_listed (f ∷ fs) [] (c ∷ cs) z l e = absurd z
-  all_listed (f ∷ fs) (t ∷ ts) (c ∷ cs) z l e =
+  all_listed ts [] u l e = All-nil (λ (c : Certificate). All (λ (w : ℕ × ℤ). w.0 < length (elementals (variables_of q)) + length (question_demands q)) c.weights.items)
+  all_listed [] (c ∷ cs) u l e = absurd (omega (arith, l))
+  all_listed (t ∷ ts) (c ∷ cs) u l e =
       let each = each_valid (proof_verdict p t (certificate_view c)) (proofs_verdict p ts (map certificate_view cs)) e in
       All-cons (λ (c : Certificate). All (λ (w : ℕ × ℤ). w.0 < length (elementals (variables_of q)) + length (question_demands q)) c.weights.items) c cs
-      (generators_there t c z.0.coordinates each.0) (all_listed fs ts cs z.1 (omega (arith, l)) each.1)
+      (generators_there t c (All-head (IsUpTo (size_of p.space)) t ts u) each.0) (all_listed ts cs (All-tail (IsUpTo (size_of p.space)) t ts u) (omega (arith, l)) each.1)
 
--- the generators of an answer's certificates, one for each form, are there
-proofs_listed : (q : BodyView) (a : AnswerView) (names : NamesView) (cs : List Certificate) → (j : IsJudged q a names Valid) → answer_verdict j.problem j.rows a ≡ Some (proofs_verdict j.problem j.rows (map certificate_view cs))
-    → length cs ≡ length (judged_forms q a) → AreListed (variables_of q) (length (question_demands q)) cs
-proofs_listed q a names cs j is counted =
-    all_listed q j.problem j.is_problem (judged_forms q a) j.rows cs j.are counted (some_same (proofs_verdict j.problem j.rows (map certificate_view cs)) Valid (sym is ∙ j.verdict))
+terms_up_to : (q : BodyView) (fs : List Form) → All (IsUpTo (size_of (space_of (problem_names q)))) (map (terms_in q) fs)
+terms_up_to q [] = All-nil (IsUpTo (size_of (space_of (problem_names q))))
+terms_up_to q (f ∷ fs) = All-cons (IsUpTo (size_of (space_of (problem_names q)))) (terms_in q f) (map (terms_in q) fs) (form_up_to (size_of (space_of (problem_names q))) f) (terms_up_to q fs)
+
+proofs_listed : (q : BodyView) → IsProblemOf q (problem_of q) → (fs : List Form) (cs : List Certificate) → length fs ≡ length (map certificate_view cs) → proofs_verdict (problem_of q) (map (terms_in q) fs) (map certificate_view cs) ≡ Valid
+    → AreListed (variables_of q) (length (question_demands q)) cs
+proofs_listed q posed fs cs counted valid =
+    all_listed q (problem_of q) posed (map (terms_in q) fs) cs (terms_up_to q fs) (sym (length-map cs certificate_view) ∙ sym counted ∙ sym (length-map fs (terms_in q))) valid
 
 -- ---- how many forms an answer has proofs of
 
-pub yes_counted : (q : BodyView) (ws : List CertificateView) → HasQuestionShape q (Yes ws) → length (judged_forms q (Yes ws)) ≡ length ws
+pub yes_counted : (q : BodyView) (ws : List CertificateView) → HasQuestionShape q (Yes ws) → length (answer_forms q (Yes ws)) ≡ length ws
 yes_counted q ws h = by_verb q.verb (verb_fits q (Yes ws) q.verb refl h)
   where
-    by_verb : (verb : VerbView) → HasVerbShape q.names verb (Yes ws) → length (judged_forms_by q verb (Yes ws)) ≡ length ws
+    by_verb : (verb : VerbView) → HasVerbShape q.names verb (Yes ws) → length (answer_forms_by q verb (Yes ws)) ≡ length ws
     by_verb (Prove r) h = targets_counted (variables_of q) (length q.names.variables) r ∙ sym h.0
     by_verb (Eliminate rates) h = absurd h
     by_verb (Contain first second tries) h = absurd h
 
-pub contained_counted : (q : BodyView) (parts : List ℕ) (ws : List CertificateView) → HasQuestionShape q (Contained parts ws) → length (judged_forms q (Contained parts ws)) ≡ length ws
+pub contained_counted : (q : BodyView) (parts : List ℕ) (ws : List CertificateView) → HasQuestionShape q (Contained parts ws) → length (answer_forms q (Contained parts ws)) ≡ length ws
 contained_counted q parts ws h = by_verb q.verb (verb_fits q (Contained parts ws) q.verb refl h)
   where
-    by_verb : (verb : VerbView) → HasVerbShape q.names verb (Contained parts ws) → length (judged_forms_by q verb (Contained parts ws)) ≡ length ws
+    by_verb : (verb : VerbView) → HasVerbShape q.names verb (Contained parts ws) → length (answer_forms_by q verb (Contained parts ws)) ≡ length ws
     by_verb (Prove r) h = absurd h
     by_verb (Eliminate rates) h = absurd h
     by_verb (Contain first second tries) h = obligations_counted q first second parts ∙ sym h.obligations
@@ -141,12 +144,13 @@ parts_named q first second tries parts about k each =
     let region = (subst (IsVerbOver q.names) about k.verb).1 in
     each ∙ region.counted ∙ ap length (sym (ap (auxiliary_names q.names) about ∙ ap (drop (length q.names.variables)) region.variables ∙ drop-append_seam q.names.variables region.own))
 
-module _ (q : BodyView) (k : IsQuestion q) (v : LineVerdict) (accepted : is_invalid v ≡ false) where
+module _ (q : BodyView) (k : IsQuestion q) (posed : IsProblemOf q (problem_of q)) (v : LineVerdict) (accepted : is_invalid v ≡ false) where
   printable_relation : (r : RelationView) (a : Answer) → q.verb ≡ Prove r → HasQuestionShape q (answer_view a) → IsAnswerVerdict q (answer_view a) v → HasVerbShape q.names (Prove r) (answer_view a)
       → IsPrintable q (length (question_demands q)) a
   printable_relation r (answers.Yes proofs) about fits is h =
-      let j = judged_valid q (Yes (map certificate_view proofs.items)) v refl is accepted in
-      proofs_listed q (Yes (map certificate_view proofs.items)) j.0 proofs.items j.1 refl (sym (length-map proofs.items certificate_view) ∙ sym (yes_counted q (map certificate_view proofs.items) fits))
+      let ws = map certificate_view proofs.items in
+      let forms = answer_forms q (Yes ws) in
+      proofs_listed q posed forms proofs.items (yes_counted q ws fits) (judged_valid q (Yes ws) v (proofs_verdict (problem_of q) (map (terms_in q) forms) ws) refl is accepted)
   printable_relation r (answers.No back point) about fits is h =
       let own : problem_names q ≡ q.names = ap (problem_names_by q.names) about in
       let size : length point ≡ size_of (space_of (problem_names q)) = subst (λ (ns : NamesView). length point ≡ size_of (space_of ns)) (sym own) h.0 in
@@ -176,10 +180,11 @@ module _ (q : BodyView) (k : IsQuestion q) (v : LineVerdict) (accepted : is_inva
   printable_containment first second tries (answers.Undecided cause) about fits is h = absurd h
   printable_containment first second tries (answers.Region rows) about fits is h = absurd h
   printable_containment first second tries (answers.Contained parts proofs) about fits is h =
-      let a = Contained parts.items (map certificate_view proofs.items) in
-      let j = judged_valid q a v refl is accepted in (
+      let ws = map certificate_view proofs.items in
+      let a = Contained parts.items ws in
+      let forms = answer_forms q a in (
         parts_named q first second tries parts.items about k h.each,
-        proofs_listed q a j.0 proofs.items j.1 refl (sym (length-map proofs.items certificate_view) ∙ sym (contained_counted q parts.items (map certificate_view proofs.items) fits)),
+        proofs_listed q posed forms proofs.items (contained_counted q parts.items ws fits) (judged_valid q a v (proofs_verdict (problem_of q) (map (terms_in q) forms) ws) refl is accepted),
       )
   printable_containment first second tries (answers.Open tried) about fits is h = tt
 

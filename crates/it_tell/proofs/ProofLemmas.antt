@@ -13,7 +13,7 @@ use Rattle.it_question.specs.Questions.{BodyView}
 use Rattle.it_demand.proofs.ZipLemmas.{zip-length}
 use Rattle.it_region.specs.Obligations.{ArePulledRows, IsPulledRow}
 use Rattle.it_certificate.specs.AnswerShapes.{HasQuestionShape}
-use Rattle.it_report.specs.Judging.{judged_forms}
+use Rattle.it_region.specs.AnswerForms.{answer_forms}
 use Rattle.it_tell.specs.Tellings.{AreDetails, AreProofTexts, IsProofText, proof_lines}
 use Rattle.it_tell.specs.Steps.{AppendsDetails, AppendsEach, AppendsProof, AppendsProofs, AreFormRows}
 use Rattle.it_tell.proofs.DetailLemmas.{Appended, all_appended, appended_more, none_appended}
@@ -49,10 +49,10 @@ form_told q s f row w text pulled (inr e) = inr e
 
 -- the lines of the first i proofs are appended, whichever answer the rows are of
 abbrev pub ProofsAppended : BodyView → Bool → List Terms → List CertificateView → List ℕ → List ℕ → ℕ → Type 0
-ProofsAppended q with_steps rows ws old new i = (answer : AnswerView) → AreFormRows q answer rows → Appended proof_lines (AreProofTexts q with_steps) old new (zip (judged_forms q answer) ws) i
+ProofsAppended q with_steps rows ws old new i = (answer : AnswerView) → AreFormRows q answer rows → Appended proof_lines (AreProofTexts q with_steps) old new (zip (answer_forms q answer) ws) i
 
 pub no_proof_appended : (q : BodyView) (with_steps : Bool) (rows : List Terms) (ws : List CertificateView) (old : List ℕ) → ProofsAppended q with_steps rows ws old old 0
-no_proof_appended q with_steps rows ws old answer are = none_appended proof_lines (AreProofTexts q with_steps) old (zip (judged_forms q answer) ws)
+no_proof_appended q with_steps rows ws old answer are = none_appended proof_lines (AreProofTexts q with_steps) old (zip (answer_forms q answer) ws)
 
 pub proofs_more : (q : BodyView) (with_steps : Bool) (rows : List Terms) (cs : List Certificate) (row : Terms) (c : Certificate) (old now new : List ℕ) (i : ℕ) → ProofsAppended q with_steps rows (map certificate_view cs) old now i
     → length rows ≡ length cs → i < length cs → row ≡ get_or rows i row → c ≡ get_or cs i c → AppendsProof q with_steps (value row, certificate_view c) now new → ProofsAppended q with_steps rows (map certificate_view cs) old new (i + 1)
@@ -61,7 +61,7 @@ proofs_more q with_steps rows cs row c old now new i before as_many within row_r
     appended_more proof_lines (AreProofTexts q with_steps) old now new (zip forms ws) i (form, certificate_view c) told.texts (before answer are) in_zip at_zip (form_is_told, told.are.1) told.new_is
   where
     forms : List Form
-    forms = judged_forms q answer
+    forms = answer_forms q answer
 
     ws : List CertificateView
     ws = map certificate_view cs
@@ -94,14 +94,14 @@ proofs_more q with_steps rows cs row c old now new i before as_many within row_r
 pub all_proofs : (q : BodyView) (with_steps : Bool) (rows : List Terms) (ws : List CertificateView) (old new : List ℕ) (i : ℕ) → ProofsAppended q with_steps rows ws old new i → length ws ≤ i → AppendsProofs q with_steps rows ws old new
 unfolding AppendsProofs
 all_proofs q with_steps rows ws old new i u all answer are =
-    all_appended proof_lines (AreProofTexts q with_steps) old new (zip (judged_forms q answer) ws) i (u answer are) (omega (arith, length-zip (judged_forms q answer) ws, all))
+    all_appended proof_lines (AreProofTexts q with_steps) old new (zip (answer_forms q answer) ws) i (u answer are) (omega (arith, length-zip (answer_forms q answer) ws, all))
 
 -- ---- a relation and a containment
 
 -- there are as many rows as proofs
-rows_counted : (q : BodyView) (answer : AnswerView) (cs : List Certificate) (rows : List Terms) → length (judged_forms q answer) ≡ length (map certificate_view cs) → AreFormRows q answer rows → length rows ≡ length cs
+rows_counted : (q : BodyView) (answer : AnswerView) (cs : List Certificate) (rows : List Terms) → length (answer_forms q answer) ≡ length (map certificate_view cs) → AreFormRows q answer rows → length rows ≡ length cs
 unfolding AreFormRows
-rows_counted q answer cs rows counted are = zip-length (IsPulledRow are.0) (judged_forms q answer) rows are.1 ∙ counted ∙ length-map cs certificate_view
+rows_counted q answer cs rows counted are = zip-length (IsPulledRow are.0) (answer_forms q answer) rows are.1 ∙ counted ∙ length-map cs certificate_view
 
 pub relation_rows_counted : (q : BodyView) (cs : List Certificate) (rows : List Terms) → HasQuestionShape q (Yes (map certificate_view cs)) → AreFormRows q (Yes (map certificate_view cs)) rows → length rows ≡ length cs
 relation_rows_counted q cs rows fits are = rows_counted q (Yes (map certificate_view cs)) cs rows (yes_counted q (map certificate_view cs) fits) are

@@ -8,7 +8,7 @@ use Rattle.it_space.specs.Answers.{AnswerView, CertificateView}
 use Rattle.it_polymatroid.specs.Certificates.{Form}
 use Rattle.it_syntax.specs.NamesViews.{NamesView}
 use Rattle.it_question.specs.Questions.{BodyView}
-use Rattle.it_report.specs.Judging.{judged_forms}
+use Rattle.it_region.specs.AnswerForms.{answer_forms}
 use Rattle.it_tell.specs.Tellings.{AreDetails, AreProofTexts, Each, IsPointText, IsTelling, ProofTexts, Telling, head_line, indented_line, proof_lines, tells_invalid, telling_text}
 
 -- the text has the lines about line k, and `invalid` tells whether they say so
@@ -42,9 +42,9 @@ pub record AppendsProof (q : BodyView) (with_steps : Bool) (proof : Form × Cert
 
 -- these are rows of the forms that an answer speaks of, in order
 unfoldable pub AreFormRows : BodyView → AnswerView → List Terms → Type 0
-AreFormRows q answer rows = (s : Space) × ArePulledRows s (judged_forms q answer) rows
+AreFormRows q answer rows = (s : Space) × ArePulledRows s (answer_forms q answer) rows
 
 -- the lines of each proof of a row were appended, whichever answer the rows are of
 unfoldable pub AppendsProofs : BodyView → Bool → List Terms → List CertificateView → List ℕ → List ℕ → Type 0
 AppendsProofs q with_steps rows ws old new =
-    (answer : AnswerView) → AreFormRows q answer rows → AppendsEach proof_lines (AreProofTexts q with_steps) (zip (judged_forms q answer) ws) old new
+    (answer : AnswerView) → AreFormRows q answer rows → AppendsEach proof_lines (AreProofTexts q with_steps) (zip (answer_forms q answer) ws) old new

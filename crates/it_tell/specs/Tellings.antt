@@ -19,7 +19,8 @@ use Rattle.it_terms.specs.Tells.{TellsRow}
 use Rattle.it_terms.specs.Proofs.{TellsForm}
 use Rattle.it_terms.specs.Points.{TellsPoint}
 use Rattle.it_terms.specs.ProofSteps.{TellsSteps}
-use Rattle.it_report.specs.Judging.{IsVerdict, judged_forms}
+use Rattle.it_report.specs.Judging.{IsVerdict}
+use Rattle.it_region.specs.AnswerForms.{answer_forms}
 use Rattle.it_report.specs.LineVerdicts.{LineVerdict, is_invalid, numbered_line, verdict_line}
 use Rattle.it_cli.specs.Right.{question_origins}
 
@@ -75,11 +76,11 @@ AreProofTexts q with_steps proof t = IsProofText q proof t.proof × ((t.steps �
 
 -- the lines below the first one: of the proofs of what the answer says, of its rows, or of its point
 unfoldable pub AreDetails : BodyView → Bool → AnswerView → List ℕ → Type 0
-AreDetails q with_steps (Yes proofs) out = Each proof_lines (AreProofTexts q with_steps) (zip (judged_forms q (Yes proofs)) proofs) out
+AreDetails q with_steps (Yes proofs) out = Each proof_lines (AreProofTexts q with_steps) (zip (answer_forms q (Yes proofs)) proofs) out
 AreDetails q with_steps (No back values) out = (text : List ℕ) × (IsPointText (problem_names q) values text × (out ≡ indented_line text))
 AreDetails q with_steps (Undecided cause) out = out ≡ []
 AreDetails q with_steps (Region rows) out = Each indented_line (IsMarkedRowText (problem_names q)) rows out
-AreDetails q with_steps (Contained parts proofs) out = Each proof_lines (AreProofTexts q with_steps) (zip (judged_forms q (Contained parts proofs)) proofs) out
+AreDetails q with_steps (Contained parts proofs) out = Each proof_lines (AreProofTexts q with_steps) (zip (answer_forms q (Contained parts proofs)) proofs) out
 AreDetails q with_steps (Open tried) out = out ≡ []
 
 -- ---- the first line

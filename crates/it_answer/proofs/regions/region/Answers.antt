@@ -4,11 +4,12 @@ use Rattle.it_space.specs.Answers.{answer_view}
 use Rattle.it_space.specs.Problems.{problem_view}
 use Rattle.it_syntax.specs.Meaning.{Holds}
 use Rattle.it_question.specs.Questions.{question_body}
-use Rattle.it_demand.specs.LineDemands.{system_forms, AreAtLeastZero, AreRowsOf}
+use Rattle.it_demand.specs.LineDemands.{AreAtLeastZero}
 use Rattle.it_redundant.specs.ReducedElimination.{ReducedEnds, projected_view}
-use Rattle.it_answer.proofs.GivenLemmas.{space_of_names, givens_stated, met_where_true, few_constraints, constraints_of_sets, rates_of_question}
+use Rattle.it_canon.proofs.PosesLemmas.{one_problem}
+use Rattle.it_answer.proofs.GivenLemmas.{space_of_names, met_where_true, few_constraints, constraints_of_sets, rates_of_question}
 use Rattle.it_answer.proofs.AnswerLemmas.{left_of_rows}
-use Rattle.it_answer.proofs.RegionLemmas.{region_is_due, region_shows}
+use Rattle.it_answer.proofs.RegionLemmas.{region_is_due, region_shows, system_rows_are}
 use Rattle.it_answer.proofs.regions.region.Goals as goal
 
 pub project-requires-clause-rates : goal.project-requires-clause-rates
@@ -43,7 +44,7 @@ returns c =
     let rows_met = subst (λ (s : Space). (p : ℕ → ℤ) → p 0 ≡ pos 0 → AreAtLeastZero p rows ↔ All (Holds s.variables p) q.lines.rows) of_system c.in_ok-system.ensures.met in
     let shown = region_shows q rates givens rows same met rows_met end (answer_view c.in_ok-answer.answer) c.in_ok-end.ensures.region c.in_ok-answer.ensures in
     let due =
-    region_is_due q rates givens rows same met rows_met c.args.budgets end (answer_view c.in_ok-answer.answer) (givens_stated q rates givens c.requires.eliminates c.requires.givens)
-    (subst (λ (s : Space). AreRowsOf s (system_forms s.variables q.lines.rows) rows) of_system c.in_ok-system.ensures.rows)
+    region_is_due c.args.budgets q rates givens rows end (answer_view c.in_ok-answer.answer) (one_problem q givens c.requires.givens)
+    (system_rows_are q c.in_ok-system.system.space rows (of_system ∙ c.requires.givens.space) c.in_ok-system.ensures.rows)
     (subst (λ (b : Option ℕ). ReducedEnds givens b c.args.budgets.rows rows [] [] rates end) c.budget_of-budget.ensures c.in_ok-end.ensures.ends) c.in_ok-answer.ensures in
     λ plans. left_of_rows c.args.budgets plans q rates (answer_view c.in_ok-answer.answer) c.requires.eliminates shown due

@@ -1,9 +1,6 @@
 use Rattle.std.proofs.Common.{◌∙◌, map, ap, sym}
-use Rattle.it_space.specs.Spaces.{size_of}
 use Rattle.it_question.specs.Questions.{question_body, region_view}
-use Rattle.it_demand.specs.LineDemands.{space_of}
-use Rattle.it_question.specs.Tables.{problem_names}
-use Rattle.it_demand.specs.RowsOfForms.{terms_of_form}
+use Rattle.it_canon.specs.QuestionDemands.{terms_in}
 use Rattle.it_answer.proofs.TargetLemmas.{contained_rows, no_obligations}
 use Rattle.it_answer.proofs.targets.contained_rows.Goals as goal
 
@@ -14,4 +11,4 @@ returns-in-Contained c = contained_rows (question_body c.args.question.now) (reg
 pub returns-in_default : goal.returns-in_default
 returns-in_default c =
     let q = question_body c.args.question.now in
-    c.new.ensures.items ∙ sym (ap (map (terms_of_form (size_of (space_of (problem_names q))))) (no_obligations q (region_view c.args.first.now) (region_view c.args.second.now) c.args.tries.now c.requires.contains c.args.answer.now (λ parts proofs e. c.in_default.not-Contained parts proofs e)))
+    c.new.ensures.items ∙ sym (ap (map (terms_in q)) (no_obligations q (region_view c.args.first.now) (region_view c.args.second.now) c.args.tries.now c.requires.contains c.args.answer.now (λ parts proofs e. c.in_default.not-Contained parts proofs e)))

@@ -6,10 +6,11 @@ use Rattle.it_settings.specs.declared.types.Format.TheVariants.{Text, Proof}
 use Rattle.it_space.specs.Answers.{answer_view}
 use Rattle.it_question.specs.Questions.{question_view, question_body}
 use Rattle.it_question.specs.Tables.{problem_names}
-use Rattle.it_answer.specs.AnswerForms.{answer_forms}
+use Rattle.it_region.specs.AnswerForms.{answer_forms}
 use Rattle.it_print.specs.Lines.{answer_line, origins_of}
 use Rattle.it_print.specs.ProofLines.{generator_rows, proof_text}
-use Rattle.it_cli.specs.Right.{answer_lines, terms_in}
+use Rattle.it_canon.specs.QuestionDemands.{terms_in}
+use Rattle.it_cli.specs.Right.{answer_lines}
 use Rattle.it_cli.proofs.LineLemmas.{proof_by_places, text_by_places, printable_is_writable}
 use Rattle.it_cli.proofs.answering.lines.Goals as goal
 

@@ -1,6 +1,6 @@
 use Rattle.it_question.specs.Questions.{question_body}
 use Rattle.it_space.specs.Answers.{answer_view}
-use Rattle.it_answer.specs.AnswerForms.{answer_forms}
+use Rattle.it_region.specs.AnswerForms.{answer_forms}
 use Rattle.it_cli.proofs.LineLemmas.{some_names}
 use Rattle.it_cli.proofs.ProofLemmas.{constraints_over, targets_over}
 use Rattle.it_cli.proofs.answering.proof_lines.Goals as goal

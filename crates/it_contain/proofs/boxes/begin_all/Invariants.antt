@@ -1,5 +1,5 @@
 use Rattle.std.proofs.Common.{◌≡◌, map, take, vec_len}
-use Rattle.it_contain.specs.Search.{lists_of}
+use Rattle.it_contain.specs.SearchSteps.{lists_of}
 use Rattle.it_contain.proofs.boxes.begin_all.Given as goal
 
 abbrev pub invariant-loop-i : goal.invariant-loop-i
