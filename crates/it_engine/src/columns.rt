@@ -126,6 +126,20 @@ impl Column {
         plus_product(sum, self.factor(i), row.number(self.place(i)))
     }
 
+    /// The entry of a row in 32 bits at a column of four terms, as most columns are.
+    #[inline]
+    #[tactic(auto, using(crate::proofs::Pricing::priced_none, crate::proofs::Pricing::priced_all))]
+    fn price_narrow_four(&self, row: &NarrowRow) -> i64
+        requires suits { Suits self.now row.now.numbers }
+        requires four { length self.now ≡ 4 }
+        ensures { result ≡ value self.now (number_at row.now.numbers) }
+    {
+        let one = self.add_narrow_term(row, 0, 0);
+        let two = self.add_narrow_term(row, 1, one);
+        let three = self.add_narrow_term(row, 2, two);
+        self.add_narrow_term(row, 3, three)
+    }
+
     /// The entry of a row in 32 bits at this column, over the row's denominator.
     #[inline]
     #[tactic(auto, using(crate::proofs::Pricing::priced_none, crate::proofs::Pricing::priced_all))]
@@ -133,6 +147,9 @@ impl Column {
         requires suits { Suits self.now row.now.numbers }
         ensures { result ≡ value self.now (number_at row.now.numbers) }
     {
+        if self.size() == 4 {
+            return self.price_narrow_four(row);
+        }
         let mut sum: i64 = 0;
         for i in 0..self.size() {
             sum = self.add_narrow_term(row, i, sum);
@@ -151,6 +168,20 @@ impl Column {
         plus_product(sum, self.factor(i), row.number(self.place(i)))
     }
 
+    /// The entry of a row in 64 bits at a column of four terms, as most columns are.
+    #[inline]
+    #[tactic(auto, using(crate::proofs::Pricing::priced_none, crate::proofs::Pricing::priced_all))]
+    fn price_wide_four(&self, row: &WideRow) -> i64
+        requires suits { Suits self.now row.now.numbers }
+        requires four { length self.now ≡ 4 }
+        ensures { result ≡ value self.now (number_at row.now.numbers) }
+    {
+        let one = self.add_wide_term(row, 0, 0);
+        let two = self.add_wide_term(row, 1, one);
+        let three = self.add_wide_term(row, 2, two);
+        self.add_wide_term(row, 3, three)
+    }
+
     /// The entry of a row in 64 bits at this column, over the row's denominator.
     #[inline]
     #[tactic(auto, using(crate::proofs::Pricing::priced_none, crate::proofs::Pricing::priced_all))]
@@ -158,6 +189,9 @@ impl Column {
         requires suits { Suits self.now row.now.numbers }
         ensures { result ≡ value self.now (number_at row.now.numbers) }
     {
+        if self.size() == 4 {
+            return self.price_wide_four(row);
+        }
         let mut sum: i64 = 0;
         for i in 0..self.size() {
             sum = self.add_wide_term(row, i, sum);

@@ -19,7 +19,7 @@ use std::alloc::{AllocError, Global};
 use std::marker::Model;
 
 /// From so many steps on the rows are full enough that it pays to leave them behind.
-const MANY_STEPS: u32 = 3000;
+const MANY_STEPS: u32 = 1000;
 
 /// How a run ended.
 #[derive(Debug, Drop, Clone, Copy)]

@@ -4,8 +4,8 @@ use Rattle.it_engine.proofs.Readings.{WeightsSoFar, weights_all, weights_more, w
 use Rattle.it_engine.proofs.reading.weights.Goals as goal
 use Rattle.it_engine.proofs.reading.weights.Goals.{in-Some+then-not-is_zero+in_ok-push, in-Some+else-not-is_zero, in_default}
 
-pub weight_of-requires : goal.weight_of-requires
-weight_of-requires c = (c.requires.0, record { rows_are = c.requires.1.rows_are; usable = c.requires.1.usable; fitting = λ j l. absurd (omega arith); limit_is = c.requires.1.limit_is })
+pub weight_of-requires-clause-engine : goal.weight_of-requires-clause-engine
+weight_of-requires-clause-engine c = (c.requires.0, record { rows_are = c.requires.1.rows_are; usable = c.requires.1.usable; fitting = λ j l. absurd (omega arith); limit_is = c.requires.1.limit_is })
 
 pub loop-j-preserved : goal.loop-j-preserved
 loop-j-preserved c =
