@@ -141,7 +141,7 @@ impl Column {
     }
 
     /// The entry of a row in 32 bits at this column, over the row's denominator.
-    #[inline]
+    #[inline(always)]
     #[tactic(auto, using(crate::proofs::Pricing::priced_none, crate::proofs::Pricing::priced_all))]
     fn price_narrow(&self, row: &NarrowRow) -> i64
         requires suits { Suits self.now row.now.numbers }
@@ -183,7 +183,7 @@ impl Column {
     }
 
     /// The entry of a row in 64 bits at this column, over the row's denominator.
-    #[inline]
+    #[inline(always)]
     #[tactic(auto, using(crate::proofs::Pricing::priced_none, crate::proofs::Pricing::priced_all))]
     fn price_wide(&self, row: &WideRow) -> i64
         requires suits { Suits self.now row.now.numbers }
@@ -200,7 +200,7 @@ impl Column {
     }
 
     /// The entry of a row at this column, over the row's denominator.
-    #[inline]
+    #[inline(always)]
     pub fn price(&self, row: &WholeRow) -> i64
         requires suits { Suits self.now row.now.numbers }
         ensures { result ≡ value self.now (number_at row.now.numbers) }

@@ -159,7 +159,7 @@ impl WholeRow {
     /// where a number would be larger than the limit, or the other row is of another width, or no places are noted of a row in 64
     /// bits, and then nothing is known of the row. Next has the next places where the leaving row isn't 0, if they are noted, and
     /// room is room for a row.
-    #[inline]
+    #[inline(always)]
     pub fn update(
         &mut self,
         own: &WholeRow,
@@ -187,6 +187,7 @@ impl WholeRow {
     }
 
     /// The same, where the entry isn't 0. Apart, so that the test of the entry is made where it is called.
+    #[inline(never)]
     fn update_other(
         &mut self,
         own: &WholeRow,
