@@ -1,5 +1,5 @@
 -- What is read off the engine is what is read off the table that it shows.
-use Rattle.std.proofs.Common.{◌≡◌, ◌≢◌, ℕ, suc, ◌+◌, ◌-◌, ◌<◌, ◌≤◌, ◌++◌, ℤ, pos, List, [], ◌∷◌, length, slice_index_or, refl, sym, ap, ◌∙◌, arith}
+use Rattle.std.proofs.Common.{◌≡◌, ◌≢◌, ℕ, zero, suc, Some, subst, ◌+◌, ◌-◌, ◌<◌, ◌≤◌, ◌++◌, ℤ, pos, List, [], ◌∷◌, length, slice_index_or, refl, sym, ap, ◌∙◌, arith}
 use Rattle.std.proofs.lemmas.List.{append_assoc, append-nil}
 use Rattle.it_rational.specs.Rational.{Rational, quotient, integer, times, IsRatio}
 use Rattle.it_rational.proofs.Names.{quotient_names, same_value}
@@ -14,7 +14,7 @@ use Rattle.it_run.proofs.FillingLemmas.{AreWeightsSoFar, weights_skip_null, weig
 use Rattle.it_run.proofs.Reading.{weight_found, weight_none}
 use Rattle.it_engine.specs.Choosing.{right_side_of}
 use Rattle.it_engine.specs.Engine.{Represents}
-use Rattle.it_engine.specs.Ends.{IsWeightOf, IsPointOf}
+use Rattle.it_engine.specs.Ends.{IsNextBasic, IsWeightOf, IsPointOf}
 use Rattle.it_engine.specs.Whole.{whole_row_at, WholeRowView}
 
 pub quotient_named : (q : Rational) (n : ℤ) (d : ℕ) → 0 < d → IsRatio q n d → quotient n d ≡ q
@@ -43,6 +43,36 @@ pub weights_none : (columns : List Terms) (rows : List WholeRowView) (basis : Li
     → WeightsSoFar columns rows basis out j → WeightsSoFar columns rows basis out (j + 1)
 weights_none columns rows basis out j l n h = λ p t limit s. weights_skip_null (length basis) (length columns) t out j l
     (weight_none field_ℚ (length basis) (length columns) t j (λ i k e. n i k (sym (s.shows.basis_is i k) ∙ e))) (h p t limit s)
+
+-- columns that are basic in no row
+pub weights_skip : (columns : List Terms) (rows : List WholeRowView) (basis : List ℕ) (out : List (ℕ × Rational)) (j n : ℕ) → j + n ≤ length columns
+    → ((i : ℕ) → i < length basis → j ≤ slice_index_or basis i 0 → slice_index_or basis i 0 < j + n → ⊥) → WeightsSoFar columns rows basis out j → WeightsSoFar columns rows basis out (j + n)
+weights_skip columns rows basis out j zero l none h = subst (λ (k : ℕ). WeightsSoFar columns rows basis out k) same h
+  where
+    same : j ≡ j + 0
+    same = omega arith
+weights_skip columns rows basis out j (suc n) l none h = subst (λ (k : ℕ). WeightsSoFar columns rows basis out k) next
+    (weights_none columns rows basis out (j + n) (omega (arith, l)) (λ i k e. none i k (omega (arith, e)) (omega (arith, e)))
+    (weights_skip columns rows basis out j n (omega (arith, l)) (λ i k a b. none i k a (omega (arith, b))) h))
+  where
+    next : j + n + 1 ≡ j + suc n
+    next = omega arith
+
+pub weights_to : (columns : List Terms) (rows : List WholeRowView) (basis : List ℕ) (out : List (ℕ × Rational)) (j k : ℕ) → j ≤ k → k ≤ length columns
+    → ((i : ℕ) → i < length basis → j ≤ slice_index_or basis i 0 → slice_index_or basis i 0 < k → ⊥) → WeightsSoFar columns rows basis out j → WeightsSoFar columns rows basis out k
+weights_to columns rows basis out j k l m none h = subst (λ (x : ℕ). WeightsSoFar columns rows basis out x) there
+    (weights_skip columns rows basis out j (k - j) (omega (arith, l, m)) (λ i w a b. none i w a (omega (arith, b, l))) h)
+  where
+    there : j + (k - j) ≡ k
+    there = omega (arith, l)
+
+-- the next basic column
+pub weights_to_next : (columns : List Terms) (rows : List WholeRowView) (basis : List ℕ) (out : List (ℕ × Rational)) (j r : ℕ) → IsNextBasic basis j (length columns) (length basis) (Some r)
+    → WeightsSoFar columns rows basis out j → WeightsSoFar columns rows basis out (slice_index_or basis r 0)
+weights_to_next columns rows basis out j r n h = weights_to columns rows basis out j (slice_index_or basis r 0) n.1 (omega (arith, n.2)) none_before h
+  where
+    none_before : (i : ℕ) → i < length basis → j ≤ slice_index_or basis i 0 → slice_index_or basis i 0 < slice_index_or basis r 0 → ⊥
+    none_before i k a b = let least = n.3 i k a (omega (arith, b, n.2)) in absurd (omega (arith, b, least))
 
 -- the point's values so far
 abbrev pub PointSoFar : List ℕ → Terms → List WholeRowView → List ℕ → List Rational → ℕ → Type 0

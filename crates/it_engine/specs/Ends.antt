@@ -1,5 +1,5 @@
 -- No public clause cites this module: what is read off the engine at the end of a run.
-use Rattle.std.specs.Prelude.{◌≡◌, ℕ, ◌<◌, Bool, false, true, List, length, slice_index_or, Option}
+use Rattle.std.specs.Prelude.{◌≡◌, ℕ, ◌<◌, ◌≤◌, List, length, slice_index_or, Option, None, Some}
 use Rattle.it_rational.specs.Rational.{Rational, quotient}
 use Rattle.it_space.specs.Rows.{Terms}
 use Rattle.it_tableau.specs.Operations.{rationals}
@@ -20,9 +20,11 @@ pub record IsWeightOf (rows : List WholeRowView) (basis : List ℕ) (j : ℕ) (w
   pub basic : slice_index_or basis row 0 ≡ j
   pub value_is : w ≡ quotient (right_side_of (length basis) rows row) (whole_row_at rows row).bottom
 
--- each basic column is noted, if it is among the columns that notes are made of
-abbrev pub AreBasicNoted : List ℕ → List Bool → Type 0
-AreBasicNoted basis noted = (i : ℕ) → i < length basis → slice_index_or basis i 0 < length noted → slice_index_or noted (slice_index_or basis i 0) false ≡ true
+-- of the first k rows the one with the least basic column from one on up to another
+abbrev pub IsNextBasic : List ℕ → ℕ → ℕ → ℕ → Option ℕ → Type 0
+IsNextBasic basis from to k None = (i : ℕ) → i < k → from ≤ slice_index_or basis i 0 → slice_index_or basis i 0 < to → ⊥
+IsNextBasic basis from to k (Some r) = (r < length basis) × (from ≤ slice_index_or basis r 0) × (slice_index_or basis r 0 < to)
+    × ((i : ℕ) → i < k → from ≤ slice_index_or basis i 0 → slice_index_or basis i 0 < to → slice_index_or basis r 0 ≤ slice_index_or basis i 0)
 
 -- the weights of whichever table the engine shows
 abbrev pub AreWeightsOf : List Terms → List WholeRowView → List ℕ → List (ℕ × Rational) → Type 0

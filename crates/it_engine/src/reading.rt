@@ -1,10 +1,9 @@
 //! What is read off the engine at the end of a run.
-ghost use Rattle.std.specs.Prelude.{◌≡◌, ◌≢◌, ◌<◌, [], ℕ, false, true, cond, pos, length, slice_index_or, IfOk};
-ghost use Rattle.std.specs.Option.{IfNone, IfSome};
+ghost use Rattle.std.specs.Prelude.{◌≡◌, ◌+◌, ◌<◌, ◌≤◌, [], ℕ, cond, pos, length, IfOk};
 ghost use Rattle.it_rational.specs.Rational.{quotient, times, minus, integer};
 ghost use Rattle.it_engine.specs.Choosing.{right_side_of};
 ghost use Rattle.it_engine.specs.Engine.{IsSafe};
-ghost use Rattle.it_engine.specs.Ends.{AreBasicNoted, AreWeightsOf, IsPointOf, IsWeightOf};
+ghost use Rattle.it_engine.specs.Ends.{AreWeightsOf, IsNextBasic, IsPointOf};
 ghost use Rattle.it_space.specs.Sums.{number_at};
 ghost use Rattle.it_engine.specs.Whole.{whole_row_at};
 
@@ -34,46 +33,39 @@ fn fraction_at(rows: &[WholeRow], i: usize, k: usize) -> Fraction
     fraction(&rows[i], k)
 }
 
-/// Notes that a column is basic, if it is among those that notes are made of.
-fn note_basic(noted: &mut [bool], column: usize)
-    ensures length { length noted.new ≡ length noted.old }
-    ensures here { column < length noted.old → slice_index_or noted.new column false ≡ true }
-    ensures kept { (j : ℕ) → slice_index_or noted.old j false ≡ true → slice_index_or noted.new j false ≡ true }
+/// The better of the best row so far and row i, where the least basic column from one on up to another is looked for.
+fn nearer_basic(
+    basis: &[usize],
+    from: usize,
+    to: usize,
+    best: Option<usize>,
+    i: usize,
+) -> Option<usize>
+    requires row { i < length basis.now }
+    requires best { IsNextBasic basis.now from to i best }
+    ensures { IsNextBasic basis.now from to (i + 1) result }
 {
-    if column < noted.len() {
-        noted[column] = true;
+    if basis[i] < from || basis[i] >= to {
+        return best;
     }
-}
-
-/// Notes for each of the first columns whether it is basic, so that the row of one that isn't is not looked for.
-fn note_all_basic(basis: &[usize], noted: &mut [bool])
-    ensures length { length noted.new ≡ length noted.old }
-    ensures noted { AreBasicNoted basis.now noted.new }
-{
-    // by index, since the invariant speaks of the first i rows
-    for i in 0..basis.len() {
-        note_basic(noted, basis[i]);
-    }
-}
-
-/// The right side of the row whose basic column is j.
-fn weight_of(rows: &[WholeRow], basis: &[usize], noted: &[bool], j: usize) -> Option<Fraction>
-    requires engine { (limit : ℕ) × IsSafe [] limit rows.now basis.now }
-    requires noted { AreBasicNoted basis.now noted.now }
-    requires column { j < length noted.now }
-    ensures some { IfSome result (λ w. IsWeightOf rows.now basis.now j w) }
-    ensures none { IfNone result ((i : ℕ) → i < length basis.now → slice_index_or basis.now i 0 ≢ j) }
-{
-    if !noted[j] {
-        return None;
-    }
-    // by index, since it is the row's, and the invariant speaks of the first i
-    for i in 0..basis.len() {
-        if basis[i] == j {
-            return Some(fraction_at(rows, i, basis.len()));
+    if let Some(k) = best {
+        if basis[k] <= basis[i] {
+            return Some(k);
         }
     }
-    None
+    Some(i)
+}
+
+/// The row with the least basic column from one on up to another.
+fn next_basic(basis: &[usize], from: usize, to: usize) -> Option<usize>
+    ensures { IsNextBasic basis.now from to (length basis.now) result }
+{
+    let mut best: Option<usize> = None;
+    // by index, since the invariant speaks of the first i rows
+    for i in 0..basis.len() {
+        best = nearer_basic(basis, from, to, best, i);
+    }
+    best
 }
 
 /// The weights other than 0, by column.
@@ -86,15 +78,14 @@ pub fn weights(
     requires { (limit : ℕ) × IsSafe columns.now limit rows.now basis.now }
     ensures { IfOk result (λ out. AreWeightsOf columns.now rows.now basis.now out.items) }
 {
-    let mut noted = Vec::from_elem(alloc, false, columns.len())?;
-    note_all_basic(basis, noted.as_mut_slice());
     let mut out = Vec::new(alloc);
-    for j in 0..columns.len() {
-        if let Some(weight) = weight_of(rows, basis, noted.as_slice(), j) {
-            if !weight.is_zero() {
-                out.push((j, weight))?;
-            }
+    let mut from: usize = 0;
+    while let Some(row) = next_basic(basis, from, columns.len()) {
+        let weight = fraction_at(rows, row, basis.len());
+        if !weight.is_zero() {
+            out.push((basis[row], weight))?;
         }
+        from = basis[row] + 1;
     }
     Ok(out)
 }
