@@ -24,7 +24,7 @@ impl Divisor {
     {
         Divisor {
             value,
-            reciprocal: (1 << 32) / value + 1,
+            reciprocal: reciprocal_of(value),
         }
     }
 
@@ -82,5 +82,17 @@ impl Divisor {
             Some(_) => self,
             None => Divisor::new(common_divisor(size, self.value)),
         }
+    }
+}
+
+/// 2^32 over a divisor, rounded down, and 1 more; without a division for the most frequent divisor.
+#[inline]
+fn reciprocal_of(value: u64) -> u64
+    requires { 0 < value }
+{
+    if value == 1 {
+        (1 << 32) + 1
+    } else {
+        (1 << 32) / value + 1
     }
 }

@@ -113,6 +113,7 @@ impl NarrowRow {
     }
 
     /// The same row over the least denominator.
+    #[inline(never)]
     fn shorten(&mut self)
         requires some { 0 < self.old.bottom }
         ensures { IsShortened self.old self.new }
@@ -167,6 +168,7 @@ impl NarrowRow {
 
     /// The same, where numbers may pass the limit on the way and not over the least denominator. False where one is still above it:
     /// then nothing is known of the row.
+    #[inline(never)]
     fn combine_in_room(
         &mut self,
         own: &NarrowRow,
@@ -242,6 +244,7 @@ impl NarrowRow {
     /// The row, which has this entry at the column, after a step in which another row leaves, whose entry there is the pivot; false
     /// where a number would be larger than the limit, and then nothing is known of the row. Next has the next places where the
     /// leaving row isn't 0, if they are noted, and room is room for a row.
+    #[inline(never)]
     pub fn update(
         &mut self,
         own: &NarrowRow,

@@ -36,6 +36,7 @@ fn next_number(row: &[i64], by: &[i64], k: usize, a: i64, b: i64, limit: u64) ->
 }
 
 /// As combine, with a test at each number; false where one would be too large, and then nothing is known of them.
+#[inline(never)]
 fn combine_tested(row: &mut [i64], by: &[i64], a: i64, b: i64, limit: u64) -> bool
     requires even { length row.old ≡ length by.now }
     requires row { AreShort row.old }

@@ -186,8 +186,8 @@ impl WholeRow {
         self.update_other(own, next, noted, room, entry, pivot, limit)
     }
 
-    /// The same, where the entry isn't 0. Apart, so that the test of the entry is made where it is called.
-    #[inline(never)]
+    /// The same, where the entry isn't 0.
+    #[inline(always)]
     fn update_other(
         &mut self,
         own: &WholeRow,

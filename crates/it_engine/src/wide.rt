@@ -106,6 +106,7 @@ impl WideRow {
     }
 
     /// The same row over the least denominator.
+    #[inline(never)]
     fn shorten(&mut self)
         requires some { 0 < self.old.bottom }
         requires short { AreShort self.old.numbers }
@@ -163,6 +164,7 @@ impl WideRow {
     /// The row, which has this entry at the column, after a step in which another row leaves, whose entry there is the pivot; false
     /// where a number would be larger than the limit, and then nothing is known of the row. Next has the next places where the
     /// leaving row isn't 0.
+    #[inline(never)]
     pub fn update(
         &mut self,
         own: &WideRow,
