@@ -344,43 +344,10 @@ fn earlier_row(
     requires entries { i < length entries.now }
     requires suits { SuitsAll combined.now rows.now }
     requires place { length basis.now < length (whole_row_at rows.now i).numbers }
-    requires best { IsFirstToLeave rows.now basis.now moved.now entries.now combined.now i best }
-    ensures { IsFirstToLeave rows.now basis.now moved.now entries.now combined.now (i + 1) result }
-{
-    if let Some(k) = best {
-        if basis[k] <= basis[i] {
-            return Some(k);
-        }
-    }
-    if may_leave(rows, moved, entries, combined, basis.len(), i) {
-        Some(i)
-    } else {
-        best
-    }
-}
-
-/// The row with the least basic column of the best one so far and row i, if that moved and may leave.
-fn earlier_moved_row(
-    best: Option<usize>,
-    rows: &[WholeRow],
-    basis: &[usize],
-    moved: &[bool],
-    entries: &[i64],
-    combined: &Column,
-    i: usize,
-) -> Option<usize>
-    requires row { i < length basis.now }
-    requires rows { length basis.now < length rows.now }
-    requires moved { i < length moved.now }
-    requires entries { i < length entries.now }
-    requires suits { SuitsAll combined.now rows.now }
-    requires place { length basis.now < length (whole_row_at rows.now i).numbers }
     requires best { IsFirstToLeave rows.now basis.now moved.now entries.now combined.now 0 best }
-    ensures { IsFirstToLeave rows.now basis.now moved.now entries.now combined.now 0 result }
+    ensures one { IsFirstToLeave rows.now basis.now moved.now entries.now combined.now 0 result }
+    ensures next { IsFirstToLeave rows.now basis.now moved.now entries.now combined.now i best → IsFirstToLeave rows.now basis.now moved.now entries.now combined.now (i + 1) result }
 {
-    if !moved_at(moved, i) {
-        return best;
-    }
     if let Some(k) = best {
         if basis[k] <= basis[i] {
             return Some(k);
@@ -414,7 +381,7 @@ fn first_moved_to_leave(
     let mut best: Option<usize> = None;
     let mut q = next[0];
     while q < basis.len() {
-        best = earlier_moved_row(best, rows, basis, moved, entries, combined, q);
+        best = earlier_row(best, rows, basis, moved, entries, combined, q);
         q = next[q + 1];
     }
     best

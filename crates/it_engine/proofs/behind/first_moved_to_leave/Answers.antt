@@ -6,5 +6,5 @@ pub loop-q-preserved : goal.loop-q-preserved
 loop-q-preserved c =
     let n : IsNextMoved c.args.moved.now (length c.args.basis.now) (c.loop-q.q + 1) (slice_index_or c.args.next.now (c.loop-q.q + 1) 0) = c.requires.next.each (c.loop-q.q + 1) (omega (arith, c.loop-q-test.true)) in record {
       within = n.within;
-      first = c.earlier_moved_row-best.ensures;
+      first = c.earlier_row-best.ensures.one;
     }
