@@ -82,16 +82,39 @@ fn moved_entry(column: &Column, rows: &[WholeRow], moved: &[bool], i: usize) -> 
     }
 }
 
-/// Writes down the entry at the column of each row that moved, and 0 for each other.
-fn note_moved_entries(column: &Column, rows: &[WholeRow], moved: &[bool], entries: &mut [i64])
+/// Sets all entries to 0.
+fn clear_entries(entries: &mut [i64])
+    ensures length { length entries.new ≡ length entries.old }
+    ensures null { (i : ℕ) → number_at entries.new i ≡ pos 0 }
+{
+    for i in 0..entries.len() {
+        entries[i] = 0;
+    }
+}
+
+/// Writes down the entry at the column of each row that moved, the cost row at last, and 0 for each other.
+fn note_moved_entries(
+    column: &Column,
+    rows: &[WholeRow],
+    moved: &[bool],
+    next: &[usize],
+    height: usize,
+    entries: &mut [i64],
+)
     requires even { length entries.old ≡ length rows.now }
     requires moved { length moved.now ≡ length rows.now }
+    requires height { length rows.now ≡ height + 1 }
+    requires next { AreNextMoved moved.now height next.now }
     requires suits { SuitsAll column.now rows.now }
     ensures { AreMovedEntries column.now rows.now moved.now entries.new }
 {
-    for i in 0..rows.len() {
-        entries[i] = moved_entry(column, rows, moved, i);
+    clear_entries(entries);
+    let mut q = next[0];
+    while q < height {
+        entries[q] = moved_entry(column, rows, moved, q);
+        q = next[q + 1];
     }
+    entries[height] = moved_entry(column, rows, moved, height);
 }
 
 /// The least common multiple, where it is below 2^63.
@@ -687,7 +710,7 @@ fn still_row(
     ensures leaves { IfSome result (λ r. LeavesStill columns.now limit rows.now basis.now moved.now column r) }
     ensures noted { IfSome result (λ r. AreMovedEntries (slice_index_or columns.now column []) rows.now moved.now entries.new) }
 {
-    note_moved_entries(&columns[column], rows, moved, entries);
+    note_moved_entries(&columns[column], rows, moved, next, basis.len(), entries);
     let multiple = common_multiple(rows, moved, next, basis.len())?;
     let shares = bound_of_shares(rows, moved, next, basis.len(), multiple, norm)?;
     if !are_short(bound, bound, multiple, norm, shares) {
