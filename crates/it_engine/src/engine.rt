@@ -50,7 +50,6 @@ pub struct Engine {
     combined: Column,
 }
 
-// written out, so that letting an engine go is one call
 impl Drop for Engine {
     fn drop(self) {
         let Engine {

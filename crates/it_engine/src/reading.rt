@@ -1,5 +1,5 @@
 //! What is read off the engine at the end of a run.
-ghost use Rattle.std.specs.Prelude.{◌≡◌, ◌+◌, ◌<◌, ◌≤◌, [], ℕ, cond, pos, length, IfOk};
+ghost use Rattle.std.specs.Prelude.{◌≡◌, ◌+◌, ◌<◌, [], ℕ, cond, pos, length, IfOk};
 ghost use Rattle.it_rational.specs.Rational.{quotient, times, minus, integer};
 ghost use Rattle.it_engine.specs.Choosing.{right_side_of};
 ghost use Rattle.it_engine.specs.Engine.{IsSafe};

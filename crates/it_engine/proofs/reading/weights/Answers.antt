@@ -1,4 +1,4 @@
-use Rattle.std.proofs.Common.{◌≡◌, ◌+◌, ◌<◌, ◌∙◌, ℕ, List, length, slice_index_or, refl, ap, sym, subst, arith}
+use Rattle.std.proofs.Common.{◌+◌, ◌<◌, ◌∙◌, ℕ, List, length, slice_index_or, refl, ap, sym, subst, arith}
 use Rattle.it_rational.specs.Rational.{Rational}
 use Rattle.it_engine.specs.Ends.{IsWeightOf}
 use Rattle.it_engine.proofs.Readings.{WeightsSoFar, weights_all, weights_more, weights_null, weights_to, weights_to_next}
