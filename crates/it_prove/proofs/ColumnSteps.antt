@@ -1,5 +1,5 @@
 -- Columns and the weights of generators, step by step as the code forms them.
-use Rattle.std.proofs.Common.{◌≡◌, ◌⊎◌, inl, inr, ℕ, zero, suc, ◌+◌, ◌*◌, ◌<◌, ◌≤◌, ◌^◌, ℤ, neg_ℤ, List, [], ◌∷◌, ◌++◌, length, drop, take, refl, sym, ap, ap₂, subst, All, ◌∙◌, arith, append_assoc, append-nil, map}
+use Rattle.std.proofs.Common.{◌≡◌, ◌⊎◌, inl, inr, ℕ, zero, suc, ◌+◌, ◌<◌, ◌≤◌, ℤ, neg_ℤ, List, [], ◌∷◌, ◌++◌, length, drop, take, refl, sym, ap, ap₂, subst, All, ◌∙◌, arith, append_assoc, append-nil, map}
 use Rattle.std.specs.List.{flat_map}
 use Rattle.std.proofs.lemmas.Bool.{cases_lt}
 use Rattle.std.proofs.lemmas.List.{drop_more, drop_all, take_all, map-append, get_or_default}

@@ -1,11 +1,9 @@
 //! What is made once of a problem, for runs about many targets under it and under problems that go on after its constraints.
-ghost use Rattle.std.specs.Prelude.{◌≡◌, [], ◌++◌, All, IfErr, IfOk, OnOk};
+ghost use Rattle.std.specs.Prelude.{◌≡◌, [], ◌++◌, IfErr, IfOk, OnOk};
 ghost use Rattle.it_space.specs.Problems.{IsProblem, problem_view};
-ghost use Rattle.it_elemental.specs.Generators.{generators};
-ghost use Rattle.it_closure.specs.Collapse.{CollapseFits};
-ghost use Rattle.it_closure.specs.Reading.{dependences_of};
 ghost use Rattle.it_prove.specs.Closed.{closed_generators};
 ghost use Rattle.it_prove.specs.ClosedProblems.{IsClosedProblem, SameRows};
+ghost use Rattle.it_prove.specs.Steps.{GeneratorsFit};
 ghost use Rattle.it_columns.specs.Columns.{columns};
 
 use crate::columns::push_columns;
@@ -81,8 +79,8 @@ pub fn other_columns(
     requires problem { IsProblem (problem_view problem.now) }
     requires closed { IsClosedProblem (problem_view problem.now) closed.now }
     ensures same { IfOk result (λ v. SameRows (closed.now.columns.items ++ v.items) (columns (closed_generators (problem_view problem.now)))) }
-    ensures fits { OnOk result (All (λ g. CollapseFits problem.now.space.variables (dependences_of (problem_view problem.now)) g.row) (generators (problem_view problem.now))) }
-    ensures wide { IfErr result (λ f. f ≡ RowFault.Wide → ¬ (All (λ g. CollapseFits problem.now.space.variables (dependences_of (problem_view problem.now)) g.row) (generators (problem_view problem.now)))) }
+    ensures fits { OnOk result (GeneratorsFit (problem_view problem.now)) }
+    ensures wide { IfErr result (λ f. f ≡ RowFault.Wide → ¬ (GeneratorsFit (problem_view problem.now))) }
 {
     let mut columns = Vec::new(alloc);
     for index in closed.count..generator_count(problem) {

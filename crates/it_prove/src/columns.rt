@@ -1,12 +1,9 @@
 //! The columns of the run over closed sets.
-ghost use Rattle.std.specs.Prelude.{◌≡◌, ◌<◌, ◌++◌, ℕ, List, length, IfErr, IfOk, OnOk};
+ghost use Rattle.std.specs.Prelude.{◌≡◌, ◌<◌, ℕ, length, IfErr, IfOk, OnOk};
 ghost use Rattle.it_space.specs.Problems.{IsProblem, problem_view};
-ghost use Rattle.it_space.specs.Rows.{Terms, coefficient};
-ghost use Rattle.it_closure.specs.Collapse.{CollapseFits};
-ghost use Rattle.it_elemental.specs.Generators.{generators, generator_at};
-ghost use Rattle.it_prove.specs.Closed.{collapsed_row};
-ghost use Rattle.it_prove.specs.ClosedProblems.{SameRows};
-ghost use Rattle.it_columns.specs.Columns.{columns_by};
+ghost use Rattle.it_space.specs.Rows.{coefficient};
+ghost use Rattle.it_elemental.specs.Generators.{generators};
+ghost use Rattle.it_prove.specs.Steps.{GeneratorFits, GoOnBy, closed_columns, closed_row};
 
 use it_closure::Dependences;
 use it_columns::{generator_row, push_row};
@@ -24,9 +21,9 @@ fn collapsed_row(
     requires problem { IsProblem (problem_view problem.now) }
     requires space { dependences.now.space ≡ problem.now.space }
     requires listed { index < length (generators (problem_view problem.now)) }
-    ensures same { IfOk result (λ r. (c : ℕ) → coefficient r c ≡ coefficient (collapsed_row problem.now.space.variables dependences.now.list (generator_at (generators (problem_view problem.now)) index).row) c) }
-    ensures fits { OnOk result (CollapseFits problem.now.space.variables dependences.now.list (generator_at (generators (problem_view problem.now)) index).row) }
-    ensures wide { IfErr result (λ f. f ≡ RowFault.Wide → ¬ (CollapseFits problem.now.space.variables dependences.now.list (generator_at (generators (problem_view problem.now)) index).row)) }
+    ensures same { IfOk result (λ r. (c : ℕ) → coefficient r c ≡ coefficient (closed_row (problem_view problem.now) dependences.now.list index) c) }
+    ensures fits { OnOk result (GeneratorFits (problem_view problem.now) dependences.now.list index) }
+    ensures wide { IfErr result (λ f. f ≡ RowFault.Wide → ¬ (GeneratorFits (problem_view problem.now) dependences.now.list index)) }
 {
     let row = generator_row(alloc, problem, index)?;
     // named before it is answered, so that the contract of the call stands at the answer
@@ -45,9 +42,9 @@ pub fn push_columns(
     requires problem { IsProblem (problem_view problem.now) }
     requires space { dependences.now.space ≡ problem.now.space }
     requires listed { index < length (generators (problem_view problem.now)) }
-    ensures added { OnOk result ((front xs : List Terms) → SameRows (front ++ columns.old.items) xs → SameRows (front ++ columns.new.items) (xs ++ columns_by (generator_at (generators (problem_view problem.now)) index).kind (collapsed_row problem.now.space.variables dependences.now.list (generator_at (generators (problem_view problem.now)) index).row))) }
-    ensures fits { OnOk result (CollapseFits problem.now.space.variables dependences.now.list (generator_at (generators (problem_view problem.now)) index).row) }
-    ensures wide { IfErr result (λ f. f ≡ RowFault.Wide → ¬ (CollapseFits problem.now.space.variables dependences.now.list (generator_at (generators (problem_view problem.now)) index).row)) }
+    ensures added { OnOk result (GoOnBy (closed_columns (problem_view problem.now) dependences.now.list index) columns.old.items columns.new.items) }
+    ensures fits { OnOk result (GeneratorFits (problem_view problem.now) dependences.now.list index) }
+    ensures wide { IfErr result (λ f. f ≡ RowFault.Wide → ¬ (GeneratorFits (problem_view problem.now) dependences.now.list index)) }
 {
     let row = collapsed_row(alloc, problem, dependences, index)?;
     push_row(columns, alloc, kind_at(problem, index), row)?;

@@ -1,14 +1,13 @@
 //! Points over all coordinates from points over closed sets.
 ghost use Rattle.std.specs.Prelude.{◌≡◌, ◌<◌, ◌++◌, ◌∷◌, [], ℕ, pos, length, slice_index_or, IfErr, IfOk, OnOk, map};
 ghost use Rattle.it_space.specs.Problems.{IsProblem, problem_view};
-ghost use Rattle.it_space.specs.Rows.{IsCanonical, coefficient, single_term};
+ghost use Rattle.it_space.specs.Rows.{IsCanonical, single_term};
 ghost use Rattle.it_space.specs.Spaces.{size_of};
-ghost use Rattle.it_closure.specs.Collapse.{place, spread_out};
 ghost use Rattle.it_closure.specs.Coordinates.{RiseTo};
 ghost use Rattle.it_closure.specs.Reading.{dependences_of};
 ghost use Rattle.it_prove.specs.Closed.{closed_places, spread_point};
 ghost use Rattle.it_polymatroid.specs.Elementals.{span};
-ghost use Rattle.it_prove.specs.Steps.{terms_of_places};
+ghost use Rattle.it_prove.specs.Steps.{spread_value, terms_of_places};
 ghost use Rattle.it_columns.specs.Scaling.{NumbersFit, scaled_point};
 
 use it_closure::Dependences;
@@ -55,7 +54,7 @@ fn put_value(
     row: &Row,
     coordinate: u32,
 ) -> Result<(), AllocError>
-    ensures { OnOk result (values.new.items ≡ values.old.items ++ coefficient row.now (place dependences.now.space.variables dependences.now.list coordinate) ∷ []) }
+    ensures { OnOk result (values.new.items ≡ values.old.items ++ spread_value dependences.now row.now coordinate ∷ []) }
 {
     values.push(row.coefficient(dependences.place(coordinate)))?;
     Ok(())
@@ -67,7 +66,7 @@ fn spread_values(
     dependences: &Dependences,
     row: &Row,
 ) -> Result<Vec<i128>, AllocError>
-    ensures { IfOk result (λ v. v.items ≡ map (spread_out dependences.now.space.variables dependences.now.list (coefficient row.now)) (span 1 (size_of dependences.now.space))) }
+    ensures { IfOk result (λ v. v.items ≡ map (spread_value dependences.now row.now) (span 1 (size_of dependences.now.space))) }
 {
     let size = dependences.space().size();
     let mut values = Vec::with_capacity(alloc, size as usize)?;

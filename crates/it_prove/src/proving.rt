@@ -1,6 +1,6 @@
 //! The answer about one target: collapse, run, lift or spread out, check.
 //! A last call is named before it is answered, so that its contract stands at the answer.
-ghost use Rattle.std.specs.Prelude.{◌≡◌, ◌≢◌, ◌++◌, ℕ, length, IfErr, IfOk, OnOk};
+ghost use Rattle.std.specs.Prelude.{◌≡◌, ◌≢◌, ◌++◌, ℕ, IfErr, IfOk, OnOk};
 ghost use Rattle.std.specs.Option.{IfNone};
 ghost use Rattle.it_space.specs.Answers.{certificate_view};
 ghost use Rattle.it_space.specs.declared.answers.Cause.TheVariants as causes;
@@ -8,13 +8,11 @@ ghost use Rattle.it_space.specs.Problems.{IsProblem, ProblemView, problem_view};
 ghost use Rattle.it_space.specs.Rows.{IsUpTo, coefficient};
 ghost use Rattle.it_space.specs.Spaces.{size_of};
 ghost use Rattle.it_closure.specs.Reading.{dependences_of};
-ghost use Rattle.it_tableau.specs.Operations.{rationals};
-ghost use Rattle.it_tableau.specs.Problems.{feasibility_problem};
-ghost use Rattle.it_run.specs.Readings.{Separates, SumsUp};
 ghost use Rattle.it_run.specs.Runs.RunEndView.{Point, Weights};
 ghost use Rattle.it_check.specs.Meaning.{CertifiesRow};
 ghost use Rattle.it_prove.specs.Closed.{closed_generators, closed_places, closed_target, CollapsesFit};
 ghost use Rattle.it_prove.specs.ClosedProblems.{IsClosedProblem, SameRows};
+ghost use Rattle.it_prove.specs.Steps.{ClosedSeparates, ClosedSumsUp};
 ghost use Rattle.it_columns.specs.Columns.{columns};
 ghost use Rattle.it_prove.specs.ProofViews.{EndsWith, Follows, IsLifted, IsRightProof, LiftedFit, Undecided, proof_view};
 
@@ -43,7 +41,7 @@ fn lifted_certificate(
     requires space { dependences.now.space ≡ problem.now.space }
     requires list { dependences.now.list ≡ dependences_of (problem_view problem.now) }
     requires target { IsUpTo (size_of problem.now.space) target.now }
-    requires sum { SumsUp rationals (length (closed_places (problem_view problem.now))) (length (columns (closed_generators (problem_view problem.now)))) (feasibility_problem (closed_places (problem_view problem.now)) (columns (closed_generators (problem_view problem.now))) (closed_target (problem_view problem.now) target.now)) weights.now }
+    requires sum { ClosedSumsUp (problem_view problem.now) target.now weights.now }
     ensures lifted { IfOk result (λ c. IsLifted (problem_view problem.now) target.now weights.now (certificate_view c)) }
     ensures certifies { IfOk result (λ c. CertifiesRow (problem_view problem.now) target.now (certificate_view c)) }
     ensures fits { OnOk result (LiftedFit (problem_view problem.now) target.now weights.now) }
@@ -66,7 +64,7 @@ fn by_weights(
     requires space { dependences.now.space ≡ problem.now.space }
     requires list { dependences.now.list ≡ dependences_of (problem_view problem.now) }
     requires target { IsUpTo (size_of problem.now.space) target.now }
-    requires sum { SumsUp rationals (length (closed_places (problem_view problem.now))) (length (columns (closed_generators (problem_view problem.now)))) (feasibility_problem (closed_places (problem_view problem.now)) (columns (closed_generators (problem_view problem.now))) (closed_target (problem_view problem.now) target.now)) weights.now }
+    requires sum { ClosedSumsUp (problem_view problem.now) target.now weights.now }
     ensures { IfOk result (λ proof. Follows (problem_view problem.now) target.now (Weights weights.now) (proof_view proof)) }
 {
     match lifted_certificate(alloc, problem, dependences, target, weights) {
@@ -93,7 +91,7 @@ fn by_point(
     requires list { dependences.now.list ≡ dependences_of (problem_view problem.now) }
     requires target { IsUpTo (size_of problem.now.space) target.now }
     requires coordinates { coordinates.now ≡ closed_places (problem_view problem.now) }
-    requires apart { Separates rationals (length (closed_places (problem_view problem.now))) (length (columns (closed_generators (problem_view problem.now)))) (feasibility_problem (closed_places (problem_view problem.now)) (columns (closed_generators (problem_view problem.now))) (closed_target (problem_view problem.now) target.now)) point.now }
+    requires apart { ClosedSeparates (problem_view problem.now) target.now point.now }
     ensures { IfOk result (λ proof. Follows (problem_view problem.now) target.now (Point point.now) (proof_view proof)) }
 {
     match whole_point(alloc, problem, dependences, coordinates, point) {
