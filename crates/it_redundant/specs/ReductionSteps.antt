@@ -1,12 +1,12 @@
 -- The visit of one row. No public clause cites this module.
-use Rattle.std.specs.Prelude.{◌≡◌, ℕ, ◌+◌, List, [], ◌∷◌, ◌++◌, All, Option}
+use Rattle.std.specs.Prelude.{◌≡◌, ℕ, ◌+◌, List, [], ◌∷◌, ◌++◌, All, Option, length}
 use Rattle.it_space.specs.declared.problems.Constraint.{Constraint}
 use Rattle.it_space.specs.declared.problems.Origin.TheVariants.{Rate}
 use Rattle.it_space.specs.Problems.{ProblemView}
 use Rattle.it_space.specs.Rows.{Terms, IsUpTo}
 use Rattle.it_prove.specs.ProofViews.{ProofView, EndsWith}
 use Rattle.it_redundant.specs.declared.types.Reduced.{Reduced}
-use Rattle.it_redundant.specs.Reduction.{with_rows, kept_by, dropped_by, kept_rows, kept_view, dropped_view}
+use Rattle.it_redundant.specs.Reduction.{row_constraints, with_rows, kept_by, dropped_by, kept_rows, kept_view, dropped_view}
 
 -- the coordinates of each row are from 1 to a number
 abbrev pub AreRowsUpTo : ℕ → List Terms → Type 0
@@ -23,3 +23,13 @@ pub record IsVisited (givens : ProblemView) (budget : Option ℕ) (row : Terms) 
 abbrev pub numbered : ℕ → List Constraint → List Constraint
 numbered line [] = []
 numbered line (c ∷ cs) = record { row = c.row; kind = c.kind; origin = Rate line } ∷ numbered (line + 1) cs
+
+-- the row at a place goes, which was this line; those after it come one line nearer
+abbrev pub IsRemoved : ℕ → ℕ → List Constraint → List Constraint → Type 0
+IsRemoved place line old new = (before : List Constraint) (row : Terms) (rows : List Terms) → length before ≡ place
+    → old ≡ before ++ row_constraints line (row ∷ rows) → new ≡ before ++ row_constraints line rows
+
+-- a row comes to a place, as this line; those from there on go one line further
+abbrev pub IsInserted : ℕ → ℕ → Terms → List Constraint → List Constraint → Type 0
+IsInserted place line row old new = (before : List Constraint) (rows : List Terms) → length before ≡ place
+    → old ≡ before ++ row_constraints line rows → new ≡ before ++ row_constraints line (row ∷ rows)

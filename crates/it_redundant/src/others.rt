@@ -1,10 +1,8 @@
 //! The problem under which a row is judged: the givens, and all other rows that still stand.
-ghost use Rattle.std.specs.Prelude.{◌≡◌, [], ◌∷◌, ◌++◌, ◌+◌, ◌<◌, ◌≤◌, List, ℕ, drop, length, take, OnOk, IfOk};
+ghost use Rattle.std.specs.Prelude.{◌≡◌, [], ◌∷◌, ◌++◌, ◌+◌, ◌<◌, ◌≤◌, drop, length, take, OnOk, IfOk};
 ghost use Rattle.it_space.specs.Problems.{problem_view};
-ghost use Rattle.it_space.specs.Rows.{Terms};
-ghost use Rattle.it_space.specs.declared.problems.Constraint.{Constraint};
 ghost use Rattle.it_redundant.specs.Reduction.{row_constraints, with_rows};
-ghost use Rattle.it_redundant.specs.ReductionSteps.{numbered};
+ghost use Rattle.it_redundant.specs.ReductionSteps.{IsInserted, IsRemoved, numbered};
 
 use it_space::{Constraint, Kind, Origin, Problem, Row};
 use std::alloc::{AllocError, Global};
@@ -88,7 +86,7 @@ fn number_from(constraints: &mut Vec<Constraint>, place: usize, line: usize)
 pub fn remove_row(constraints: &mut Vec<Constraint>, place: usize, line: usize)
     requires place { place < length constraints.old.items }
     requires few { line + length constraints.old.items ≤ 65536 + place }
-    ensures { (before : List Constraint) (row : Terms) (rows : List Terms) → length before ≡ place → constraints.old.items ≡ before ++ row_constraints line (row ∷ rows) → constraints.new.items ≡ before ++ row_constraints line rows }
+    ensures { IsRemoved place line constraints.old.items constraints.new.items }
 {
     constraints.remove(place);
     number_from(constraints, place, line);
@@ -104,7 +102,7 @@ pub fn insert_row(
 ) -> Result<(), AllocError>
     requires place { place ≤ length constraints.old.items }
     requires few { line + length constraints.old.items ≤ 65535 + place }
-    ensures { OnOk result ((before : List Constraint) (rows : List Terms) → length before ≡ place → constraints.old.items ≡ before ++ row_constraints line rows → constraints.new.items ≡ before ++ row_constraints line (row.now ∷ rows)) }
+    ensures { OnOk result (IsInserted place line row.now constraints.old.items constraints.new.items) }
 {
     let constraint = row_constraint(alloc, line, row)?;
     constraints.insert(place, constraint)?;
