@@ -15,7 +15,6 @@ use Rattle.it_polymatroid.specs.Certificates.{IsCertificate}
 use Rattle.it_polymatroid.specs.Elementals.{span}
 use Rattle.it_polymatroid.specs.Polymatroid.{IsPolymatroid}
 use Rattle.it_tableau.specs.Problems.{feasibility_problem}
-use Rattle.it_run.specs.Runs.{RunEndView}
 use Rattle.it_run.specs.Runs.RunEndView.{Weights, Point, Pivots, Width}
 use Rattle.it_run.specs.Solving.{StepFits}
 use Rattle.it_run.proofs.BudgetLemmas.{right_by}
@@ -33,6 +32,7 @@ use Rattle.it_best.specs.Phases.{third_phase, third_target, right_equation}
 use Rattle.it_best.specs.BestViews.{BestView, Undecided, Never, Least, Unbounded}
 use Rattle.it_best.specs.Ends.{PhaseEnds, EndsWith, FirstFollows, SecondFollows, ThirdFollows, OrScale, LeastFits, UnboundedFits, NeverFits, least_view, unbounded_view, first, third}
 use Rattle.it_best.specs.Factors.{IsRightBest, ground_of}
+use Rattle.it_best.specs.PhaseSteps.{End}
 use Rattle.it_best.specs.Theorems.{BestIsRight, OneBest, BestNeverOutOfSteps}
 use Rattle.it_best.proofs.NumberLemmas.{numbers_sum_up, numbers_signed, length-numbers_from}
 use Rattle.it_best.proofs.FactorLemmas.{multiple_sum}
@@ -42,9 +42,6 @@ use Rattle.it_best.proofs.AnswerLemmas.{third_right, never_right}
 use Rattle.it_best.proofs.RowLemmas.{negated_up, third_up, third_target_up}
 use Rattle.it_best.proofs.ThirdPoint.{no_third_point}
 use Rattle.it_best.proofs.WholePoints.{unknowns_met, target_below}
-
-abbrev End : Type 0
-End = RunEndView (List (ℕ × Rational)) (List Rational)
 
 -- ---- the ends of a phase are right
 

@@ -1,15 +1,33 @@
 -- What the contracts between the phases speak of; no public clause cites it.
-use Rattle.std.specs.Prelude.{ℕ, List, length}
-use Rattle.it_rational.specs.Rational.{Rational}
-use Rattle.it_space.specs.Rows.{Terms}
+use Rattle.std.specs.Prelude.{◌≡◌, ℕ, ◌+◌, ◌≤◌, ℤ, pos, neg_ℤ, ◌-ℤ◌, ◌*ℤ◌, List, length, map, Option}
+use Rattle.it_rational.specs.Rational.{Rational, plus, minus}
+use Rattle.it_space.specs.declared.problems.Kind.{Kind}
+use Rattle.it_space.specs.Problems.{ProblemView}
+use Rattle.it_space.specs.Rows.{Terms, coefficient, map_of, negated_terms, value}
+use Rattle.it_space.specs.Spaces.{size_of}
+use Rattle.it_polymatroid.specs.Certificates.{IsCertificate}
 use Rattle.it_polymatroid.specs.Elementals.{span}
-use Rattle.it_elemental.specs.Generators.{Generator}
+use Rattle.it_elemental.specs.Generators.{Generator, generators, generators_of}
 use Rattle.it_tableau.specs.Operations.{rationals}
 use Rattle.it_tableau.specs.Problems.{feasibility_problem}
 use Rattle.it_run.specs.Readings.{Separates, SumsUp}
+use Rattle.it_run.specs.Runs.{RunEndView}
 use Rattle.it_run.specs.declared.answering.Solved.{Solved}
 use Rattle.it_simplex.specs.Answers.{IsRightSolved}
-use Rattle.it_columns.specs.Columns.{columns}
+use Rattle.it_check.specs.Meaning.{CertificateFits}
+use Rattle.it_columns.specs.Columns.{columns, number_by}
+use Rattle.it_columns.specs.Scaling.{scaled_point}
+use Rattle.it_best.specs.BestViews.{BestView, Never}
+use Rattle.it_best.specs.Ends.{DifferenceOfProductsFits, FirstFollows, NeverFits, OrScale, PhaseEnds, ThirdFollows, UnboundedFits, first, third, unbounded_view}
+use Rattle.it_best.specs.Factors.{IsFactor, ground_of}
+use Rattle.it_best.specs.Numbers.{WeightsFit, column_weight, weights_certificate}
+use Rattle.it_best.specs.Phases.{coordinate_unknown, right_equation, slacks, third_target}
+
+-- ---- the phases
+
+-- how a run ends: by weights of columns, by a point, or by neither
+abbrev pub End : Type 0
+End = RunEndView (List (ℕ × Rational)) (List Rational)
 
 -- weights of a phase sum to its target
 abbrev pub PhaseSums : ℕ → List Generator → Terms → List (ℕ × Rational) → Type 0
@@ -22,3 +40,105 @@ PhaseSeparates m us target qs = Separates rationals (length (span 1 m)) (length 
 -- what the run of a phase ended with is right
 abbrev pub PhaseIsRight : ℕ → List Generator → Terms → Solved → Type 0
 PhaseIsRight m us target solved = IsRightSolved (span 1 m) (columns us) target solved
+
+-- ---- the third phase, about unknowns that are to make its target
+
+-- its last equation
+abbrev pub last_equation : ProblemView → ℕ
+last_equation q = right_equation (size_of q.space) (generators q)
+
+-- its target
+abbrev pub last_target : ProblemView → Terms → Terms
+last_target q right = third_target (size_of q.space) (generators q) right
+
+module _ (q : ProblemView) (right : Terms) (us : List Generator) where
+  -- its run ends so
+  abbrev pub ThirdEnds : Option ℕ → End → Type 0
+  ThirdEnds budget e = PhaseEnds (last_equation q) us (last_target q right) budget e
+
+  -- what it ended with is right
+  abbrev pub ThirdIsRight : Solved → Type 0
+  ThirdIsRight solved = PhaseIsRight (last_equation q) us (last_target q right) solved
+
+  -- weights sum to the target
+  abbrev pub ThirdSums : List (ℕ × Rational) → Type 0
+  ThirdSums ws = PhaseSums (last_equation q) us (last_target q right) ws
+
+  -- no point separates the target from the columns
+  abbrev pub HasNoThirdPoint : Type 0
+  HasNoThirdPoint = (qs : List Rational) → PhaseSeparates (last_equation q) us (last_target q right) qs → ⊥
+
+-- ---- the answers that are left to be found
+
+module _ (q : ProblemView) (left right : Terms) where
+  -- the answer by all phases
+  abbrev pub FollowsPhases : Option ℕ → BestView → Type 0
+  FollowsPhases budget o = (e : End) × PhaseEnds (size_of q.space) (first q left right) right budget e × FirstFollows q left right budget e o
+
+  -- by the third one
+  abbrev pub FollowsThird : Option ℕ → BestView → Type 0
+  FollowsThird budget o = (e : End) × ThirdEnds q right (third q left right) budget e × ThirdFollows q left right e o
+
+  -- by a point of the first one
+  abbrev pub FollowsPoint : List Rational → BestView → Type 0
+  FollowsPoint qs o = OrScale q left right (NeverFits q left right qs) (Never (map neg_ℤ (scaled_point qs))) o
+
+  -- by weights of the first one and of the second
+  abbrev pub FollowsWeights : List (ℕ × Rational) → List (ℕ × Rational) → BestView → Type 0
+  FollowsWeights ws below o = OrScale q left right (UnboundedFits q left right ws below) (unbounded_view q left right ws below) o
+
+-- ---- the unknowns
+
+-- the number of an unknown of this kind whose first column is column j
+abbrev pub number_of : List (ℕ × Rational) → Kind → ℕ → Rational
+number_of ws kind j = number_by (λ a b. plus a (minus b)) kind (column_weight ws) j
+
+-- the kind of the value at a coordinate, over n variables
+abbrev pub IsCoordinateKind : ℕ → ℕ → Kind → Type 0
+IsCoordinateKind n c kind = (m size : ℕ) (gs : List Generator) (left right : Terms) → m ≡ n → kind ≡ (coordinate_unknown m size gs left right c).kind
+
+-- the values at all coordinates
+abbrev pub all_values : ProblemView → Terms → Terms → List Generator
+all_values q left right = map (coordinate_unknown q.space.variables (size_of q.space) (generators q) left right) (span 1 (size_of q.space))
+
+-- what each inequality has above 0 at the point
+abbrev pub all_slacks : ProblemView → List Generator
+all_slacks q = slacks (size_of q.space + 1) (generators q)
+
+-- ---- the certificates and the points
+
+-- the coefficient at c of num times the left side less den times the right one
+abbrev pub factor_coefficient : Terms → Terms → ℤ → ℤ → ℕ → ℤ
+factor_coefficient left right num den c = num *ℤ coefficient left c -ℤ den *ℤ coefficient right c
+
+-- it and its two products are within the limit
+abbrev pub CoefficientFits : Terms → Terms → ℤ → ℤ → ℕ → Type 0
+CoefficientFits left right num den c = DifferenceOfProductsFits num (coefficient left c) den (coefficient right c)
+
+-- that of a factor, a fraction
+abbrev pub coefficient_at : Terms → Terms → Rational → ℕ → ℤ
+coefficient_at left right x c = factor_coefficient left right x.num (pos x.den) c
+
+-- it and its two products are within the limit
+abbrev pub FitsAt : Terms → Terms → Rational → ℕ → Type 0
+FitsAt left right x c = CoefficientFits left right x.num (pos x.den) c
+
+-- those at all coordinates from 1 on are
+abbrev pub RowFits : ℕ → Terms → Terms → Rational → Type 0
+RowFits size left right x = (c : ℕ) → 1 ≤ c → c ≤ size → FitsAt left right x c
+
+-- weights of the generators certify a factor
+abbrev pub CertifyFactor : ProblemView → Terms → Terms → Rational → List Rational → Type 0
+CertifyFactor q left right x ws = IsFactor (ground_of q) (value left) (value right) x.num (pos x.den) (weights_certificate (pos x.den) ws)
+
+-- they certify that the left side is at most 0
+abbrev pub CertifyBelow : ProblemView → Terms → List Rational → Type 0
+CertifyBelow q left ws = IsCertificate (size_of q.space + 1) (generators_of q) (λ p. neg_ℤ (value left p)) (weights_certificate (pos 1) ws)
+
+-- the numbers of that certificate and of its check are within the limit
+abbrev pub BelowFits : ProblemView → Terms → List Rational → Type 0
+BelowFits q left ws = WeightsFit (pos 1) ws × CertificateFits q (negated_terms left) (weights_certificate (pos 1) ws)
+
+-- the values of both sides at a point
+abbrev pub side_values : Terms → Terms → List ℤ → ℤ × ℤ
+side_values left right values = (value left (map_of values), value right (map_of values))

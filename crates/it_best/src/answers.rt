@@ -1,14 +1,14 @@
 //! The answers by the numbers of the phases, where these fit.
-ghost use Rattle.std.specs.Prelude.{◌≡◌, IfErr, IfOk, OnOk, map, neg_ℤ};
+ghost use Rattle.std.specs.Prelude.{◌≡◌, IfErr, IfOk, OnOk};
 ghost use Rattle.it_space.specs.Problems.{IsProblem, problem_view};
 ghost use Rattle.it_space.specs.Rows.{IsUpTo, negated_terms};
 ghost use Rattle.it_space.specs.Spaces.{size_of};
+ghost use Rattle.it_run.specs.Runs.RunEndView.{Weights};
 ghost use Rattle.it_elemental.specs.Generators.{generators};
-ghost use Rattle.it_columns.specs.Scaling.{scaled_point};
-ghost use Rattle.it_best.specs.BestViews.{Never, best_view};
-ghost use Rattle.it_best.specs.Ends.{LeastFits, NeverFits, OrScale, UnboundedFits, first, least_view, third, unbounded_view};
-ghost use Rattle.it_best.specs.Phases.{right_equation, third_target, unknown_views};
-ghost use Rattle.it_best.specs.PhaseSteps.{PhaseSeparates, PhaseSums};
+ghost use Rattle.it_best.specs.BestViews.{best_view};
+ghost use Rattle.it_best.specs.Ends.{LeastFits, ThirdFollows, UnboundedFits, first, least_view, third, unbounded_view};
+ghost use Rattle.it_best.specs.Phases.{unknown_views};
+ghost use Rattle.it_best.specs.PhaseSteps.{FollowsPoint, FollowsWeights, PhaseSeparates, PhaseSums, ThirdSums};
 
 use crate::judging::{below_proof, factor_proof, least_point, never_point};
 use crate::numbers::{factor_of, numbers, values_of, weights_of};
@@ -31,7 +31,7 @@ pub fn never(
     requires left { IsUpTo (size_of problem.now.space) left.now }
     requires right { IsUpTo (size_of problem.now.space) right.now }
     requires separates { PhaseSeparates (size_of problem.now.space) (first (problem_view problem.now) left.now right.now) right.now values.now }
-    ensures { IfOk result (λ b. OrScale (problem_view problem.now) left.now right.now (NeverFits (problem_view problem.now) left.now right.now values.now) (Never (map neg_ℤ (scaled_point values.now))) (best_view b)) }
+    ensures { IfOk result (λ b. FollowsPoint (problem_view problem.now) left.now right.now values.now (best_view b)) }
 {
     match never_point(alloc, problem, left, right, values) {
         Ok(point) => Ok(Best::Never(point)),
@@ -53,7 +53,7 @@ fn least_answer(
     requires left { IsUpTo (size_of problem.now.space) left.now }
     requires right { IsUpTo (size_of problem.now.space) right.now }
     requires unknowns { unknown_views unknowns.now ≡ third (problem_view problem.now) left.now right.now }
-    requires sums { PhaseSums (right_equation (size_of problem.now.space) (generators (problem_view problem.now))) (third (problem_view problem.now) left.now right.now) (third_target (size_of problem.now.space) (generators (problem_view problem.now)) right.now) weights.now }
+    requires sums { ThirdSums (problem_view problem.now) right.now (third (problem_view problem.now) left.now right.now) weights.now }
     ensures value { IfOk result (λ b. best_view b ≡ least_view (problem_view problem.now) left.now right.now weights.now) }
     ensures fits { OnOk result (LeastFits (problem_view problem.now) left.now right.now weights.now) }
     ensures wide { IfErr result (λ f. f ≡ RowFault.Wide → ¬ (LeastFits (problem_view problem.now) left.now right.now weights.now)) }
@@ -98,8 +98,8 @@ pub fn least(
     requires left { IsUpTo (size_of problem.now.space) left.now }
     requires right { IsUpTo (size_of problem.now.space) right.now }
     requires unknowns { unknown_views unknowns.now ≡ third (problem_view problem.now) left.now right.now }
-    requires sums { PhaseSums (right_equation (size_of problem.now.space) (generators (problem_view problem.now))) (third (problem_view problem.now) left.now right.now) (third_target (size_of problem.now.space) (generators (problem_view problem.now)) right.now) weights.now }
-    ensures { IfOk result (λ b. OrScale (problem_view problem.now) left.now right.now (LeastFits (problem_view problem.now) left.now right.now weights.now) (least_view (problem_view problem.now) left.now right.now weights.now) (best_view b)) }
+    requires sums { ThirdSums (problem_view problem.now) right.now (third (problem_view problem.now) left.now right.now) weights.now }
+    ensures { IfOk result (λ b. ThirdFollows (problem_view problem.now) left.now right.now (Weights weights.now) (best_view b)) }
 {
     match least_answer(alloc, problem, left, right, unknowns, weights) {
         Ok(best) => Ok(best),
@@ -169,7 +169,7 @@ pub fn unbounded(
     requires sums { PhaseSums (size_of problem.now.space) (first (problem_view problem.now) left.now right.now) right.now weights.now }
     requires others { unknown_views others.now ≡ generators (problem_view problem.now) }
     requires below { PhaseSums (size_of problem.now.space) (generators (problem_view problem.now)) (negated_terms left.now) below.now }
-    ensures { IfOk result (λ b. OrScale (problem_view problem.now) left.now right.now (UnboundedFits (problem_view problem.now) left.now right.now weights.now below.now) (unbounded_view (problem_view problem.now) left.now right.now weights.now below.now) (best_view b)) }
+    ensures { IfOk result (λ b. FollowsWeights (problem_view problem.now) left.now right.now weights.now below.now (best_view b)) }
 {
     match unbounded_answer(
         alloc, problem, left, right, unknowns, weights, others, below,

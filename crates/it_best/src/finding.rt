@@ -1,17 +1,16 @@
 //! The best factor.
-ghost use Rattle.std.specs.Prelude.{◌≡◌, ◌<◌, ◌^◌, List, ℕ, IfOk};
-ghost use Rattle.it_rational.specs.Rational.{Rational};
+ghost use Rattle.std.specs.Prelude.{◌≡◌, ◌<◌, ◌^◌, IfOk};
 ghost use Rattle.it_space.specs.Problems.{IsProblem, problem_view};
 ghost use Rattle.it_space.specs.Rows.{IsUpTo, negated_terms, value};
 ghost use Rattle.it_space.specs.Spaces.{size_of};
 ghost use Rattle.it_run.specs.Answers.{end_of_answer};
-ghost use Rattle.it_run.specs.Runs.{RunEndView};
+ghost use Rattle.it_run.specs.Runs.RunEndView.{Weights};
 ghost use Rattle.it_elemental.specs.Generators.{generators};
 ghost use Rattle.it_best.specs.BestViews.{best_view};
 ghost use Rattle.it_best.specs.Ends.{EndsWith, FirstFollows, PhaseEnds, SecondFollows, ThirdFollows, first, third};
 ghost use Rattle.it_best.specs.Factors.{IsRightBest, ground_of};
-ghost use Rattle.it_best.specs.Phases.{right_equation, third_target, unknown_views};
-ghost use Rattle.it_best.specs.PhaseSteps.{PhaseIsRight, PhaseSeparates, PhaseSums};
+ghost use Rattle.it_best.specs.Phases.{unknown_views};
+ghost use Rattle.it_best.specs.PhaseSteps.{FollowsPhases, FollowsThird, HasNoThirdPoint, PhaseIsRight, PhaseSums, ThirdEnds, ThirdIsRight};
 
 use crate::answers::{least, never, unbounded};
 use crate::sizes::is_large;
@@ -62,8 +61,8 @@ fn third_answer(
     requires left { IsUpTo (size_of problem.now.space) left.now }
     requires right { IsUpTo (size_of problem.now.space) right.now }
     requires unknowns { unknown_views unknowns.now ≡ third (problem_view problem.now) left.now right.now }
-    requires end { PhaseIsRight (right_equation (size_of problem.now.space) (generators (problem_view problem.now))) (third (problem_view problem.now) left.now right.now) (third_target (size_of problem.now.space) (generators (problem_view problem.now)) right.now) end.now }
-    requires reached { (ps : List Rational) → PhaseSeparates (right_equation (size_of problem.now.space) (generators (problem_view problem.now))) (third (problem_view problem.now) left.now right.now) (third_target (size_of problem.now.space) (generators (problem_view problem.now)) right.now) ps → ⊥ }
+    requires end { ThirdIsRight (problem_view problem.now) right.now (third (problem_view problem.now) left.now right.now) end.now }
+    requires reached { HasNoThirdPoint (problem_view problem.now) right.now (third (problem_view problem.now) left.now right.now) }
     ensures { IfOk result (λ b. ThirdFollows (problem_view problem.now) left.now right.now (end_of_answer end.now) (best_view b)) }
 {
     match end {
@@ -97,8 +96,8 @@ fn third_end(
 ) -> Result<Solved, AllocError>
     requires problem { IsProblem (problem_view problem.now) }
     requires right { IsUpTo (size_of problem.now.space) right.now }
-    ensures ends { IfOk result (λ a. PhaseEnds (right_equation (size_of problem.now.space) (generators (problem_view problem.now))) (unknown_views unknowns.now) (third_target (size_of problem.now.space) (generators (problem_view problem.now)) right.now) budget (end_of_answer a)) }
-    ensures right { IfOk result (λ a. PhaseIsRight (right_equation (size_of problem.now.space) (generators (problem_view problem.now))) (unknown_views unknowns.now) (third_target (size_of problem.now.space) (generators (problem_view problem.now)) right.now) a) }
+    ensures ends { IfOk result (λ a. ThirdEnds (problem_view problem.now) right.now (unknown_views unknowns.now) budget (end_of_answer a)) }
+    ensures right { IfOk result (λ a. ThirdIsRight (problem_view problem.now) right.now (unknown_views unknowns.now) a) }
 {
     let target = with_term(alloc, right, left_equation(problem), 1)?;
     phase_end(alloc, unknowns, right_equation(problem), &target, budget)
@@ -115,8 +114,8 @@ fn by_third_phase(
     requires problem { IsProblem (problem_view problem.now) }
     requires left { IsUpTo (size_of problem.now.space) left.now }
     requires right { IsUpTo (size_of problem.now.space) right.now }
-    requires reached { (ps : List Rational) → PhaseSeparates (right_equation (size_of problem.now.space) (generators (problem_view problem.now))) (third (problem_view problem.now) left.now right.now) (third_target (size_of problem.now.space) (generators (problem_view problem.now)) right.now) ps → ⊥ }
-    ensures { IfOk result (λ b. (e : RunEndView (List (ℕ × Rational)) (List Rational)) × PhaseEnds (right_equation (size_of problem.now.space) (generators (problem_view problem.now))) (third (problem_view problem.now) left.now right.now) (third_target (size_of problem.now.space) (generators (problem_view problem.now)) right.now) budget e × ThirdFollows (problem_view problem.now) left.now right.now e (best_view b)) }
+    requires reached { HasNoThirdPoint (problem_view problem.now) right.now (third (problem_view problem.now) left.now right.now) }
+    ensures { IfOk result (λ b. FollowsThird (problem_view problem.now) left.now right.now budget (best_view b)) }
 {
     let unknowns = third_phase(alloc, problem, left, right)?;
     let end = third_end(alloc, problem, right, unknowns.as_slice(), budget)?;
@@ -198,7 +197,7 @@ fn by_second_phase(
     requires right { IsUpTo (size_of problem.now.space) right.now }
     requires unknowns { unknown_views unknowns.now ≡ first (problem_view problem.now) left.now right.now }
     requires sums { PhaseSums (size_of problem.now.space) (first (problem_view problem.now) left.now right.now) right.now weights.now }
-    ensures { IfOk result (λ b. (e : RunEndView (List (ℕ × Rational)) (List Rational)) × PhaseEnds (size_of problem.now.space) (generators (problem_view problem.now)) (negated_terms left.now) budget e × SecondFollows (problem_view problem.now) left.now right.now budget weights.now e (best_view b)) }
+    ensures { IfOk result (λ b. FirstFollows (problem_view problem.now) left.now right.now budget (Weights weights.now) (best_view b)) }
 {
     let others = second_phase(alloc, problem)?;
     let end = second_end(alloc, problem, left, others.as_slice(), budget)?;
@@ -265,7 +264,7 @@ fn by_first_phase(
     requires problem { IsProblem (problem_view problem.now) }
     requires left { IsUpTo (size_of problem.now.space) left.now }
     requires right { IsUpTo (size_of problem.now.space) right.now }
-    ensures { IfOk result (λ b. (e : RunEndView (List (ℕ × Rational)) (List Rational)) × PhaseEnds (size_of problem.now.space) (first (problem_view problem.now) left.now right.now) right.now budget e × FirstFollows (problem_view problem.now) left.now right.now budget e (best_view b)) }
+    ensures { IfOk result (λ b. FollowsPhases (problem_view problem.now) left.now right.now budget (best_view b)) }
 {
     let unknowns = first_phase(alloc, problem, left)?;
     let size = problem.space.size();

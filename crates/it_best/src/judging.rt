@@ -1,17 +1,16 @@
 //! What is found, scaled and checked.
-ghost use Rattle.std.specs.Prelude.{◌≡◌, ◌<◌, ◌≤◌, ◌^◌, ◌+◌, ◌++◌, ℕ, ◌-ℤ◌, ◌*ℤ◌, ◌≤ℤ◌, ℤ, pos, neg_ℤ, map, length, IfErr, IfOk, OkIff, OnOk};
+ghost use Rattle.std.specs.Prelude.{◌≡◌, ◌<◌, ◌^◌, ◌++◌, ◌*ℤ◌, ◌≤ℤ◌, pos, neg_ℤ, map, length, IfErr, IfOk, OkIff, OnOk};
 ghost use Rattle.it_number.specs.Limit.{IsWithin};
 ghost use Rattle.it_space.specs.Answers.{certificate_view};
 ghost use Rattle.it_space.specs.Problems.{IsProblem, problem_view};
-ghost use Rattle.it_space.specs.Rows.{IsUpTo, ValueFits, coefficient, map_of, single_term, value, negated_terms};
+ghost use Rattle.it_space.specs.Rows.{IsUpTo, ValueFits, map_of, single_term, value};
 ghost use Rattle.it_space.specs.Spaces.{size_of};
-ghost use Rattle.it_polymatroid.specs.Certificates.{IsCertificate};
-ghost use Rattle.it_elemental.specs.Generators.{generators, generators_of};
 ghost use Rattle.it_check.specs.Meaning.{CertificateFits, CertifiesRow, PointFits};
 ghost use Rattle.it_columns.specs.Scaling.{scaled_point};
-ghost use Rattle.it_best.specs.Ends.{DifferenceOfProductsFits, FactorFits, LeastPointFits, NeverFits, factor_row};
-ghost use Rattle.it_best.specs.Factors.{HasNoFactor, IsFactor, IsPoint, ground_of};
-ghost use Rattle.it_best.specs.Numbers.{weights_certificate, WeightsFit};
+ghost use Rattle.it_best.specs.Ends.{FactorFits, LeastPointFits, NeverFits, factor_row};
+ghost use Rattle.it_best.specs.Factors.{HasNoFactor, IsPoint, ground_of};
+ghost use Rattle.it_best.specs.Numbers.{weights_certificate};
+ghost use Rattle.it_best.specs.PhaseSteps.{BelowFits, CertifyBelow, CertifyFactor, CoefficientFits, RowFits, FitsAt, coefficient_at, factor_coefficient, side_values};
 
 use crate::numbers::{certificate, turned_point, whole_point};
 use it_check::{Verdict, check_no, check_yes};
@@ -28,7 +27,7 @@ fn factor_coefficient(
     den: i128,
     coordinate: u32,
 ) -> Result<i128, Wide>
-    ensures { OkIff result (DifferenceOfProductsFits num (coefficient left.now coordinate) den (coefficient right.now coordinate)) (num *ℤ coefficient left.now coordinate -ℤ den *ℤ coefficient right.now coordinate) }
+    ensures { OkIff result (CoefficientFits left.now right.now num den coordinate) (factor_coefficient left.now right.now num den coordinate) }
 {
     let above = signed_product(num, left.coefficient(coordinate))?;
     let below = signed_product(den, right.coefficient(coordinate))?;
@@ -43,9 +42,9 @@ fn push_coefficient(
     factor: &Fraction,
     coordinate: u32,
 ) -> Result<(), RowFault>
-    ensures value { OnOk result (terms.new.items ≡ terms.old.items ++ single_term coordinate (factor.now.num *ℤ coefficient left.now coordinate -ℤ (pos factor.now.den) *ℤ coefficient right.now coordinate)) }
-    ensures fits { OnOk result (DifferenceOfProductsFits factor.now.num (coefficient left.now coordinate) (pos factor.now.den) (coefficient right.now coordinate)) }
-    ensures wide { IfErr result (λ f. f ≡ RowFault.Wide → ¬ (DifferenceOfProductsFits factor.now.num (coefficient left.now coordinate) (pos factor.now.den) (coefficient right.now coordinate))) }
+    ensures value { OnOk result (terms.new.items ≡ terms.old.items ++ single_term coordinate (coefficient_at left.now right.now factor.now coordinate)) }
+    ensures fits { OnOk result (FitsAt left.now right.now factor.now coordinate) }
+    ensures wide { IfErr result (λ f. f ≡ RowFault.Wide → ¬ (FitsAt left.now right.now factor.now coordinate)) }
 {
     let coefficient = factor_coefficient(left, right, factor.num(), factor.den(), coordinate)?;
     match push_some(terms, coordinate, coefficient) {
@@ -65,8 +64,8 @@ fn factor_row(
 ) -> Result<Row, RowFault>
     requires { IsProblem (problem_view problem.now) }
     ensures value { IfOk result (λ r. r ≡ factor_row (size_of problem.now.space) left.now right.now factor.now.num (pos factor.now.den)) }
-    ensures fits { OnOk result ((c : ℕ) → 1 ≤ c → c ≤ size_of problem.now.space → DifferenceOfProductsFits factor.now.num (coefficient left.now c) (pos factor.now.den) (coefficient right.now c)) }
-    ensures wide { IfErr result (λ f. f ≡ RowFault.Wide → ¬ ((c : ℕ) → 1 ≤ c → c ≤ size_of problem.now.space → DifferenceOfProductsFits factor.now.num (coefficient left.now c) (pos factor.now.den) (coefficient right.now c))) }
+    ensures fits { OnOk result (RowFits (size_of problem.now.space) left.now right.now factor.now) }
+    ensures wide { IfErr result (λ f. f ≡ RowFault.Wide → ¬ (RowFits (size_of problem.now.space) left.now right.now factor.now)) }
 {
     let mut terms = Vec::new(alloc);
     for coordinate in 1..problem.space.size() + 1 {
@@ -100,7 +99,7 @@ pub fn factor_proof(
 ) -> Result<Certificate, RowFault>
     requires problem { IsProblem (problem_view problem.now) }
     requires few { length weights.now < 2 ^ 32 }
-    requires factor { IsFactor (ground_of (problem_view problem.now)) (value left.now) (value right.now) factor.now.num (pos factor.now.den) (weights_certificate (pos factor.now.den) weights.now) }
+    requires factor { CertifyFactor (problem_view problem.now) left.now right.now factor.now weights.now }
     ensures value { IfOk result (λ c. certificate_view c ≡ weights_certificate (pos factor.now.den) weights.now) }
     ensures fits { OnOk result (FactorFits (problem_view problem.now) left.now right.now factor.now weights.now) }
     ensures wide { IfErr result (λ f. f ≡ RowFault.Wide → ¬ (FactorFits (problem_view problem.now) left.now right.now factor.now weights.now)) }
@@ -122,10 +121,10 @@ pub fn below_proof(
     requires problem { IsProblem (problem_view problem.now) }
     requires left { IsUpTo (size_of problem.now.space) left.now }
     requires few { length weights.now < 2 ^ 32 }
-    requires certified { IsCertificate (size_of problem.now.space + 1) (generators_of (problem_view problem.now)) (λ p. neg_ℤ (value left.now p)) (weights_certificate (pos 1) weights.now) }
+    requires certified { CertifyBelow (problem_view problem.now) left.now weights.now }
     ensures value { IfOk result (λ c. certificate_view c ≡ weights_certificate (pos 1) weights.now) }
-    ensures fits { OnOk result (WeightsFit (pos 1) weights.now × CertificateFits (problem_view problem.now) (negated_terms left.now) (weights_certificate (pos 1) weights.now)) }
-    ensures wide { IfErr result (λ f. f ≡ RowFault.Wide → ¬ (WeightsFit (pos 1) weights.now × CertificateFits (problem_view problem.now) (negated_terms left.now) (weights_certificate (pos 1) weights.now))) }
+    ensures fits { OnOk result (BelowFits (problem_view problem.now) left.now weights.now) }
+    ensures wide { IfErr result (λ f. f ≡ RowFault.Wide → ¬ (BelowFits (problem_view problem.now) left.now weights.now)) }
 {
     let proof = certificate(alloc, weights, 1)?;
     let row = opposite_row(alloc, left)?;
@@ -154,7 +153,7 @@ fn check_point(alloc: Global, problem: &Problem, row: &Row, point: &Point) -> Re
 fn side_values(left: &Row, right: &Row, point: &Point) -> Result<(i128, i128), Wide>
     requires left { IsUpTo (length point.now) left.now }
     requires right { IsUpTo (length point.now) right.now }
-    ensures { OkIff result (ValueFits left.now (map_of point.now) × ValueFits right.now (map_of point.now)) (value left.now (map_of point.now), value right.now (map_of point.now)) }
+    ensures { OkIff result (ValueFits left.now (map_of point.now) × ValueFits right.now (map_of point.now)) (side_values left.now right.now point.now) }
 {
     let left = value(left, point)?;
     let right = value(right, point)?;

@@ -2,7 +2,7 @@
 ghost use Rattle.std.specs.Prelude.{◌≡◌, ◌<◌, ◌^◌, ◌++◌, ◌+◌, ◌∷◌, [], map, neg_ℤ, length, All, IfErr, IfOk, OkIff, OnOk, take, drop, slice_index_or, pos};
 ghost use Rattle.std.specs.List.{AllByRecursion as Every};
 ghost use Rattle.it_number.specs.Limit.{IsWithin};
-ghost use Rattle.it_rational.specs.Rational.{integer, minus, plus, times};
+ghost use Rattle.it_rational.specs.Rational.{integer, times};
 ghost use Rattle.it_fraction.specs.Fits.{IsNarrow};
 ghost use Rattle.it_run.specs.Readings.{AreWeights};
 ghost use Rattle.it_space.specs.Answers.{certificate_view};
@@ -10,8 +10,8 @@ ghost use Rattle.it_space.specs.Spaces.{IsSpace, size_of};
 ghost use Rattle.it_space.specs.Sums.{terms_from};
 ghost use Rattle.it_columns.specs.Scaling.{NumbersFit, scaled_point};
 ghost use Rattle.it_best.specs.Numbers.{DifferencesFit, NumberFits, WeightsFit, column_weight, multiples, numbers, weights_certificate};
+ghost use Rattle.it_best.specs.PhaseSteps.{number_of};
 ghost use Rattle.it_best.specs.Phases.{unknown_views};
-ghost use Rattle.it_columns.specs.Columns.{number_by};
 ghost use Rattle.it_tableau.specs.Operations.{rationals};
 
 use crate::unknowns::Unknown;
@@ -38,7 +38,7 @@ fn column_weight(weights: &[(usize, Fraction)], column: usize) -> Fraction
 fn number_of(weights: &[(usize, Fraction)], kind: Kind, column: usize) -> Result<Fraction, Wide>
     requires ordered { AreWeights rationals (2 ^ 63) 0 weights.now }
     requires few { column < 2 ^ 62 }
-    ensures { OkIff result (NumberFits kind (column_weight weights.now) column) (number_by (λ a b. plus a (minus b)) kind (column_weight weights.now) column) }
+    ensures { OkIff result (NumberFits kind (column_weight weights.now) column) (number_of weights.now kind column) }
 {
     match kind {
         Kind::Inequality => Ok(column_weight(weights, column)),
@@ -58,7 +58,7 @@ fn push_number(
 ) -> Result<(), RowFault>
     requires ordered { AreWeights rationals (2 ^ 63) 0 weights.now }
     requires few { column < 2 ^ 62 }
-    ensures value { OnOk result (numbers.new.items ≡ numbers.old.items ++ number_by (λ a b. plus a (minus b)) kind (column_weight weights.now) column ∷ []) }
+    ensures value { OnOk result (numbers.new.items ≡ numbers.old.items ++ number_of weights.now kind column ∷ []) }
     ensures fits { OnOk result (NumberFits kind (column_weight weights.now) column) }
     ensures wide { IfErr result (λ f. f ≡ RowFault.Wide → ¬ (NumberFits kind (column_weight weights.now) column)) }
 {

@@ -1,12 +1,13 @@
 //! The unknowns of the three phases.
-ghost use Rattle.std.specs.Prelude.{◌≡◌, ◌≢◌, ◌<◌, ◌≤◌, ◌+◌, ◌^◌, ◌++◌, ◌∷◌, [], ℕ, ℤ, pos, List, length, map, All, IfOk, OnOk};
+ghost use Rattle.std.specs.Prelude.{◌≡◌, ◌≢◌, ◌<◌, ◌+◌, ◌^◌, ◌++◌, ◌∷◌, [], pos, List, length, map, All, IfOk, OnOk};
 ghost use Rattle.it_number.specs.Limit.{IsWithin};
 ghost use Rattle.it_space.specs.Problems.{IsProblem, problem_view};
 ghost use Rattle.it_space.specs.Rows.{IsUpTo, coefficient};
 ghost use Rattle.it_space.specs.Spaces.{size_of};
-ghost use Rattle.it_polymatroid.specs.Elementals.{span};
 ghost use Rattle.it_elemental.specs.Generators.{Generator, generators, generator_at};
-ghost use Rattle.it_best.specs.Phases.{coordinate_row, coordinate_terms, coordinate_unknown, counterweight, first_phase, left_equation, right_equation, slack_by, slacks, third_phase, unknown_view, unknown_views};
+ghost use Rattle.it_best.specs.Ends.{third};
+ghost use Rattle.it_best.specs.PhaseSteps.{IsCoordinateKind, all_slacks, all_values};
+ghost use Rattle.it_best.specs.Phases.{coordinate_row, coordinate_terms, counterweight, first_phase, left_equation, right_equation, slack_by, unknown_view, unknown_views};
 
 use crate::unknowns::Unknown;
 use it_columns::{generator_row, opposite_row, push_some};
@@ -185,7 +186,7 @@ fn coordinate_row(
 /// Whether a coordinate's value is at least 0, as that of a set is, or any number, as a rate is.
 fn coordinate_kind(problem: &Problem, coordinate: u32) -> Kind
     requires problem { IsProblem (problem_view problem.now) }
-    ensures { (n size : ℕ) (gs : List Generator) (left right : List (ℕ × ℤ)) → n ≡ problem.now.space.variables → result ≡ (coordinate_unknown n size gs left right coordinate).kind }
+    ensures { IsCoordinateKind problem.now.space.variables coordinate result }
 {
     if coordinate < 1 << problem.space.variables {
         Kind::Inequality
@@ -205,7 +206,7 @@ fn push_values(
 ) -> Result<(), AllocError>
     requires problem { IsProblem (problem_view problem.now) }
     requires rows { rows.now ≡ map (λ g. g.row) (generators (problem_view problem.now)) }
-    ensures { OnOk result (unknown_views unknowns.new.items ≡ unknown_views unknowns.old.items ++ map (coordinate_unknown problem.now.space.variables (size_of problem.now.space) (generators (problem_view problem.now)) left.now right.now) (span 1 (size_of problem.now.space))) }
+    ensures { OnOk result (unknown_views unknowns.new.items ≡ unknown_views unknowns.old.items ++ all_values (problem_view problem.now) left.now right.now) }
 {
     for coordinate in 1..problem.space.size() + 1 {
         let row = coordinate_row(alloc, problem, rows, left, right, coordinate)?;
@@ -244,7 +245,7 @@ fn push_slacks(
     problem: &Problem,
 ) -> Result<(), AllocError>
     requires problem { IsProblem (problem_view problem.now) }
-    ensures { OnOk result (unknown_views unknowns.new.items ≡ unknown_views unknowns.old.items ++ slacks (size_of problem.now.space + 1) (generators (problem_view problem.now))) }
+    ensures { OnOk result (unknown_views unknowns.new.items ≡ unknown_views unknowns.old.items ++ all_slacks (problem_view problem.now)) }
 {
     let first = problem.space.size() + 1;
     for index in 0..generator_count(problem) {
@@ -263,7 +264,7 @@ pub fn third_phase(
 ) -> Result<Vec<Unknown>, AllocError>
     requires problem { IsProblem (problem_view problem.now) }
     requires left { IsUpTo (size_of problem.now.space) left.now }
-    ensures { IfOk result (λ v. unknown_views v.items ≡ third_phase problem.now.space.variables (size_of problem.now.space) (generators (problem_view problem.now)) left.now right.now) }
+    ensures { IfOk result (λ v. unknown_views v.items ≡ third (problem_view problem.now) left.now right.now) }
 {
     let rows = generator_rows(alloc, problem)?;
     let mut unknowns = Vec::new(alloc);
