@@ -67,3 +67,7 @@ plan_of first plans shape = first ++ flat_map (λ plan. plan shape []) plans
 abbrev pub SearchEnds : Goal → ℕ → List Candidate → List Plan → Contained → List Plan → Type 0
 SearchEnds goal tries plan plans (Found c proofs) plans_after = IsFirstProved goal tries plan c × IsProof goal c proofs × (plans_after ≡ map (plan_after c) plans)
 SearchEnds goal tries plan plans (Open tried) plans_after = IsOpen goal tries plan tried × (plans_after ≡ plans)
+
+-- That of a search for certificates of a pair: its candidates are those of a list, and then those that the boxes set for a shape.
+abbrev pub PairEnds : Pair → Option ℕ → ℕ → List Candidate → Shape → List Plan → Contained → List Plan → Type 0
+PairEnds p budget tries first shape plans end plans_after = SearchEnds (IsProofBy p budget) tries (plan_of first plans shape) plans end plans_after

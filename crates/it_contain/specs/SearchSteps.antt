@@ -1,5 +1,5 @@
 -- Parts of a search. No public clause cites this module: it serves the proofs of the search.
-use Rattle.std.specs.Prelude.{◌≡◌, ℕ, List, [], ◌++◌, map, length, Option, Some, None, All}
+use Rattle.std.specs.Prelude.{◌≡◌, ℕ, List, [], ◌++◌, map, get_or, length, Option, Some, None, All}
 use Rattle.std.specs.List.{flat_map}
 use Rattle.it_space.specs.declared.answers.Certificate.{Certificate}
 use Rattle.it_space.specs.Answers.{CertificateView, certificate_view}
@@ -9,11 +9,12 @@ use Rattle.it_prove.specs.ClosedProblems.{IsClosedProblem}
 use Rattle.it_prove.specs.ProofViews.{Yes, EndsWith, AreProofsOf}
 use Rattle.it_region.specs.declared.types.Candidate.{Candidate}
 use Rattle.it_contain.specs.declared.outcomes.Outcomes.{Outcomes}
+use Rattle.it_contain.specs.declared.search.Goal as searches
 use Rattle.it_contain.specs.declared.types.Contained.{Contained}
 use Rattle.it_contain.specs.declared.types.Contained.TheVariants.{Found, Open}
 use Rattle.it_contain.specs.declared.types.Shape.{Shape}
 use Rattle.it_contain.specs.Proposals.{Plan, plan_after}
-use Rattle.it_contain.specs.Search.{Goal, Proofs, proof_views, IsProof, IsUnproved}
+use Rattle.it_contain.specs.Search.{Goal, Proofs, proof_views, IsProof, IsProofBy, IsUnproved, SearchEnds}
 
 -- the list that each box sets at a beginning, in order
 abbrev pub lists_of : Shape → List Plan → List (List Candidate)
@@ -33,6 +34,10 @@ ProvesOne q budget t (Some c) = EndsWith q t budget (Yes (certificate_view c))
 unfoldable pub AreOutcomes : ProblemView → Option ℕ → Outcomes → Type 0
 AreOutcomes q budget o = All (λ e. ProvesOne q budget e.0.items e.1) o.by_row.entries × IsClosedProblem q o.closed
 
+-- an outcome about a target is kept, whatever problem and budget the others are of
+abbrev pub IsKept : Terms → Option Certificate → Outcomes → Outcomes → Type 0
+IsKept t o old new = (q : ProblemView) (budget : Option ℕ) → AreOutcomes q budget old → ProvesOne q budget t o → AreOutcomes q budget new
+
 -- whether all are
 abbrev pub ProvesAll : ProblemView → Option ℕ → List Terms → Option Proofs → Type 0
 ProvesAll q budget ts None = (ws : List CertificateView) → AreProofsOf q budget ts ws → ⊥
@@ -47,6 +52,14 @@ Judges goal c (Some proofs) = IsProof goal c proofs
 abbrev pub Tries : Goal → Candidate → Option Proofs → List (List Candidate) → List Plan → List (List Candidate) → List Plan → Type 0
 Tries goal c None lists plans lists_after plans_after = IsUnproved goal c × (lists_after ≡ lists) × (plans_after ≡ plans)
 Tries goal c (Some proofs) lists plans lists_after plans_after = IsProof goal c proofs × (plans_after ≡ map (plan_after c) plans)
+
+-- a search by the candidates of a list alone ends so
+abbrev pub ListEnds : searches.Goal → ℕ → List Candidate → List Plan → Contained → List Plan → Type 0
+ListEnds goal tries list plans end plans_after = SearchEnds (IsProofBy goal.pair.now goal.budget) tries list plans end plans_after
+
+-- by those of the box at place i, where the boxes are to propose these lists
+abbrev pub BoxEnds : searches.Goal → ℕ → List (List Candidate) → ℕ → List Plan → Contained → List Plan → Type 0
+BoxEnds goal tries lists i plans end plans_after = ListEnds goal tries (get_or lists i []) plans end plans_after
 
 -- a search has passed the first `tried` of the list in vain, and `rest` is left
 pub record IsPast (goal : Goal) (whole rest : List Candidate) (tried : ℕ) : Type 0 where

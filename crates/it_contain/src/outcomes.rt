@@ -2,10 +2,10 @@
 ghost use Rattle.std.specs.Prelude.{◌≡◌, ℕ, Option, IfOk, OnOk};
 ghost use Rattle.std.specs.Option.{option_map};
 ghost use Rattle.it_space.specs.Answers.{certificate_view};
-ghost use Rattle.it_space.specs.Problems.{IsProblem, ProblemView, problem_view};
+ghost use Rattle.it_space.specs.Problems.{IsProblem, problem_view};
 ghost use Rattle.it_space.specs.Rows.{IsUpTo};
 ghost use Rattle.it_space.specs.Spaces.{size_of};
-ghost use Rattle.it_contain.specs.SearchSteps.{ProvesOne, AreOutcomes};
+ghost use Rattle.it_contain.specs.SearchSteps.{AreOutcomes, IsKept, ProvesOne};
 
 use indexmap::IndexMap;
 use it_prove::{ClosedProblem, Proof};
@@ -74,7 +74,7 @@ impl Outcomes {
         target: &Row,
         outcome: &Option<Certificate>,
     ) -> Result<(), AllocError>
-        ensures { OnOk result ((q : ProblemView) (budget : Option ℕ) → AreOutcomes q budget self.old → ProvesOne q budget target.now outcome.now → AreOutcomes q budget self.new) }
+        ensures { OnOk result (IsKept target.now outcome.now self.old self.new) }
     {
         if self.by_row.len() < MOST_ROWS {
             let terms = target.terms().iter().copied().collect(alloc)?;

@@ -1,10 +1,10 @@
 //! The search for a candidate that is proved.
-ghost use Rattle.std.specs.Prelude.{◌<◌, ◌+◌, [], map, drop, get_or, vec_len, IfOk, OnOk};
+ghost use Rattle.std.specs.Prelude.{◌<◌, ◌+◌, map, drop, vec_len, IfOk, OnOk};
 ghost use Rattle.it_space.specs.Problems.{problem_view};
 ghost use Rattle.it_region.specs.Pairs.{IsPair};
 ghost use Rattle.it_contain.specs.Shapes.{IsShape, shape_of};
-ghost use Rattle.it_contain.specs.Search.{plan_of, SearchEnds, IsProofBy};
-ghost use Rattle.it_contain.specs.SearchSteps.{Tries, KeepsLater, AreOutcomes};
+ghost use Rattle.it_contain.specs.Search.{IsProofBy, PairEnds};
+ghost use Rattle.it_contain.specs.SearchSteps.{AreOutcomes, BoxEnds, KeepsLater, ListEnds, Tries};
 
 use crate::boxes::{begin_all, next_at, teach_all, tell_all};
 use crate::judging::proofs_of_candidate;
@@ -36,7 +36,7 @@ pub fn contain(
     budget: Budget,
 ) -> Result<Contained, AllocError>
     requires pair { IsPair pair.now }
-    ensures { IfOk result (λ r. SearchEnds (IsProofBy pair.now budget) tries (plan_of first.now (map plan boxes.old.items) (shape_of pair.now)) (map plan boxes.old.items) r (map plan boxes.new.items)) }
+    ensures { IfOk result (λ r. PairEnds pair.now budget tries first.now (shape_of pair.now) (map plan boxes.old.items) r (map plan boxes.new.items)) }
 {
     let shape = Shape {
         variables: pair.first.space.variables,
@@ -85,7 +85,7 @@ fn try_list(
 ) -> Result<Contained, AllocError>
     requires pair { IsPair goal.now.pair.now }
     requires outcomes { AreOutcomes (problem_view goal.now.pair.now.first) goal.now.budget outcomes.old }
-    ensures ends { IfOk result (λ r. SearchEnds (IsProofBy goal.now.pair.now goal.now.budget) tries first.now (map plan boxes.old.items) r (map plan boxes.new.items)) }
+    ensures ends { IfOk result (λ r. ListEnds goal.now tries first.now (map plan boxes.old.items) r (map plan boxes.new.items)) }
     ensures later { IfOk result (λ r. KeepsLater r (map pending boxes.old.items) (map pending boxes.new.items)) }
     ensures outcomes { OnOk result (AreOutcomes (problem_view goal.now.pair.now.first) goal.now.budget outcomes.new) }
 {
@@ -114,7 +114,7 @@ fn try_box(
     requires pair { IsPair goal.now.pair.now }
     requires outcomes { AreOutcomes (problem_view goal.now.pair.now.first) goal.now.budget outcomes.old }
     requires box_is { i < vec_len boxes.old }
-    ensures ends { IfOk result (λ r. SearchEnds (IsProofBy goal.now.pair.now goal.now.budget) tries (get_or (map pending boxes.old.items) i []) (map plan boxes.old.items) r (map plan boxes.new.items)) }
+    ensures ends { IfOk result (λ r. BoxEnds goal.now tries (map pending boxes.old.items) i (map plan boxes.old.items) r (map plan boxes.new.items)) }
     ensures later { IfOk result (λ r. KeepsLater r (drop (i + 1) (map pending boxes.old.items)) (drop (i + 1) (map pending boxes.new.items))) }
     ensures outcomes { OnOk result (AreOutcomes (problem_view goal.now.pair.now.first) goal.now.budget outcomes.new) }
 {
@@ -143,7 +143,7 @@ fn try_all(
     requires pair { IsPair goal.now.pair.now }
     requires outcomes { AreOutcomes (problem_view goal.now.pair.now.first) goal.now.budget outcomes.old }
     requires shape { IsShape shape }
-    ensures { IfOk result (λ r. SearchEnds (IsProofBy goal.now.pair.now goal.now.budget) tries (plan_of first.now (map plan boxes.old.items) shape) (map plan boxes.old.items) r (map plan boxes.new.items)) }
+    ensures { IfOk result (λ r. PairEnds goal.now.pair.now goal.now.budget tries first.now shape (map plan boxes.old.items) r (map plan boxes.new.items)) }
 {
     begin_all(boxes, shape);
     let mut count = match try_list(alloc, goal, first, boxes, tries, outcomes)? {
