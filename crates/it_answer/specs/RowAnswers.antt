@@ -1,12 +1,18 @@
 -- Answers about rows, by which the calls in this crate are proved. No public clause cites this module.
-use Rattle.std.specs.Prelude.{ℕ, ℤ, List, [], ◌∷◌, Bool, true, false, Option}
+use Rattle.std.specs.Prelude.{ℕ, ℤ, List, [], ◌∷◌, map, Bool, true, false, Option}
 use Rattle.std.specs.List.{AllZip}
 use Rattle.it_space.specs.Problems.{ProblemView}
 use Rattle.it_space.specs.Answers.{AnswerView, CertificateView}
 use Rattle.it_space.specs.Answers.AnswerView.{Yes, No, Undecided, Region, Contained, Open}
 use Rattle.it_space.specs.Rows.{Terms}
 use Rattle.it_polymatroid.specs.Certificates.{Form}
+use Rattle.it_syntax.specs.Meaning.{RelationView}
+use Rattle.it_question.specs.Questions.{BodyView, RegionView}
+use Rattle.it_demand.specs.Canonical.{form_of}
 use Rattle.it_demand.specs.LineDemands.{AreRowsOf}
+use Rattle.it_demand.specs.Targets.{negation, targets}
+use Rattle.it_canon.specs.QuestionDemands.{terms_in, variables_of}
+use Rattle.it_region.specs.Obligations.{obligations}
 use Rattle.it_check.specs.Meaning.{CertifiesRow, RefutesRow}
 use Rattle.it_prove.specs.ProofViews.{ProofView}
 use Rattle.it_prove.specs.ProofViews as proof_views
@@ -43,6 +49,18 @@ pub record AnswersForms (p : ProblemView) (fs : List Form) (answer : AnswerView)
   pub are : AreRowsOf p.space fs rows
   pub answered : AnswersRows p budget rows answer
 
+-- for the target of an inequality
+abbrev pub AnswersInequality : ProblemView → RelationView → AnswerView → Option ℕ → Type 0
+AnswersInequality p r answer budget = AnswersForms p (form_of p.space.variables r ∷ []) answer budget
+
+-- for the two of an equality
+abbrev pub AnswersEquality : ProblemView → RelationView → AnswerView → Option ℕ → Type 0
+AnswersEquality p r answer budget = AnswersForms p (form_of p.space.variables r ∷ negation (form_of p.space.variables r) ∷ []) answer budget
+
+-- for those of a relation of any sign
+abbrev pub AnswersRelation : ProblemView → RelationView → AnswerView → Option ℕ → Type 0
+AnswersRelation p r answer budget = AnswersForms p (targets p.space.variables r) answer budget
+
 -- the answer after the first target
 abbrev pub answer_after_one : ProofView → AnswerView
 answer_after_one (proof_views.Yes w) = Yes (w ∷ [])
@@ -54,3 +72,11 @@ abbrev pub answer_after_two : CertificateView → ProofView → AnswerView
 answer_after_two w (proof_views.Yes v) = Yes (w ∷ v ∷ [])
 answer_after_two w (proof_views.No values) = No true values
 answer_after_two w (proof_views.Undecided cause) = Undecided cause
+
+-- the rows of a relation's targets, in a question
+abbrev pub relation_rows : BodyView → RelationView → List Terms
+relation_rows q r = map (terms_in q) (targets (variables_of q) r)
+
+-- and those of the obligations of parts
+abbrev pub obligation_rows : BodyView → RegionView → RegionView → List ℕ → List Terms
+obligation_rows q a b parts = map (terms_in q) (obligations q a b parts)

@@ -1,20 +1,18 @@
 //! The answers to questions.
-ghost use Rattle.std.specs.Prelude.{◌≡◌, [], ◌∷◌, map, IfOk};
+ghost use Rattle.std.specs.Prelude.{◌≡◌, map, IfOk};
 ghost use Rattle.it_space.specs.Answers.{answer_view, certificate_view};
 ghost use Rattle.it_space.specs.Problems.{IsProblem, problem_view};
 ghost use Rattle.it_syntax.specs.Meaning.{relation_view};
 ghost use Rattle.it_syntax.specs.Givens.{IsRelationOf};
 ghost use Rattle.it_question.specs.Limits.{IsQuestion};
 ghost use Rattle.it_question.specs.Questions.{question_body};
-ghost use Rattle.it_demand.specs.Canonical.{form_of};
 ghost use Rattle.it_demand.specs.Demands.{AreStated};
 ghost use Rattle.it_demand.specs.LineDemands.{space_of};
 ghost use Rattle.it_question.specs.Tables.{problem_names};
 ghost use Rattle.it_canon.specs.QuestionDemands.{question_demands, IsProblemOf};
-ghost use Rattle.it_demand.specs.Targets.{negation, targets};
 ghost use Rattle.it_prove.specs.ProofViews.{proof_view};
 ghost use Rattle.it_answer.specs.RightAnswers.{IsAnswered};
-ghost use Rattle.it_answer.specs.RowAnswers.{AnswersForms, answer_after_one, answer_after_two};
+ghost use Rattle.it_answer.specs.RowAnswers.{AnswersEquality, AnswersInequality, AnswersRelation, answer_after_one, answer_after_two};
 
 use crate::containments::containment;
 use crate::regions::region;
@@ -94,7 +92,7 @@ fn relation_answer(
 ) -> Result<Answer, AllocError>
     requires problem { IsProblem (problem_view problem.now) }
     requires relation { IsRelationOf problem.now.space.variables problem.now.space.rates (relation_view relation.now) }
-    ensures { IfOk result (λ a. AnswersForms (problem_view problem.now) (targets problem.now.space.variables (relation_view relation.now)) (answer_view a) budget) }
+    ensures { IfOk result (λ a. AnswersRelation (problem_view problem.now) (relation_view relation.now) (answer_view a) budget) }
 {
     match relation.sign {
         Sign::AtLeast => inequality(alloc, problem, relation, budget),
@@ -112,7 +110,7 @@ fn inequality(
 ) -> Result<Answer, AllocError>
     requires problem { IsProblem (problem_view problem.now) }
     requires relation { IsRelationOf problem.now.space.variables problem.now.space.rates (relation_view relation.now) }
-    ensures { IfOk result (λ a. AnswersForms (problem_view problem.now) (form_of problem.now.space.variables (relation_view relation.now) ∷ []) (answer_view a) budget) }
+    ensures { IfOk result (λ a. AnswersInequality (problem_view problem.now) (relation_view relation.now) (answer_view a) budget) }
 {
     let row = canon(alloc, relation, problem.space)?;
     let proof = prove(alloc, problem, &row, budget)?;
@@ -128,7 +126,7 @@ fn equation(
 ) -> Result<Answer, AllocError>
     requires problem { IsProblem (problem_view problem.now) }
     requires relation { IsRelationOf problem.now.space.variables problem.now.space.rates (relation_view relation.now) }
-    ensures { IfOk result (λ a. AnswersForms (problem_view problem.now) (form_of problem.now.space.variables (relation_view relation.now) ∷ negation (form_of problem.now.space.variables (relation_view relation.now)) ∷ []) (answer_view a) budget) }
+    ensures { IfOk result (λ a. AnswersEquality (problem_view problem.now) (relation_view relation.now) (answer_view a) budget) }
 {
     let row = canon(alloc, relation, problem.space)?;
     let mut closed = ClosedProblem::read(alloc, problem)?;

@@ -4,10 +4,10 @@ ghost use Rattle.it_space.specs.Answers.{answer_view};
 ghost use Rattle.it_syntax.specs.Meaning.{relation_view};
 ghost use Rattle.it_question.specs.Limits.{IsQuestion};
 ghost use Rattle.it_question.specs.Questions.{Contain, Prove, question_body, region_view};
-ghost use Rattle.it_demand.specs.Targets.{targets};
-ghost use Rattle.it_canon.specs.QuestionDemands.{terms_in, variables_of};
-ghost use Rattle.it_region.specs.Obligations.{ArePartsOf, obligations};
+ghost use Rattle.it_canon.specs.QuestionDemands.{terms_in};
+ghost use Rattle.it_region.specs.Obligations.{ArePartsOf};
 ghost use Rattle.it_answer.specs.AnswerKinds.{IsAnswerTo};
+ghost use Rattle.it_answer.specs.RowAnswers.{obligation_rows, relation_rows};
 ghost use Rattle.it_region.specs.AnswerForms.{answer_forms};
 
 use it_question::types::{Question, Region, Verb};
@@ -46,7 +46,7 @@ fn relation_rows(
 ) -> Result<Vec<Row>, AllocError>
     requires limits { IsQuestion (question_body question.now) }
     requires proves { (question_body question.now).verb ≡ Prove (relation_view relation.now) }
-    ensures { IfOk result (λ v. v.items ≡ map (terms_in (question_body question.now)) (targets (variables_of (question_body question.now)) (relation_view relation.now))) }
+    ensures { IfOk result (λ v. v.items ≡ relation_rows (question_body question.now) (relation_view relation.now)) }
 {
     it_canon::target_rows(alloc, relation, question.names.space())
 }
@@ -85,7 +85,7 @@ fn obligation_rows(
     requires limits { IsQuestion (question_body question.now) }
     requires contains { (question_body question.now).verb ≡ Contain (region_view first.now) (region_view second.now) tries.now }
     requires parts { ArePartsOf (region_view first.now) (region_view second.now) parts.now }
-    ensures { IfOk result (λ v. v.items ≡ map (terms_in (question_body question.now)) (obligations (question_body question.now) (region_view first.now) (region_view second.now) parts.now)) }
+    ensures { IfOk result (λ v. v.items ≡ obligation_rows (question_body question.now) (region_view first.now) (region_view second.now) parts.now) }
 {
     let pair = pair(alloc, question)?;
     let candidate = candidate(parts);
