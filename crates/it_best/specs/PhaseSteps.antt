@@ -2,8 +2,8 @@
 use Rattle.std.specs.Prelude.{◌≡◌, ℕ, ◌+◌, ◌≤◌, ℤ, pos, neg_ℤ, ◌-ℤ◌, ◌*ℤ◌, List, length, map, Option}
 use Rattle.it_rational.specs.Rational.{Rational, plus, minus}
 use Rattle.it_space.specs.declared.problems.Kind.{Kind}
-use Rattle.it_space.specs.Problems.{ProblemView}
-use Rattle.it_space.specs.Rows.{Terms, coefficient, map_of, negated_terms, value}
+use Rattle.it_space.specs.Problems.{ProblemView, IsProblem}
+use Rattle.it_space.specs.Rows.{Terms, IsUpTo, coefficient, map_of, negated_terms, value}
 use Rattle.it_space.specs.Spaces.{size_of}
 use Rattle.it_polymatroid.specs.Certificates.{IsCertificate}
 use Rattle.it_polymatroid.specs.Elementals.{span}
@@ -22,6 +22,12 @@ use Rattle.it_best.specs.Ends.{DifferenceOfProductsFits, FirstFollows, NeverFits
 use Rattle.it_best.specs.Factors.{IsFactor, ground_of}
 use Rattle.it_best.specs.Numbers.{WeightsFit, column_weight, weights_certificate}
 use Rattle.it_best.specs.Phases.{coordinate_unknown, right_equation, slacks, third_target}
+
+-- a problem, and the sides of a relation as rows over its coordinates
+pub record AreSides (q : ProblemView) (l r : Terms) : Type 0 where
+  pub problem : IsProblem q
+  pub left : IsUpTo (size_of q.space) l
+  pub right : IsUpTo (size_of q.space) r
 
 -- ---- the phases
 

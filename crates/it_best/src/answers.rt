@@ -1,14 +1,14 @@
 //! The answers by the numbers of the phases, where these fit.
 ghost use Rattle.std.specs.Prelude.{◌≡◌, IfErr, IfOk, OnOk};
-ghost use Rattle.it_space.specs.Problems.{IsProblem, problem_view};
-ghost use Rattle.it_space.specs.Rows.{IsUpTo, negated_terms};
+ghost use Rattle.it_space.specs.Problems.{problem_view};
+ghost use Rattle.it_space.specs.Rows.{negated_terms};
 ghost use Rattle.it_space.specs.Spaces.{size_of};
 ghost use Rattle.it_run.specs.Runs.RunEndView.{Weights};
 ghost use Rattle.it_elemental.specs.Generators.{generators};
 ghost use Rattle.it_best.specs.BestViews.{best_view};
 ghost use Rattle.it_best.specs.Ends.{LeastFits, ThirdFollows, UnboundedFits, first, least_view, third, unbounded_view};
 ghost use Rattle.it_best.specs.Phases.{unknown_views};
-ghost use Rattle.it_best.specs.PhaseSteps.{FollowsPoint, FollowsWeights, PhaseSeparates, PhaseSums, ThirdSums};
+ghost use Rattle.it_best.specs.PhaseSteps.{AreSides, FollowsPoint, FollowsWeights, PhaseSeparates, PhaseSums, ThirdSums};
 
 use crate::judging::{below_proof, factor_proof, least_point, never_point};
 use crate::numbers::{factor_of, numbers, values_of, weights_of};
@@ -27,9 +27,7 @@ pub fn never(
     right: &Row,
     values: &[Fraction],
 ) -> Result<Best, AllocError>
-    requires problem { IsProblem (problem_view problem.now) }
-    requires left { IsUpTo (size_of problem.now.space) left.now }
-    requires right { IsUpTo (size_of problem.now.space) right.now }
+    requires sides { AreSides (problem_view problem.now) left.now right.now }
     requires separates { PhaseSeparates (size_of problem.now.space) (first (problem_view problem.now) left.now right.now) right.now values.now }
     ensures { IfOk result (λ b. FollowsPoint (problem_view problem.now) left.now right.now values.now (best_view b)) }
 {
@@ -49,9 +47,7 @@ fn least_answer(
     unknowns: &[Unknown],
     weights: &[(usize, Fraction)],
 ) -> Result<Best, RowFault>
-    requires problem { IsProblem (problem_view problem.now) }
-    requires left { IsUpTo (size_of problem.now.space) left.now }
-    requires right { IsUpTo (size_of problem.now.space) right.now }
+    requires sides { AreSides (problem_view problem.now) left.now right.now }
     requires unknowns { unknown_views unknowns.now ≡ third (problem_view problem.now) left.now right.now }
     requires sums { ThirdSums (problem_view problem.now) right.now (third (problem_view problem.now) left.now right.now) weights.now }
     ensures value { IfOk result (λ b. best_view b ≡ least_view (problem_view problem.now) left.now right.now weights.now) }
@@ -94,9 +90,7 @@ pub fn least(
     unknowns: &[Unknown],
     weights: &[(usize, Fraction)],
 ) -> Result<Best, AllocError>
-    requires problem { IsProblem (problem_view problem.now) }
-    requires left { IsUpTo (size_of problem.now.space) left.now }
-    requires right { IsUpTo (size_of problem.now.space) right.now }
+    requires sides { AreSides (problem_view problem.now) left.now right.now }
     requires unknowns { unknown_views unknowns.now ≡ third (problem_view problem.now) left.now right.now }
     requires sums { ThirdSums (problem_view problem.now) right.now (third (problem_view problem.now) left.now right.now) weights.now }
     ensures { IfOk result (λ b. ThirdFollows (problem_view problem.now) left.now right.now (Weights weights.now) (best_view b)) }
@@ -119,9 +113,7 @@ fn unbounded_answer(
     others: &[Unknown],
     below: &[(usize, Fraction)],
 ) -> Result<Best, RowFault>
-    requires problem { IsProblem (problem_view problem.now) }
-    requires left { IsUpTo (size_of problem.now.space) left.now }
-    requires right { IsUpTo (size_of problem.now.space) right.now }
+    requires sides { AreSides (problem_view problem.now) left.now right.now }
     requires unknowns { unknown_views unknowns.now ≡ first (problem_view problem.now) left.now right.now }
     requires sums { PhaseSums (size_of problem.now.space) (first (problem_view problem.now) left.now right.now) right.now weights.now }
     requires others { unknown_views others.now ≡ generators (problem_view problem.now) }
@@ -162,9 +154,7 @@ pub fn unbounded(
     others: &[Unknown],
     below: &[(usize, Fraction)],
 ) -> Result<Best, AllocError>
-    requires problem { IsProblem (problem_view problem.now) }
-    requires left { IsUpTo (size_of problem.now.space) left.now }
-    requires right { IsUpTo (size_of problem.now.space) right.now }
+    requires sides { AreSides (problem_view problem.now) left.now right.now }
     requires unknowns { unknown_views unknowns.now ≡ first (problem_view problem.now) left.now right.now }
     requires sums { PhaseSums (size_of problem.now.space) (first (problem_view problem.now) left.now right.now) right.now weights.now }
     requires others { unknown_views others.now ≡ generators (problem_view problem.now) }

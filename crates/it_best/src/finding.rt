@@ -10,7 +10,7 @@ ghost use Rattle.it_best.specs.BestViews.{best_view};
 ghost use Rattle.it_best.specs.Ends.{EndsWith, FirstFollows, PhaseEnds, SecondFollows, ThirdFollows, first, third};
 ghost use Rattle.it_best.specs.Factors.{IsRightBest, ground_of};
 ghost use Rattle.it_best.specs.Phases.{unknown_views};
-ghost use Rattle.it_best.specs.PhaseSteps.{FollowsPhases, FollowsThird, HasNoThirdPoint, PhaseIsRight, PhaseSums, ThirdEnds, ThirdIsRight};
+ghost use Rattle.it_best.specs.PhaseSteps.{AreSides, FollowsPhases, FollowsThird, HasNoThirdPoint, PhaseIsRight, PhaseSums, ThirdEnds, ThirdIsRight};
 
 use crate::answers::{least, never, unbounded};
 use crate::sizes::is_large;
@@ -57,9 +57,7 @@ fn third_answer(
     unknowns: &[Unknown],
     end: &Solved,
 ) -> Result<Best, AllocError>
-    requires problem { IsProblem (problem_view problem.now) }
-    requires left { IsUpTo (size_of problem.now.space) left.now }
-    requires right { IsUpTo (size_of problem.now.space) right.now }
+    requires sides { AreSides (problem_view problem.now) left.now right.now }
     requires unknowns { unknown_views unknowns.now ≡ third (problem_view problem.now) left.now right.now }
     requires end { ThirdIsRight (problem_view problem.now) right.now (third (problem_view problem.now) left.now right.now) end.now }
     requires reached { HasNoThirdPoint (problem_view problem.now) right.now (third (problem_view problem.now) left.now right.now) }
@@ -111,9 +109,7 @@ fn by_third_phase(
     right: &Row,
     budget: Budget,
 ) -> Result<Best, AllocError>
-    requires problem { IsProblem (problem_view problem.now) }
-    requires left { IsUpTo (size_of problem.now.space) left.now }
-    requires right { IsUpTo (size_of problem.now.space) right.now }
+    requires sides { AreSides (problem_view problem.now) left.now right.now }
     requires reached { HasNoThirdPoint (problem_view problem.now) right.now (third (problem_view problem.now) left.now right.now) }
     ensures { IfOk result (λ b. FollowsThird (problem_view problem.now) left.now right.now budget (best_view b)) }
 {
@@ -134,9 +130,7 @@ fn second_answer(
     end: &Solved,
     budget: Budget,
 ) -> Result<Best, AllocError>
-    requires problem { IsProblem (problem_view problem.now) }
-    requires left { IsUpTo (size_of problem.now.space) left.now }
-    requires right { IsUpTo (size_of problem.now.space) right.now }
+    requires sides { AreSides (problem_view problem.now) left.now right.now }
     requires unknowns { unknown_views unknowns.now ≡ first (problem_view problem.now) left.now right.now }
     requires sums { PhaseSums (size_of problem.now.space) (first (problem_view problem.now) left.now right.now) right.now weights.now }
     requires others { unknown_views others.now ≡ generators (problem_view problem.now) }
@@ -192,9 +186,7 @@ fn by_second_phase(
     weights: &[(usize, Fraction)],
     budget: Budget,
 ) -> Result<Best, AllocError>
-    requires problem { IsProblem (problem_view problem.now) }
-    requires left { IsUpTo (size_of problem.now.space) left.now }
-    requires right { IsUpTo (size_of problem.now.space) right.now }
+    requires sides { AreSides (problem_view problem.now) left.now right.now }
     requires unknowns { unknown_views unknowns.now ≡ first (problem_view problem.now) left.now right.now }
     requires sums { PhaseSums (size_of problem.now.space) (first (problem_view problem.now) left.now right.now) right.now weights.now }
     ensures { IfOk result (λ b. FirstFollows (problem_view problem.now) left.now right.now budget (Weights weights.now) (best_view b)) }
@@ -224,9 +216,7 @@ fn first_answer(
     end: &Solved,
     budget: Budget,
 ) -> Result<Best, AllocError>
-    requires problem { IsProblem (problem_view problem.now) }
-    requires left { IsUpTo (size_of problem.now.space) left.now }
-    requires right { IsUpTo (size_of problem.now.space) right.now }
+    requires sides { AreSides (problem_view problem.now) left.now right.now }
     requires unknowns { unknown_views unknowns.now ≡ first (problem_view problem.now) left.now right.now }
     requires end { PhaseIsRight (size_of problem.now.space) (first (problem_view problem.now) left.now right.now) right.now end.now }
     ensures { IfOk result (λ b. FirstFollows (problem_view problem.now) left.now right.now budget (end_of_answer end.now) (best_view b)) }
@@ -261,9 +251,7 @@ fn by_first_phase(
     right: &Row,
     budget: Budget,
 ) -> Result<Best, AllocError>
-    requires problem { IsProblem (problem_view problem.now) }
-    requires left { IsUpTo (size_of problem.now.space) left.now }
-    requires right { IsUpTo (size_of problem.now.space) right.now }
+    requires sides { AreSides (problem_view problem.now) left.now right.now }
     ensures { IfOk result (λ b. FollowsPhases (problem_view problem.now) left.now right.now budget (best_view b)) }
 {
     let unknowns = first_phase(alloc, problem, left)?;
@@ -288,9 +276,7 @@ fn best_by_phases(
     right: &Row,
     budget: Budget,
 ) -> Result<Best, AllocError>
-    requires problem { IsProblem (problem_view problem.now) }
-    requires left { IsUpTo (size_of problem.now.space) left.now }
-    requires right { IsUpTo (size_of problem.now.space) right.now }
+    requires sides { AreSides (problem_view problem.now) left.now right.now }
     ensures { IfOk result (λ b. EndsWith (problem_view problem.now) left.now right.now budget (best_view b)) }
 {
     if is_large(problem) {

@@ -10,7 +10,7 @@ ghost use Rattle.it_columns.specs.Scaling.{scaled_point};
 ghost use Rattle.it_best.specs.Ends.{FactorFits, LeastPointFits, NeverFits, factor_row};
 ghost use Rattle.it_best.specs.Factors.{HasNoFactor, IsPoint, ground_of};
 ghost use Rattle.it_best.specs.Numbers.{weights_certificate};
-ghost use Rattle.it_best.specs.PhaseSteps.{BelowFits, CertifyBelow, CertifyFactor, CoefficientFits, RowFits, FitsAt, coefficient_at, factor_coefficient, side_values};
+ghost use Rattle.it_best.specs.PhaseSteps.{AreSides, BelowFits, CertifyBelow, CertifyFactor, CoefficientFits, RowFits, FitsAt, coefficient_at, factor_coefficient, side_values};
 
 use crate::numbers::{certificate, turned_point, whole_point};
 use it_check::{Verdict, check_no, check_yes};
@@ -178,9 +178,7 @@ pub fn never_point(
     right: &Row,
     values: &[Fraction],
 ) -> Result<Point, RowFault>
-    requires problem { IsProblem (problem_view problem.now) }
-    requires left { IsUpTo (size_of problem.now.space) left.now }
-    requires right { IsUpTo (size_of problem.now.space) right.now }
+    requires sides { AreSides (problem_view problem.now) left.now right.now }
     requires complete { length values.now ≡ size_of problem.now.space }
     requires never { HasNoFactor (ground_of (problem_view problem.now)) (value left.now) (value right.now) (map neg_ℤ (scaled_point values.now)) }
     ensures value { IfOk result (λ p. p ≡ map neg_ℤ (scaled_point values.now)) }
@@ -203,9 +201,7 @@ pub fn least_point(
     factor: &Fraction,
     values: &[Fraction],
 ) -> Result<Point, RowFault>
-    requires problem { IsProblem (problem_view problem.now) }
-    requires left { IsUpTo (size_of problem.now.space) left.now }
-    requires right { IsUpTo (size_of problem.now.space) right.now }
+    requires sides { AreSides (problem_view problem.now) left.now right.now }
     requires complete { length values.now ≡ size_of problem.now.space }
     requires meets { IsPoint (ground_of (problem_view problem.now)) (scaled_point values.now) }
     requires some { pos 1 ≤ℤ value left.now (map_of (scaled_point values.now)) }
