@@ -9,6 +9,7 @@ use Rattle.it_best.specs.BestViews.{BestView}
 use Rattle.it_best.specs.Ends.{EndsWith}
 use Rattle.it_best.specs.Factors.{IsRightBest, ground_of}
 use Rattle.it_factor.specs.Replies.{ReplyView, Found, Other}
+use Rattle.it_factor.specs.RightReplies.{at_least}
 
 -- the runs about rows of both sides under a problem end with it, and it is right of the rows
 pub record IsFoundByRows (p : ProblemView) (budget : Option ℕ) (r : RelationView) (best : BestView) : Type 0 where
@@ -24,3 +25,7 @@ abbrev pub IsReplyByRows : ProblemView → Option ℕ → Option RelationView �
 IsReplyByRows p budget (Some r) (Found best) = IsFoundByRows p budget r best
 IsReplyByRows p budget None Other = Unit {0}
 IsReplyByRows p budget asked reply = ⊥
+
+-- the reply about a relation, by its sign
+abbrev pub IsRelationReply : ProblemView → Option ℕ → RelationView → ReplyView → Type 0
+IsRelationReply p budget r reply = IsReplyByRows p budget (at_least r.sign r) reply

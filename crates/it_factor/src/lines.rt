@@ -1,13 +1,13 @@
 //! The lines of mode `best`.
 ghost use Rattle.std.specs.Prelude.{◌≡◌, ◌≤◌, ◌++◌, length, codes, decimal, IfOk, OnOk};
 ghost use Rattle.std.specs.Fmt.{signed_decimal};
-ghost use Rattle.it_space.specs.Answers.{certificate_view};
 ghost use Rattle.it_question.specs.Questions.{question_body};
 ghost use Rattle.it_question.specs.Tables.{problem_names};
 ghost use Rattle.it_canon.specs.QuestionDemands.{variables_of};
-ghost use Rattle.it_print.specs.Lines.{certificate_text, origins_of, values_text};
+ghost use Rattle.it_print.specs.Lines.{origins_of, values_text};
 ghost use Rattle.it_best.specs.BestViews.{best_view};
-ghost use Rattle.it_factor.specs.Lines.{AreValuesOf, IsBestPrintable, IsPrintable, IsThere, best_cause_text, best_line, factor_text, reply_line};
+ghost use Rattle.it_factor.specs.Lines.{AreValuesOf, IsBestPrintable, IsPrintable, IsThere, best_cause_text, best_line, reply_line};
+ghost use Rattle.it_factor.specs.LineSteps.{least_line, proof_text, proven_factor_text, unbounded_line};
 ghost use Rattle.it_factor.specs.Replies.{reply_view};
 
 use crate::types::Reply;
@@ -29,7 +29,7 @@ fn write_proof(
 ) -> Result<(), AllocError>
     requires some { 1 ≤ variables_of (question_body question.now) }
     requires there { IsThere (variables_of (question_body question.now)) (length constraints.now) proof.now }
-    ensures { OnOk result (out.new.items ≡ out.old.items ++ certificate_text (problem_names (question_body question.now)).variables (origins_of constraints.now) (certificate_view proof.now)) }
+    ensures { OnOk result (out.new.items ≡ out.old.items ++ proof_text (question_body question.now) constraints.now proof.now) }
 {
     write_signed(out, proof.scale)?;
     out.extend_from_slice(b" : ")?;
@@ -59,7 +59,7 @@ fn write_factor(
 ) -> Result<(), AllocError>
     requires some { 1 ≤ variables_of (question_body question.now) }
     requires there { IsThere (variables_of (question_body question.now)) (length constraints.now) proof.now }
-    ensures { OnOk result (out.new.items ≡ out.old.items ++ factor_text (problem_names (question_body question.now)).variables (origins_of constraints.now) num den (certificate_view proof.now)) }
+    ensures { OnOk result (out.new.items ≡ out.old.items ++ proven_factor_text (question_body question.now) constraints.now num den proof.now) }
 {
     write_ratio(out, num, den)?;
     out.extend_from_slice(b" ")?;
@@ -80,7 +80,7 @@ fn least_line(
     requires some { 1 ≤ variables_of (question_body question.now) }
     requires there { IsThere (variables_of (question_body question.now)) (length constraints.now) proof.now }
     requires point { AreValuesOf (problem_names (question_body question.now)) point.now }
-    ensures { IfOk result (λ t. t.items ≡ decimal k ++ codes " best " ++ factor_text (problem_names (question_body question.now)).variables (origins_of constraints.now) num den (certificate_view proof.now) ++ codes " at " ++ values_text (problem_names (question_body question.now)) point.now ++ codes "\n") }
+    ensures { IfOk result (λ t. t.items ≡ least_line (question_body question.now) constraints.now k num den proof.now point.now) }
 {
     let mut out = Vec::new(alloc);
     write_number(&mut out, k)?;
@@ -126,7 +126,7 @@ fn unbounded_line(
     requires some { 1 ≤ variables_of (question_body question.now) }
     requires there { IsThere (variables_of (question_body question.now)) (length constraints.now) proof.now }
     requires below { IsThere (variables_of (question_body question.now)) (length constraints.now) below.now }
-    ensures { IfOk result (λ t. t.items ≡ decimal k ++ codes " unbounded " ++ factor_text (problem_names (question_body question.now)).variables (origins_of constraints.now) num den (certificate_view proof.now) ++ codes " and " ++ certificate_text (problem_names (question_body question.now)).variables (origins_of constraints.now) (certificate_view below.now) ++ codes "\n") }
+    ensures { IfOk result (λ t. t.items ≡ unbounded_line (question_body question.now) constraints.now k num den proof.now below.now) }
 {
     let mut out = Vec::new(alloc);
     write_number(&mut out, k)?;

@@ -12,8 +12,8 @@ ghost use Rattle.it_canon.specs.QuestionDemands.{IsProblemOf, question_demands};
 ghost use Rattle.it_best.specs.BestViews.{best_view};
 ghost use Rattle.it_factor.specs.Lines.{IsPrintable};
 ghost use Rattle.it_factor.specs.Replies.{reply_view};
-ghost use Rattle.it_factor.specs.RightReplies.{IsRightReply, at_least};
-ghost use Rattle.it_factor.specs.RowReplies.{IsFoundByRows, IsReplyByRows};
+ghost use Rattle.it_factor.specs.RightReplies.{IsRightReply};
+ghost use Rattle.it_factor.specs.RowReplies.{IsFoundByRows, IsRelationReply};
 
 use crate::types::{RepliedProblem, Reply};
 use it_best::best;
@@ -81,7 +81,7 @@ fn relation_reply(
 ) -> Result<Reply, AllocError>
     requires problem { IsProblem (problem_view problem.now) }
     requires relation { IsRelationOf problem.now.space.variables problem.now.space.rates (relation_view relation.now) }
-    ensures { IfOk result (λ r. IsReplyByRows (problem_view problem.now) budget (at_least (relation_view relation.now).sign (relation_view relation.now)) (reply_view r)) }
+    ensures { IfOk result (λ r. IsRelationReply (problem_view problem.now) budget (relation_view relation.now) (reply_view r)) }
 {
     match relation.sign {
         Sign::AtLeast => {
