@@ -5,12 +5,12 @@ use Rattle.it_copy.specs.Extensions.{IsProof}
 use Rattle.it_print.specs.Lines.{answer_line}
 use Rattle.it_factor.specs.Lines.{reply_line}
 use Rattle.it_factor.specs.RightReplies.{IsRightReply}
-use Rattle.it_sharing.specs.Sharings.{SharingView, made_question}
+use Rattle.it_sharing.specs.Sharings.{SharingView, made_question, maximal_count, minimal_count}
 use Rattle.it_cli.specs.Copies.{IsRightProof}
 use Rattle.it_cli.specs.InnerEnds.{IsProofText, IsTextOf}
 use Rattle.it_cli.specs.Outputs.{best_mode, sharing_mode}
 use Rattle.it_cli.specs.Right.{question_origins}
-use Rattle.it_cli.specs.SharingReplies.{Answered, Factored, maximal_count, minimal_count, sharing_heading}
+use Rattle.it_cli.specs.SharingReplies.{Answered, Factored, sharing_heading}
 
 -- a made question is about a relation
 pub made_is_proof : (x : SharingView) (q : QuestionView) → q ≡ made_question x → IsProof q.body.verb

@@ -1,13 +1,12 @@
 -- What mode `sharing` replies to a file: a right answer to the question that it makes, or that its sets are too many.
-use Rattle.std.specs.Prelude.{◌≡◌, ℕ, ◌+◌, ◌<◌, ◌≤◌, true, false, List, [], ◌∷◌, ◌++◌, length, Option, codes, decimal}
+use Rattle.std.specs.Prelude.{◌≡◌, ℕ, ◌+◌, ◌<◌, ◌≤◌, true, false, List, [], ◌∷◌, ◌++◌, Option, codes, decimal}
 use Rattle.it_space.specs.Answers.{AnswerView}
 use Rattle.it_print.specs.Lines.{answer_line}
 use Rattle.it_factor.specs.Lines.{reply_line}
 use Rattle.it_factor.specs.Replies.{ReplyView}
 use Rattle.it_factor.specs.RightReplies.{IsRightReply}
-use Rattle.it_sharing.specs.AccessStructures.{maximal_sets, minimal_sets}
 use Rattle.it_sharing.specs.SharingFiles.{IsSharingFile}
-use Rattle.it_sharing.specs.Sharings.{SharingView, made_question}
+use Rattle.it_sharing.specs.Sharings.{SharingView, made_question, maximal_count, minimal_count}
 use Rattle.it_cli.specs.Copies.{IsRightProof}
 use Rattle.it_cli.specs.Right.{question_origins}
 
@@ -22,14 +21,6 @@ pub data SharingReply : Type 0 where
   Many : SharingReply
   Answered : (answer : AnswerView) → SharingReply
   Factored : (reply : ReplyView) → SharingReply
-
--- how many minimal qualified sets there are
-abbrev pub minimal_count : SharingView → ℕ
-minimal_count x = length (minimal_sets x.qualified)
-
--- how many maximal unqualified sets there are
-abbrev pub maximal_count : SharingView → ℕ
-maximal_count x = length (maximal_sets (length x.names.variables) x.qualified)
 
 -- a right reply: many where these are more than 64 together, else a right one to the made question, by what the file asks for
 abbrev pub IsRightSharing : Option ℕ → SharingView → SharingReply → Type 0

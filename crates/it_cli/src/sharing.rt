@@ -2,10 +2,10 @@
 ghost use Rattle.std.specs.Prelude.{◌≡◌, ◌+◌, ◌<◌, ◌≤◌, ◌∷◌, ◌++◌, [], codes, length, IfOk};
 ghost use Rattle.it_question.specs.Limits.{IsQuestion};
 ghost use Rattle.it_question.specs.Questions.{question_body, question_view};
-ghost use Rattle.it_sharing.specs.Sharings.{IsSharing, made_question, sharing_view};
+ghost use Rattle.it_sharing.specs.Sharings.{IsSharing, made_question, sharing_view, maximal_count, minimal_count};
 ghost use Rattle.it_cli.specs.InnerEnds.{EndOfBytes, EndOfItems, IsTextOf};
 ghost use Rattle.it_cli.specs.Outputs.{sharing_mode};
-ghost use Rattle.it_cli.specs.SharingReplies.{maximal_count, minimal_count, sharing_heading};
+ghost use Rattle.it_cli.specs.SharingReplies.{sharing_heading};
 
 use crate::answering::tell_fault;
 use crate::copying::proof_lines;

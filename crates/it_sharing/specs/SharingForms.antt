@@ -35,13 +35,21 @@ aim v =
     If (word (codes "prove")) (λ u. to_end (relation (scope_of v true)) >>= λ x. Give (false, x))
     (Take (word (codes "best")) >> (to_end (bound (scope_of v true)) >>= λ x. Give (true, x)))
 
+-- after `secret`
+abbrev pub secret_name : Form NamesView
+secret_name = to_end (new_name Variable 1 no_names)
+
+-- after `parties`, where the secret has its name
+abbrev pub party_names : NamesView → Form NamesView
+party_names secret = new_names Variable (length secret.variables + most_parties) secret
+
 -- a sharing file, up to its end
 unfoldable pub sharing : Form SharingView
 sharing = do
   Take (word (codes "secret"))
-  secret ← to_end (new_name Variable 1 no_names)
+  secret ← secret_name
   Take (word (codes "parties"))
-  all ← new_names Variable (length secret.variables + most_parties) secret
+  all ← party_names secret
   Take (word (codes "qualified"))
   first ← to_end (names (party_env all))
   lists ← more_lists (party_env all) (first ∷ [])

@@ -56,6 +56,14 @@ knows_nothing b = vanishing (Mutual secret b 0)
 unfoldable pub made_givens : ℕ → List ℕ → List GivenView
 made_givens n listed = map knows (minimal_sets listed) ++ map knows_nothing (maximal_sets n listed)
 
+-- how many minimal qualified sets there are
+abbrev pub minimal_count : SharingView → ℕ
+minimal_count x = length (minimal_sets x.qualified)
+
+-- how many maximal unqualified sets there are
+abbrev pub maximal_count : SharingView → ℕ
+maximal_count x = length (maximal_sets (length x.names.variables) x.qualified)
+
 -- whether the relation of a sharing file holds under some givens
 abbrev pub question_under : SharingView → List GivenView → QuestionView
 question_under x givens = record { body = record { names = x.names; lines = record { givens = givens; rows = [] }; verb = Prove x.relation }; text = [] }

@@ -1,11 +1,10 @@
 //! The question that is made of a sharing file.
-ghost use Rattle.std.specs.Prelude.{◌≡◌, ◌≤◌, ◌<◌, ◌+◌, ◌++◌, [], ◌∷◌, false, length, map, IfOk, OnOk, IfErr};
+ghost use Rattle.std.specs.Prelude.{◌≡◌, ◌≤◌, ◌<◌, ◌+◌, ◌++◌, [], ◌∷◌, false, map, IfOk, OnOk, IfErr};
 ghost use Rattle.it_syntax.specs.Givens.{given_view};
 ghost use Rattle.it_question.specs.Questions.{question_view, question_body};
 ghost use Rattle.it_question.specs.Limits.{IsQuestion};
 ghost use Rattle.it_sharing.specs.declared.types.MadeFault.TheVariants.{Many};
-ghost use Rattle.it_sharing.specs.AccessStructures.{minimal_sets, maximal_sets};
-ghost use Rattle.it_sharing.specs.Sharings.{sharing_view, IsSharing, vanishing, knows, knows_nothing, made_question, question_under};
+ghost use Rattle.it_sharing.specs.Sharings.{sharing_view, IsSharing, vanishing, knows, knows_nothing, made_question, question_under, maximal_count, minimal_count};
 
 use crate::sets::{maximal_sets, minimal_sets};
 use crate::types::{Made, MadeFault, Sharing};
@@ -145,11 +144,11 @@ fn question(alloc: Global, from: &Sharing, givens: Vec<Given>) -> Result<Questio
 pub fn made(alloc: Global, from: &Sharing) -> Result<Made, MadeFault>
     requires { IsSharing (sharing_view from.now) }
     ensures question { IfOk result (λ m. question_view m.question ≡ made_question (sharing_view from.now)) }
-    ensures minimal { IfOk result (λ m. m.minimal ≡ length (minimal_sets from.now.qualified.items)) }
-    ensures maximal { IfOk result (λ m. m.maximal ≡ length (maximal_sets (length from.now.names.variables) from.now.qualified.items)) }
+    ensures minimal { IfOk result (λ m. m.minimal ≡ minimal_count (sharing_view from.now)) }
+    ensures maximal { IfOk result (λ m. m.maximal ≡ maximal_count (sharing_view from.now)) }
     ensures few { IfOk result (λ m. m.minimal + m.maximal ≤ 64) }
     ensures limits { IfOk result (λ m. IsQuestion (question_body m.question)) }
-    ensures many { IfErr result (λ e. e ≡ Many → 64 < length (minimal_sets from.now.qualified.items) + length (maximal_sets (length from.now.names.variables) from.now.qualified.items)) }
+    ensures many { IfErr result (λ e. e ≡ Many → 64 < minimal_count (sharing_view from.now) + maximal_count (sharing_view from.now)) }
 {
     let listed = from.qualified.as_slice();
     let minimal = minimal_sets(alloc, listed)?;

@@ -1,15 +1,12 @@
 //! The reader of sharing files.
-ghost use Rattle.std.specs.Prelude.{◌≡◌, ◌≤◌, ◌+◌, length, OnOk, IfOk, IfErr};
+ghost use Rattle.std.specs.Prelude.{◌≡◌, ◌≤◌, length, OnOk, IfOk, IfErr};
 ghost use Rattle.it_syntax.specs.Gives.{GivesBy};
 ghost use Rattle.it_question.specs.Cursors.{letters_left};
-ghost use Rattle.it_question.specs.NewNames.{Variable, no_names};
-ghost use Rattle.it_question.specs.QuestionForms as question;
+ghost use Rattle.it_question.specs.NewNames.{no_names};
 ghost use Rattle.it_forms.specs.FormReading.{read};
-ghost use Rattle.it_forms.specs.Words.{to_end};
 ghost use Rattle.it_sharing.specs.Sharings.{sharing_view, IsSharing, IsBoundWhereBest};
 ghost use Rattle.it_sharing.specs.SharingFiles.{IsSharingFile, IsFirstSharingFault};
 ghost use Rattle.it_sharing.specs.SharingForms as forms;
-ghost use Rattle.it_sharing.specs.Parties.{most_parties};
 
 use crate::aims::aim;
 use crate::lists::{QUALIFIED, list, more_lists};
@@ -35,7 +32,7 @@ const MOST_PARTIES: usize = 8;
 #[tactic(auto, unfolding(it_forms::specs::FormReading::read))]
 fn secret(cursor: &mut Cursor<'_>, names: &mut Names) -> Result<(), Stop>
     requires { names.old ≡ no_names }
-    ensures gives { GivesBy (λ x. names.new) result (letters_left cursor.new) (read (to_end (question.new_name Variable 1 no_names)) (letters_left cursor.old)) }
+    ensures gives { GivesBy (λ x. names.new) result (letters_left cursor.new) (read forms.secret_name (letters_left cursor.old)) }
     ensures one { OnOk result (length names.new.variables ≡ 1) }
 {
     new_name(cursor, names, NameSort::Variable, 1)?;
@@ -45,7 +42,7 @@ fn secret(cursor: &mut Cursor<'_>, names: &mut Names) -> Result<(), Stop>
 /// The names of the parties, up to the line's end.
 fn parties(cursor: &mut Cursor<'_>, names: &mut Names) -> Result<(), Stop>
     requires { length names.old.variables ≡ 1 }
-    ensures { GivesBy (λ x. names.new) result (letters_left cursor.new) (read (question.new_names Variable (length names.old.variables + most_parties) names.old) (letters_left cursor.old)) }
+    ensures { GivesBy (λ x. names.new) result (letters_left cursor.new) (read (forms.party_names names.old) (letters_left cursor.old)) }
 {
     names_to_end(cursor, names, NameSort::Variable, 1 + MOST_PARTIES)
 }
