@@ -18,9 +18,13 @@ member n = Take (any_word (λ w. (new_flag (is_measure w) false n, w)))
 unfoldable pub more_members : List (List ℕ) → Form (List (List ℕ))
 more_members names = each_after Comma (λ names. member (most_members - length names)) (λ names w. names ++ w ∷ []) names
 
+-- one or more names with commas between them
+abbrev pub members : Form (List (List ℕ))
+members = member most_members >>= λ w. more_members (w ∷ [])
+
 -- `0`, or names
 unfoldable pub over : Form (List (List ℕ))
-over = If zero_alone (λ u. Give []) (member most_members >>= λ w. more_members (w ∷ []))
+over = If zero_alone (λ u. Give []) members
 
 -- after `copy`
 unfoldable pub copy : Form CopyView

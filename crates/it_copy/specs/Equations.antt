@@ -25,10 +25,14 @@ equal_atoms left right = Relation (record { left = term_of left ∷ []; sign = E
 abbrev pub inside_equation : ℕ → ℕ → ℕ → GivenView
 inside_equation fresh old s = equal_atoms (Entropy (bit_or (2 ^ fresh) s) 0) (Entropy (bit_or (2 ^ old) s) 0)
 
+-- such an equation for each of these sets that is inside another one
+abbrev pub inside_equations : ℕ → ℕ → ℕ → List ℕ → List GivenView
+inside_equations fresh old over sets = map (inside_equation fresh old) (filter (λ s. is_inside s over) sets)
+
 -- I(R;V|W) = 0, where V is the variables before R that aren't in W
 abbrev pub apart_equation : ℕ → ℕ → GivenView
 apart_equation fresh over = equal_atoms (Mutual (2 ^ fresh) ((2 ^ fresh - 1) - over) over) Nothing
 
 -- the equations of variable `fresh`, a copy of variable `old` over a set: one for each set inside it, by number, and the last one
 unfoldable pub copy_equations : ℕ → ℕ → ℕ → List GivenView
-copy_equations fresh old over = map (inside_equation fresh old) (filter (λ s. is_inside s over) (span 0 (over + 1))) ++ apart_equation fresh over ∷ []
+copy_equations fresh old over = inside_equations fresh old over (span 0 (over + 1)) ++ apart_equation fresh over ∷ []

@@ -40,10 +40,14 @@ with_copy v c = with_name Variable v c.fresh
 abbrev pub with_copies : NamesView → List CopyView → NamesView
 with_copies v cs = fold with_copy v cs
 
+-- the equations of a copy that stands after these names, of its place
+abbrev pub equations_at : NamesView → ℕ × ℕ → List GivenView
+equations_at v place = copy_equations (length v.variables) place.0 place.1
+
 -- the equations of copies, in order
 abbrev pub equations_of : NamesView → List CopyView → List GivenView
 equations_of v [] = []
-equations_of v (c ∷ cs) = option_map_or (λ (x : ℕ × ℕ). copy_equations (length v.variables) x.0 x.1) (placed v c) [] ++ equations_of (with_copy v c) cs
+equations_of v (c ∷ cs) = option_map_or (λ (x : ℕ × ℕ). equations_at v x) (placed v c) [] ++ equations_of (with_copy v c) cs
 
 -- the number of the first copy that can't be made, the first being number k
 abbrev pub first_unplaced : ℕ → NamesView → List CopyView → Option ℕ

@@ -2,6 +2,7 @@ pub mod CopyLines
 pub mod Heads
 pub mod HeadSteps
 pub mod Files
+pub mod FileSteps
 pub mod Equations
 pub mod Extensions
 pub mod ExtensionSteps

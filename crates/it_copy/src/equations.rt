@@ -1,10 +1,10 @@
 //! The equations of a copy.
-ghost use Rattle.std.specs.Prelude.{◌≡◌, ◌<◌, ◌≤◌, ◌-◌, ◌^◌, ◌++◌, [], ◌∷◌, OnOk, IfOk, filter, map, ◌+◌};
+ghost use Rattle.std.specs.Prelude.{◌≡◌, ◌<◌, ◌≤◌, ◌-◌, ◌^◌, ◌++◌, [], ◌∷◌, OnOk, IfOk, map, ◌+◌};
 ghost use Rattle.it_syntax.specs.declared.types.Atom.TheVariants.{Entropy};
 ghost use Rattle.it_syntax.specs.Givens.{given_view};
 ghost use Rattle.it_polymatroid.specs.Elementals.{span};
 ghost use Rattle.it_closure.specs.Closures.{is_inside};
-ghost use Rattle.it_copy.specs.Equations.{apart_equation, copy_equations, equal_atoms, inside_equation, term_of};
+ghost use Rattle.it_copy.specs.Equations.{apart_equation, copy_equations, equal_atoms, term_of, inside_equations};
 
 use it_space::VarSet;
 use it_syntax::types::{Atom, Expr, Given, Relation, Sign, Term};
@@ -62,7 +62,7 @@ fn add_part(
 ) -> Result<(), AllocError>
     requires fresh { fresh < 16 }
     requires old { old < 16 }
-    ensures { OnOk result (map given_view givens.new.items ≡ map given_view givens.old.items ++ map (inside_equation fresh old) (filter (λ s. is_inside s over) (set ∷ []))) }
+    ensures { OnOk result (map given_view givens.new.items ≡ map given_view givens.old.items ++ inside_equations fresh old over (set ∷ [])) }
 {
     if is_part(over, set) {
         let copy = joint(VarSet::single(fresh).union(set));
@@ -90,7 +90,7 @@ fn add_inside(
 ) -> Result<(), AllocError>
     requires fresh { fresh < 16 }
     requires old { old < 16 }
-    ensures { OnOk result (map given_view givens.new.items ≡ map given_view givens.old.items ++ map (inside_equation fresh old) (filter (λ s. is_inside s over) (span 0 (over + 1)))) }
+    ensures { OnOk result (map given_view givens.new.items ≡ map given_view givens.old.items ++ inside_equations fresh old over (span 0 (over + 1))) }
 {
     for number in 0..over.number() as u32 + 1 {
         let set = VarSet::from_number(number as u16);

@@ -10,8 +10,7 @@ ghost use Rattle.it_question.specs.Tables.{most_entries};
 ghost use Rattle.it_question.specs.Questions.{Prove, question_body, question_view};
 ghost use Rattle.it_question.specs.QuestionLimits.{most_variables};
 ghost use Rattle.it_copy.specs.CopyLines.{AreNamed, copy_view};
-ghost use Rattle.it_copy.specs.Equations.{copy_equations};
-ghost use Rattle.it_copy.specs.Extensions.{IsExtension, IsMisfit, equations_of, extended, first_unplaced, named_parts, placed, set_with, unless_member, with_copies};
+ghost use Rattle.it_copy.specs.Extensions.{IsExtension, IsMisfit, equations_of, extended, first_unplaced, named_parts, placed, set_with, unless_member, with_copies, equations_at};
 ghost use Rattle.it_copy.specs.ExtensionSteps.{IsLarge, IsLargeBy, IsPastLimits, IsUnplaced};
 
 use crate::equations::add_equations;
@@ -114,7 +113,7 @@ fn add_copy(
     requires old { place.0 < 16 }
     requires inside { place.1 < 2 ^ length names.old.variables }
     ensures names { OnOk result (names.new ≡ with_name Variable names.old fresh.now) }
-    ensures givens { OnOk result (map given_view givens.new.items ≡ map given_view givens.old.items ++ copy_equations (length names.old.variables) place.0 place.1) }
+    ensures givens { OnOk result (map given_view givens.new.items ≡ map given_view givens.old.items ++ equations_at names.old place) }
 {
     let next = names.space().variables;
     add_equations(alloc, givens, next, place.0, place.1)?;

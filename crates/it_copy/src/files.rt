@@ -9,6 +9,7 @@ ghost use Rattle.it_question.specs.Questions.{question_body, question_view};
 ghost use Rattle.it_copy.specs.CopyForms as forms;
 ghost use Rattle.it_copy.specs.CopyLines.{AreNamed, copy_view};
 ghost use Rattle.it_copy.specs.Files.{IsCopyFile, IsFirstCopyFault};
+ghost use Rattle.it_copy.specs.FileSteps.{file_view};
 
 use crate::copy_lines::copies;
 use crate::types::{CopyFile, CopyLine};
@@ -27,7 +28,7 @@ struct Reading {
 /// What a file with a head asks, up to its end.
 #[tactic(auto, unfolding(crate::specs::CopyForms::copy_file, it_forms::specs::FormReading::read))]
 fn whole(alloc: Global, cursor: &mut Cursor<'_>) -> Result<Reading, Stop>
-    ensures gives { GivesBy (λ x. (map copy_view x.copies.items, map body_view x.bodies.items)) result (letters_left cursor.new) (read forms.copy_file (letters_left cursor.old)) }
+    ensures gives { GivesBy (λ x. file_view x.copies.items x.bodies.items) result (letters_left cursor.new) (read forms.copy_file (letters_left cursor.old)) }
     ensures names { IfOk result (λ x. AreNamed x.copies.items) }
     ensures few { IfOk result (λ x. length x.copies.items ≤ 4) }
     ensures limits { IfOk result (λ x. All (λ b. IsQuestion (body_view b)) x.bodies.items) }
