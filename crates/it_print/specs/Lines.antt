@@ -79,6 +79,10 @@ sum_text names origins weights = joined_texts (codes " + ") false (or_zero (map 
 unfoldable pub certificate_text : List (List ℕ) → List Origin → CertificateView → List ℕ
 certificate_text names origins w = signed_decimal w.scale ++ codes " : " ++ sum_text names origins w.weights
 
+-- certificates with ` and ` between them
+abbrev pub proofs_text : List (List ℕ) → List Origin → List CertificateView → List ℕ
+proofs_text names origins ws = joined_texts (codes " and ") false (map (certificate_text names origins) ws)
+
 -- a coordinate as `h(X,Y)`, or as a rate's name
 unfoldable pub coordinate_text : NamesView → ℕ → List ℕ
 coordinate_text v c =
@@ -131,9 +135,17 @@ row_text v kind terms = (if length terms == 0 then codes "0" else terms_text v t
 unfoldable pub row_line : ℕ → NamesView → Mark × Terms → List ℕ
 row_line k v row = decimal k ++ codes " row " ++ mark_word row.0 ++ codes " " ++ row_text v Inequality row.1 ++ codes "\n"
 
+-- the line with the number of a region's rows, and those of the rows
+abbrev pub region_lines : ℕ → NamesView → List (Mark × Terms) → List ℕ
+region_lines k v rows = decimal k ++ codes " region " ++ decimal (length rows) ++ codes "\n" ++ flat_map (row_line k v) rows
+
 -- `undecided`, and its cause
 unfoldable pub undecided_line : ℕ → NamesView → Cause → List ℕ
 undecided_line k v cause = decimal k ++ codes " undecided " ++ cause_text v cause ++ codes "\n"
+
+-- the names of the variables of a question's problem
+abbrev pub variable_names : BodyView → List (List ℕ)
+variable_names q = (problem_names q).variables
 
 -- the names of the auxiliary variables that a containment asks for
 abbrev pub auxiliary_names : NamesView → VerbView → List (List ℕ)
@@ -149,9 +161,13 @@ abbrev pub parts_for : List (List ℕ) → List (List ℕ) → List ℕ → List
 parts_for variables (name ∷ names) (set ∷ sets) = part_for variables name set ++ parts_for variables names sets
 parts_for variables names sets = []
 
+-- the sets for the auxiliary variables of a question's second region, by the names of the first one
+abbrev pub substitution_text : BodyView → List ℕ → List ℕ
+substitution_text q sets = parts_for (variable_names q) (auxiliary_names q.names q.verb) sets
+
 -- `contained`, and the substitution
-unfoldable pub contained_line : ℕ → List (List ℕ) → List (List ℕ) → List ℕ → List ℕ
-contained_line k auxiliaries variables sets = decimal k ++ codes " contained" ++ parts_for variables auxiliaries sets ++ codes "\n"
+unfoldable pub contained_line : ℕ → BodyView → List ℕ → List ℕ
+contained_line k q sets = decimal k ++ codes " contained" ++ substitution_text q sets ++ codes "\n"
 
 -- `open`, and how many candidates were tried
 unfoldable pub open_line : ℕ → ℕ → List ℕ
@@ -167,12 +183,11 @@ IsRowOver v terms = All (λ t. t.0 < 2 ^ length v.variables + length v.rates) te
 
 -- the lines of an answer to question k, with the origins of its constraints; a region's rows have a line each
 abbrev pub answer_line : ℕ → BodyView → List Origin → AnswerView → List ℕ
-answer_line k q origins (Yes ws) =
-    decimal k ++ codes " yes " ++ joined_texts (codes " and ") false (map (certificate_text (problem_names q).variables origins) ws) ++ codes "\n"
+answer_line k q origins (Yes ws) = decimal k ++ codes " yes " ++ proofs_text (variable_names q) origins ws ++ codes "\n"
 answer_line k q origins (No is_back values) = decimal k ++ codes " no " ++ values_text (problem_names q) values ++ codes "\n"
 answer_line k q origins (Undecided cause) = undecided_line k (problem_names q) cause
-answer_line k q origins (Region rows) = decimal k ++ codes " region " ++ decimal (length rows) ++ codes "\n" ++ flat_map (row_line k (problem_names q)) rows
-answer_line k q origins (Contained parts proofs) = contained_line k (auxiliary_names q.names q.verb) (problem_names q).variables parts
+answer_line k q origins (Region rows) = region_lines k (problem_names q) rows
+answer_line k q origins (Contained parts proofs) = contained_line k q parts
 answer_line k q origins (Open tried) = open_line k tried
 
 -- the generators of these certificates are there, of n variables and m constraints

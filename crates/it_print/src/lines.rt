@@ -1,10 +1,10 @@
 //! The lines of answers.
-ghost use Rattle.std.specs.Prelude.{◌≡◌, ◌≤◌, ◌<◌, ◌+◌, ◌^◌, ◌++◌, length, map, flat_map, codes, decimal, false, OnOk, IfOk, All};
-ghost use Rattle.it_space.specs.Answers.{answer_view, certificate_view};
+ghost use Rattle.std.specs.Prelude.{◌≡◌, ◌≤◌, ◌<◌, ◌+◌, ◌^◌, ◌++◌, length, codes, decimal, OnOk, IfOk, All};
+ghost use Rattle.it_space.specs.Answers.{answer_view};
 ghost use Rattle.it_question.specs.Questions.{question_body};
-ghost use Rattle.it_question.specs.Tables.{problem_names};
 ghost use Rattle.it_canon.specs.QuestionDemands.{variables_of};
-ghost use Rattle.it_print.specs.Lines.{AreListed, IsCauseOf, IsPrintable, IsRowOver, answer_line, auxiliary_names, cause_text, certificate_text, contained_line, joined_texts, open_line, origins_of, row_line, undecided_line, values_text};
+ghost use Rattle.it_print.specs.Lines.{AreListed, IsCauseOf, IsPrintable, IsRowOver, answer_line, auxiliary_names, cause_text, contained_line, open_line, origins_of, undecided_line, values_text, region_lines};
+ghost use Rattle.it_print.specs.ByConstraints.{proofs_text_by};
 
 use crate::pieces::write_number;
 use crate::rows::write_row_lines;
@@ -51,7 +51,7 @@ fn yes_line(
 ) -> Result<Vec<u8>, AllocError>
     requires some { 1 ≤ length names.now.variables }
     requires there { AreListed (length names.now.variables) (length constraints.now) proofs.now }
-    ensures { IfOk result (λ t. t.items ≡ decimal k ++ codes " yes " ++ joined_texts (codes " and ") false (map (certificate_text names.now.variables (origins_of constraints.now)) (map certificate_view proofs.now)) ++ codes "\n") }
+    ensures { IfOk result (λ t. t.items ≡ decimal k ++ codes " yes " ++ proofs_text_by names.now constraints.now proofs.now ++ codes "\n") }
 {
     let mut out = Vec::new(alloc);
     write_number(&mut out, k)?;
@@ -103,7 +103,7 @@ fn region_lines(
     rows: &[(Mark, Row)],
 ) -> Result<Vec<u8>, AllocError>
     requires { All (λ row. IsRowOver names.now row.1) rows.now }
-    ensures { IfOk result (λ t. t.items ≡ decimal k ++ codes " region " ++ decimal (length rows.now) ++ codes "\n" ++ flat_map (row_line k names.now) rows.now) }
+    ensures { IfOk result (λ t. t.items ≡ region_lines k names.now rows.now) }
 {
     let mut out = Vec::new(alloc);
     write_number(&mut out, k)?;
@@ -123,7 +123,7 @@ fn contained_line(
     sets: &[VarSet],
 ) -> Result<Vec<u8>, AllocError>
     requires { length sets.now ≡ length (auxiliary_names (question_body question.now).names (question_body question.now).verb) }
-    ensures { IfOk result (λ t. t.items ≡ contained_line k (auxiliary_names (question_body question.now).names (question_body question.now).verb) (problem_names (question_body question.now)).variables sets.now) }
+    ensures { IfOk result (λ t. t.items ≡ contained_line k (question_body question.now) sets.now) }
 {
     let mut out = Vec::new(alloc);
     write_number(&mut out, k)?;

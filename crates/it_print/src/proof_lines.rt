@@ -1,15 +1,13 @@
 //! Answers with the rows that their proofs use.
-ghost use Rattle.std.specs.Prelude.{◌≡◌, ◌≤◌, ◌<◌, ◌+◌, ◌++◌, length, map, filter, flat_map, codes, decimal, OnOk, IfOk, All};
-ghost use Rattle.std.specs.Fmt.{signed_decimal};
-ghost use Rattle.it_space.specs.Answers.{answer_view, certificate_view, is_nonzero_weight};
-ghost use Rattle.it_space.specs.declared.problems.Kind.TheVariants.{Inequality};
-ghost use Rattle.it_polymatroid.specs.Elementals.{elementals, elemental_at};
-ghost use Rattle.it_elemental.specs.Generators.{of_elemental};
+ghost use Rattle.std.specs.Prelude.{◌≡◌, ◌≤◌, ◌<◌, ◌+◌, ◌++◌, length, filter, flat_map, OnOk, IfOk, All};
+ghost use Rattle.it_space.specs.Answers.{answer_view, is_nonzero_weight};
+ghost use Rattle.it_polymatroid.specs.Elementals.{elementals};
 ghost use Rattle.it_question.specs.Questions.{question_body};
 ghost use Rattle.it_question.specs.Tables.{problem_names};
 ghost use Rattle.it_canon.specs.QuestionDemands.{variables_of};
-ghost use Rattle.it_print.specs.Lines.{AreListed, IsPrintable, IsRowOver, answer_line, origins_of, row_text};
-ghost use Rattle.it_print.specs.ProofLines.{certificate_lines, generator_rows, proof_lines, proof_text, weight_line};
+ghost use Rattle.it_print.specs.Lines.{AreListed, IsPrintable, IsRowOver, answer_line, row_text};
+ghost use Rattle.it_print.specs.ProofLines.{generator_rows, generator_row_text, proof_text_by, sum_line};
+ghost use Rattle.it_print.specs.ByConstraints.{certificate_lines_by, elemental_row_text, proof_lines_by, weight_line_by};
 
 use crate::lines::answer_line;
 use crate::pieces::{write_number, write_signed};
@@ -37,7 +35,7 @@ pub fn proof_text(
     requires printable { IsPrintable (question_body question.now) (length constraints.now) answer.now }
     requires rows { All (λ c. IsRowOver (problem_names (question_body question.now)) c.row) constraints.now }
     requires targets { All (IsRowOver (problem_names (question_body question.now))) targets.now }
-    ensures { IfOk result (λ t. t.items ≡ proof_text k (question_body question.now) (origins_of constraints.now) (generator_rows (problem_names (question_body question.now)) constraints.now) targets.now (answer_view answer.now)) }
+    ensures { IfOk result (λ t. t.items ≡ proof_text_by k (question_body question.now) constraints.now targets.now (answer_view answer.now)) }
 {
     let mut out = answer_line(alloc, k, question, constraints, answer)?;
     let names = problem_names(question);
@@ -72,7 +70,7 @@ fn write_proof_lines(
     requires there { AreListed (length names.now.variables) (length constraints.now) proofs.now }
     requires rows { All (λ c. IsRowOver names.now c.row) constraints.now }
     requires targets { All (IsRowOver names.now) targets.now }
-    ensures { OnOk result (out.new.items ≡ out.old.items ++ proof_lines k names.now (origins_of constraints.now) (generator_rows names.now constraints.now) (map certificate_view proofs.now) targets.now) }
+    ensures { OnOk result (out.new.items ≡ out.old.items ++ proof_lines_by k names.now constraints.now proofs.now targets.now) }
 {
     // by index, since the invariant speaks of both lists from i on
     for i in 0..proofs.len().min(targets.len()) {
@@ -96,7 +94,7 @@ fn write_certificate_lines(
     requires there { All (λ w. w.0 < length (elementals (length names.now.variables)) + length constraints.now) certificate.now.weights.items }
     requires rows { All (λ c. IsRowOver names.now c.row) constraints.now }
     requires target { IsRowOver names.now target.now }
-    ensures { OnOk result (out.new.items ≡ out.old.items ++ certificate_lines k names.now (origins_of constraints.now) (generator_rows names.now constraints.now) (certificate_view certificate.now) target.now) }
+    ensures { OnOk result (out.new.items ≡ out.old.items ++ certificate_lines_by k names.now constraints.now certificate.now target.now) }
 {
     let weights = certificate.weights.as_slice();
     write_weight_lines(alloc, out, k, names, constraints, weights)?;
@@ -115,7 +113,7 @@ fn write_weight_lines(
     requires some { 1 ≤ length names.now.variables }
     requires there { All (λ w. w.0 < length (elementals (length names.now.variables)) + length constraints.now) weights.now }
     requires rows { All (λ c. IsRowOver names.now c.row) constraints.now }
-    ensures { OnOk result (out.new.items ≡ out.old.items ++ flat_map (weight_line k names.now (origins_of constraints.now) (generator_rows names.now constraints.now)) (filter is_nonzero_weight weights.now)) }
+    ensures { OnOk result (out.new.items ≡ out.old.items ++ flat_map (weight_line_by k names.now constraints.now) (filter is_nonzero_weight weights.now)) }
 {
     for weight in weights {
         if is_nonzero_weight(weight) {
@@ -138,7 +136,7 @@ fn write_weight_line(
     requires some { 1 ≤ length names.now.variables }
     requires there { weight.now.0 < length (elementals (length names.now.variables)) + length constraints.now }
     requires rows { All (λ c. IsRowOver names.now c.row) constraints.now }
-    ensures { OnOk result (out.new.items ≡ out.old.items ++ weight_line k names.now (origins_of constraints.now) (generator_rows names.now constraints.now) weight.now) }
+    ensures { OnOk result (out.new.items ≡ out.old.items ++ weight_line_by k names.now constraints.now weight.now) }
 {
     write_number(out, k)?;
     out.extend_from_slice(b" proof ")?;
@@ -159,7 +157,7 @@ fn write_generator_row(
     requires some { 1 ≤ length names.now.variables }
     requires there { generator < length (elementals (length names.now.variables)) + length constraints.now }
     requires rows { All (λ c. IsRowOver names.now c.row) constraints.now }
-    ensures { OnOk result (out.new.items ≡ out.old.items ++ row_text names.now (generator_rows names.now constraints.now generator).kind (generator_rows names.now constraints.now generator).row) }
+    ensures { OnOk result (out.new.items ≡ out.old.items ++ generator_row_text names.now (generator_rows names.now constraints.now generator)) }
 {
     let elementals = count(names.space().variables);
     if generator < elementals {
@@ -178,7 +176,7 @@ fn write_elemental_row(
 ) -> Result<(), AllocError>
     requires some { 1 ≤ length names.now.variables }
     requires listed { index < length (elementals (length names.now.variables)) }
-    ensures { OnOk result (out.new.items ≡ out.old.items ++ row_text names.now (of_elemental (length names.now.variables) (elemental_at (length names.now.variables) index)).kind (of_elemental (length names.now.variables) (elemental_at (length names.now.variables) index)).row) }
+    ensures { OnOk result (out.new.items ≡ out.old.items ++ elemental_row_text names.now index) }
 {
     let row = row(alloc, names.space().variables, index)?;
     write_constraint(out, names, Kind::Inequality, &row)
@@ -205,7 +203,7 @@ fn write_sum_line(
     target: &Row,
 ) -> Result<(), AllocError>
     requires { IsRowOver names.now target.now }
-    ensures { OnOk result (out.new.items ≡ out.old.items ++ decimal k ++ codes " sum " ++ signed_decimal certificate.now.scale ++ codes " : " ++ row_text names.now Inequality target.now ++ codes "\n") }
+    ensures { OnOk result (out.new.items ≡ out.old.items ++ sum_line k names.now certificate.now.scale target.now) }
 {
     write_number(out, k)?;
     out.extend_from_slice(b" sum ")?;

@@ -1,8 +1,7 @@
 //! Substitutions: the set that each auxiliary variable stands for.
 ghost use Rattle.std.specs.Prelude.{◌≡◌, ◌<◌, ◌++◌, [], drop, length, slice_index_or, OnOk};
 ghost use Rattle.it_question.specs.Questions.{question_body};
-ghost use Rattle.it_question.specs.Tables.{problem_names};
-ghost use Rattle.it_print.specs.Lines.{auxiliary_names, part_for, parts_for};
+ghost use Rattle.it_print.specs.Lines.{auxiliary_names, part_for, parts_for, substitution_text};
 
 use crate::sets::{write_set_or_zero, write_variable};
 use it_question::types::{Question, Verb};
@@ -17,7 +16,7 @@ pub fn write_substitution(
     sets: &[VarSet],
 ) -> Result<(), AllocError>
     requires { length sets.now ≡ length (auxiliary_names (question_body question.now).names (question_body question.now).verb) }
-    ensures { OnOk result (out.new.items ≡ out.old.items ++ parts_for (problem_names (question_body question.now)).variables (auxiliary_names (question_body question.now).names (question_body question.now).verb) sets.now) }
+    ensures { OnOk result (out.new.items ≡ out.old.items ++ substitution_text (question_body question.now) sets.now) }
 {
     match &question.verb {
         Verb::Prove(_) | Verb::Eliminate(_) => Ok(()),

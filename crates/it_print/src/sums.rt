@@ -1,11 +1,10 @@
 //! Certificates: each weight before its generator, over the scale.
-ghost use Rattle.std.specs.Prelude.{◌≡◌, ◌≤◌, ◌<◌, ◌+◌, ◌++◌, length, map, OnOk, IfOk, All, codes, false};
-ghost use Rattle.it_space.specs.Answers.{certificate_view};
+ghost use Rattle.std.specs.Prelude.{◌≡◌, ◌≤◌, ◌<◌, ◌+◌, ◌++◌, length, OnOk, IfOk, All};
 ghost use Rattle.it_polymatroid.specs.Elementals.{elementals};
 ghost use Rattle.it_question.specs.Questions.{question_body};
-ghost use Rattle.it_question.specs.Tables.{problem_names};
 ghost use Rattle.it_canon.specs.QuestionDemands.{variables_of};
-ghost use Rattle.it_print.specs.Lines.{AreListed, joined_texts, weight_text, origins_of, sum_text, certificate_text};
+ghost use Rattle.it_print.specs.Lines.{AreListed, weight_text, origins_of, sum_text, variable_names};
+ghost use Rattle.it_print.specs.ByConstraints.{certificate_text_by, proofs_text_by};
 
 use crate::generators::write_generator;
 use crate::pieces::{write_if, write_signed};
@@ -25,7 +24,7 @@ pub fn write_proofs(
 ) -> Result<(), AllocError>
     requires some { 1 ≤ length names.now.variables }
     requires there { AreListed (length names.now.variables) (length constraints.now) proofs.now }
-    ensures { OnOk result (out.new.items ≡ out.old.items ++ joined_texts (codes " and ") false (map (certificate_text names.now.variables (origins_of constraints.now)) (map certificate_view proofs.now))) }
+    ensures { OnOk result (out.new.items ≡ out.old.items ++ proofs_text_by names.now constraints.now proofs.now) }
 {
     let mut some = false;
     for certificate in proofs {
@@ -47,7 +46,7 @@ fn write_certificate(
 ) -> Result<(), AllocError>
     requires some { 1 ≤ length names.now.variables }
     requires there { All (λ w. w.0 < length (elementals (length names.now.variables)) + length constraints.now) certificate.now.weights.items }
-    ensures { OnOk result (out.new.items ≡ out.old.items ++ certificate_text names.now.variables (origins_of constraints.now) (certificate_view certificate.now)) }
+    ensures { OnOk result (out.new.items ≡ out.old.items ++ certificate_text_by names.now constraints.now certificate.now) }
 {
     write_signed(out, certificate.scale)?;
     out.extend_from_slice(b" : ")?;
@@ -133,7 +132,7 @@ pub fn sum_text(
 ) -> Result<Vec<u8>, AllocError>
     requires some { 1 ≤ variables_of (question_body question.now) }
     requires there { All (λ w. w.0 < length (elementals (variables_of (question_body question.now))) + length constraints.now) certificate.now.weights.items }
-    ensures { IfOk result (λ t. t.items ≡ sum_text (problem_names (question_body question.now)).variables (origins_of constraints.now) certificate.now.weights.items) }
+    ensures { IfOk result (λ t. t.items ≡ sum_text (variable_names (question_body question.now)) (origins_of constraints.now) certificate.now.weights.items) }
 {
     let mut out = Vec::new(alloc);
     write_sum(

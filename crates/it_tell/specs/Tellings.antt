@@ -14,7 +14,7 @@ use Rattle.it_syntax.specs.NamesViews.{NamesView}
 use Rattle.it_question.specs.Questions.{BodyView, QuestionView}
 use Rattle.it_question.specs.Tables.{problem_names}
 use Rattle.it_certificate.specs.Reports.{ReadsReport}
-use Rattle.it_print.specs.Lines.{auxiliary_names, certificate_text, contained_line, open_line, row_text, undecided_line, values_text}
+use Rattle.it_print.specs.Lines.{certificate_text, contained_line, open_line, row_text, undecided_line, values_text}
 use Rattle.it_terms.specs.Tells.{TellsRow}
 use Rattle.it_terms.specs.Proofs.{TellsForm}
 use Rattle.it_terms.specs.Points.{TellsPoint}
@@ -91,7 +91,7 @@ head_line k q (Yes proofs) = numbered_line k (codes "yes")
 head_line k q (No back values) = numbered_line k (codes "no")
 head_line k q (Undecided cause) = undecided_line k (problem_names q) cause
 head_line k q (Region rows) = numbered_line k (codes "region " ++ decimal (length rows))
-head_line k q (Contained parts proofs) = contained_line k (auxiliary_names q.names q.verb) (problem_names q).variables parts
+head_line k q (Contained parts proofs) = contained_line k q parts
 head_line k q (Open tried) = open_line k tried
 
 -- ---- a line of a report
