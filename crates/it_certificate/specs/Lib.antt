@@ -9,4 +9,5 @@ pub mod AnswerShapes
 pub mod Laws
 pub mod Rows
 pub mod Steps
+pub mod AnswerObjects
 pub mod ReportSteps

@@ -1,8 +1,9 @@
 //! Objects of JSON, made member by member.
 //! Each call takes the members and hands them back: so a caller holds nothing where memory runs out.
-ghost use Rattle.std.specs.Prelude.{◌≡◌, IfOk, codes};
+ghost use Rattle.std.specs.Prelude.{◌≡◌, IfOk};
 ghost use Rattle.serde_json.specs.Data.{no_members, object, put, string};
 ghost use Rattle.serde_json.specs.View.{members_view, view};
+ghost use Rattle.it_certificate.specs.AnswerObjects.{answer_object};
 
 use serde_json::{Map, Value, json, put};
 use std::alloc::{AllocError, Global};
@@ -62,7 +63,7 @@ impl Members {
         answer: &str,
         question: &str,
     ) -> Result<Value, AllocError>
-        ensures { IfOk result (λ v. view v ≡ object (put (codes "question") (string question.now) (put (codes "answer") (string answer.now) (members_view self.map.entries)))) }
+        ensures { IfOk result (λ v. view v ≡ answer_object answer.now question.now (members_view self.map.entries)) }
     {
         let members = self.with_text(alloc, "answer", answer)?;
         let members = members.with_text(alloc, "question", question)?;
