@@ -1,5 +1,5 @@
 -- The verdict on a line of a report, and its own line.
-use Rattle.std.specs.Prelude.{◌≡◌, ℕ, List, ◌++◌, Bool, true, false, not, codes, decimal}
+use Rattle.std.specs.Prelude.{◌≡◌, ℕ, ℤ, List, ◌++◌, Bool, true, false, not, codes, decimal}
 use Rattle.std.specs.Fmt.{signed_decimal}
 use Rattle.it_syntax.specs.NamesViews.{NamesView}
 use Rattle.it_certificate.specs.declared.keys.Key.{Key}
@@ -36,6 +36,10 @@ key_text keys.Rows = codes "rows"
 key_text keys.Parts = codes "parts"
 key_text keys.Tried = codes "tried"
 
+-- a coordinate by the name of its set or rate, and the two numbers that differ there
+abbrev pub mismatch_text : NamesView → ℕ → ℤ → ℤ → List ℕ
+mismatch_text names c left right = coordinate_text names c ++ codes " " ++ signed_decimal left ++ codes " " ++ signed_decimal right
+
 -- the words of a verdict on an answer; a coordinate has the name of its set or rate
 unfoldable pub verdict_text : NamesView → Verdict → List ℕ
 verdict_text names Valid = codes "valid"
@@ -43,7 +47,7 @@ verdict_text names (BadScale scale) = codes "invalid scale " ++ signed_decimal s
 verdict_text names (UnknownGenerator i) = codes "invalid generator " ++ decimal i
 verdict_text names (NegativeWeight i) = codes "invalid negative " ++ decimal i
 verdict_text names (Width place) = codes "invalid width " ++ decimal place
-verdict_text names (Mismatch c left right) = codes "invalid mismatch " ++ coordinate_text names c ++ codes " " ++ signed_decimal left ++ codes " " ++ signed_decimal right
+verdict_text names (Mismatch c left right) = codes "invalid mismatch " ++ mismatch_text names c left right
 verdict_text names (BrokenElemental i x) = codes "invalid elemental " ++ decimal i ++ codes " " ++ signed_decimal x
 verdict_text names (UnmetConstraint i x) = codes "invalid constraint " ++ decimal i ++ codes " " ++ signed_decimal x
 verdict_text names (NotViolated x) = codes "invalid target " ++ signed_decimal x

@@ -1,8 +1,7 @@
 //! What the checker's verdicts are called.
 ghost use Rattle.std.specs.Prelude.{◌≡◌, ◌<◌, ◌+◌, ◌^◌, ◌++◌, length, OnOk, codes, decimal};
 ghost use Rattle.std.specs.Fmt.{signed_decimal};
-ghost use Rattle.it_report.specs.LineVerdicts.{key_text, verdict_text};
-ghost use Rattle.it_print.specs.Lines.{coordinate_text};
+ghost use Rattle.it_report.specs.LineVerdicts.{key_text, verdict_text, mismatch_text};
 ghost use Rattle.it_report.specs.Steps.{IsVerdictOver};
 
 use it_certificate::Key;
@@ -68,7 +67,7 @@ fn write_mismatch(
     right: &i128,
 ) -> Result<(), AllocError>
     requires { coordinate < 2 ^ length names.now.variables + length names.now.rates }
-    ensures { OnOk result (out.new.items ≡ out.old.items ++ (words.now ++ coordinate_text names.now coordinate ++ codes " " ++ signed_decimal left.now ++ codes " " ++ signed_decimal right.now)) }
+    ensures { OnOk result (out.new.items ≡ out.old.items ++ (words.now ++ mismatch_text names.now coordinate left.now right.now)) }
 {
     out.extend_from_slice(words)?;
     write_coordinate(out, names, coordinate)?;
