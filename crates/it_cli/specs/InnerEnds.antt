@@ -1,18 +1,28 @@
 -- How the calls inside the top call end, by which its end is proved. No public clause cites this module.
-use Rattle.std.specs.Prelude.{◌≡◌, ℕ, List, [], ◌⊎◌, map, Option}
+use Rattle.std.specs.Prelude.{◌≡◌, ℕ, List, [], ◌⊎◌, map, Option, Some}
 use Rattle.it_outside.specs.Causes.{next_count}
 use Rattle.it_outside.specs.Traffic.{Gains, TookPrefix}
 use Rattle.it_forms.specs.declared.types.Code.{Code}
-use Rattle.it_question.specs.Questions.{BodyView, QuestionView}
+use Rattle.it_question.specs.declared.types.Question.{Question}
+use Rattle.it_question.specs.Questions.{BodyView, QuestionView, question_view}
+use Rattle.it_canon.specs.QuestionDemands.{terms_in}
+use Rattle.it_copy.specs.declared.types.CopyLine.{CopyLine}
+use Rattle.it_copy.specs.CopyLines.{copy_view}
+use Rattle.it_settings.specs.declared.types.Settings.{Settings}
+use Rattle.it_settings.specs.Settings.{settings_of}
 use Rattle.it_settings.specs.declared.types.Format.{Format}
 use Rattle.it_contain.specs.Proposals.{Plan, plan_after_all}
-use Rattle.it_space.specs.Answers.{AnswerView}
-use Rattle.it_print.specs.Lines.{answer_line}
+use Rattle.it_space.specs.Answers.{AnswerView, answer_view}
+use Rattle.it_region.specs.AnswerForms.{answer_forms}
+use Rattle.it_print.specs.Lines.{answer_line, origins_of}
+use Rattle.it_print.specs.ProofLines.{proof_text_by}
+use Rattle.it_answer.specs.declared.types.AnsweredProblem.{AnsweredProblem}
 use Rattle.it_answer.specs.declared.types.Budgets.{Budgets}
 use Rattle.it_answer.specs.Replies.{Reply}
 use Rattle.it_answer.specs.RightAnswers.{IsRightAnswer}
 use Rattle.it_cli.specs.Right.{answer_lines, question_origins}
-use Rattle.it_cli.specs.Copies.{IsRightProof}
+use Rattle.it_cli.specs.Copies.{CopyQuestion, IsRightProof, with_copies}
+use Rattle.it_cli.specs.Ends.{Ends, call_of}
 use Rattle.it_cli.specs.Modes.{FirstOutput, Mode, OutputInPart, WholeOutput}
 use Rattle.it_cli.specs.Refusals.{fault_line}
 use Rattle.it_cli.specs.declared.status.Status.{Status}
@@ -26,6 +36,15 @@ EndOfLine old new before now line status result =
 -- and there may have been too little memory for the line
 abbrev pub EndOfLineOrMemory : Option (List ℕ) → Option (List ℕ) → ℕ → ℕ → List ℕ → Status → Status → Type 0
 EndOfLineOrMemory old new before now line status result = EndOfLine old new before now line status result ⊎ ((result ≡ Memory) × (now ≡ before) × Gains old new [])
+
+-- the lines of an answer to question k, by the constraints of its problem
+abbrev pub text_lines_of : ℕ → BodyView → AnsweredProblem → List ℕ
+text_lines_of k q answered = answer_line k q (origins_of answered.problem.constraints.items) (answer_view answered.answer)
+
+-- the same with the rows of its proofs
+abbrev pub proof_lines_of : ℕ → BodyView → AnsweredProblem → List ℕ
+proof_lines_of k q answered =
+    proof_text_by k q answered.problem.constraints.items (map (terms_in q) (answer_forms q (answer_view answered.answer))) (answer_view answered.answer)
 
 -- the lines of a right answer to question k, by boxes with these plans before it and after it
 pub record IsAnswerText (budgets : Budgets) (plans : List Plan) (format : Format) (k : ℕ) (q : QuestionView) (plans_after : List Plan) (bytes : List ℕ) : Type 0 where
@@ -80,3 +99,28 @@ EndOfBytes m old new before now bytes _ = ⊥
 -- what was done for these items, whichever bytes ask for them
 abbrev pub EndOfItems : (m : Mode) → Option (List ℕ) → Option (List ℕ) → ℕ → ℕ → List m.Item → Status → Type 0
 EndOfItems m old new before now items s = (bytes : List ℕ) → m.Asks bytes items → EndOfBytes m old new before now bytes s
+
+-- questions with the copies that are asked for in them, as contracts see them
+abbrev pub questions_with : List CopyLine → List Question → List CopyQuestion
+questions_with copies questions = map (with_copies (map copy_view copies)) (map question_view questions)
+
+-- ---- the same of a sink, by its meaning and its states before and after
+
+-- what was done for these bytes
+abbrev pub EndsForBytes : {K : Type 0} → (K → Option (List ℕ)) → (K → ℕ) → Mode → K → K → List ℕ → Status → Type 0
+EndsForBytes taken faults m sink after bytes s = EndOfBytes m (taken sink) (taken after) (faults sink) (faults after) bytes s
+
+-- what was done for these items
+abbrev pub EndsForItems : {K : Type 0} → (K → Option (List ℕ)) → (K → ℕ) → (m : Mode) → K → K → List m.Item → Status → Type 0
+EndsForItems taken faults m sink after items s = EndOfItems m (taken sink) (taken after) (faults sink) (faults after) items s
+
+-- what was done with a line; there may have been too little memory for it
+abbrev pub EndsWithLineOrMemory : {K : Type 0} → (K → Option (List ℕ)) → (K → ℕ) → K → K → List ℕ → Status → Status → Type 0
+EndsWithLineOrMemory taken faults sink after line status s = EndOfLineOrMemory (taken sink) (taken after) (faults sink) (faults after) line status s
+
+-- how a call ends whichever words ask for these settings, by the meanings of a source and a sink and their states before and after
+abbrev pub EndsForSettings : {S K : Type 0} → (S → Option (List ℕ)) → (S → ℕ) → (K → Option (List ℕ)) → (K → ℕ) → Settings → List Plan
+    → S → S → K → K → Status → Type 0
+EndsForSettings left read_faults taken write_faults settings plans source source_after sink sink_after s =
+    (words : List (List ℕ)) → settings_of words ≡ Some settings
+    → Ends (call_of left read_faults taken write_faults words plans source source_after sink sink_after) s

@@ -7,13 +7,11 @@ ghost use Rattle.it_question.specs.Questions.{question_view, question_body};
 ghost use Rattle.it_demand.specs.Demands.{AreStated};
 ghost use Rattle.it_demand.specs.LineDemands.{space_of};
 ghost use Rattle.it_question.specs.Tables.{problem_names};
-ghost use Rattle.it_canon.specs.QuestionDemands.{question_demands, terms_in};
+ghost use Rattle.it_canon.specs.QuestionDemands.{question_demands};
 ghost use Rattle.it_answer.specs.AnswerKinds.{IsAnswerTo};
-ghost use Rattle.it_region.specs.AnswerForms.{answer_forms};
-ghost use Rattle.it_print.specs.Lines.{IsPrintable, answer_line, origins_of};
-ghost use Rattle.it_print.specs.ProofLines.{generator_rows, proof_text};
+ghost use Rattle.it_print.specs.Lines.{IsPrintable};
 ghost use Rattle.it_certificate.specs.Values.{IsWritable, answer_text};
-ghost use Rattle.it_cli.specs.InnerEnds.{EndOfBytes, EndOfItems, EndOfLineOrMemory, IsAnswerText};
+ghost use Rattle.it_cli.specs.InnerEnds.{EndsForBytes, EndsForItems, EndsWithLineOrMemory, IsAnswerText, proof_lines_of, text_lines_of};
 ghost use Rattle.it_cli.specs.Outputs.{answer_mode};
 ghost use Rattle.it_cli.specs.Refusals.{fault_line};
 ghost use Rattle.it_cli.specs.Right.{answer_lines};
@@ -43,7 +41,7 @@ pub fn answer_file<K: Sink>(
     sink: &mut K,
 ) -> Status
     requires { length bytes.now ≤ 1048576 }
-    ensures { EndOfBytes (answer_mode budgets (map plan boxes.old.items) format) (K.taken sink.old) (K.taken sink.new) (K.faults sink.old) (K.faults sink.new) bytes.now result }
+    ensures { EndsForBytes K.taken K.faults (answer_mode budgets (map plan boxes.old.items) format) sink.old sink.new bytes.now result }
 {
     match questions(alloc, bytes) {
         Ok(questions) => answer_all(alloc, format, budgets, questions.as_slice(), boxes, sink),
@@ -63,7 +61,7 @@ fn answer_all<K: Sink>(
 ) -> Status
     requires limits { All (λ q. IsQuestion (question_body q)) questions.now }
     requires ascii { All IsAsciiQuestion (map question_view questions.now) }
-    ensures { EndOfItems (answer_mode budgets (map plan boxes.old.items) format) (K.taken sink.old) (K.taken sink.new) (K.faults sink.old) (K.faults sink.new) (map question_view questions.now) result }
+    ensures { EndsForItems K.taken K.faults (answer_mode budgets (map plan boxes.old.items) format) sink.old sink.new (map question_view questions.now) result }
 {
     for (i, question) in questions.iter().enumerate() {
         let Ok(text) = answer_one(alloc, format, budgets, i + 1, question, boxes) else {
@@ -87,7 +85,7 @@ fn answer_one(
 ) -> Result<Vec<u8>, AllocError>
     requires limits { IsQuestion (question_body question.now) }
     requires ascii { IsAsciiQuestion (question_view question.now) }
-    ensures { IfOk result (λ text. IsAnswerText budgets (map plan boxes.old.items) format k (question_view question.now) (map plan boxes.new.items) text.items) }
+    ensures { IfOk result (λ t. IsAnswerText budgets (map plan boxes.old.items) format k (question_view question.now) (map plan boxes.new.items) t.items) }
 {
     let answered = answer(alloc, question, budgets, boxes)?;
     lines(alloc, format, k, question, &answered)
@@ -125,7 +123,7 @@ pub fn text_lines(
 ) -> Result<Vec<u8>, AllocError>
     requires limits { IsQuestion (question_body question.now) }
     requires printable { IsPrintable (question_body question.now) (length answered.now.problem.constraints.items) answered.now.answer }
-    ensures { IfOk result (λ text. text.items ≡ answer_line k (question_body question.now) (origins_of answered.now.problem.constraints.items) (answer_view answered.now.answer)) }
+    ensures { IfOk result (λ text. text.items ≡ text_lines_of k (question_body question.now) answered.now) }
 {
     answer_line(
         alloc,
@@ -159,7 +157,7 @@ fn proof_lines(
     requires space { answered.now.problem.space ≡ space_of (problem_names (question_body question.now)) }
     requires fits { IsAnswerTo (question_body question.now) (answer_view answered.now.answer) }
     requires printable { IsPrintable (question_body question.now) (length answered.now.problem.constraints.items) answered.now.answer }
-    ensures { IfOk result (λ text. text.items ≡ proof_text k (question_body question.now) (origins_of answered.now.problem.constraints.items) (generator_rows (problem_names (question_body question.now)) answered.now.problem.constraints.items) (map (terms_in (question_body question.now)) (answer_forms (question_body question.now) (answer_view answered.now.answer))) (answer_view answered.now.answer)) }
+    ensures { IfOk result (λ text. text.items ≡ proof_lines_of k (question_body question.now) answered.now) }
 {
     let targets = target_rows(alloc, question, &answered.answer)?;
     proof_text(
@@ -180,7 +178,7 @@ pub fn tell_fault<K: Sink>(
     code: Code,
     sink: &mut K,
 ) -> Status
-    ensures { EndOfLineOrMemory (K.taken sink.old) (K.taken sink.new) (K.faults sink.old) (K.faults sink.new) (fault_line line column code) Status.Refused result }
+    ensures { EndsWithLineOrMemory K.taken K.faults sink.old sink.new (fault_line line column code) Status.Refused result }
 {
     match fault_line(alloc, line, column, code) {
         Ok(text) => tell(sink, text.as_slice(), Status::Refused),

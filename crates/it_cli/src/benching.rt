@@ -5,7 +5,7 @@ ghost use Rattle.it_question.specs.Questions.{question_body, question_view};
 ghost use Rattle.it_question.specs.Files.{IsFile};
 ghost use Rattle.it_gen.specs.GeneratedFiles.{generated_file};
 ghost use Rattle.it_cli.specs.Counts.{AreCounted, IsBenchLine, no_counts};
-ghost use Rattle.it_cli.specs.InnerEnds.{EndOfBytes};
+ghost use Rattle.it_cli.specs.InnerEnds.{EndsForBytes};
 ghost use Rattle.it_cli.specs.Outputs.{bench_mode};
 
 use crate::counts::{Counts, bench_line};
@@ -31,7 +31,7 @@ pub fn bench<K: Sink>(
     requires seed { seed < 2 ^ 31 }
     requires some { 1 ≤ count }
     requires few { count ≤ 1000 }
-    ensures { (bytes : List ℕ) → EndOfBytes (bench_mode budgets (map plan boxes.old.items) seed count) (K.taken sink.old) (K.taken sink.new) (K.faults sink.old) (K.faults sink.new) bytes result }
+    ensures { (bytes : List ℕ) → EndsForBytes K.taken K.faults (bench_mode budgets (map plan boxes.old.items) seed count) sink.old sink.new bytes result }
 {
     match generated_line(alloc, seed, count, budgets, boxes) {
         Ok(line) => tell(sink, line.as_slice(), Status::Done),

@@ -1,6 +1,6 @@
 //! Mode `check`: a report and its verdicts.
 ghost use Rattle.std.specs.Prelude.{◌≡◌};
-ghost use Rattle.it_cli.specs.InnerEnds.{EndOfBytes};
+ghost use Rattle.it_cli.specs.InnerEnds.{EndsForBytes};
 ghost use Rattle.it_cli.specs.Outputs.{check_mode, verdict_status};
 
 use crate::status::Status;
@@ -11,7 +11,7 @@ use std::alloc::Global;
 
 /// What is done for the bytes of a report: each verdict is written as soon as it is there.
 pub fn check_report<K: Sink>(alloc: Global, bytes: &[u8], sink: &mut K) -> Status
-    ensures { EndOfBytes check_mode (K.taken sink.old) (K.taken sink.new) (K.faults sink.old) (K.faults sink.new) bytes.now result }
+    ensures { EndsForBytes K.taken K.faults check_mode sink.old sink.new bytes.now result }
 {
     let mut rest = bytes;
     let mut count: usize = 0;

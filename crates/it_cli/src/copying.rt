@@ -5,7 +5,7 @@ ghost use Rattle.it_question.specs.Questions.{question_body, question_view};
 ghost use Rattle.it_copy.specs.CopyLines.{AreNamed, copy_view};
 ghost use Rattle.it_copy.specs.Extensions.{IsProof};
 ghost use Rattle.it_cli.specs.Copies.{with_copies};
-ghost use Rattle.it_cli.specs.InnerEnds.{EndOfBytes, EndOfItems, IsProofText, IsTextOf};
+ghost use Rattle.it_cli.specs.InnerEnds.{EndsForBytes, EndsForItems, IsProofText, IsTextOf, questions_with};
 ghost use Rattle.it_cli.specs.Outputs.{copy_mode};
 
 use crate::answering::{tell_fault, text_lines};
@@ -26,7 +26,7 @@ pub fn answer_with_copies<K: Sink>(
     sink: &mut K,
 ) -> Status
     requires { length bytes.now ≤ 1048576 }
-    ensures { EndOfBytes (copy_mode pivots) (K.taken sink.old) (K.taken sink.new) (K.faults sink.old) (K.faults sink.new) bytes.now result }
+    ensures { EndsForBytes K.taken K.faults (copy_mode pivots) sink.old sink.new bytes.now result }
 {
     match copy_file(alloc, bytes) {
         Ok(file) => reply_all(
@@ -52,7 +52,7 @@ fn reply_all<K: Sink>(
     requires limits { All (λ q. IsQuestion (question_body q)) questions.now }
     requires names { AreNamed copies.now }
     requires few { length copies.now ≤ 4 }
-    ensures { EndOfItems (copy_mode pivots) (K.taken sink.old) (K.taken sink.new) (K.faults sink.old) (K.faults sink.new) (map (with_copies (map copy_view copies.now)) (map question_view questions.now)) result }
+    ensures { EndsForItems K.taken K.faults (copy_mode pivots) sink.old sink.new (questions_with copies.now questions.now) result }
 {
     for (i, question) in questions.iter().enumerate() {
         let Ok(text) = reply(alloc, pivots, copies, i + 1, question) else {

@@ -2,7 +2,7 @@
 ghost use Rattle.std.specs.Prelude.{◌≡◌, ◌<◌, ◌^◌, ◌++◌, IfOk, OnOk, codes, decimal};
 ghost use Rattle.it_space.specs.Answers.{answer_view};
 ghost use Rattle.it_cli.specs.Counts.{bench_line, no_counts, with_answer};
-ghost use Rattle.it_cli.specs.CountSteps.{total};
+ghost use Rattle.it_cli.specs.CountSteps.{total, outcomes_text, regions_text};
 
 use it_print::write_number;
 use it_space::Answer;
@@ -86,7 +86,7 @@ fn write_asked(out: &mut Vec<u8>, seed: u32, count: u32) -> Result<(), AllocErro
 
 /// Appends how many answers are a yes, a no, or undecided.
 fn write_outcomes(out: &mut Vec<u8>, counts: Counts) -> Result<(), AllocError>
-    ensures { OnOk result (out.new.items ≡ out.old.items ++ codes " yes " ++ decimal counts.yes ++ codes " no " ++ decimal counts.no ++ codes " undecided " ++ decimal counts.undecided) }
+    ensures { OnOk result (out.new.items ≡ out.old.items ++ outcomes_text counts) }
 {
     write_count(out, b" yes ", counts.yes)?;
     write_count(out, b" no ", counts.no)?;
@@ -95,7 +95,7 @@ fn write_outcomes(out: &mut Vec<u8>, counts: Counts) -> Result<(), AllocError>
 
 /// Appends how many answers are about regions: a region, a substitution that was found, or none.
 fn write_regions(out: &mut Vec<u8>, counts: Counts) -> Result<(), AllocError>
-    ensures { OnOk result (out.new.items ≡ out.old.items ++ codes " region " ++ decimal counts.regions ++ codes " contained " ++ decimal counts.contained ++ codes " open " ++ decimal counts.left_open) }
+    ensures { OnOk result (out.new.items ≡ out.old.items ++ regions_text counts) }
 {
     write_count(out, b" region ", counts.regions)?;
     write_count(out, b" contained ", counts.contained)?;

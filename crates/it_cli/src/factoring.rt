@@ -2,7 +2,7 @@
 ghost use Rattle.std.specs.Prelude.{◌≤◌, [], All, IfOk, length, map};
 ghost use Rattle.it_question.specs.Limits.{IsQuestion};
 ghost use Rattle.it_question.specs.Questions.{question_body, question_view};
-ghost use Rattle.it_cli.specs.InnerEnds.{EndOfBytes, EndOfItems, IsTextOf};
+ghost use Rattle.it_cli.specs.InnerEnds.{EndsForBytes, EndsForItems, IsTextOf};
 ghost use Rattle.it_cli.specs.Outputs.{best_mode};
 
 use crate::answering::tell_fault;
@@ -21,7 +21,7 @@ pub fn find_factors<K: Sink>(
     sink: &mut K,
 ) -> Status
     requires { length bytes.now ≤ 1048576 }
-    ensures { EndOfBytes (best_mode pivots) (K.taken sink.old) (K.taken sink.new) (K.faults sink.old) (K.faults sink.new) bytes.now result }
+    ensures { EndsForBytes K.taken K.faults (best_mode pivots) sink.old sink.new bytes.now result }
 {
     match questions(alloc, bytes) {
         Ok(questions) => reply_all(alloc, pivots, questions.as_slice(), sink),
@@ -38,7 +38,7 @@ fn reply_all<K: Sink>(
     sink: &mut K,
 ) -> Status
     requires { All (λ q. IsQuestion (question_body q)) questions.now }
-    ensures { EndOfItems (best_mode pivots) (K.taken sink.old) (K.taken sink.new) (K.faults sink.old) (K.faults sink.new) (map question_view questions.now) result }
+    ensures { EndsForItems K.taken K.faults (best_mode pivots) sink.old sink.new (map question_view questions.now) result }
 {
     for (i, question) in questions.iter().enumerate() {
         let Ok(text) = factor_line(alloc, pivots, i + 1, question) else {

@@ -3,7 +3,7 @@ ghost use Rattle.std.specs.Prelude.{◌≡◌, ◌+◌, ◌<◌, ◌≤◌, ◌�
 ghost use Rattle.it_question.specs.Limits.{IsQuestion};
 ghost use Rattle.it_question.specs.Questions.{question_body, question_view};
 ghost use Rattle.it_sharing.specs.Sharings.{IsSharing, made_question, sharing_view, maximal_count, minimal_count};
-ghost use Rattle.it_cli.specs.InnerEnds.{EndOfBytes, EndOfItems, IsTextOf};
+ghost use Rattle.it_cli.specs.InnerEnds.{EndsForBytes, EndsForItems, IsTextOf};
 ghost use Rattle.it_cli.specs.Outputs.{sharing_mode};
 ghost use Rattle.it_cli.specs.SharingReplies.{sharing_heading};
 
@@ -30,7 +30,7 @@ pub fn answer_sharing<K: Sink>(
     sink: &mut K,
 ) -> Status
     requires { length bytes.now ≤ 1048576 }
-    ensures { EndOfBytes (sharing_mode pivots) (K.taken sink.old) (K.taken sink.new) (K.faults sink.old) (K.faults sink.new) bytes.now result }
+    ensures { EndsForBytes K.taken K.faults (sharing_mode pivots) sink.old sink.new bytes.now result }
 {
     match sharing(alloc, bytes) {
         Ok(sharing) => reply(alloc, pivots, &sharing, sink),
@@ -42,7 +42,7 @@ pub fn answer_sharing<K: Sink>(
 /// Writes the lines for what a sharing file asks.
 fn reply<K: Sink>(alloc: Global, pivots: Option<u32>, sharing: &Sharing, sink: &mut K) -> Status
     requires { IsSharing (sharing_view sharing.now) }
-    ensures { EndOfItems (sharing_mode pivots) (K.taken sink.old) (K.taken sink.new) (K.faults sink.old) (K.faults sink.new) (sharing_view sharing.now ∷ []) result }
+    ensures { EndsForItems K.taken K.faults (sharing_mode pivots) sink.old sink.new (sharing_view sharing.now ∷ []) result }
 {
     match lines(alloc, pivots, sharing) {
         Ok(text) => tell(sink, text.as_slice(), Status::Done),

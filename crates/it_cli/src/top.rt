@@ -1,9 +1,9 @@
 //! The top call.
-ghost use Rattle.std.specs.Prelude.{◌≡◌, ◌≤◌, ℕ, List, Some, length, map};
+ghost use Rattle.std.specs.Prelude.{◌≡◌, ◌≤◌, Some, length, map};
 ghost use Rattle.std.specs.Option.{IfSome};
-ghost use Rattle.it_settings.specs.Settings.{AreInRange, settings_of};
+ghost use Rattle.it_settings.specs.Settings.{AreInRange};
 ghost use Rattle.it_cli.specs.Ends.{Ends, call_of};
-ghost use Rattle.it_cli.specs.InnerEnds.{EndOfBytes};
+ghost use Rattle.it_cli.specs.InnerEnds.{EndsForBytes, EndsForSettings};
 ghost use Rattle.it_cli.specs.Outputs.{mode_of, most_bytes};
 ghost use Rattle.it_cli.specs.Right.{budgets_of};
 
@@ -69,7 +69,7 @@ fn run<S: Source, K: Sink>(
     boxes: &mut Vec<Box<dyn Proposer>>,
 ) -> Status
     requires { AreInRange settings }
-    ensures { (words : List (List ℕ)) → settings_of words ≡ Some settings → Ends (call_of S.left S.faults K.taken K.faults words (map plan boxes.old.items) source.old source.new sink.old sink.new) result }
+    ensures { EndsForSettings S.left S.faults K.taken K.faults settings (map plan boxes.old.items) source.old source.new sink.old sink.new result }
 {
     match limit(settings) {
         Some(most) => read(alloc, settings, most, source, sink, boxes),
@@ -88,7 +88,7 @@ fn read<S: Source, K: Sink>(
 ) -> Status
     requires ranges { AreInRange settings }
     requires limit { most_bytes settings ≡ Some most }
-    ensures { (words : List (List ℕ)) → settings_of words ≡ Some settings → Ends (call_of S.left S.faults K.taken K.faults words (map plan boxes.old.items) source.old source.new sink.old sink.new) result }
+    ensures { EndsForSettings S.left S.faults K.taken K.faults settings (map plan boxes.old.items) source.old source.new sink.old sink.new result }
 {
     match read_all(alloc, source, most) {
         Ok(bytes) => reply(alloc, settings, bytes.as_slice(), sink, boxes),
@@ -134,7 +134,7 @@ fn reply<K: Sink>(
 ) -> Status
     requires ranges { AreInRange settings }
     requires fits { IfSome (most_bytes settings) (λ most. length bytes.now ≤ most) }
-    ensures { EndOfBytes (mode_of (map plan boxes.old.items) settings) (K.taken sink.old) (K.taken sink.new) (K.faults sink.old) (K.faults sink.new) bytes.now result }
+    ensures { EndsForBytes K.taken K.faults (mode_of (map plan boxes.old.items) settings) sink.old sink.new bytes.now result }
 {
     match settings {
         Settings::Answer {
