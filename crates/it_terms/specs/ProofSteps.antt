@@ -20,8 +20,12 @@ pub record AreStepTexts (v : NamesView) (sum terms total : List Term) (lines : L
   pub are : AllZip (IsEquationText v) lines steps
   pub add_up : AddUp sum terms total steps
 
--- under these names the proof is an equation, and the lines are the steps from the first term on its right side to its left side
+-- under these names the lines are the steps of an equation, from the first term on its right side to its left side
+abbrev pub AreEquationSteps : NamesView → RelationView → List (List ℕ) → Type 0
+AreEquationSteps v r lines = AreStepTexts v (take 1 r.right) (drop 1 r.right) r.left lines
+
+-- under these names the proof is an equation, and the lines are its steps
 pub record TellsSteps (v : NamesView) (proof : List ℕ) (lines : List (List ℕ)) : Type 0 where
   pub relation : RelationView
   pub is : IsEquationText v proof relation
-  pub tells : AreStepTexts v (take 1 relation.right) (drop 1 relation.right) relation.left lines
+  pub tells : AreEquationSteps v relation lines

@@ -4,8 +4,13 @@ use Rattle.std.specs.Global.{Global}
 use Rattle.it_space.specs.declared.problems.Constraint.{Constraint}
 use Rattle.it_space.specs.Rows.{Terms, value}
 use Rattle.it_elemental.specs.Generators.{forms_of, of_constraint}
+use Rattle.it_syntax.specs.Meaning.{RelationView}
 use Rattle.it_syntax.specs.NamesViews.{NamesView}
-use Rattle.it_terms.specs.Proofs.{TellsProof}
+use Rattle.it_terms.specs.Proofs.{IsProofOf, TellsProof}
+
+-- the relation of n variables is a proof of the target from the constraints
+abbrev pub IsProofFrom : ℕ → RelationView → Terms → List Constraint → Type 0
+IsProofFrom n r target constraints = IsProofOf n r (value target) (forms_of (map of_constraint constraints))
 
 -- a text, if there is one, tells a proof of the target from the constraints
 abbrev pub MayProve : NamesView → Terms → List Constraint → Option (Vec ℕ Global) → Type 0

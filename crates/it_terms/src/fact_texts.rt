@@ -1,8 +1,9 @@
 //! Facts as texts.
-ghost use Rattle.std.specs.Prelude.{◌≡◌, ◌<◌, ◌++◌, ◌||◌, [], ◌∷◌, if◌then◌else◌, length, slice_index_or, false, All, codes, IfOk, OnOk};
+ghost use Rattle.std.specs.Prelude.{◌≡◌, ◌<◌, ◌++◌, ◌||◌, [], if◌then◌else◌, length, slice_index_or, false, All, codes, IfOk, OnOk};
 ghost use Rattle.it_space.specs.Sets.{has_member};
 ghost use Rattle.it_print.specs.Lines.{joined_texts, members_from};
 ghost use Rattle.it_terms.specs.Points.{IsOver, fact_text, facts_text, variable_name};
+ghost use Rattle.it_terms.specs.FactSteps.{member_text};
 
 use crate::facts::Fact;
 use it_print::{write_set, write_signed};
@@ -46,7 +47,7 @@ fn write_member(
     variable: u8,
 ) -> Result<bool, AllocError>
     requires { variable < length names.now.variables }
-    ensures written { OnOk result (out.new.items ≡ out.old.items ++ joined_texts (codes ";") some (if has_member set variable then variable_name names.now variable ∷ [] else [])) }
+    ensures written { OnOk result (out.new.items ≡ out.old.items ++ member_text names.now some set variable) }
     ensures now { IfOk result (λ b. b ≡ (some || has_member set variable)) }
 {
     if !set.has(variable) {

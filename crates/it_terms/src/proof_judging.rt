@@ -3,10 +3,11 @@ ghost use Rattle.std.specs.Prelude.{◌≤◌, All, IfOk, length, map};
 ghost use Rattle.std.specs.Bool.{OnTrue};
 ghost use Rattle.it_space.specs.Rows.{value};
 ghost use Rattle.it_elemental.specs.Generators.{forms_of, of_constraint};
-ghost use Rattle.it_terms.specs.Proofs.{IsPlusShannon, IsProofOf, TellsProof};
+ghost use Rattle.it_terms.specs.Proofs.{IsPlusShannon, TellsProof};
 ghost use Rattle.it_syntax.specs.Meaning.{IsAtomOf, relation_view};
 ghost use Rattle.it_syntax.specs.Givens.{IsRelationOf};
 ghost use Rattle.it_space.specs.Spaces.{IsSpace};
+ghost use Rattle.it_terms.specs.Proposals.{IsProofFrom};
 
 use crate::equations::{equation, side_row};
 use crate::sums::{are_allowed, is_multiple, is_sum};
@@ -61,7 +62,7 @@ fn is_proof(
 ) -> Result<bool, AllocError>
     requires space { IsSpace space }
     requires within { IsRelationOf space.variables space.rates (relation_view relation.now) }
-    ensures { IfOk result (λ b. OnTrue b (IsProofOf space.variables (relation_view relation.now) (value target.now) (forms_of (map of_constraint constraints.now)))) }
+    ensures { IfOk result (λ b. OnTrue b (IsProofFrom space.variables (relation_view relation.now) target.now constraints.now)) }
 {
     let right = relation.right.terms.as_slice();
     let weights = proposal.weights.as_slice();

@@ -1,11 +1,11 @@
 //! The steps of a proof, each judged before it is handed out.
-ghost use Rattle.std.specs.Prelude.{◌≡◌, ◌≤◌, ◌++◌, ◌∷◌, [], length, map, take, drop, IfOk, IfSome};
+ghost use Rattle.std.specs.Prelude.{◌≡◌, ◌≤◌, ◌++◌, ◌∷◌, [], length, map, IfOk, IfSome};
 ghost use Rattle.std.specs.Bool.{OnTrue};
 ghost use Rattle.it_syntax.specs.Meaning.{relation_view};
 ghost use Rattle.it_question.specs.Limits.{IsQuestion};
 ghost use Rattle.it_question.specs.Questions.{question_body};
 ghost use Rattle.it_question.specs.Tables.{problem_names};
-ghost use Rattle.it_terms.specs.ProofSteps.{AreStepTexts, TellsSteps};
+ghost use Rattle.it_terms.specs.ProofSteps.{AreStepTexts, TellsSteps, AreEquationSteps};
 
 use crate::drafts::row_terms;
 use crate::equations::equation;
@@ -206,7 +206,7 @@ fn equation_steps(
     equation: &Relation,
 ) -> Result<Option<Vec<Vec<u8>>>, AllocError>
     requires { 1 ≤ length names.now.variables }
-    ensures { IfOk result (λ o. IfSome o (λ lines. AreStepTexts names.now (take 1 (relation_view equation.now).right) (drop 1 (relation_view equation.now).right) (relation_view equation.now).left (map (λ line. line.items) lines.items))) }
+    ensures { IfOk result (λ o. IfSome o (λ lines. AreEquationSteps names.now (relation_view equation.now) (map (λ line. line.items) lines.items))) }
 {
     let right = equation.right.terms.as_slice();
     if right.is_empty() {
