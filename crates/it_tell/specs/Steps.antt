@@ -1,15 +1,23 @@
 -- No public clause cites this module: what the calls inside `tell` give.
-use Rattle.std.specs.Prelude.{◌≡◌, ℕ, ℤ, List, ◌++◌, Bool}
+use Rattle.std.specs.Prelude.{◌≡◌, ℕ, ℤ, List, ◌++◌, Bool, [], map, Option, Some}
 use Rattle.std.specs.List.{zip}
 use Rattle.it_space.specs.declared.spaces.Space.{Space}
-use Rattle.it_space.specs.Rows.{Terms}
+use Rattle.it_space.specs.Rows.{Terms, value}
 use Rattle.it_region.specs.Obligations.{ArePulledRows}
-use Rattle.it_space.specs.Answers.{AnswerView, CertificateView}
+use Rattle.it_space.specs.Answers.{AnswerView, CertificateView, certificate_view}
 use Rattle.it_polymatroid.specs.Certificates.{Form}
 use Rattle.it_syntax.specs.NamesViews.{NamesView}
 use Rattle.it_question.specs.Questions.{BodyView}
 use Rattle.it_region.specs.AnswerForms.{answer_forms}
 use Rattle.it_tell.specs.Tellings.{AreDetails, AreProofTexts, Each, IsPointText, IsTelling, ProofTexts, Telling, head_line, indented_line, proof_lines, tells_invalid, telling_text}
+use Rattle.it_space.specs.Answers.AnswerView.{Contained}
+use Rattle.it_space.specs.declared.answers.Certificate.{Certificate}
+use Rattle.it_cli.specs.Ends.{call_of}
+use Rattle.it_cli.specs.declared.status.Status.{Status}
+use Rattle.it_tell.specs.declared.settings.Options.{Options}
+use Rattle.it_tell.specs.declared.settings.Settings.TheVariants.{Tell}
+use Rattle.it_tell.specs.Settings.{settings_of}
+use Rattle.it_tell.specs.Ends.{Ends}
 
 -- the text has the lines about line k, and `invalid` tells whether they say so
 pub record IsToldLine (with_steps : Bool) (k : ℕ) (line text : List ℕ) (invalid : Bool) : Type 0 where
@@ -34,6 +42,14 @@ AppendsDetails q with_steps answer old new = (details : List ℕ) × (AreDetails
 unfoldable pub AppendsPoint : NamesView → List ℤ → List ℕ → List ℕ → Type 0
 AppendsPoint v values old new = (text : List ℕ) × (IsPointText v values text × (new ≡ old ++ indented_line text))
 
+-- the form of a row, with a certificate for it
+abbrev pub form_with_proof : Terms → Certificate → Form × CertificateView
+form_with_proof row w = (value row, certificate_view w)
+
+-- the answer that a containment holds by these parts, with these certificates
+abbrev pub contained_by : List ℕ → List Certificate → AnswerView
+contained_by parts proofs = Contained parts (map certificate_view proofs)
+
 -- the lines of a proof of a form were appended
 pub record AppendsProof (q : BodyView) (with_steps : Bool) (proof : Form × CertificateView) (old new : List ℕ) : Type 0 where
   pub texts : ProofTexts
@@ -48,3 +64,9 @@ AreFormRows q answer rows = (s : Space) × ArePulledRows s (answer_forms q answe
 unfoldable pub AppendsProofs : BodyView → Bool → List Terms → List CertificateView → List ℕ → List ℕ → Type 0
 AppendsProofs q with_steps rows ws old new =
     (answer : AnswerView) → AreFormRows q answer rows → AppendsEach proof_lines (AreProofTexts q with_steps) (zip (answer_forms q answer) ws) old new
+
+-- how a call ends whichever words ask for a telling, by the meanings of a source and a sink and their states before and after
+abbrev pub EndsForTelling : {S K : Type 0} → (S → Option (List ℕ)) → (S → ℕ) → (K → Option (List ℕ)) → (K → ℕ) → Options → S → S → K → K → Status → Type 0
+EndsForTelling left read_faults taken write_faults options source source_after sink sink_after s =
+    (words : List (List ℕ)) → settings_of words ≡ Some (Tell options)
+    → Ends (call_of left read_faults taken write_faults words [] source source_after sink sink_after) s

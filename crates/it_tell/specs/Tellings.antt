@@ -6,6 +6,7 @@ use Rattle.it_outside.specs.Groups.{Groups}
 use Rattle.it_space.specs.declared.answers.Mark.{Mark}
 use Rattle.it_space.specs.declared.answers.Mark.TheVariants.{Plain, Needed, Unsettled}
 use Rattle.it_space.specs.declared.problems.Kind.TheVariants.{Inequality}
+use Rattle.it_space.specs.declared.problems.Origin.{Origin}
 use Rattle.it_space.specs.Answers.{AnswerView, CertificateView}
 use Rattle.it_space.specs.Answers.AnswerView.{Yes, No, Undecided, Region, Contained, Open}
 use Rattle.it_space.specs.Rows.{Terms}
@@ -14,7 +15,7 @@ use Rattle.it_syntax.specs.NamesViews.{NamesView}
 use Rattle.it_question.specs.Questions.{BodyView, QuestionView}
 use Rattle.it_question.specs.Tables.{problem_names}
 use Rattle.it_certificate.specs.Reports.{ReadsReport}
-use Rattle.it_print.specs.Lines.{certificate_text, contained_line, open_line, row_text, undecided_line, values_text}
+use Rattle.it_print.specs.Lines.{certificate_text, contained_line, open_line, row_text, undecided_line, values_text, variable_names}
 use Rattle.it_terms.specs.Tells.{TellsRow}
 use Rattle.it_terms.specs.Proofs.{TellsForm}
 use Rattle.it_terms.specs.Points.{TellsPoint}
@@ -52,10 +53,13 @@ mark_comment Unsettled = codes "  # unsettled"
 unfoldable pub IsMarkedRowText : NamesView → Mark × Terms → List ℕ → Type 0
 IsMarkedRowText v row text = (own : List ℕ) × (IsRowText v row.1 own × (text ≡ own ++ mark_comment row.0))
 
--- a proof of a form in the question's own terms, or the weights as answers have them and said to be that
+-- the weights of a certificate as answers have them, and said to be that
+abbrev pub weights_text : BodyView → List Origin → CertificateView → List ℕ
+weights_text q origins w = codes "as weights " ++ certificate_text (variable_names q) origins w
+
+-- a proof of a form in the question's own terms, or the weights as answers have them
 unfoldable pub IsProofText : BodyView → Form × CertificateView → List ℕ → Type 0
-IsProofText q proof text = TellsForm q proof.0 text
-    ⊎ (text ≡ codes "as weights " ++ certificate_text (problem_names q).variables (question_origins q) proof.1)
+IsProofText q proof text = TellsForm q proof.0 text ⊎ (text ≡ weights_text q (question_origins q) proof.1)
 
 -- a point by facts that determine it, or its values as answers have them and said to be that
 unfoldable pub IsPointText : NamesView → List ℤ → List ℕ → Type 0
@@ -70,9 +74,13 @@ pub record ProofTexts : Type 0 where
 unfoldable pub proof_lines : ProofTexts → List ℕ
 proof_lines t = indented_line t.proof ++ flat_map step_line t.steps
 
--- texts of a proof: without steps, or with them where they are asked for
+-- no steps of a proof, or its steps where they are asked for
+abbrev pub AreProofSteps : BodyView → Bool → List ℕ → List (List ℕ) → Type 0
+AreProofSteps q with_steps proof steps = (steps ≡ []) ⊎ ((with_steps ≡ true) × TellsSteps (problem_names q) proof steps)
+
+-- texts of a proof: without steps, or with them
 unfoldable pub AreProofTexts : BodyView → Bool → Form × CertificateView → ProofTexts → Type 0
-AreProofTexts q with_steps proof t = IsProofText q proof t.proof × ((t.steps ≡ []) ⊎ ((with_steps ≡ true) × TellsSteps (problem_names q) t.proof t.steps))
+AreProofTexts q with_steps proof t = IsProofText q proof t.proof × AreProofSteps q with_steps t.proof t.steps
 
 -- the lines below the first one: of the proofs of what the answer says, of its rows, or of its point
 unfoldable pub AreDetails : BodyView → Bool → AnswerView → List ℕ → Type 0

@@ -1,9 +1,8 @@
 //! The lines below the first one of an answer: rows, proofs and points.
-ghost use Rattle.std.specs.Prelude.{◌≡◌, ◌≤◌, ◌<◌, ◌+◌, ◌^◌, ◌++◌, ◌⊎◌, [], true, length, map, codes, All, IfOk, OnOk};
+ghost use Rattle.std.specs.Prelude.{◌≡◌, ◌≤◌, ◌<◌, ◌+◌, ◌^◌, ◌++◌, length, map, codes, All, IfOk, OnOk};
 ghost use Rattle.std.specs.List.{flat_map};
 ghost use Rattle.it_space.specs.Answers.{answer_view, certificate_view};
-ghost use Rattle.it_space.specs.Answers.AnswerView.{Contained, Yes};
-ghost use Rattle.it_space.specs.Rows.{value};
+ghost use Rattle.it_space.specs.Answers.AnswerView.{Yes};
 ghost use Rattle.it_space.specs.declared.problems.Kind.TheVariants.{Inequality};
 ghost use Rattle.it_polymatroid.specs.Elementals.{elementals};
 ghost use Rattle.it_question.specs.Limits.{IsQuestion};
@@ -12,12 +11,11 @@ ghost use Rattle.it_question.specs.Questions.{Prove, question_body};
 ghost use Rattle.it_question.specs.Tables.{problem_names};
 ghost use Rattle.it_canon.specs.QuestionDemands.{variables_of};
 ghost use Rattle.it_certificate.specs.AnswerShapes.{HasQuestionShape};
-ghost use Rattle.it_print.specs.Lines.{AreListed, IsPrintable, IsRowOver, certificate_text, origins_of, row_text, values_text};
+ghost use Rattle.it_print.specs.Lines.{AreListed, IsPrintable, IsRowOver, origins_of, row_text, values_text};
 ghost use Rattle.it_report.specs.Steps.{IsAboutRelation};
 ghost use Rattle.it_cli.specs.Right.{question_origins};
-ghost use Rattle.it_terms.specs.ProofSteps.{TellsSteps};
-ghost use Rattle.it_tell.specs.Tellings.{IsMarkedRowText, IsPointText, IsProofText, IsRowText, indented_line, mark_comment, step_line};
-ghost use Rattle.it_tell.specs.Steps.{AppendsDetails, AppendsEach, AppendsPoint, AppendsProof, AppendsProofs, AreFormRows};
+ghost use Rattle.it_tell.specs.Tellings.{IsMarkedRowText, IsPointText, IsProofText, IsRowText, indented_line, mark_comment, step_line, AreProofSteps, weights_text};
+ghost use Rattle.it_tell.specs.Steps.{AppendsDetails, AppendsEach, AppendsPoint, AppendsProof, AppendsProofs, AreFormRows, contained_by, form_with_proof};
 
 use crate::settings::Options;
 use it_canon::{problem_names, target_rows};
@@ -115,7 +113,7 @@ fn weights_text(
 ) -> Result<Vec<u8>, AllocError>
     requires some { 1 ≤ variables_of (question_body question.now) }
     requires there { All (λ w. w.0 < length (elementals (variables_of (question_body question.now))) + length constraints.now) certificate.now.weights.items }
-    ensures { IfOk result (λ t. t.items ≡ codes "as weights " ++ certificate_text (problem_names (question_body question.now)).variables (origins_of constraints.now) (certificate_view certificate.now)) }
+    ensures { IfOk result (λ t. t.items ≡ weights_text (question_body question.now) (origins_of constraints.now) (certificate_view certificate.now)) }
 {
     let mut out = Vec::new(alloc);
     out.extend_from_slice(b"as weights ")?;
@@ -162,8 +160,8 @@ fn obligation_rows(
     proofs: &[Certificate],
 ) -> Result<Vec<Row>, AllocError>
     requires question { IsQuestion (question_body question.now) }
-    requires fits { HasQuestionShape (question_body question.now) (Contained parts.now (map certificate_view proofs.now)) }
-    ensures { IfOk result (λ rows. AreFormRows (question_body question.now) (Contained parts.now (map certificate_view proofs.now)) rows.items) }
+    requires fits { HasQuestionShape (question_body question.now) (contained_by parts.now proofs.now) }
+    ensures { IfOk result (λ rows. AreFormRows (question_body question.now) (contained_by parts.now proofs.now) rows.items) }
 {
     // the proofs are named in the clauses alone
     let _proofs = proofs;
@@ -186,7 +184,7 @@ fn row_proof(
     requires some { 1 ≤ variables_of (question_body question.now) }
     requires origins { origins_of constraints.now ≡ question_origins (question_body question.now) }
     requires there { All (λ w. w.0 < length (elementals (variables_of (question_body question.now))) + length constraints.now) certificate.now.weights.items }
-    ensures { IfOk result (λ t. IsProofText (question_body question.now) (value row.now, certificate_view certificate.now) t.items) }
+    ensures { IfOk result (λ t. IsProofText (question_body question.now) (form_with_proof row.now certificate.now) t.items) }
 {
     match told_form(alloc, question, row, certificate, short)? {
         Some(text) => Ok(text),
@@ -202,7 +200,7 @@ fn steps_of(
     proof: &[u8],
 ) -> Result<Vec<Vec<u8>>, AllocError>
     requires { IsQuestion (question_body question.now) }
-    ensures { IfOk result (λ steps. (map (λ s. s.items) steps.items ≡ []) ⊎ ((with_steps ≡ true) × TellsSteps (problem_names (question_body question.now)) proof.now (map (λ s. s.items) steps.items))) }
+    ensures { IfOk result (λ steps. AreProofSteps (question_body question.now) with_steps proof.now (map (λ s. s.items) steps.items)) }
 {
     if !with_steps {
         return Ok(Vec::new(alloc));
@@ -247,7 +245,7 @@ fn write_proof(
     requires some { 1 ≤ variables_of (question_body question.now) }
     requires origins { origins_of constraints.now ≡ question_origins (question_body question.now) }
     requires there { All (λ w. w.0 < length (elementals (variables_of (question_body question.now))) + length constraints.now) certificate.now.weights.items }
-    ensures { OnOk result (AppendsProof (question_body question.now) options.steps (value row.now, certificate_view certificate.now) out.old.items out.new.items) }
+    ensures { OnOk result (AppendsProof (question_body question.now) options.steps (form_with_proof row.now certificate.now) out.old.items out.new.items) }
 {
     let text = row_proof(
         alloc,
@@ -328,8 +326,8 @@ fn write_obligations(
     requires some { 1 ≤ variables_of (question_body question.now) }
     requires origins { origins_of constraints.now ≡ question_origins (question_body question.now) }
     requires there { AreListed (variables_of (question_body question.now)) (length constraints.now) proofs.now }
-    requires fits { HasQuestionShape (question_body question.now) (Contained parts.now (map certificate_view proofs.now)) }
-    ensures { OnOk result (AppendsDetails (question_body question.now) options.steps (Contained parts.now (map certificate_view proofs.now)) out.old.items out.new.items) }
+    requires fits { HasQuestionShape (question_body question.now) (contained_by parts.now proofs.now) }
+    ensures { OnOk result (AppendsDetails (question_body question.now) options.steps (contained_by parts.now proofs.now) out.old.items out.new.items) }
 {
     let rows = obligation_rows(alloc, question, parts, proofs)?;
     write_proofs(

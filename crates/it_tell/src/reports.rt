@@ -1,6 +1,6 @@
 //! The lines about a report.
 ghost use Rattle.std.specs.Prelude.{◌≡◌};
-ghost use Rattle.it_cli.specs.InnerEnds.{EndOfBytes};
+ghost use Rattle.it_cli.specs.InnerEnds.{EndsForBytes};
 ghost use Rattle.it_cli.specs.Outputs.{verdict_status};
 ghost use Rattle.it_tell.specs.Ends.{tell_mode};
 
@@ -13,7 +13,7 @@ use std::alloc::Global;
 
 /// What is done for the bytes of a report: what is told of a line is written as soon as it is there.
 pub fn tell_report<K: Sink>(alloc: Global, options: Options, bytes: &[u8], sink: &mut K) -> Status
-    ensures { EndOfBytes (tell_mode options.steps) (K.taken sink.old) (K.taken sink.new) (K.faults sink.old) (K.faults sink.new) bytes.now result }
+    ensures { EndsForBytes K.taken K.faults (tell_mode options.steps) sink.old sink.new bytes.now result }
 {
     let mut rest = bytes;
     let mut count: usize = 0;

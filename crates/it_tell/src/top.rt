@@ -1,10 +1,9 @@
 //! The top call of the program `tell`.
-ghost use Rattle.std.specs.Prelude.{◌≡◌, ℕ, List, [], Some, map};
+ghost use Rattle.std.specs.Prelude.{[], map};
 ghost use Rattle.it_cli.specs.Ends.{call_of};
 ghost use Rattle.it_cli.specs.InnerEnds.{EndOfLine};
-ghost use Rattle.it_tell.specs.declared.settings.Settings.TheVariants.{Tell};
-ghost use Rattle.it_tell.specs.Settings.{settings_of};
 ghost use Rattle.it_tell.specs.Ends.{Ends};
+ghost use Rattle.it_tell.specs.Steps.{EndsForTelling};
 
 use crate::reports::tell_report;
 use crate::settings::{Options, Settings, settings_of};
@@ -51,7 +50,7 @@ fn tell_source<S: Source, K: Sink>(
     source: &mut S,
     sink: &mut K,
 ) -> Status
-    ensures { (words : List (List ℕ)) → settings_of words ≡ Some (Tell options) → Ends (call_of S.left S.faults K.taken K.faults words [] source.old source.new sink.old sink.new) result }
+    ensures { EndsForTelling S.left S.faults K.taken K.faults options source.old source.new sink.old sink.new result }
 {
     match read_all(alloc, source, MOST) {
         Ok(bytes) => tell_report(alloc, options, bytes.as_slice(), sink),
