@@ -70,3 +70,6 @@ compare_without_rest a b c d hb hd e z = by_cases z ∙ sym (compare_by_rests a 
 -- the rests turned over
 pub compare_by_inverse_rests : (a b c d : ℕ) → a / b ≡ c / d → nat_cmp (d * (a % b)) (b * (c % d)) ≡ nat_cmp (a * d) (c * b)
 compare_by_inverse_rests a b c d e = ap₂ nat_cmp (mul_comm d (a % b)) (mul_comm b (c % d)) ∙ sym (compare_by_rests a b c d e)
+
+-- how a turn of the comparison ends or goes on
+pub ruleset turn_lemmas = (compare_by_whole_parts, compare_without_rest, compare_by_inverse_rests)

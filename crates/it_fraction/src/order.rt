@@ -9,7 +9,7 @@ const SHORT: u128 = u64::MAX as u128;
 
 /// How a / b compares with c / d: by their whole parts, and where these agree by the rests turned over.
 /// As soon as all four parts fit 64 bits, whose division is several times faster, they go on there.
-#[tactic(auto, using(crate::proofs::WholeParts::compare_by_whole_parts, crate::proofs::WholeParts::compare_without_rest, crate::proofs::WholeParts::compare_by_inverse_rests))]
+#[tactic(auto, using(crate::proofs::WholeParts::turn_lemmas))]
 pub fn compare_parts(a: u128, b: u128, c: u128, d: u128) -> Ordering
     requires b_some { 0 < b }
     requires d_some { 0 < d }
@@ -46,7 +46,7 @@ pub fn compare_parts(a: u128, b: u128, c: u128, d: u128) -> Ordering
 }
 
 /// The same in 64 bits.
-#[tactic(auto, using(crate::proofs::WholeParts::compare_by_whole_parts, crate::proofs::WholeParts::compare_without_rest, crate::proofs::WholeParts::compare_by_inverse_rests))]
+#[tactic(auto, using(crate::proofs::WholeParts::turn_lemmas))]
 fn short_compare(a: u64, b: u64, c: u64, d: u64) -> Ordering
     requires b_some { 0 < b }
     requires d_some { 0 < d }
