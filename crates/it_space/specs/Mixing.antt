@@ -7,9 +7,13 @@ use Rattle.it_space.specs.Cancelling.{MixFits}
 abbrev pub mix : ℕ → Terms → ℕ → Terms → ℕ → ℤ
 mix a up b down c = pos a *ℤ coefficient up c +ℤ pos b *ℤ coefficient down c
 
--- products and sums are within the limit at each coordinate but one
+-- both products and their sum at a coordinate are within the limit
+abbrev pub MixFitsAt : ℕ → Terms → ℕ → Terms → ℕ → Type 0
+MixFitsAt a up b down c = MixFits (pos a) (coefficient up c) (pos b) (coefficient down c)
+
+-- they are so at each coordinate but one
 abbrev pub MixesFit : ℕ → ℕ → Terms → ℕ → Terms → Type 0
-MixesFit at a up b down = (c : ℕ) → c ≢ at → MixFits (pos a) (coefficient up c) (pos b) (coefficient down c)
+MixesFit at a up b down = (c : ℕ) → c ≢ at → MixFitsAt a up b down c
 
 -- 1 where the first term is at a coordinate, and else 0
 abbrev pub presence : ℕ → Terms → ℕ
@@ -30,7 +34,7 @@ pub record IsFirstCoordinate (left right : Terms) (c : ℕ) : Type 0 where
 
 -- the term at a coordinate was put after the others, unless the coordinate is left out
 pub record IsTermPut (at c a : ℕ) (left : Terms) (b : ℕ) (right : Terms) (old new : Terms) : Type 0 where
-  pub fits : c ≢ at → MixFits (pos a) (coefficient left c) (pos b) (coefficient right c)
+  pub fits : c ≢ at → MixFitsAt a left b right c
   pub is : new ≡ old ++ cond (nat_eq c at) [] (single_term c (mix a left b right c))
 
 -- the whole sum, without the coordinate that is left out

@@ -14,7 +14,6 @@ pub struct Certificate {
     pub weights: Vec<(u32, i128)>,
 }
 
-// written out, so that letting a certificate go is one call
 impl Drop for Certificate {
     fn drop(self) {
         let Certificate {
@@ -70,7 +69,6 @@ pub enum Answer {
     },
 }
 
-// written out, so that letting an answer go is one call
 impl Drop for Answer {
     fn drop(self) {
         match self {

@@ -2,8 +2,8 @@
 ghost use Rattle.std.specs.Prelude.{◌≡◌, ◌≢◌, pos, ◌*ℤ◌, ◌<◌, ◌^◌, ◌<ℤ◌, ◌++◌, OkIff, OnOk, IfOk, IfErr, IfSome, IfNone, [], unsigned_abs};
 ghost use Rattle.it_number.specs.Limit.{IsWithin};
 ghost use Rattle.it_space.specs.Rows.{Ascends, IsCanonical, coefficient, single_term};
-ghost use Rattle.it_space.specs.Cancelling.{common_at, MixFits, CancelFits, cancelled_row};
-ghost use Rattle.it_space.specs.Mixing.{mix, MixesFit, AreLater, IsFirstCoordinate, IsTermPut, IsMix};
+ghost use Rattle.it_space.specs.Cancelling.{common_at, CancelFits, cancelled_row};
+ghost use Rattle.it_space.specs.Mixing.{mix, MixFitsAt, MixesFit, AreLater, IsFirstCoordinate, IsTermPut, IsMix};
 ghost use Rattle.it_space.specs.declared.faults.RowFault.TheVariants.{Wide as IsTooWide};
 
 use crate::faults::RowFault;
@@ -124,7 +124,7 @@ fn put_term(
     requires a { a < 2 ^ 127 }
     requires b { b < 2 ^ 127 }
     ensures is { OnOk result (IsTermPut at coordinate a left.now b right.now terms.old.items terms.new.items) }
-    ensures wide { IfErr result (λ fault. fault ≡ IsTooWide → (coordinate ≢ at) × ¬ (MixFits (pos a) (coefficient left.now coordinate) (pos b) (coefficient right.now coordinate))) }
+    ensures wide { IfErr result (λ fault. fault ≡ IsTooWide → (coordinate ≢ at) × ¬ (MixFitsAt a left.now b right.now coordinate)) }
 {
     if coordinate == at {
         return Ok(());
@@ -145,11 +145,8 @@ fn put_nonzero(
     if coefficient == 0 {
         return Ok(());
     }
-    // a match, since `?` makes no `RowFault` of the error of `push`
-    match terms.push((coordinate, coefficient)) {
-        Ok(()) => Ok(()),
-        Err(_) => Err(RowFault::Memory),
-    }
+    terms.push((coordinate, coefficient))?;
+    Ok(())
 }
 
 /// The coefficient of the sum at a coordinate.
@@ -164,7 +161,7 @@ fn mixed_coefficient(
     requires right { Ascends coordinate right.now }
     requires a { a < 2 ^ 127 }
     requires b { b < 2 ^ 127 }
-    ensures { OkIff result (MixFits (pos a) (coefficient left.now coordinate) (pos b) (coefficient right.now coordinate)) (mix a left.now b right.now coordinate) }
+    ensures { OkIff result (MixFitsAt a left.now b right.now coordinate) (mix a left.now b right.now coordinate) }
 {
     sum(
         coefficient_times(left, coordinate, a)?,
