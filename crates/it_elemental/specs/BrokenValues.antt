@@ -1,0 +1,10 @@
+-- No public clause cites this module: what one elemental inequality says to be at least 0.
+use Rattle.std.specs.Prelude.{ℕ, ℤ, Result, OkIff}
+use Rattle.it_fraction.specs.declared.fraction.Wide.{Wide}
+use Rattle.it_space.specs.Rows.{ValueFits}
+use Rattle.it_polymatroid.specs.Elementals.{Elemental, elemental_value}
+use Rattle.it_elemental.specs.Rows.{elemental_row}
+
+-- its value at a set function, or `Wide` exactly where a partial sum in order of the sets passes the limit
+abbrev pub IsElementalValue : ℕ → (ℕ → ℤ) → Elemental → Result ℤ Wide → Type 0
+IsElementalValue n h e result = OkIff result (ValueFits (elemental_row n e) h) (elemental_value n h e)
