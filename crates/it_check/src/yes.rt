@@ -3,7 +3,7 @@ ghost use Rattle.std.specs.Prelude.{◌≡◌, ◌<◌, ◌≤◌, ℤ, length, 
 ghost use Rattle.it_number.specs.Limit.{IsWithin};
 ghost use Rattle.it_space.specs.Answers.{certificate_view};
 ghost use Rattle.it_space.specs.Problems.{IsProblem, problem_view};
-ghost use Rattle.it_space.specs.Rows.{IsUpTo, ValueFits, coefficient, value};
+ghost use Rattle.it_space.specs.Rows.{IsUpTo, IsValueOrWide, coefficient};
 ghost use Rattle.it_space.specs.Spaces.{size_of};
 ghost use Rattle.it_elemental.specs.Generators.{generators};
 ghost use Rattle.it_check.specs.Verdicts.{column, of_scale, of_weight, of_weights, of_coordinate, of_coordinates, yes_verdict};
@@ -54,10 +54,10 @@ fn of_weights(problem: &Problem, weights: &[(u32, i128)]) -> Option<Verdict>
 }
 
 /// The scale times the target's coefficient at a coordinate.
-fn left_number(target: &Row, certificate: &Certificate, coordinate: u32) -> Result<i128, Wide>
-    ensures { OkIff result (IsWithin (certificate.now.scale *ℤ coefficient target.now coordinate)) (certificate.now.scale *ℤ coefficient target.now coordinate) }
+fn left_number(target: &Row, certificate: &Certificate, at: u32) -> Result<i128, Wide>
+    ensures { OkIff result (IsWithin (certificate.now.scale *ℤ coefficient target.now at)) (certificate.now.scale *ℤ coefficient target.now at) }
 {
-    signed_product(certificate.scale, target.coefficient(coordinate))
+    signed_product(certificate.scale, target.coefficient(at))
 }
 
 /// The sum of weights times coefficients at a coordinate.
@@ -66,7 +66,7 @@ fn right_number(problem: &Problem, weights: &[(u32, i128)], coordinate: u32) -> 
     requires listed { All (λ w. w.0 < length (generators (problem_view problem.now))) weights.now }
     requires from_one { 1 ≤ coordinate }
     requires of_space { coordinate ≤ size_of problem.now.space }
-    ensures { OkIff result (ValueFits weights.now (column (generators (problem_view problem.now)) coordinate)) (value weights.now (column (generators (problem_view problem.now)) coordinate)) }
+    ensures { IsValueOrWide weights.now (column (generators (problem_view problem.now)) coordinate) result }
 {
     let mut sum: i128 = 0;
     for (index, weight) in weights {
