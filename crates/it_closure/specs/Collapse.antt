@@ -1,7 +1,7 @@
 -- Coordinates, rows and maps over closed sets.
 use Rattle.std.specs.Prelude.{◌≡◌, ℕ, ◌^◌, ◌<◌, ℤ, pos, ◌+ℤ◌, List, [], ◌∷◌, map, nat_eq, nat_lt, if◌then◌else◌, All}
 use Rattle.it_number.specs.Limit.{IsWithin}
-use Rattle.it_space.specs.Rows.{Terms, value}
+use Rattle.it_space.specs.Rows.{Terms, coefficient, value}
 use Rattle.it_space.specs.Sums.{plus_at}
 use Rattle.it_space.specs.Sets.{IsInside}
 use Rattle.it_polymatroid.specs.Elementals.{MeetsElementals}
@@ -16,6 +16,10 @@ place n ds c = if nat_lt c (2 ^ n) then (if nat_eq (closure n ds c) (closure n d
 -- terms with each coordinate replaced by its place
 abbrev pub placed_terms : ℕ → List Dependence → Terms → Terms
 placed_terms n ds terms = map (λ t. (place n ds t.0, t.1)) terms
+
+-- a map that has at each place other than 0 the sum of the coefficients there
+abbrev pub AreSumsByPlace : ℕ → List Dependence → Terms → (ℕ → ℤ) → Type 0
+AreSumsByPlace n ds terms f = (c : ℕ) → 0 < c → f c ≡ coefficient (placed_terms n ds terms) c
 
 -- the map on all coordinates that has at each the value at its place
 abbrev pub spread_out : ℕ → List Dependence → (ℕ → ℤ) → ℕ → ℤ

@@ -1,10 +1,10 @@
 -- No public clause cites this module: how coefficients are summed at their places, one after the other.
 use Rattle.std.specs.Prelude.{◌≡◌, ℕ, ◌<◌, ℤ, pos, ◌+ℤ◌, List, length, cond, nat_eq, All}
 use Rattle.it_number.specs.Limit.{IsWithin}
-use Rattle.it_space.specs.Rows.{Terms, coefficient}
+use Rattle.it_space.specs.Rows.{Terms}
 use Rattle.it_space.specs.Sums.{number_at}
 use Rattle.it_closure.specs.declared.dependences.Dependence.{Dependence}
-use Rattle.it_closure.specs.Collapse.{placed_terms, CollapseFits}
+use Rattle.it_closure.specs.Collapse.{AreSumsByPlace, CollapseFits}
 
 -- an amount put at a place, unless that is 0
 pub record IsPutAtPlace (old new : List ℤ) (place : ℕ) (amount : ℤ) : Type 0 where
@@ -17,5 +17,5 @@ pub record IsPutAtPlace (old new : List ℤ) (place : ℕ) (amount : ℤ) : Type
 pub record ArePlaced (n : ℕ) (ds : List Dependence) (terms : Terms) (size : ℕ) (values : List ℤ) : Type 0 where
   pub complete : length values ≡ size
   pub within : All IsWithin values
-  pub sums : (c : ℕ) → 0 < c → number_at values c ≡ coefficient (placed_terms n ds terms) c
+  pub sums : AreSumsByPlace n ds terms (number_at values)
   pub fits : CollapseFits n ds terms

@@ -1,8 +1,8 @@
 //! The coordinates over closed sets.
-ghost use Rattle.std.specs.Prelude.{◌≡◌, ◌<◌, ◌+◌, ◌-◌, ◌^◌, ◌++◌, ◌∷◌, [], cond, filter, IfOk, OnOk};
+ghost use Rattle.std.specs.Prelude.{◌≡◌, ◌<◌, ◌+◌, ◌^◌, ◌++◌, ◌∷◌, [], cond, IfOk, OnOk};
 ghost use Rattle.it_space.specs.Spaces.{IsSpace};
 ghost use Rattle.it_polymatroid.specs.Elementals.{span};
-ghost use Rattle.it_closure.specs.Coordinates.{closed_coordinates, has_row};
+ghost use Rattle.it_closure.specs.Coordinates.{closed_coordinates, has_row, sets_with_row};
 
 use crate::dependences::Dependences;
 use it_space::{Space, VarSet};
@@ -22,7 +22,7 @@ impl Dependences {
 
 /// The nonempty sets that have a coordinate of their own, in order.
 fn closed_sets(alloc: Global, dependences: &Dependences) -> Result<Vec<u32>, AllocError>
-    ensures { IfOk result (λ v. v.items ≡ filter (has_row dependences.now.space.variables dependences.now.list) (span 1 (2 ^ dependences.now.space.variables - 1))) }
+    ensures { IfOk result (λ v. v.items ≡ sets_with_row dependences.now.space.variables dependences.now.list) }
 {
     let space = dependences.space();
     let mut sets = Vec::new(alloc);

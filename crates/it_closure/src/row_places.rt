@@ -1,10 +1,10 @@
 //! Rows over closed sets.
-ghost use Rattle.std.specs.Prelude.{◌≡◌, ◌<◌, ◌≤◌, ◌+◌, ◌^◌, ℕ, ◌+ℤ◌, length, IfOk, IfErr, OnOk, OnErr};
+ghost use Rattle.std.specs.Prelude.{◌≡◌, ◌<◌, ◌≤◌, ◌+◌, ◌^◌, ◌+ℤ◌, length, IfOk, IfErr, OnOk, OnErr};
 ghost use Rattle.it_number.specs.Limit.{IsWithin};
 ghost use Rattle.it_space.specs.Rows.{IsUpTo, coefficient};
 ghost use Rattle.it_space.specs.Spaces.{size_of};
 ghost use Rattle.it_space.specs.Sums.{number_at};
-ghost use Rattle.it_closure.specs.Collapse.{CollapseFits, IsCollapseOf, place, placed_terms};
+ghost use Rattle.it_closure.specs.Collapse.{AreSumsByPlace, CollapseFits, IsCollapseOf, place};
 ghost use Rattle.it_closure.specs.Placings.{ArePlaced, IsPutAtPlace};
 
 use crate::dependences::Dependences;
@@ -34,7 +34,7 @@ impl Dependences {
     pub fn collapse(&self, alloc: Global, row: &Row) -> Result<Row, RowFault>
         requires { IsUpTo (size_of self.now.space) row.now }
         ensures row { IfOk result (IsCollapseOf self.now.space.variables self.now.list row.now) }
-        ensures coefficients { IfOk result (λ r. (c : ℕ) → 0 < c → coefficient r c ≡ coefficient (placed_terms self.now.space.variables self.now.list row.now) c) }
+        ensures coefficients { IfOk result (λ r. AreSumsByPlace self.now.space.variables self.now.list row.now (coefficient r)) }
         ensures coordinates { IfOk result (IsUpTo (size_of self.now.space)) }
         ensures fits { OnOk result (CollapseFits self.now.space.variables self.now.list row.now) }
         ensures wide { IfErr result (λ fault. fault ≡ RowFault.Wide → ¬ (CollapseFits self.now.space.variables self.now.list row.now)) }
