@@ -1,5 +1,5 @@
 -- What a lift is given and what it gives.
-use Rattle.std.specs.Prelude.{◌≡◌, ℕ, ◌<◌, ◌+◌, ℤ, pos, true, ◌-ℤ◌, ◌*ℤ◌, ◌≤◌, List, [], ◌∷◌, All}
+use Rattle.std.specs.Prelude.{◌≡◌, ◌≢◌, ℕ, ◌<◌, ◌+◌, ℤ, pos, true, ◌-ℤ◌, ◌*ℤ◌, ◌≤◌, List, [], ◌∷◌, All}
 use Rattle.it_number.specs.Limit.{IsWithin}
 use Rattle.it_space.specs.Problems.{ProblemView}
 use Rattle.it_space.specs.Answers.{CertificateView}
@@ -43,3 +43,7 @@ pub record IsLiftOf (q : ProblemView) (d : DependencesView) (target : Terms) (ol
 -- all numbers of the lift are within the limit
 abbrev pub FitsLift : ProblemView → DependencesView → Terms → CertificateView → Type 0
 FitsLift q d target w = LiftFits d.space.variables d.list (value target) (generators_of q) w
+
+-- a lift is to be made, and a number of it passes the limit
+abbrev pub IsLiftWide : ProblemView → DependencesView → Terms → CertificateView → Type 0
+IsLiftWide q d target w = (d.list ≢ []) × (¬ (FitsLift q d target w))

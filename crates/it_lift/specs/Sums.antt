@@ -1,5 +1,7 @@
 -- No public clause cites this module: amounts that are added to the weights, one after the other.
 use Rattle.std.specs.Prelude.{◌≡◌, ℕ, ℤ, List, [], ◌∷◌, length, map}
+use Rattle.it_space.specs.declared.faults.RowFault.{RowFault}
+use Rattle.it_space.specs.declared.faults.RowFault.TheVariants.{Wide as IsTooWide}
 use Rattle.it_space.specs.Sums.{number_at, plus_at}
 use Rattle.it_lift.specs.Fits.{WeightSumsFit}
 
@@ -13,6 +15,10 @@ pub record AreWeightsAdded (old new : List ℤ) (ms : List (ℕ × ℤ)) : Type 
   pub fits : WeightSumsFit (number_at old) ms
   pub same : number_at new ≡ weights_after (number_at old) ms
   pub complete : length new ≡ length old
+
+-- where the fault is `Wide`, a sum on the way passes the limit
+abbrev pub AreSumsWide : List ℤ → List (ℕ × ℤ) → RowFault → Type 0
+AreSumsWide old ms fault = fault ≡ IsTooWide → ¬ WeightSumsFit (number_at old) ms
 
 -- the same weight for each of some numbers
 abbrev pub for_each : ℤ → List ℕ → List (ℕ × ℤ)

@@ -1,13 +1,13 @@
 //! What is left over at a set, where weights that add up over closed sets are taken over all sets.
 ghost use Rattle.std.specs.Prelude.{◌≡◌, ◌<◌, ◌+◌, ℤ, pos, ◌+ℤ◌, ◌-ℤ◌, ◌*ℤ◌, cond, All, OkIff, OnOk, OnErr, IfOk};
 ghost use Rattle.it_number.specs.Limit.{IsWithin};
-ghost use Rattle.it_space.specs.Answers.{certificate_view};
 ghost use Rattle.it_space.specs.Problems.{IsProblem, problem_view};
-ghost use Rattle.it_space.specs.Rows.{value, one_at};
+ghost use Rattle.it_space.specs.Rows.{value};
 ghost use Rattle.it_polymatroid.specs.Certificates.{combination};
-ghost use Rattle.it_lift.specs.Fits.{EmptyFits, ExcessFits, FallFits};
+ghost use Rattle.it_lift.specs.Fits.{FallFits};
 ghost use Rattle.it_elemental.specs.Generators.{generators_of};
-ghost use Rattle.it_lift.specs.Lifts.{excess, with_empty};
+ghost use Rattle.it_lift.specs.Lifts.{with_empty};
+ghost use Rattle.it_lift.specs.ProblemLifts.{coefficients_at, excess_at, ExcessesFit, IsExcessOrWide};
 
 use it_closure::Dependences;
 use it_elemental::coefficient_at;
@@ -24,7 +24,7 @@ pub fn excess(
     requires problem { IsProblem (problem_view problem.now) }
     requires listed { All (λ p. p.0 < (generators_of (problem_view problem.now)).count) collapsed.now.weights.items }
     requires some { 0 < set }
-    ensures { OkIff result (ExcessFits (certificate_view collapsed.now) (value target.now) (generators_of (problem_view problem.now)) set) (excess (certificate_view collapsed.now) (value target.now) (generators_of (problem_view problem.now)) set) }
+    ensures { IsExcessOrWide problem.now target.now collapsed.now set result }
 {
     let whole = signed_product(collapsed.scale, target.coefficient(set.number() as u32))?;
     left_of(problem, collapsed.weights.as_slice(), set, whole)
@@ -40,7 +40,7 @@ fn left_of(
     requires problem { IsProblem (problem_view problem.now) }
     requires listed { All (λ p. p.0 < (generators_of (problem_view problem.now)).count) weights.now }
     requires some { 0 < set }
-    ensures { OkIff result (FallFits whole weights.now (λ i. (generators_of (problem_view problem.now)).form i (one_at set))) (whole -ℤ combination weights.now (λ i. (generators_of (problem_view problem.now)).form i (one_at set))) }
+    ensures { OkIff result (FallFits whole weights.now (coefficients_at problem.now set)) (whole -ℤ combination weights.now (coefficients_at problem.now set)) }
 {
     let mut left = whole;
     for (index, weight) in weights {
@@ -54,7 +54,7 @@ fn coefficient_at_set(problem: &Problem, index: u32, set: VarSet) -> i128
     requires problem { IsProblem (problem_view problem.now) }
     requires listed { index < (generators_of (problem_view problem.now)).count }
     requires some { 0 < set }
-    ensures { result ≡ (generators_of (problem_view problem.now)).form index (one_at set) }
+    ensures { result ≡ coefficients_at problem.now set index }
 {
     coefficient_at(problem, index, set.number() as u32)
 }
@@ -76,10 +76,10 @@ pub fn empty_excess(
     requires problem { IsProblem (problem_view problem.now) }
     requires space { dependences.now.space ≡ problem.now.space }
     requires listed { All (λ p. p.0 < (generators_of (problem_view problem.now)).count) collapsed.now.weights.items }
-    ensures fits { OnOk result (EmptyFits dependences.now.space.variables dependences.now.list (value target.now) (generators_of (problem_view problem.now)) (certificate_view collapsed.now)) }
-    ensures value { IfOk result (λ v. v ≡ with_empty dependences.now.space.variables dependences.now.list (excess (certificate_view collapsed.now) (value target.now) (generators_of (problem_view problem.now))) 0) }
+    ensures fits { OnOk result (ExcessesFit problem.now dependences.now target.now collapsed.now) }
+    ensures value { IfOk result (λ v. v ≡ with_empty dependences.now.space.variables dependences.now.list (excess_at problem.now target.now collapsed.now) 0) }
     ensures within { IfOk result IsWithin }
-    ensures wide { OnErr result (¬ (EmptyFits dependences.now.space.variables dependences.now.list (value target.now) (generators_of (problem_view problem.now)) (certificate_view collapsed.now))) }
+    ensures wide { OnErr result (¬ (ExcessesFit problem.now dependences.now target.now collapsed.now)) }
 {
     let null = dependences.close(VarSet::empty());
     let mut total: i128 = 0;

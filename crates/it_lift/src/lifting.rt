@@ -1,16 +1,14 @@
 //! The lift of a certificate.
-ghost use Rattle.std.specs.Prelude.{[], ◌≢◌, ◌≡◌, ◌<◌, ◌≤◌, ◌+◌, ◌-◌, ◌^◌, pos, length, flat_map, All, OnOk, IfOk, IfErr};
+ghost use Rattle.std.specs.Prelude.{[], ◌≢◌, ◌≡◌, ◌<◌, ◌≤◌, ◌+◌, ◌-◌, pos, length, All, OnOk, IfOk, IfErr};
 ghost use Rattle.it_space.specs.Answers.{certificate_view};
 ghost use Rattle.it_space.specs.Problems.{IsProblem, problem_view};
-ghost use Rattle.it_space.specs.Rows.{IsUpTo, value};
+ghost use Rattle.it_space.specs.Rows.{IsUpTo};
 ghost use Rattle.it_space.specs.Spaces.{size_of};
-ghost use Rattle.it_polymatroid.specs.Elementals.{elementals, span};
-ghost use Rattle.it_lift.specs.Fits.{EmptyFits, WeightSumsFit};
+ghost use Rattle.it_polymatroid.specs.Elementals.{elementals};
 ghost use Rattle.it_elemental.specs.Generators.{generators_of};
-ghost use Rattle.it_lift.specs.LiftedCertificates.{IsCertificateOverClosed, AreDependencesOf, FitsLift, IsLiftOf};
-ghost use Rattle.it_lift.specs.Lifts.{excess, moves, moves_of};
-ghost use Rattle.it_space.specs.Sums.{number_at};
-ghost use Rattle.it_lift.specs.Sums.{AreWeightsAdded};
+ghost use Rattle.it_lift.specs.LiftedCertificates.{IsCertificateOverClosed, AreDependencesOf, FitsLift, IsLiftOf, IsLiftWide};
+ghost use Rattle.it_lift.specs.ProblemLifts.{all_moves, nonempty_moves, ExcessesFit, MovesFit};
+ghost use Rattle.it_lift.specs.Sums.{AreWeightsAdded, AreSumsWide};
 
 use crate::excesses::{empty_excess, excess};
 use crate::moves::add_moves;
@@ -37,7 +35,7 @@ pub fn lift(
     ensures fits { OnOk result (dependences.now.list ≢ [] → FitsLift (problem_view problem.now) dependences.now target.now (certificate_view collapsed.now)) }
     ensures nonzero { IfOk result (λ c. dependences.now.list ≢ [] → All (λ p. p.1 ≢ pos 0) (certificate_view c).weights) }
     ensures lifted { IfOk result (λ c. IsLiftOf (problem_view problem.now) dependences.now target.now (certificate_view collapsed.now) (certificate_view c)) }
-    ensures wide { IfErr result (λ fault. fault ≡ RowFault.Wide → (dependences.now.list ≢ []) × (¬ (FitsLift (problem_view problem.now) dependences.now target.now (certificate_view collapsed.now)))) }
+    ensures wide { IfErr result (λ f. f ≡ RowFault.Wide → IsLiftWide (problem_view problem.now) dependences.now target.now (certificate_view collapsed.now)) }
 {
     if dependences.list().is_empty() {
         return Ok(collapsed.copy(alloc)?);
@@ -60,7 +58,7 @@ fn lift_all(
     ensures fits { OnOk result (FitsLift (problem_view problem.now) dependences.now target.now (certificate_view collapsed.now)) }
     ensures nonzero { IfOk result (λ c. All (λ p. p.1 ≢ pos 0) (certificate_view c).weights) }
     ensures lifted { IfOk result (λ c. IsLiftOf (problem_view problem.now) dependences.now target.now (certificate_view collapsed.now) (certificate_view c)) }
-    ensures wide { IfErr result (λ fault. fault ≡ RowFault.Wide → ¬ (FitsLift (problem_view problem.now) dependences.now target.now (certificate_view collapsed.now))) }
+    ensures wide { IfErr result (λ f. f ≡ RowFault.Wide → ¬ (FitsLift (problem_view problem.now) dependences.now target.now (certificate_view collapsed.now))) }
 {
     let count = count(problem.space.variables) as usize + problem.constraints.len();
     let mut sums = WeightSums::start(alloc, count, collapsed.weights.as_slice())?;
@@ -85,9 +83,9 @@ fn add_all(
     requires listed { All (λ p. p.0 < (generators_of (problem_view problem.now)).count) collapsed.now.weights.items }
     requires places { All (λ d. d.generator < length sums.old) dependences.now.list }
     requires complete { length (elementals dependences.now.space.variables) ≤ length sums.old }
-    ensures before { OnOk result (EmptyFits dependences.now.space.variables dependences.now.list (value target.now) (generators_of (problem_view problem.now)) (certificate_view collapsed.now)) }
-    ensures added { OnOk result (AreWeightsAdded sums.old sums.new (moves dependences.now.space.variables dependences.now.list (excess (certificate_view collapsed.now) (value target.now) (generators_of (problem_view problem.now))))) }
-    ensures wide { IfErr result (λ fault. fault ≡ RowFault.Wide → ¬ (EmptyFits dependences.now.space.variables dependences.now.list (value target.now) (generators_of (problem_view problem.now)) (certificate_view collapsed.now) × WeightSumsFit (number_at sums.old) (moves dependences.now.space.variables dependences.now.list (excess (certificate_view collapsed.now) (value target.now) (generators_of (problem_view problem.now)))))) }
+    ensures before { OnOk result (ExcessesFit problem.now dependences.now target.now collapsed.now) }
+    ensures added { OnOk result (AreWeightsAdded sums.old sums.new (all_moves problem.now dependences.now target.now collapsed.now)) }
+    ensures wide { IfErr result (λ f. f ≡ RowFault.Wide → ¬ (MovesFit problem.now dependences.now target.now collapsed.now sums.old)) }
 {
     let empty = empty_excess(problem, dependences, target, collapsed)?;
     add_moves(alloc, sums, dependences, VarSet::empty(), empty)?;
@@ -109,9 +107,9 @@ fn add_others(
     requires listed { All (λ p. p.0 < (generators_of (problem_view problem.now)).count) collapsed.now.weights.items }
     requires places { All (λ d. d.generator < length sums.old) dependences.now.list }
     requires complete { length (elementals dependences.now.space.variables) ≤ length sums.old }
-    requires before { EmptyFits dependences.now.space.variables dependences.now.list (value target.now) (generators_of (problem_view problem.now)) (certificate_view collapsed.now) }
-    ensures added { OnOk result (AreWeightsAdded sums.old sums.new (flat_map (moves_of dependences.now.space.variables dependences.now.list (excess (certificate_view collapsed.now) (value target.now) (generators_of (problem_view problem.now)))) (span 1 (2 ^ dependences.now.space.variables - 1)))) }
-    ensures wide { IfErr result (λ fault. fault ≡ RowFault.Wide → ¬ WeightSumsFit (number_at sums.old) (flat_map (moves_of dependences.now.space.variables dependences.now.list (excess (certificate_view collapsed.now) (value target.now) (generators_of (problem_view problem.now)))) (span 1 (2 ^ dependences.now.space.variables - 1)))) }
+    requires before { ExcessesFit problem.now dependences.now target.now collapsed.now }
+    ensures added { OnOk result (AreWeightsAdded sums.old sums.new (nonempty_moves problem.now dependences.now target.now collapsed.now)) }
+    ensures wide { IfErr result (AreSumsWide sums.old (nonempty_moves problem.now dependences.now target.now collapsed.now)) }
 {
     for number in 1..1u16 << problem.space.variables {
         let set = VarSet::from_number(number);

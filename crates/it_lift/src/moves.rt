@@ -6,10 +6,8 @@ ghost use Rattle.it_polymatroid.specs.Elementals.{elementals};
 ghost use Rattle.it_elemental.specs.Expansions.{members, mutual_expansion, conditional_expansion};
 ghost use Rattle.it_closure.specs.Closures.{way};
 ghost use Rattle.it_closure.specs.Collapse.{AreDependences};
-ghost use Rattle.it_lift.specs.Fits.{WeightSumsFit};
 ghost use Rattle.it_lift.specs.Lifts.{each_weight, turn_moves, moves_at};
-ghost use Rattle.it_space.specs.Sums.{number_at};
-ghost use Rattle.it_lift.specs.Sums.{AreWeightsAdded};
+ghost use Rattle.it_lift.specs.Sums.{AreWeightsAdded, AreSumsWide};
 
 use crate::sums::WeightSums;
 use it_closure::{Dependence, Dependences, first_open};
@@ -38,7 +36,7 @@ fn add_mutual(
     requires complete { length (elementals n) ≤ length sums.old }
     requires within { amount < 2 ^ 127 }
     ensures added { OnOk result (AreWeightsAdded sums.old sums.new (each_weight n (pos amount) (mutual_expansion (members n a) (members n b) c))) }
-    ensures wide { IfErr result (λ fault. fault ≡ RowFault.Wide → ¬ WeightSumsFit (number_at sums.old) (each_weight n (pos amount) (mutual_expansion (members n a) (members n b) c))) }
+    ensures wide { IfErr result (AreSumsWide sums.old (each_weight n (pos amount) (mutual_expansion (members n a) (members n b) c))) }
 {
     let indexes = expand_mutual(alloc, n, a, b, c)?;
     sums.add_each(indexes.as_slice(), amount)?;
@@ -62,7 +60,7 @@ fn add_conditional(
     requires complete { length (elementals n) ≤ length sums.old }
     requires within { amount < 2 ^ 127 }
     ensures added { OnOk result (AreWeightsAdded sums.old sums.new (each_weight n (pos amount) (conditional_expansion n (members n a) k))) }
-    ensures wide { IfErr result (λ fault. fault ≡ RowFault.Wide → ¬ WeightSumsFit (number_at sums.old) (each_weight n (pos amount) (conditional_expansion n (members n a) k))) }
+    ensures wide { IfErr result (AreSumsWide sums.old (each_weight n (pos amount) (conditional_expansion n (members n a) k))) }
 {
     let indexes = expand_conditional(alloc, n, a, k)?;
     sums.add_each(indexes.as_slice(), amount)?;
@@ -88,7 +86,7 @@ fn add_turn(
     requires complete { length (elementals n) ≤ length sums.old }
     requires within { amount < 2 ^ 127 }
     ensures added { OnOk result (AreWeightsAdded sums.old sums.new (turn_moves n (pos amount) (set, by))) }
-    ensures wide { IfErr result (λ fault. fault ≡ RowFault.Wide → ¬ WeightSumsFit (number_at sums.old) (turn_moves n (pos amount) (set, by))) }
+    ensures wide { IfErr result (AreSumsWide sums.old (turn_moves n (pos amount) (set, by))) }
 {
     let shared = set.meet(by.to);
     add_mutual(
@@ -122,7 +120,7 @@ fn add_way(
     requires complete { length (elementals n) ≤ length sums.old }
     requires within { amount < 2 ^ 127 }
     ensures added { OnOk result (AreWeightsAdded sums.old sums.new (flat_map (turn_moves n (pos amount)) (way n list.now set))) }
-    ensures wide { IfErr result (λ fault. fault ≡ RowFault.Wide → ¬ WeightSumsFit (number_at sums.old) (flat_map (turn_moves n (pos amount)) (way n list.now set))) }
+    ensures wide { IfErr result (AreSumsWide sums.old (flat_map (turn_moves n (pos amount)) (way n list.now set))) }
 {
     let mut all = set;
     // a `loop` with `match`, since the proof takes the equation of `None` at the return
@@ -151,7 +149,7 @@ pub fn add_moves(
     requires complete { length (elementals dependences.now.space.variables) ≤ length sums.old }
     requires within { IsWithin excess }
     ensures added { OnOk result (AreWeightsAdded sums.old sums.new (moves_at dependences.now.space.variables dependences.now.list set excess)) }
-    ensures wide { IfErr result (λ fault. fault ≡ RowFault.Wide → ¬ WeightSumsFit (number_at sums.old) (moves_at dependences.now.space.variables dependences.now.list set excess)) }
+    ensures wide { IfErr result (AreSumsWide sums.old (moves_at dependences.now.space.variables dependences.now.list set excess)) }
 {
     let n = dependences.space().variables;
     let amount = excess.unsigned_abs();
