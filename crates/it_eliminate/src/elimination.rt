@@ -2,8 +2,7 @@
 ghost use Rattle.std.specs.Prelude.{◌≡◌, ◌+◌, ◌^◌, ◌<◌, All, IfOk, [], ◌∷◌};
 ghost use Rattle.it_space.specs.Problems.{IsSystem};
 ghost use Rattle.it_space.specs.Spaces.{IsSpace};
-ghost use Rattle.it_eliminate.specs.Elimination.{ordered_rows, EliminationEnds};
-ghost use Rattle.it_eliminate.specs.Views.{eliminated_view};
+ghost use Rattle.it_eliminate.specs.Views.{SystemEnds};
 ghost use Rattle.it_eliminate.specs.Projections.{RegionIsProjection};
 ghost use Rattle.it_eliminate.specs.Gathering.{IsRateEnd};
 
@@ -23,7 +22,7 @@ pub fn eliminate(
 ) -> Result<Eliminated, AllocError>
     requires system { IsSystem system.now }
     requires rates { All (λ r. r < system.now.space.rates) rates.now }
-    ensures ends { IfOk result (λ e. EliminationEnds (2 ^ system.now.space.variables) rows (ordered_rows system.now.rows.items) rates.now (eliminated_view e)) }
+    ensures ends { IfOk result (SystemEnds system.now rows rates.now) }
     ensures region { IfOk result (RegionIsProjection system.now rates.now) }
 {
     let ordered = ordered_rows(alloc, system.rows.as_slice())?;
@@ -50,7 +49,7 @@ pub fn eliminate(
 pub fn step(alloc: Global, system: &System, rate: u8, rows: usize) -> Result<Eliminated, AllocError>
     requires system { IsSystem system.now }
     requires rate { rate < system.now.space.rates }
-    ensures ends { IfOk result (λ e. EliminationEnds (2 ^ system.now.space.variables) rows (ordered_rows system.now.rows.items) (rate ∷ []) (eliminated_view e)) }
+    ensures ends { IfOk result (SystemEnds system.now rows (rate ∷ [])) }
     ensures region { IfOk result (RegionIsProjection system.now (rate ∷ [])) }
 {
     eliminate(alloc, system, [rate].as_slice(), rows)
