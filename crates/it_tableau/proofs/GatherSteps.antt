@@ -14,12 +14,12 @@ use Rattle.it_fraction.proofs.ZeroLemmas.{product-zero, top_of_zero}
 use Rattle.it_space.specs.Rows.{Terms, coefficient, Ascends}
 use Rattle.it_space.proofs.CanonicalRows.{here_is, none_below, other_is}
 use Rattle.it_tableau.specs.Operations.{rationals}
-use Rattle.it_tableau.specs.Gathering.{row_terms_at, start_number, AreAppended, AreGathered, IsEntryPut, IsListTaken}
+use Rattle.it_tableau.specs.Gathering.{row_terms_at, AreAppended, AreGathered, IsEntryPut, IsListTaken}
 use Rattle.it_tableau.specs.Merging.{IsAppended}
 use Rattle.it_tableau.specs.Problems.{feasibility_problem, IsAscending}
 use Rattle.it_tableau.specs.Rows.{IsWholeNumber, ListsValues, dense_row}
 use Rattle.it_tableau.specs.SparseRows.{RowTerms, Climbs, ListsEntries}
-use Rattle.it_tableau.specs.StartRows.{AreStartRows}
+use Rattle.it_tableau.specs.StartRows.{start_number, AreStartRows}
 use Rattle.it_tableau.specs.SimplexTables.{sign}
 use Rattle.it_tableau.proofs.Building.{built_more, built_skip, IsBuilt}
 use Rattle.it_tableau.proofs.Climbing.{climbs_narrow}

@@ -2,19 +2,13 @@
 use Rattle.std.specs.Prelude.{◌≡◌, ◌≢◌, ℕ, ◌<◌, List, [], length, slice_index_or}
 use Rattle.it_rational.specs.Rational.{Rational}
 use Rattle.it_space.specs.Rows.{Terms}
-use Rattle.it_tableau.specs.Operations.{rationals}
 use Rattle.it_tableau.specs.Merging.{IsAppended}
-use Rattle.it_tableau.specs.Problems.{feasibility_problem}
+use Rattle.it_tableau.specs.StartRows.{start_number}
 use Rattle.it_tableau.specs.SparseRows.{RowTerms, ListsEntries}
-use Rattle.it_tableau.specs.SimplexTables.{start_row}
 
 -- the terms of row k, none past the end
 abbrev pub row_terms_at : List RowTerms → ℕ → RowTerms
 row_terms_at lists k = slice_index_or lists k []
-
--- the entry of the start in row k and column j
-abbrev pub start_number : List ℕ → List Terms → Terms → ℕ → ℕ → Rational
-start_number coordinates columns target k j = start_row rationals (length coordinates) (length columns) (feasibility_problem coordinates columns target) k j
 
 -- no list but the k-th is changed
 pub record IsListTaken (old : List RowTerms) (k : ℕ) (new : List RowTerms) : Type 0 where

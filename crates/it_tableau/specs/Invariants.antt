@@ -1,4 +1,4 @@
--- What every table of the first phase keeps, and which pivots keep it.
+-- What every table of a run from the start keeps, and which pivots keep it.
 use Rattle.std.specs.Prelude.{◌≡◌, ◌⊎◌, ℕ, ◌+◌, ◌<◌, ◌≤◌, true, false, cond, eqb, ltb}
 use Rattle.it_tableau.specs.Operations.{Operations}
 use Rattle.it_tableau.specs.Sums.{sum_by}

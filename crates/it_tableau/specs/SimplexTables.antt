@@ -1,5 +1,5 @@
--- Tables of the simplex method: the start of its first phase, with an artificial column for each row, and the pivot (Dantzig 1963,
--- "Linear Programming and Extensions", chapter 5).
+-- Tables of the simplex method for a feasibility problem: the start, with an artificial column for each row, and the pivot
+-- (Dantzig 1963, "Linear Programming and Extensions", chapter 5).
 use Rattle.std.specs.Prelude.{ℕ, ◌+◌, cond, eqb, ltb}
 use Rattle.it_tableau.specs.Operations.{Operations}
 use Rattle.it_tableau.specs.Sums.{sum_by}

@@ -8,13 +8,27 @@ use Rattle.it_tableau.specs.Entries.{row_at}
 use Rattle.it_tableau.specs.Rows.{column_sum, IsWholeNumber, ListsValues}
 use Rattle.it_tableau.specs.Problems.{feasibility_problem}
 
+-- the entry of the start in row k and column j
+abbrev pub start_number : List ℕ → List Terms → Terms → ℕ → ℕ → Rational
+start_number coordinates columns target k j = start_row rationals (length coordinates) (length columns) (feasibility_problem coordinates columns target) k j
+
+-- its column j
+abbrev pub start_column : List ℕ → List Terms → Terms → ℕ → ℕ → Rational
+start_column coordinates columns target j k = start_number coordinates columns target k j
+
+-- a list is its row k
+abbrev pub IsStartRow : List ℕ → List Terms → Terms → ℕ → List Rational → Type 0
+IsStartRow coordinates columns target k row = ListsValues (start_number coordinates columns target k) (length columns + length coordinates + 1) row
+
+-- the entries of its row k are whole numbers
+abbrev pub IsWholeRow : List ℕ → List Terms → Terms → ℕ → Type 0
+IsWholeRow coordinates columns target k = (j : ℕ) → j < length columns + length coordinates + 1 → IsWholeNumber (start_number coordinates columns target k j)
+
 -- the first k rows of the start
 pub record AreStartRows (coordinates : List ℕ) (columns : List Terms) (target : Terms) (k : ℕ) (rows : List (List Rational)) : Type 0 where
   pub rows_are : length rows ≡ k
-  pub entries_are : (i : ℕ) → i < k
-      → ListsValues (start_row rationals (length coordinates) (length columns) (feasibility_problem coordinates columns target) i) (length columns + length coordinates + 1) (row_at rows i)
-  pub wholes : (i j : ℕ) → i < k → j < length columns + length coordinates + 1
-      → IsWholeNumber (start_row rationals (length coordinates) (length columns) (feasibility_problem coordinates columns target) i j)
+  pub entries_are : (i : ℕ) → i < k → IsStartRow coordinates columns target i (row_at rows i)
+  pub wholes : (i j : ℕ) → i < k → j < length columns + length coordinates + 1 → IsWholeNumber (start_number coordinates columns target i j)
 
 -- the rows of the start, and below them their cost row
 pub record AreAllRows (coordinates : List ℕ) (columns : List Terms) (target : Terms) (all : List (List Rational)) : Type 0 where

@@ -3,7 +3,8 @@ use Rattle.std.specs.Prelude.{◌≡◌, ℕ, ◌+◌, ◌<◌, Bool, false, not
 use Rattle.it_rational.specs.Rational.{Rational, minus, integer, is_at_least_zero}
 use Rattle.it_space.specs.Rows.{Terms, coefficient}
 use Rattle.it_tableau.specs.Operations.{rationals}
-use Rattle.it_tableau.specs.SimplexTables.{SimplexTable, start}
+use Rattle.it_tableau.specs.SimplexTables.{SimplexTable, ratio, start}
+use Rattle.it_tableau.specs.Fits.{StartFits}
 use Rattle.it_tableau.specs.Entries.{entry_at, row_at}
 use Rattle.it_tableau.specs.Problems.{feasibility_problem}
 
@@ -40,6 +41,10 @@ table t = table_of t.rows t.basis
 abbrev pub row_sign : TableauView → ℕ → ℤ
 row_sign t k = if slice_index_or t.negated k false then negsuc 0 else pos 1
 
+-- the right side of row i divided by its entry at column c
+abbrev pub row_ratio : TableauView → ℕ → ℕ → Rational
+row_ratio t c i = ratio rationals (height t) t.generator_columns (table t) c i
+
 -- q is above 0
 abbrev pub IsPositive : Rational → Type 0
 IsPositive q = is_at_least_zero (minus q) ≡ false
@@ -56,9 +61,17 @@ pub record IsSound (n width : ℕ) (rows : List (List Rational)) (basis : List �
   pub shape : HasShape (length basis) n rows basis
   pub signs_are : length negated ≡ length basis
 
--- the start of the first phase for a question of rows
+-- the start for a question of rows
 abbrev pub start_of : List ℕ → List Terms → Terms → SimplexTable Rational
 start_of coordinates columns target = start rationals (length coordinates) (length columns) (feasibility_problem coordinates columns target)
+
+-- the numbers that it forms are within the limit
+abbrev pub FitsStart : List ℕ → List Terms → Terms → Type 0
+FitsStart coordinates columns target = StartFits (length coordinates) (length columns) (feasibility_problem coordinates columns target)
+
+-- which rows it negates: those at whose coordinate the target's coefficient is below 0
+abbrev pub AreNegated : List ℕ → Terms → List Bool → Type 0
+AreNegated coordinates target negated = (k : ℕ) → k < length coordinates → slice_index_or negated k false ≡ not (is_at_least_zero (integer (coefficient target (slice_index_or coordinates k 0))))
 
 -- the start of the run on the rows' coefficients at the coordinates
 pub record IsStart (coordinates : List ℕ) (columns : List Terms) (target : Terms) (t : TableauView) : Type 0 where
@@ -66,7 +79,7 @@ pub record IsStart (coordinates : List ℕ) (columns : List Terms) (target : Ter
   pub generator_columns_are : t.generator_columns ≡ length columns
   pub height_is : height t ≡ length coordinates
   pub table_is : table t ≡ start_of coordinates columns target
-  pub signs_are : (k : ℕ) → k < length coordinates → slice_index_or t.negated k false ≡ not (is_at_least_zero (integer (coefficient target (slice_index_or coordinates k 0))))
+  pub signs_are : AreNegated coordinates target t.negated
 
 -- what a pivot leaves as it is
 pub record KeepsFrame (old new : TableauView) : Type 0 where

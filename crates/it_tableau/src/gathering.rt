@@ -3,12 +3,11 @@ ghost use Rattle.std.specs.Prelude.{◌≡◌, ◌+◌, ◌<◌, [], ℕ, length
 ghost use Rattle.std.specs.Bool.{OnFalse, OnTrue};
 ghost use Rattle.std.specs.Option.{IfNone, IfSome};
 ghost use Rattle.it_space.specs.Rows.{IsCanonical};
-ghost use Rattle.it_tableau.specs.Gathering.{row_terms_at, start_number, AreAppended, AreEmpty, AreGathered, IsEntryPut, IsListTaken};
+ghost use Rattle.it_tableau.specs.Gathering.{row_terms_at, AreAppended, AreEmpty, AreGathered, IsEntryPut, IsListTaken};
 ghost use Rattle.it_tableau.specs.Merging.{IsAppended};
 ghost use Rattle.it_tableau.specs.Problems.{IsAscending};
-ghost use Rattle.it_tableau.specs.Rows.{IsWholeNumber, ListsValues};
 ghost use Rattle.it_tableau.specs.SparseRows.{ListsEntries};
-ghost use Rattle.it_tableau.specs.StartRows.{AreStartRows};
+ghost use Rattle.it_tableau.specs.StartRows.{start_column, start_number, AreStartRows, IsStartRow, IsWholeRow};
 
 use crate::merging::append;
 use crate::sparse_rows::SparseRow;
@@ -126,7 +125,7 @@ fn put_term(
 ) -> Result<(), AllocError>
     requires ascending { IsAscending coordinates.now }
     requires count { length lists.old.items ≡ length coordinates.now }
-    ensures { OnOk result (IsEntryPut coordinates.now (λ k. start_number coordinates.now columns.now target.now k j) coordinate j lists.old.items lists.new.items) }
+    ensures { OnOk result (IsEntryPut coordinates.now (start_column coordinates.now columns.now target.now j) coordinate j lists.old.items lists.new.items) }
 {
     if let Some(k) = place_of(coordinates, coordinate) {
         let entry = start_entry(coordinates, columns, target, k, j);
@@ -146,7 +145,7 @@ fn put_column(
     requires ascending { IsAscending coordinates.now }
     requires count { length lists.old.items ≡ length coordinates.now }
     requires column { j < length columns.now }
-    ensures { OnOk result (AreAppended coordinates.now (λ k. start_number coordinates.now columns.now target.now k j) j lists.old.items lists.new.items) }
+    ensures { OnOk result (AreAppended coordinates.now (start_column coordinates.now columns.now target.now j) j lists.old.items lists.new.items) }
 {
     let terms = terms_of_column(columns, j);
     // by index, since the invariant speaks of the first i terms
@@ -201,8 +200,8 @@ fn finished_row(
 ) -> Result<SparseRow, AllocError>
     requires row { k < length coordinates.now }
     requires terms { ListsEntries (start_number coordinates.now columns.now target.now k) (length columns.now) list }
-    ensures shows { IfOk result (λ row. ListsValues (start_number coordinates.now columns.now target.now k) (length columns.now + length coordinates.now + 1) row) }
-    ensures whole_numbers { OnOk result ((j : ℕ) → j < length columns.now + length coordinates.now + 1 → IsWholeNumber (start_number coordinates.now columns.now target.now k j)) }
+    ensures shows { IfOk result (IsStartRow coordinates.now columns.now target.now k) }
+    ensures whole_numbers { OnOk result (IsWholeRow coordinates.now columns.now target.now k) }
 {
     let artificial = columns.len() + k;
     let width = columns.len() + coordinates.len();

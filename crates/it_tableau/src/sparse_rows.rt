@@ -20,7 +20,6 @@ pub struct SparseRow {
     right: Fraction,
 }
 
-// written out, so that letting a sparse row go is one call
 impl Drop for SparseRow {
     fn drop(self) {
         let SparseRow {

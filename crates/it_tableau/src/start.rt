@@ -1,20 +1,17 @@
 //! The rows of the start.
-ghost use Rattle.std.specs.Prelude.{◌≡◌, ◌+◌, ◌<◌, length, pos, slice_index_or, cond, not, IfOk, IfErr, OnOk, ℕ, ◌^◌, ◌++◌, ◌∷◌, [], false};
+ghost use Rattle.std.specs.Prelude.{◌≡◌, ◌+◌, ◌<◌, length, pos, slice_index_or, cond, IfOk, IfErr, OnOk, ℕ, ◌^◌, false};
 ghost use Rattle.it_rational.specs.Rational.{is_at_least_zero, minus, times, integer};
 ghost use Rattle.it_space.specs.Rows.{coefficient};
-ghost use Rattle.it_tableau.specs.Operations.{rationals};
-ghost use Rattle.it_tableau.specs.Fits.{StartFits};
-ghost use Rattle.it_tableau.specs.Problems.{feasibility_problem};
-ghost use Rattle.it_tableau.specs.Rows.{IsWholeNumber, ListsValues};
-ghost use Rattle.it_tableau.specs.StartRows.{AreAllRows, AreStartRows};
-ghost use Rattle.it_tableau.specs.SimplexTables.{start_row as entry_of_start};
+ghost use Rattle.it_tableau.specs.Rows.{IsWholeNumber};
+ghost use Rattle.it_tableau.specs.StartRows.{start_number, AreAllRows, AreStartRows, IsStartRow, IsWholeRow};
+ghost use Rattle.it_tableau.specs.TableauViews.{AreNegated, FitsStart};
 
 use crate::costs::cost_row;
 use crate::gathering::{ascends, gathered_rows};
 use crate::merging::append;
 use crate::sparse_rows::SparseRow;
 use it_fraction::Fraction;
-use it_space::{Row, RowFault};
+use it_space::{Row, RowFault, append as append_row};
 use std::alloc::{AllocError, Global};
 
 /// The coefficient of a row at a coordinate, as a fraction.
@@ -55,7 +52,7 @@ pub fn start_entry(
     j: usize,
 ) -> Fraction
     requires row { k < length coordinates.now }
-    ensures value { result ≡ entry_of_start rationals (length coordinates.now) (length columns.now) (feasibility_problem coordinates.now columns.now target.now) k j }
+    ensures value { result ≡ start_number coordinates.now columns.now target.now k j }
     ensures whole_number { IsWholeNumber result }
 {
     let kept = keeps_sign(target, coordinates[k]);
@@ -79,8 +76,8 @@ fn start_row(
     k: usize,
 ) -> Result<SparseRow, AllocError>
     requires row { k < length coordinates.now }
-    ensures shows { IfOk result (λ row. ListsValues (entry_of_start rationals (length coordinates.now) (length columns.now) (feasibility_problem coordinates.now columns.now target.now) k) (length columns.now + length coordinates.now + 1) row) }
-    ensures whole_numbers { OnOk result ((j : ℕ) → j < length columns.now + length coordinates.now + 1 → IsWholeNumber (entry_of_start rationals (length coordinates.now) (length columns.now) (feasibility_problem coordinates.now columns.now target.now) k j)) }
+    ensures shows { IfOk result (IsStartRow coordinates.now columns.now target.now k) }
+    ensures whole_numbers { OnOk result (IsWholeRow coordinates.now columns.now target.now k) }
 {
     let width = columns.len() + coordinates.len();
     let mut terms = Vec::new(alloc);
@@ -143,7 +140,7 @@ pub fn artificials(alloc: Global, first: usize, count: usize) -> Result<Vec<usiz
 /// Whether each row of the start is negated.
 pub fn negations(alloc: Global, coordinates: &[u32], target: &Row) -> Result<Vec<bool>, AllocError>
     ensures count { IfOk result (λ negated. length negated.items ≡ length coordinates.now) }
-    ensures value { IfOk result (λ negated. (k : ℕ) → k < length coordinates.now → slice_index_or negated.items k false ≡ not (is_at_least_zero (integer (coefficient target.now (slice_index_or coordinates.now k 0))))) }
+    ensures value { IfOk result (λ negated. AreNegated coordinates.now target.now negated.items) }
 {
     let mut negated = Vec::with_capacity(alloc, coordinates.len())?;
     // by index, since the invariant speaks of the first k coordinates
@@ -160,20 +157,12 @@ pub fn start_table(
     columns: &[Row],
     target: &Row,
 ) -> Result<Vec<SparseRow>, RowFault>
-    ensures ok { OnOk result (StartFits (length coordinates.now) (length columns.now) (feasibility_problem coordinates.now columns.now target.now)) }
+    ensures ok { OnOk result (FitsStart coordinates.now columns.now target.now) }
     ensures value { IfOk result (λ rows. AreAllRows coordinates.now columns.now target.now rows.items) }
-    ensures wide { IfErr result (λ fault. fault ≡ RowFault.Wide → ¬ (StartFits (length coordinates.now) (length columns.now) (feasibility_problem coordinates.now columns.now target.now))) }
+    ensures wide { IfErr result (λ fault. fault ≡ RowFault.Wide → ¬ (FitsStart coordinates.now columns.now target.now)) }
 {
     let mut rows = start_rows(alloc, coordinates, columns, target)?;
     let cost = cost_row(alloc, rows.as_slice(), columns.len() + coordinates.len())?;
     append_row(&mut rows, cost)?;
     Ok(rows)
-}
-
-/// Puts a row after the others.
-fn append_row(rows: &mut Vec<SparseRow>, row: SparseRow) -> Result<(), AllocError>
-    ensures { OnOk result (rows.new.items ≡ rows.old.items ++ row ∷ []) }
-{
-    rows.push(row)?;
-    Ok(())
 }

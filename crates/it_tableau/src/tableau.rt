@@ -1,11 +1,10 @@
 //! The tableau.
-ghost use Rattle.std.specs.Prelude.{◌≡◌, ◌+◌, ◌<◌, false, true, length, IfErr, IfOk, OkIff, OnErr, OnOk};
+ghost use Rattle.std.specs.Prelude.{◌≡◌, ◌+◌, ◌<◌, false, true, IfErr, IfOk, OkIff, OnErr, OnOk};
 ghost use Rattle.it_fraction.specs.Fits.{IsNarrow};
 ghost use Rattle.it_tableau.specs.Operations.{rationals};
-ghost use Rattle.it_tableau.specs.Fits.{PivotFits, StartFits};
-ghost use Rattle.it_tableau.specs.Problems.{feasibility_problem};
+ghost use Rattle.it_tableau.specs.Fits.{PivotFits};
 ghost use Rattle.it_tableau.specs.SparseRows.{ListsEntries};
-ghost use Rattle.it_tableau.specs.TableauViews.{height, row_sign, table, width, IsPositive, IsStart, KeepsFrame};
+ghost use Rattle.it_tableau.specs.TableauViews.{height, row_ratio, row_sign, table, width, FitsStart, IsPositive, IsStart, KeepsFrame};
 ghost use Rattle.it_tableau.specs.SimplexTables.{pivot, ratio};
 
 use crate::rows::{pivot_rows, read};
@@ -16,7 +15,7 @@ use it_space::{Row, RowFault};
 use std::alloc::Global;
 use std::marker::Model;
 
-/// A table of the first phase of the simplex method, in exact fractions.
+/// A table of the simplex method for a feasibility problem, in exact fractions.
 pub struct Tableau {
     alloc: Global,
     generator_columns: usize,
@@ -27,7 +26,6 @@ pub struct Tableau {
     spent: bool,
 }
 
-// written out, so that letting a tableau go is one call
 impl Drop for Tableau {
     fn drop(self) {
         let Tableau {
@@ -63,9 +61,9 @@ impl Tableau {
         columns: &[Row],
         target: &Row,
     ) -> Result<Tableau, RowFault>
-        ensures ok { OnOk result (StartFits (length coordinates.now) (length columns.now) (feasibility_problem coordinates.now columns.now target.now)) }
+        ensures ok { OnOk result (FitsStart coordinates.now columns.now target.now) }
         ensures value { IfOk result (λ t. IsStart coordinates.now columns.now target.now t) }
-        ensures wide { IfErr result (λ fault. fault ≡ RowFault.Wide → ¬ (StartFits (length coordinates.now) (length columns.now) (feasibility_problem coordinates.now columns.now target.now))) }
+        ensures wide { IfErr result (λ fault. fault ≡ RowFault.Wide → ¬ (FitsStart coordinates.now columns.now target.now)) }
     {
         let rows = start_table(alloc, coordinates, columns, target)?;
         let basis = artificials(alloc, columns.len(), coordinates.len())?;
@@ -175,7 +173,7 @@ impl Tableau {
         requires row { row < height self.now }
         requires column { column < width self.now }
         requires positive { IsPositive ((table self.now).entry row column) }
-        ensures { OkIff result (IsNarrow (ratio rationals (height self.now) self.now.generator_columns (table self.now) column row)) (ratio rationals (height self.now) self.now.generator_columns (table self.now) column row) }
+        ensures { OkIff result (IsNarrow (row_ratio self.now column row)) (row_ratio self.now column row) }
     {
         self.rhs(row).div(self.entry(row, column))
     }

@@ -1,5 +1,5 @@
 use Rattle.std.proofs.Common.{◌+◌, length, subst, sym}
-use Rattle.it_tableau.specs.Gathering.{start_number}
+use Rattle.it_tableau.specs.StartRows.{start_number}
 use Rattle.it_tableau.specs.Merging.{IsAppended}
 use Rattle.it_tableau.specs.Rows.{ListsValues}
 use Rattle.it_tableau.specs.SparseRows.{RowTerms}

@@ -1,7 +1,8 @@
 use Rattle.std.proofs.Common.{ℕ, [], pos, length, slice_index_or, ap, subst, ◌∙◌, ◌<◌, arith}
 use Rattle.it_rational.specs.Rational.{Rational}
 use Rattle.it_space.specs.Rows.{Terms}
-use Rattle.it_tableau.specs.Gathering.{start_number, IsEntryPut}
+use Rattle.it_tableau.specs.Gathering.{IsEntryPut}
+use Rattle.it_tableau.specs.StartRows.{start_number}
 use Rattle.it_tableau.proofs.GatherSteps.{column_put, no_entry, term_put}
 use Rattle.it_tableau.proofs.gathering.put_column.Goals as goal
 

@@ -1,5 +1,5 @@
 use Rattle.std.proofs.Common.{[], slice_index_or}
-use Rattle.it_tableau.specs.Gathering.{start_number}
+use Rattle.it_tableau.specs.StartRows.{start_number}
 use Rattle.it_tableau.proofs.GatherSteps.{IsColumnUnderWay}
 use Rattle.it_tableau.proofs.gathering.put_column.Given as goal
 
