@@ -1,10 +1,12 @@
--- No public clause cites this module: a step of the run on a tableau, and the run to its last table.
-use Rattle.std.specs.Prelude.{◌≡◌, ℕ, ◌<◌, Bool, true, false, cond, ltb, ◌&&◌, Option, Some, None}
+-- No public clause cites this module: a step of the run on a tableau, the run to its last table, and what is read off it.
+use Rattle.std.specs.Prelude.{◌≡◌, ℕ, ◌<◌, Bool, true, false, cond, ltb, ◌&&◌, List, Option, Some, None}
 use Rattle.it_rational.specs.Rational.{Rational, plus, minus, is_at_least_zero}
 use Rattle.it_tableau.specs.Operations.{rationals}
 use Rattle.it_tableau.specs.SimplexTables.{SimplexTable, FeasibilityProblem, ratio}
 use Rattle.it_tableau.specs.Invariants.{HasInvariants}
 use Rattle.it_tableau.specs.TableauViews.{TableauView, height, table, IsPositive, KeepsFrame}
+use Rattle.it_run.specs.Answers.{HasSigns}
+use Rattle.it_run.specs.Readings.{point}
 use Rattle.it_run.specs.Choice.{entering_column, is_candidate, leaving_row, leaving_row_of, next, IsDone, IsStuck}
 use Rattle.it_run.specs.Runs.{RunEndView, EndsAs, EndsBy}
 use Rattle.it_run.specs.Runs.RunEndView.{Weights, Point, Pivots, Width}
@@ -30,6 +32,10 @@ IsBestOf m n t c i (Some b) = (leaving_row_of rationals m n t c i ≡ b.0) × (b
 abbrev pub IsLeaving : ℕ → ℕ → SimplexTable Rational → ℕ → Option ℕ → Type 0
 IsLeaving m n t c None = leaving_row rationals m n t c ≡ m
 IsLeaving m n t c (Some r) = (leaving_row rationals m n t c ≡ r) × (r < m) × IsPositive (t.entry r c)
+
+-- the column that enters
+abbrev pub entering_column_of : TableauView → ℕ
+entering_column_of t = entering_column rationals (height t) t.generator_columns (table t)
 
 -- where some column enters, some row leaves
 abbrev pub IsReady : ℕ → ℕ → SimplexTable Rational → Type 0
@@ -70,6 +76,14 @@ run_end_view run_ends.Weights t = Weights t
 run_end_view run_ends.Point t = Point t
 run_end_view (run_ends.Pivots k) t = Pivots k
 run_end_view (run_ends.Width k) t = Width k
+
+-- the run from a tableau with a budget or without one ends so, and leaves a new tableau
+abbrev pub RunsToTableau : TableauView → Option ℕ → RunEnd → TableauView → Type 0
+RunsToTableau old budget end new = ReachesBy (height old) old.generator_columns budget (table old) (run_end_view end (table new))
+
+-- the point read off the table, for whichever problem has the tableau's signs
+abbrev pub IsPointRead : TableauView → List Rational → Type 0
+IsPointRead t q = (p : FeasibilityProblem Rational) → HasSigns t p → q ≡ point rationals (height t) t.generator_columns p (table t)
 
 -- the table has the invariants, for some problem
 abbrev pub HasInvariantsForSome : TableauView → Type 0

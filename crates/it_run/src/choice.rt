@@ -1,11 +1,9 @@
 //! The column that enters and the row that leaves.
 ghost use Rattle.std.specs.Prelude.{◌≡◌, ◌<◌, false, IfOk, OnErr, OnOk};
 ghost use Rattle.std.specs.Option.{IfNone, IfSome};
-ghost use Rattle.it_tableau.specs.Operations.{rationals};
 ghost use Rattle.it_tableau.specs.TableauViews.{height, table};
-ghost use Rattle.it_run.specs.Choice.{entering_column as entering_of};
 ghost use Rattle.it_run.specs.Solving.{RatiosFit};
-ghost use Rattle.it_run.specs.Steps.{best_after, ratio_precedes, IsLeaving};
+ghost use Rattle.it_run.specs.Steps.{best_after, entering_column_of, ratio_precedes, IsLeaving};
 
 use it_fraction::{Fraction, Wide};
 use it_tableau::Tableau;
@@ -16,8 +14,8 @@ use std::cmp::Ordering;
 pub fn entering_column(tableau: &Tableau) -> Option<usize>
     requires { tableau.now.spent ≡ false }
     ensures within { IfSome result (λ c. c < tableau.now.generator_columns) }
-    ensures some { IfSome result (λ c. entering_of rationals (height tableau.now) tableau.now.generator_columns (table tableau.now) ≡ c) }
-    ensures none { IfNone result (entering_of rationals (height tableau.now) tableau.now.generator_columns (table tableau.now) ≡ tableau.now.generator_columns) }
+    ensures some { IfSome result (λ c. entering_column_of tableau.now ≡ c) }
+    ensures none { IfNone result (entering_column_of tableau.now ≡ tableau.now.generator_columns) }
 {
     for j in 0..tableau.generator_columns() {
         if tableau.cost(j).is_negative() {

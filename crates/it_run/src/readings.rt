@@ -1,13 +1,12 @@
 //! What is read off the last table of a run.
 ghost use Rattle.std.specs.Prelude.{◌≡◌, ◌<◌, ◌+◌, false, pos, IfOk};
 ghost use Rattle.std.specs.Option.{IfNone, IfSome};
-ghost use Rattle.it_rational.specs.Rational.{Rational, times, integer};
+ghost use Rattle.it_rational.specs.Rational.{times, integer};
 ghost use Rattle.it_tableau.specs.Operations.{rationals};
 ghost use Rattle.it_tableau.specs.TableauViews.{height, table};
-ghost use Rattle.it_tableau.specs.SimplexTables.{FeasibilityProblem};
-ghost use Rattle.it_run.specs.Readings.{point as point_of, weight, weights as weights_of};
-ghost use Rattle.it_run.specs.Answers.{sign_number, HasSigns};
-ghost use Rattle.it_run.specs.Steps.{HasInvariantsForSome};
+ghost use Rattle.it_run.specs.Readings.{weight, weights as weights_of};
+ghost use Rattle.it_run.specs.Answers.{sign_number};
+ghost use Rattle.it_run.specs.Steps.{HasInvariantsForSome, IsPointRead};
 
 use it_fraction::Fraction;
 use it_tableau::Tableau;
@@ -63,7 +62,7 @@ fn value_at(tableau: &Tableau, k: usize) -> Fraction
 /// The point, by rows.
 pub fn point(alloc: Global, tableau: &Tableau) -> Result<Vec<Fraction>, AllocError>
     requires usable { tableau.now.spent ≡ false }
-    ensures { IfOk result (λ out. (p : FeasibilityProblem Rational) → HasSigns tableau.now p → out.items ≡ point_of rationals (height tableau.now) tableau.now.generator_columns p (table tableau.now)) }
+    ensures { IfOk result (λ out. IsPointRead tableau.now out.items) }
 {
     let mut out = Vec::with_capacity(alloc, tableau.rows())?;
     for k in 0..tableau.rows() {

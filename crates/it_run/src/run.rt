@@ -1,11 +1,11 @@
 //! The run.
-ghost use Rattle.std.specs.Prelude.{◌≡◌, ◌+◌, ◌<◌, false, IfErr, IfOk, None};
+ghost use Rattle.std.specs.Prelude.{◌≡◌, ◌+◌, ◌<◌, false, IfErr, IfOk, Some, None};
 ghost use Rattle.std.specs.Bool.{OnFalse, OnTrue};
 ghost use Rattle.it_tableau.specs.Operations.{rationals};
 ghost use Rattle.it_tableau.specs.TableauViews.{height, table};
 ghost use Rattle.it_run.specs.Choice.{IsDone};
 ghost use Rattle.it_run.specs.Runs.{clip_number};
-ghost use Rattle.it_run.specs.Steps.{run_end_view, HasInvariantsForSome, IsReady, IsWide, LeavesTableau, Reaches, ReachesBy, IsStepOrStuck};
+ghost use Rattle.it_run.specs.Steps.{HasInvariantsForSome, IsReady, IsWide, LeavesTableau, RunsToTableau, IsStepOrStuck};
 
 use crate::choice::{entering_column, leaving_row};
 use it_space::RowFault;
@@ -54,7 +54,7 @@ fn is_done(tableau: &Tableau) -> bool
 fn run_within(tableau: &mut Tableau, budget: u32) -> Result<RunEnd, AllocError>
     requires usable { tableau.old.spent ≡ false }
     requires holds { HasInvariantsForSome tableau.old }
-    ensures end { IfOk result (λ ending. Reaches (height tableau.old) tableau.old.generator_columns budget 0 (table tableau.old) (run_end_view ending (table tableau.new))) }
+    ensures end { IfOk result (λ ending. RunsToTableau tableau.old (Some budget) ending tableau.new) }
     ensures kept { IfOk result (λ ending. LeavesTableau ending tableau.old tableau.new) }
 {
     for k in 0..budget {
@@ -92,7 +92,7 @@ fn next_number(number: u32) -> u32
 fn run_on(tableau: &mut Tableau) -> Result<RunEnd, AllocError>
     requires usable { tableau.old.spent ≡ false }
     requires holds { HasInvariantsForSome tableau.old }
-    ensures end { IfOk result (λ ending. ReachesBy (height tableau.old) tableau.old.generator_columns None (table tableau.old) (run_end_view ending (table tableau.new))) }
+    ensures end { IfOk result (λ ending. RunsToTableau tableau.old None ending tableau.new) }
     ensures kept { IfOk result (λ ending. LeavesTableau ending tableau.old tableau.new) }
 {
     let mut number: u32 = 1;
@@ -114,7 +114,7 @@ fn run_on(tableau: &mut Tableau) -> Result<RunEnd, AllocError>
 pub fn run(tableau: &mut Tableau, budget: Option<u32>) -> Result<RunEnd, AllocError>
     requires usable { tableau.old.spent ≡ false }
     requires holds { HasInvariantsForSome tableau.old }
-    ensures end { IfOk result (λ ending. ReachesBy (height tableau.old) tableau.old.generator_columns budget (table tableau.old) (run_end_view ending (table tableau.new))) }
+    ensures end { IfOk result (λ ending. RunsToTableau tableau.old budget ending tableau.new) }
     ensures kept { IfOk result (λ ending. LeavesTableau ending tableau.old tableau.new) }
 {
     match budget {
