@@ -72,14 +72,10 @@ abbrev pub of_value : ℕ → ℕ → Kind → Option ℤ → Option Verdict
 of_value count i kind None = Some (Width i)
 of_value count i kind (Some x) = if violates kind x then Some (violation count i x) else None
 
--- what is wrong with a point at generator i
-abbrev pub of_generator : ℕ → ℕ → Generator → (ℕ → ℤ) → Option Verdict
-of_generator count i g p = of_value count i g.kind (sum_within (pos 0) g.row p)
-
--- the first thing that is wrong with it at generators from number i on
+-- the first thing that is wrong with a point at generators from number i on
 unfoldable pub of_generators : ℕ → ℕ → List Generator → (ℕ → ℤ) → Option Verdict
 of_generators count i [] p = None
-of_generators count i (g ∷ gs) p = option_or (of_generator count i g p) (of_generators count (i + 1) gs p)
+of_generators count i (g ∷ gs) p = option_or (of_value count i g.kind (sum_within (pos 0) g.row p)) (of_generators count (i + 1) gs p)
 
 -- the target's value: wide, or above -1
 abbrev pub of_target : ℕ → Option ℤ → Option Verdict

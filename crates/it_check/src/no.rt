@@ -4,9 +4,10 @@ ghost use Rattle.it_space.specs.Problems.{IsProblem, problem_view};
 ghost use Rattle.it_space.specs.Rows.{IsUpTo, map_of};
 ghost use Rattle.it_space.specs.Spaces.{size_of};
 ghost use Rattle.it_polymatroid.specs.Elementals.{elementals};
-ghost use Rattle.it_elemental.specs.Generators.{generators, generator_at};
+ghost use Rattle.it_elemental.specs.Generators.{generators};
+ghost use Rattle.it_check.specs.Findings.{of_generator};
 ghost use Rattle.it_check.specs.Sums.{sum_within};
-ghost use Rattle.it_check.specs.Verdicts.{violates, violation, of_generator, of_generators, of_target, no_verdict};
+ghost use Rattle.it_check.specs.Verdicts.{violates, violation, of_generators, of_target, no_verdict};
 
 use crate::values::generator_value;
 use crate::verdicts::Verdict;
@@ -40,7 +41,7 @@ fn of_generator(problem: &Problem, index: u32, point: &Point) -> Option<Verdict>
     requires problem { IsProblem (problem_view problem.now) }
     requires listed { index < length (generators (problem_view problem.now)) }
     requires complete { length point.now ≡ size_of problem.now.space }
-    ensures { result ≡ of_generator (length (elementals problem.now.space.variables)) index (generator_at (generators (problem_view problem.now)) index) (map_of point.now) }
+    ensures { result ≡ of_generator (problem_view problem.now) index (map_of point.now) }
 {
     let Ok(value) = generator_value(problem, index, point) else {
         return Some(Verdict::Width { place: index });
