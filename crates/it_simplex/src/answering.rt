@@ -45,7 +45,7 @@ fn run_answer(
     }
 }
 
-/// Whether the target is a sum of the columns with weights of at least 0, by the first phase of the simplex method with Bland's
+/// Whether the target is a sum of the columns with weights of at least 0, by the simplex method with artificial columns and Bland's
 /// rule (Bland 1977), in exact fractions. The coordinates ascend and hold all that the columns and the target use: a row's
 /// coefficient elsewhere doesn't count. Without a budget the run goes on to its end, and is never `Pivots`.
 pub fn solve(
