@@ -11,7 +11,7 @@ use crate::gathering::{ascends, gathered_rows};
 use crate::merging::append;
 use crate::sparse_rows::SparseRow;
 use it_fraction::Fraction;
-use it_space::{Row, RowFault, append as append_row};
+use it_space::{Row, RowFault};
 use std::alloc::{AllocError, Global};
 
 /// The coefficient of a row at a coordinate, as a fraction.
@@ -163,6 +163,6 @@ pub fn start_table(
 {
     let mut rows = start_rows(alloc, coordinates, columns, target)?;
     let cost = cost_row(alloc, rows.as_slice(), columns.len() + coordinates.len())?;
-    append_row(&mut rows, cost)?;
+    rows.push(cost)?;
     Ok(rows)
 }
