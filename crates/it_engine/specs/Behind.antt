@@ -52,12 +52,17 @@ taken_terms (pos zero) share terms = []
 taken_terms (pos (suc n)) share terms = multiple_of_terms (neg_ℤ (pos (suc n) *ℤ pos share)) terms
 taken_terms (negsuc n) share terms = multiple_of_terms (neg_ℤ (negsuc n *ℤ pos share)) terms
 
+-- so much of the basic column of row q as its entry says, if it moved
+abbrev pub terms_of_moved : List Terms → List WholeRowView → List ℕ → List Bool → List ℤ → ℕ → ℕ → Terms
+terms_of_moved columns rows basis moved entries multiple q =
+    cond (has_moved moved q) (taken_terms (number_at entries q) (share_of multiple rows q) (slice_index_or columns (slice_index_or basis q 0) [])) []
+
 -- the column at which a row that stays behind has the number that it would have up to date, times the common multiple: the
 -- multiple of the column itself, less for each of the first k rows, if it moved, so much of its basic column as its entry says
 abbrev pub column_less_moved : List Terms → List WholeRowView → List ℕ → List Bool → List ℤ → ℕ → ℕ → ℕ → Terms
 column_less_moved columns rows basis moved entries multiple c zero = multiple_of_terms (pos multiple) (slice_index_or columns c [])
 column_less_moved columns rows basis moved entries multiple c (suc k) = column_less_moved columns rows basis moved entries multiple c k
-    ++ cond (has_moved moved k) (taken_terms (number_at entries k) (share_of multiple rows k) (slice_index_or columns (slice_index_or basis k 0) [])) []
+    ++ terms_of_moved columns rows basis moved entries multiple k
 
 -- the entries at a column of the rows that moved, 0 for all others
 pub record AreMovedEntries (terms : Terms) (rows : List WholeRowView) (moved : List Bool) (entries : List ℤ) : Type 0 where
@@ -80,6 +85,10 @@ abbrev pub IsFirstToLeave : List WholeRowView → List ℕ → List Bool → Lis
 IsFirstToLeave rows basis moved entries combined k None = (i : ℕ) → i < k → ¬ (MayLeave rows moved entries combined (length basis) i)
 IsFirstToLeave rows basis moved entries combined k (Some r) = (r < length basis) × MayLeave rows moved entries combined (length basis) r
     × ((i : ℕ) → i < k → MayLeave rows moved entries combined (length basis) i → slice_index_or basis r 0 ≤ slice_index_or basis i 0)
+
+-- the first of the rows before k is known, and then of these and row k
+abbrev pub IsFirstAfter : List WholeRowView → List ℕ → List Bool → List ℤ → Terms → ℕ → Option ℕ → Option ℕ → Type 0
+IsFirstAfter rows basis moved entries combined k best next = IsFirstToLeave rows basis moved entries combined k best → IsFirstToLeave rows basis moved entries combined (k + 1) next
 
 -- bounds on the numbers and the denominators of the rows that stay behind
 abbrev pub AreBaseBounds : ℕ → ℕ → List WholeRowView → List Bool → ℕ → Type 0

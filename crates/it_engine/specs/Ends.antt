@@ -10,7 +10,7 @@ use Rattle.it_run.specs.Answers.{end_of_answer}
 use Rattle.it_run.specs.Solving.{RunsTo}
 use Rattle.it_run.specs.declared.answering.Solved.{Solved}
 use Rattle.it_engine.specs.Choosing.{right_side_of}
-use Rattle.it_engine.specs.Engine.{Represents}
+use Rattle.it_engine.specs.Engine.{EngineView, Represents}
 use Rattle.it_engine.specs.Whole.{whole_row_at, WholeRowView}
 
 -- the right side of a row whose basic column is j
@@ -40,3 +40,7 @@ abbrev pub AnswersQuestion : List ℕ → Terms → List Terms → ℕ → List 
 AnswersQuestion coordinates target columns limit rows basis budget answer = (generators : List Terms) (t : SimplexTable Rational)
     → Represents (feasibility_problem coordinates generators target) t columns limit rows basis
     → RunsTo (length basis) (length columns) (feasibility_problem coordinates generators target) budget t (end_of_answer answer)
+
+-- the answer to the question whose start this engine shows
+abbrev pub AnswersFrom : List ℕ → Terms → List Terms → ℕ → EngineView → Option ℕ → Solved → Type 0
+AnswersFrom coordinates target columns limit engine = AnswersQuestion coordinates target columns limit engine.rows engine.basis

@@ -32,10 +32,14 @@ pub record IsReadColumn (m : ℕ) (f : ℕ → ℤ) (terms : Terms) : Type 0 whe
   pub value_is : (g : ℕ → Rational) → sum_to ring_ℚ m (λ k. times (g k) (integer (f k))) ≡ rational_value terms g
   pub within : All (λ t. t.0 < m) terms
 
+-- the terms of the column of a generator
+abbrev pub IsColumnOf : List ℕ → Terms → Terms → Terms → Type 0
+IsColumnOf coordinates target generator = IsReadColumn (length coordinates) (signed_coefficient coordinates target generator)
+
 -- the columns but the artificial ones
 abbrev pub AreReadColumns : List ℕ → List Terms → Terms → List Terms → Type 0
 AreReadColumns coordinates generators target columns = (length columns ≡ length generators)
-    × ((j : ℕ) → j < length generators → IsReadColumn (length coordinates) (signed_coefficient coordinates target (slice_index_or generators j [])) (slice_index_or columns j []))
+    × ((j : ℕ) → j < length generators → IsColumnOf coordinates target (slice_index_or generators j []) (slice_index_or columns j []))
 
 -- no column weighs more
 pub record IsNorm (columns : List Terms) (norm : ℕ) : Type 0 where

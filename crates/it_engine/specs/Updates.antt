@@ -41,10 +41,14 @@ abbrev pub IsWholeRowDivided : ℕ → ℕ → WholeRowView → ℤ → WholeRow
 IsWholeRowDivided width limit old p new = (g : ℕ → Rational) (w : Rational) → IsRow width limit g old.numbers old.bottom → IsRatio w p old.bottom
     → IsRow width limit (λ k. times (g k) (inverse w)) new.numbers new.bottom
 
+-- the number at place k of a row times a, less that of another times b
+abbrev pub combined_number : List ℤ → List ℤ → ℤ → ℤ → ℕ → ℤ
+combined_number row by a b k = number_at row k *ℤ a +ℤ neg_ℤ (number_at by k *ℤ b)
+
 -- the numbers of a row times a, less those of another times b
 pub record IsCombined (width limit : ℕ) (row by : List ℤ) (a b : ℤ) (new : List ℤ) : Type 0 where
   pub length_is : length new ≡ width
-  pub entries : (k : ℕ) → k < width → number_at new k ≡ number_at row k *ℤ a +ℤ neg_ℤ (number_at by k *ℤ b)
+  pub entries : (k : ℕ) → k < width → number_at new k ≡ combined_number row by a b k
   pub small : (k : ℕ) → k < width → unsigned_abs (number_at new k) ≤ limit
 
 -- all numbers are below 2 ^ 63 in absolute value

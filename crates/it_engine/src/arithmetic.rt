@@ -126,8 +126,9 @@ pub fn common_divisor(a: u64, b: u64) -> u64
     if a == 1 {
         return 1;
     }
-    let mut larger = a;
-    let mut smaller = b;
+    // mostly a is smaller, and divides b
+    let mut larger = b;
+    let mut smaller = a;
     while smaller != 0 {
         let rest = larger % smaller;
         larger = smaller;

@@ -8,7 +8,7 @@ ghost use Rattle.std.specs.Prelude.{◌≡◌, ◌≤ℤ◌, ◌+◌, ◌*◌, �
 ghost use Rattle.std.specs.Bool.{OnFalse, OnTrue};
 ghost use Rattle.std.specs.Option.{IfNone, IfSome};
 ghost use Prim.Native.Nat.{◌∣◌};
-ghost use Rattle.it_engine.specs.Behind.{AreBaseBounds, AreBrought, AreEngineSteps, AreMovedEntries, AreNextMoved, AreStillSteps, BoundsShares, column_less_moved, has_moved, IsBehindStep, IsCommonMultiple, IsBrought, IsFirstToLeave, IsLessMoved, IsRowBrought, IsStillChoice, LeavesStill, MayLeave, multiple_of_terms, share_of, taken_terms};
+ghost use Rattle.it_engine.specs.Behind.{AreBaseBounds, AreBrought, AreEngineSteps, AreMovedEntries, AreNextMoved, AreStillSteps, BoundsShares, column_less_moved, has_moved, IsBehindStep, IsCommonMultiple, IsBrought, IsFirstAfter, IsFirstToLeave, IsLessMoved, IsRowBrought, IsStillChoice, LeavesStill, MayLeave, multiple_of_terms, share_of, terms_of_moved};
 ghost use Rattle.it_engine.specs.Choosing.{entry_of, right_side_of};
 ghost use Rattle.it_engine.specs.Updates.{AreUsable, IsFitting, IsUpdated, IsUsable, Suits, SuitsAll};
 ghost use Rattle.it_engine.specs.Engine.{IsSafe};
@@ -117,13 +117,33 @@ fn note_moved_entries(
     entries[height] = moved_entry(column, rows, moved, height);
 }
 
-/// The least common multiple, where it is below 2^63.
+/// The least common multiple, where it is below 2^63. Mostly b divides a.
 fn multiple_of_both(a: u64, b: u64) -> Option<u64>
     requires a { 0 < a }
+    requires low { a < 2 ^ 63 }
     requires b { 0 < b }
     ensures { IfSome result (λ c. (0 < c) × (c < 2 ^ 63) × (a ∣ c) × (b ∣ c)) }
 {
+    if a % b == 0 {
+        return Some(a);
+    }
     short_product(a, b / common_divisor(a, b))
+}
+
+/// The share of row q in a multiple of its denominator.
+#[inline(always)]
+fn share_at(rows: &[WholeRow], q: usize, multiple: u64) -> u64
+    requires q { q < length rows.now }
+    requires some { 0 < (whole_row_at rows.now q).bottom }
+    ensures { result ≡ share_of multiple rows.now q }
+{
+    let bottom = bottom_at(rows, q);
+    // most denominators are 1, and a division is dear
+    if bottom == 1 {
+        multiple
+    } else {
+        multiple / bottom
+    }
 }
 
 /// The multiple, or where row q moved a common one of it and the row's denominator.
@@ -177,7 +197,7 @@ fn more_shares(
         return Some(bound);
     }
     let entry = short_product(norm, most_at(rows, q))?;
-    let part = short_product(entry, multiple / bottom_at(rows, q))?;
+    let part = short_product(entry, share_at(rows, q, multiple))?;
     short_sum(bound, part)
 }
 
@@ -239,7 +259,7 @@ fn less_moved(
     requires entries { q < length entries.now }
     requires some { 0 < (whole_row_at rows.now q).bottom }
     requires low { multiple < 2 ^ 63 }
-    ensures { OnTrue result (combined.new ≡ combined.old ++ cond (has_moved moved.now q) (taken_terms (number_at entries.now q) (share_of multiple rows.now q) (slice_index_or columns.now (slice_index_or basis.now q 0) [])) []) }
+    ensures { OnTrue result (combined.new ≡ combined.old ++ terms_of_moved columns.now rows.now basis.now moved.now entries.now multiple q) }
 {
     if !moved_at(moved, q) {
         return true;
@@ -251,7 +271,7 @@ fn less_moved(
     if basis[q] >= columns.len() {
         return false;
     }
-    let Some(taken) = taken_times(entry, multiple / bottom_at(rows, q)) else {
+    let Some(taken) = taken_times(entry, share_at(rows, q, multiple)) else {
         return false;
     };
     combined.add_multiple(&columns[basis[q]], taken)
@@ -329,6 +349,7 @@ fn entry_now(rows: &[WholeRow], moved: &[bool], entries: &[i64], combined: &Colu
 }
 
 /// Whether row i may leave with ratio 0.
+#[inline(never)]
 fn may_leave(
     rows: &[WholeRow],
     moved: &[bool],
@@ -352,6 +373,7 @@ fn may_leave(
 }
 
 /// The row with the least basic column of the best one so far and row i, if it may leave.
+#[inline(always)]
 fn earlier_row(
     best: Option<usize>,
     rows: &[WholeRow],
@@ -369,7 +391,7 @@ fn earlier_row(
     requires place { length basis.now < length (whole_row_at rows.now i).numbers }
     requires best { IsFirstToLeave rows.now basis.now moved.now entries.now combined.now 0 best }
     ensures one { IsFirstToLeave rows.now basis.now moved.now entries.now combined.now 0 result }
-    ensures next { IsFirstToLeave rows.now basis.now moved.now entries.now combined.now i best → IsFirstToLeave rows.now basis.now moved.now entries.now combined.now (i + 1) result }
+    ensures next { IsFirstAfter rows.now basis.now moved.now entries.now combined.now i best result }
 {
     if let Some(k) = best {
         if basis[k] <= basis[i] {

@@ -5,7 +5,7 @@ ghost use Rattle.std.specs.Bool.{OnTrue};
 ghost use Rattle.std.specs.Option.{IfSome};
 ghost use Rattle.it_space.specs.Rows.{coefficient};
 ghost use Rattle.it_tableau.specs.Problems.{IsAscending};
-ghost use Rattle.it_engine.specs.Loading.{right_size, right_sum, signed_coefficient, AreReadColumns, AreReadRows, IsNorm, IsReadColumn, IsReadRow, IsTermPut};
+ghost use Rattle.it_engine.specs.Loading.{right_size, right_sum, AreReadColumns, AreReadRows, IsColumnOf, IsNorm, IsReadRow, IsTermPut};
 
 use crate::arithmetic::{narrow, short_sum};
 use crate::columns::Column;
@@ -82,7 +82,7 @@ fn read_column(
 ) -> Result<Option<Column>, AllocError>
     requires ascending { IsAscending coordinates.now }
     requires generator { j < length generators.now }
-    ensures { IfOk result (λ o. IfSome o (λ column. IsReadColumn (length coordinates.now) (signed_coefficient coordinates.now target.now (slice_index_or generators.now j [])) column)) }
+    ensures { IfOk result (λ o. IfSome o (λ column. IsColumnOf coordinates.now target.now (slice_index_or generators.now j []) column)) }
 {
     let terms = terms_of(generators, j);
     let mut column = Column::empty(alloc);

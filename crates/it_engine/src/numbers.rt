@@ -4,7 +4,7 @@ ghost use Rattle.std.specs.Prelude.{◌≡◌, ℕ, ◌+◌, ◌*◌, ◌<◌, �
 ghost use Prim.Native.Nat.{◌∣◌};
 ghost use Rattle.std.specs.Bool.{OnTrue};
 ghost use Rattle.std.specs.Option.{IfNone, IfSome};
-ghost use Rattle.it_engine.specs.Updates.{AreShort, AreNextPlaces, DividesAll, IsBound, IsCombined, IsNextPlace};
+ghost use Rattle.it_engine.specs.Updates.{AreShort, AreNextPlaces, combined_number, DividesAll, IsBound, IsCombined, IsNextPlace};
 ghost use Rattle.it_space.specs.Sums.{number_at};
 ghost use Rattle.it_engine.specs.Whole.{AreAtMost};
 
@@ -30,7 +30,7 @@ fn next_number(row: &[i64], by: &[i64], k: usize, a: i64, b: i64, limit: u64) ->
     requires a { unsigned_abs a < 2 ^ 63 }
     requires b { unsigned_abs b < 2 ^ 63 }
     requires limit { limit < 2 ^ 63 }
-    ensures { SomeIff result (unsigned_abs (number_at row.now k *ℤ a +ℤ neg_ℤ (number_at by.now k *ℤ b)) ≤ limit) (number_at row.now k *ℤ a +ℤ neg_ℤ (number_at by.now k *ℤ b)) }
+    ensures { SomeIff result (unsigned_abs (combined_number row.now by.now a b k) ≤ limit) (combined_number row.now by.now a b k) }
 {
     narrow_difference(read(row, k), a, read(by, k), b, limit)
 }

@@ -3,7 +3,7 @@ ghost use Rattle.std.specs.Prelude.{◌≡◌, ◌<◌, ◌≤◌, ◌^◌, leng
 ghost use Rattle.std.specs.Option.{IfSome};
 ghost use Rattle.it_engine.specs.Answers.{RunsFromStart};
 ghost use Rattle.it_engine.specs.Engine.{IsSafe, RepresentsSome};
-ghost use Rattle.it_engine.specs.Ends.{AnswersQuestion};
+ghost use Rattle.it_engine.specs.Ends.{AnswersFrom};
 
 use crate::columns::Column;
 use crate::engine::{Engine, EngineEnd};
@@ -40,7 +40,7 @@ fn answer(
     requires height { length engine.basis ≡ length coordinates.now }
     requires engine { IsSafe columns.now limit engine.rows engine.basis }
     requires stands { RepresentsSome columns.now limit engine.rows engine.basis }
-    ensures { IfOk result (λ o. IfSome o (λ solved. AnswersQuestion coordinates.now target.now columns.now limit engine.rows engine.basis budget solved)) }
+    ensures { IfOk result (λ o. IfSome o (λ solved. AnswersFrom coordinates.now target.now columns.now limit engine budget solved)) }
 {
     let mut engine = engine;
     match engine.run(columns, limit, budget) {
@@ -88,7 +88,7 @@ fn narrow_answer(
     requires height { length engine.now.basis ≡ length coordinates.now }
     requires engine { IsSafe columns.now limit engine.now.rows engine.now.basis }
     requires stands { RepresentsSome columns.now limit engine.now.rows engine.now.basis }
-    ensures { IfOk result (λ o. IfSome o (λ solved. AnswersQuestion coordinates.now target.now columns.now limit engine.now.rows engine.now.basis budget solved)) }
+    ensures { IfOk result (λ o. IfSome o (λ solved. AnswersFrom coordinates.now target.now columns.now limit engine.now budget solved)) }
 {
     if engine.basis().len() < FEW_ROWS {
         return Ok(None);
@@ -113,7 +113,7 @@ fn answer_by_width(
     requires height { length engine.basis ≡ length coordinates.now }
     requires engine { IsSafe columns.now limit engine.rows engine.basis }
     requires stands { RepresentsSome columns.now limit engine.rows engine.basis }
-    ensures { IfOk result (λ o. IfSome o (λ solved. AnswersQuestion coordinates.now target.now columns.now limit engine.rows engine.basis budget solved)) }
+    ensures { IfOk result (λ o. IfSome o (λ solved. AnswersFrom coordinates.now target.now columns.now limit engine budget solved)) }
 {
     match narrow_answer(alloc, coordinates, target, columns, limit, &engine, budget)? {
         Some(solved) => Ok(Some(solved)),
