@@ -856,10 +856,7 @@ fn make_step(
     true
 }
 
-/// With so many rows that moved a block ends: each step has to keep them up to date.
-const MANY_MOVED: usize = 40;
-
-/// Whether many rows moved.
+/// Whether more than a sixth of the rows moved. Then a block ends, since each step has to keep these up to date.
 fn many_moved(moved: &[bool]) -> bool {
     let mut count: usize = 0;
     for i in 0..moved.len() {
@@ -867,7 +864,7 @@ fn many_moved(moved: &[bool]) -> bool {
             count = count.wrapping_add(1);
         }
     }
-    count > MANY_MOVED
+    count > moved.len() / 6
 }
 
 /// Makes degenerate steps, at most so many, while they can be made with rows that stay behind, and tells how many were made; None
