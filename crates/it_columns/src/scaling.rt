@@ -1,5 +1,4 @@
 //! Fractions made whole by the least common multiple of their denominators.
-//! The result of `push` is matched, since `?` makes no `RowFault` of its error.
 ghost use Rattle.std.specs.Prelude.{◌≡◌, ◌<◌, ◌^◌, ◌++◌, ◌∷◌, [], pos, map, IfErr, IfOk, OkIff, OnOk};
 ghost use Rattle.std.specs.List.{AllByRecursion as Every};
 ghost use Rattle.it_number.specs.Gcd.{lcm};
@@ -8,7 +7,7 @@ ghost use Rattle.it_columns.specs.Scaling.{scale_of, scaled_number};
 
 use it_fraction::{Fraction, Wide, lcm, signed_product};
 use it_space::RowFault;
-use std::alloc::{AllocError, Global};
+use std::alloc::Global;
 
 /// The least common multiple of the scale and a number's denominator.
 fn with_denominator(scale: u128, number: &Fraction) -> Result<u128, Wide>
@@ -51,10 +50,8 @@ fn put_value(values: &mut Vec<i128>, number: &Fraction, scale: u128) -> Result<(
     ensures wide { IfErr result (λ f. f ≡ RowFault.Wide → ¬ (IsWithin (scaled_number scale number.now))) }
 {
     let value = scaled_number(number, scale)?;
-    match values.push(value) {
-        Ok(()) => Ok(()),
-        Err(_) => Err(RowFault::Memory),
-    }
+    values.push(value)?;
+    Ok(())
 }
 
 /// The scale times each number, in order. `Wide` where one of these passes the limit.

@@ -6,5 +6,5 @@ use Rattle.it_polymatroid.specs.Elementals.{Elemental, elemental_value}
 use Rattle.it_elemental.specs.Rows.{elemental_row}
 
 -- its value at a set function, or `Wide` exactly where a partial sum in order of the sets passes the limit
-abbrev pub IsElementalValue : ℕ → (ℕ → ℤ) → Elemental → Result ℤ Wide → Type 0
-IsElementalValue n h e result = OkIff result (ValueFits (elemental_row n e) h) (elemental_value n h e)
+abbrev pub IsElementalValueOrWide : ℕ → (ℕ → ℤ) → Elemental → Result ℤ Wide → Type 0
+IsElementalValueOrWide n h e result = OkIff result (ValueFits (elemental_row n e) h) (elemental_value n h e)

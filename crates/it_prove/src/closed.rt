@@ -22,7 +22,6 @@ pub struct ClosedProblem {
     count: u32,
 }
 
-// written out, so that letting a closed problem go is one call
 impl Drop for ClosedProblem {
     fn drop(self) {
         let ClosedProblem {

@@ -1,5 +1,4 @@
 //! The weights of columns made whole by the least common multiple of their denominators.
-//! The result of `push` is matched, since `?` makes no `RowFault` of its error.
 ghost use Rattle.std.specs.Prelude.{◌≡◌, ◌<◌, ◌^◌, ◌++◌, ◌∷◌, [], All, IfErr, IfOk, OnOk};
 ghost use Rattle.std.specs.List.{AllByRecursion as Every};
 ghost use Rattle.it_number.specs.Limit.{IsWithin};
@@ -24,10 +23,8 @@ fn put_term(
     ensures wide { IfErr result (λ f. f ≡ RowFault.Wide → ¬ (IsWithin (scaled_number scale weight.now.1))) }
 {
     let value = scaled_number(&weight.1, scale)?;
-    match terms.push((weight.0 as u32, value)) {
-        Ok(()) => Ok(()),
-        Err(_) => Err(RowFault::Memory),
-    }
+    terms.push((weight.0 as u32, value))?;
+    Ok(())
 }
 
 /// The scale times each weight, after its column. `Wide` where one of these passes the limit.

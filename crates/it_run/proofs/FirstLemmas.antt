@@ -1,5 +1,5 @@
 -- The end of a run by recursion on its budget is its end at the first number of steps.
-use Rattle.std.proofs.Common.{◌≡◌, ◌≢◌, ◌⊎◌, inl, inr, ℕ, zero, suc, ◌+◌, ◌-◌, ◌<◌, ◌≤◌, Option, Some, None, refl, sym, ap, subst, ◌∙◌, arith}
+use Rattle.std.proofs.Common.{◌≡◌, ◌≢◌, ◌⊎◌, inl, inr, ℕ, zero, suc, ◌+◌, ◌-◌, ◌<◌, ◌≤◌, Option, Some, None, refl, sym, ap, subst, arith}
 use Rattle.std.proofs.lemmas.Bool.{cases_eq, cases_lt}
 use Rattle.it_space.proofs.OptionLemmas.{some_same, none_is_not_some}
 use Rattle.it_run.specs.Runs.{RunEndView, EndsAs, EndsBy, state_after_steps, clip_number}

@@ -1,5 +1,5 @@
 -- A run has one end, and what its steps keep holds there.
-use Rattle.std.proofs.Common.{ap, List, ◌≡◌, ◌⊎◌, inl, inr, ℕ, zero, suc, ◌+◌, ◌<◌, ◌≤◌, refl, sym, ◌∙◌, subst}
+use Rattle.std.proofs.Common.{ap, List, ◌≡◌, ◌⊎◌, inl, inr, ℕ, zero, suc, refl, sym, ◌∙◌, subst}
 use Rattle.it_rational.specs.OrderedFields.{OrderedField}
 use Rattle.it_tableau.specs.FieldOperations.{operations_of}
 use Rattle.it_tableau.specs.SimplexTables.{SimplexTable, FeasibilityProblem, start}
