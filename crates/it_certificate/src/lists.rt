@@ -1,5 +1,4 @@
 //! The lists of a report.
-//! The result of `push` is matched where `?` would do: so the proof has the case without memory by its name.
 ghost use Rattle.std.specs.Prelude.{◌≡◌, map, option_and_then, option_map};
 ghost use Rattle.serde_json.specs.Find.{as_array};
 ghost use Rattle.serde_json.specs.View.{view, items_view};
@@ -44,10 +43,7 @@ fn pairs(alloc: Global, values: &[Value]) -> Result<Vec<(u32, i128)>, Refusal>
         let Some(pair) = pair_at(value) else {
             return Err(Refusal::Shape);
         };
-        match out.push(pair) {
-            Ok(()) => {}
-            Err(_) => return Err(Refusal::Memory),
-        }
+        out.push(pair)?;
     }
     Ok(out)
 }
@@ -61,10 +57,7 @@ fn integers(alloc: Global, values: &[Value]) -> Result<Vec<i128>, Refusal>
         let Some(integer) = integer_at(value) else {
             return Err(Refusal::Shape);
         };
-        match out.push(integer) {
-            Ok(()) => {}
-            Err(_) => return Err(Refusal::Memory),
-        }
+        out.push(integer)?;
     }
     Ok(out)
 }
@@ -122,10 +115,7 @@ fn certificates(alloc: Global, values: &[Value]) -> Result<Vec<Certificate>, Ref
     let mut out = Vec::new(alloc);
     for value in values {
         let certificate = certificate_at(alloc, value)?;
-        match out.push(certificate) {
-            Ok(()) => {}
-            Err(_) => return Err(Refusal::Memory),
-        }
+        out.push(certificate)?;
     }
     Ok(out)
 }

@@ -88,11 +88,7 @@ fn rows(alloc: Global, values: &[Value], size: u32) -> Result<Vec<(Mark, Row)>, 
     let mut out = Vec::new(alloc);
     for value in values {
         let row = marked_row_at(alloc, value, size)?;
-        // `?` would do; with the match the proof has the case without memory by its name
-        match out.push(row) {
-            Ok(()) => {}
-            Err(_) => return Err(Refusal::Memory),
-        }
+        out.push(row)?;
     }
     Ok(out)
 }

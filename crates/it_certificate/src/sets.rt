@@ -42,11 +42,7 @@ fn sets(alloc: Global, variables: u8, values: &[Value]) -> Result<Vec<VarSet>, R
         let Some(set) = set_at(variables, value) else {
             return Err(Refusal::Shape);
         };
-        // `?` would do; with the match the proof has the case without memory by its name
-        match out.push(set) {
-            Ok(()) => {}
-            Err(_) => return Err(Refusal::Memory),
-        }
+        out.push(set)?;
     }
     Ok(out)
 }

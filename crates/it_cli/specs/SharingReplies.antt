@@ -5,6 +5,7 @@ use Rattle.it_print.specs.Lines.{answer_line}
 use Rattle.it_factor.specs.Lines.{reply_line}
 use Rattle.it_factor.specs.Replies.{ReplyView}
 use Rattle.it_factor.specs.RightReplies.{IsRightReply}
+use Rattle.it_question.specs.QuestionLimits.{most_lines}
 use Rattle.it_sharing.specs.SharingFiles.{IsSharingFile}
 use Rattle.it_sharing.specs.Sharings.{SharingView, made_question, maximal_count, minimal_count}
 use Rattle.it_cli.specs.Copies.{IsRightProof}
@@ -24,9 +25,9 @@ pub data SharingReply : Type 0 where
 
 -- a right reply: many where these are more than 64 together, else a right one to the made question, by what the file asks for
 abbrev pub IsRightSharing : Option ℕ → SharingView → SharingReply → Type 0
-IsRightSharing pivots x Many = 64 < minimal_count x + maximal_count x
-IsRightSharing pivots x (Answered answer) = (minimal_count x + maximal_count x ≤ 64) × (x.best ≡ false) × IsRightProof pivots (made_question x).body answer
-IsRightSharing pivots x (Factored reply) = (minimal_count x + maximal_count x ≤ 64) × (x.best ≡ true) × IsRightReply pivots (made_question x).body reply
+IsRightSharing pivots x Many = most_lines < minimal_count x + maximal_count x
+IsRightSharing pivots x (Answered answer) = (minimal_count x + maximal_count x ≤ most_lines) × (x.best ≡ false) × IsRightProof pivots (made_question x).body answer
+IsRightSharing pivots x (Factored reply) = (minimal_count x + maximal_count x ≤ most_lines) × (x.best ≡ true) × IsRightReply pivots (made_question x).body reply
 
 -- the line with both numbers
 unfoldable pub sharing_heading : ℕ → ℕ → List ℕ

@@ -1,6 +1,7 @@
 //! Mode `sharing`: a file that tells who may know a secret, and the answer to what it asks.
 ghost use Rattle.std.specs.Prelude.{◌≡◌, ◌+◌, ◌<◌, ◌≤◌, ◌∷◌, ◌++◌, [], codes, length, IfOk};
 ghost use Rattle.it_question.specs.Limits.{IsQuestion};
+ghost use Rattle.it_question.specs.QuestionLimits.{most_lines};
 ghost use Rattle.it_question.specs.Questions.{question_body, question_view};
 ghost use Rattle.it_sharing.specs.Sharings.{IsSharing, made_question, sharing_view, maximal_count, minimal_count};
 ghost use Rattle.it_cli.specs.InnerEnds.{EndsForBytes, EndsForItems, IsTextOf};
@@ -82,7 +83,7 @@ fn made_lines(
     requires limits { IsQuestion (question_body made.now.question) }
     requires minimal { made.now.minimal ≡ minimal_count (sharing_view sharing.now) }
     requires maximal { made.now.maximal ≡ maximal_count (sharing_view sharing.now) }
-    requires few { made.now.minimal + made.now.maximal ≤ 64 }
+    requires few { made.now.minimal + made.now.maximal ≤ most_lines }
     ensures { IfOk result (λ text. IsTextOf (sharing_mode pivots) [] 1 (sharing_view sharing.now) text.items) }
 {
     if sharing.best {

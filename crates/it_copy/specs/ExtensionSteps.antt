@@ -1,6 +1,7 @@
 -- What the functions that add copies say of their steps. No public clause cites it.
 use Rattle.std.specs.Prelude.{◌≡◌, ◌<◌, ◌≤◌, Bool, true, false, List, length, Some}
 use Rattle.it_syntax.specs.NamesViews.{NamesView}
+use Rattle.it_question.specs.QuestionLimits.{most_lines}
 use Rattle.it_question.specs.Questions.{BodyView}
 use Rattle.it_question.specs.Tables.{HasSmallTable}
 use Rattle.it_copy.specs.declared.types.CopyFault.{CopyFault}
@@ -34,5 +35,5 @@ abbrev pub IsPastLimits : BodyView → CopyFault → Type 0
 IsPastLimits q Memory = Unit {0}
 IsPastLimits q Verb = ⊥
 IsPastLimits q (Copy k) = ⊥
-IsPastLimits q Many = 64 < length q.lines.givens
-IsPastLimits q Large = (length q.lines.givens ≤ 64) × IsLargeBy q true
+IsPastLimits q Many = most_lines < length q.lines.givens
+IsPastLimits q Large = (length q.lines.givens ≤ most_lines) × IsLargeBy q true

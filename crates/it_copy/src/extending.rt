@@ -8,7 +8,7 @@ ghost use Rattle.it_question.specs.Limits.{IsQuestion};
 ghost use Rattle.it_question.specs.NewNames.{Variable, is_taken, with_name};
 ghost use Rattle.it_question.specs.Tables.{most_entries};
 ghost use Rattle.it_question.specs.Questions.{Prove, question_body, question_view};
-ghost use Rattle.it_question.specs.QuestionLimits.{most_variables};
+ghost use Rattle.it_question.specs.QuestionLimits.{most_lines, most_variables};
 ghost use Rattle.it_copy.specs.CopyLines.{AreNamed, copy_view};
 ghost use Rattle.it_copy.specs.Extensions.{IsExtension, IsMisfit, equations_of, extended, first_unplaced, named_parts, placed, set_with, unless_member, with_copies, equations_at};
 ghost use Rattle.it_copy.specs.ExtensionSteps.{IsLarge, IsLargeBy, IsPastLimits, IsUnplaced};
@@ -17,18 +17,12 @@ use crate::equations::add_equations;
 use crate::types::{CopyFault, CopyLine};
 use it_canon::problem;
 use it_closure::size;
-use it_question::readers::MOST_LINES;
+use it_question::readers::{MOST_ENTRIES, MOST_LINES, MOST_VARIABLES};
 use it_question::types::{OwnLines, Question, Verb};
 use it_space::{Problem, VarSet};
 use it_syntax::types::{Given, Relation};
 use it_syntax::{Names, copies};
 use std::alloc::{AllocError, Global};
-
-/// The most variables of a question.
-const MOST_VARIABLES: u8 = 10;
-
-/// The most entries of a question's first table.
-const MOST_ENTRIES: u64 = 4000000;
 
 /// Whether a variable or a rate has this name.
 #[tactic(auto, unfolding(it_question::specs::NewNames::is_taken))]
@@ -42,7 +36,7 @@ fn is_taken(names: &Names, name: &[u8]) -> bool
 fn is_full(names: &Names) -> bool
     ensures { result ≡ nat_le most_variables (length names.now.variables) }
 {
-    MOST_VARIABLES <= names.space().variables
+    MOST_VARIABLES <= names.space().variables as usize
 }
 
 /// The set with one more variable.
@@ -208,8 +202,8 @@ fn copied(
 
 /// Judges how many constraints a question has, and then the size of its table.
 fn judge_limits(alloc: Global, question: &Question) -> Result<(), CopyFault>
-    requires { length question.now.lines.givens.items ≤ 64 → IsQuestion (question_body question.now) }
-    ensures few { OnOk result (length question.now.lines.givens.items ≤ 64) }
+    requires { length question.now.lines.givens.items ≤ most_lines → IsQuestion (question_body question.now) }
+    ensures few { OnOk result (length question.now.lines.givens.items ≤ most_lines) }
     ensures small { OnOk result (IsLargeBy (question_body question.now) false) }
     ensures past { IfErr result (IsPastLimits (question_body question.now)) }
 {

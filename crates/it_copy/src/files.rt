@@ -1,9 +1,8 @@
 //! The reader of files with a head.
 ghost use Rattle.std.specs.Prelude.{◌≡◌, ◌≤◌, All, IfOk, IfErr, drop, length, map};
 ghost use Rattle.it_forms.specs.FormReading.{read};
-ghost use Rattle.it_syntax.specs.Gives.{GivesBy};
 ghost use Rattle.it_question.specs.Bodies.{body_view};
-ghost use Rattle.it_question.specs.Cursors.{letters_left, line_view};
+ghost use Rattle.it_question.specs.Cursors.{ParsesBy, line_view};
 ghost use Rattle.it_question.specs.Limits.{IsQuestion};
 ghost use Rattle.it_question.specs.Questions.{question_body, question_view};
 ghost use Rattle.it_copy.specs.CopyForms as forms;
@@ -28,7 +27,7 @@ struct Reading {
 /// What a file with a head asks, up to its end.
 #[tactic(auto, unfolding(crate::specs::CopyForms::copy_file, it_forms::specs::FormReading::read))]
 fn whole(alloc: Global, cursor: &mut Cursor<'_>) -> Result<Reading, Stop>
-    ensures gives { GivesBy (λ x. file_view x.copies.items x.bodies.items) result (letters_left cursor.new) (read forms.copy_file (letters_left cursor.old)) }
+    ensures gives { ParsesBy (λ x. file_view x.copies.items x.bodies.items) result forms.copy_file cursor.old cursor.new }
     ensures names { IfOk result (λ x. AreNamed x.copies.items) }
     ensures few { IfOk result (λ x. length x.copies.items ≤ 4) }
     ensures limits { IfOk result (λ x. All (λ b. IsQuestion (body_view b)) x.bodies.items) }

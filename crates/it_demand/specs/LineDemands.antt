@@ -1,5 +1,5 @@
 -- What lines demand, the rows of several forms, and the forms of `row` lines.
-use Rattle.std.specs.Prelude.{ℕ, ◌+◌, ℤ, pos, ◌≤ℤ◌, List, [], ◌∷◌, ◌++◌, length, All}
+use Rattle.std.specs.Prelude.{◌≡◌, ℕ, ◌+◌, ℤ, pos, ◌≤ℤ◌, List, [], ◌∷◌, ◌++◌, length, All}
 use Rattle.std.specs.List.{AllZip, flat_map}
 use Rattle.it_space.specs.declared.spaces.Space.{Space}
 use Rattle.it_space.specs.declared.problems.Origin.TheVariants.{Rate}
@@ -33,6 +33,10 @@ AreRowsOf s forms rows = AllZip (IsRowOf s) forms rows
 -- the rows are at least 0 at the map
 abbrev pub AreAtLeastZero : (ℕ → ℤ) → List Terms → Type 0
 AreAtLeastZero p rows = All (λ row. pos 0 ≤ℤ value row p) rows
+
+-- it is so at each map that is 0 at the empty set
+abbrev pub AtMaps : ((ℕ → ℤ) → Type 0) → Type 0
+AtMaps P = (p : ℕ → ℤ) → p 0 ≡ pos 0 → P p
 
 -- the space of as many variables and rates
 abbrev pub space_of : NamesView → Space

@@ -1,7 +1,8 @@
 //! The coefficients of a linear form while it is added up.
-ghost use Rattle.std.specs.Prelude.{◌≡◌, ◌+◌, ◌*◌, ◌-◌, ◌^◌, ◌<◌, ◌≤◌, ℕ, ℤ, pos, ◌+ℤ◌, ◌-ℤ◌, ◌*ℤ◌, neg_ℤ, unsigned_abs, bit_or, length, All, IfOk};
+ghost use Rattle.std.specs.Prelude.{◌≡◌, ◌+◌, ◌*◌, ◌-◌, ◌^◌, ◌<◌, ◌≤◌, ℕ, ℤ, pos, ◌-ℤ◌, ◌*ℤ◌, neg_ℤ, unsigned_abs, bit_or, length, All, IfOk};
 ghost use Rattle.it_space.specs.Rows.{IsCanonical, IsUpTo, value};
 ghost use Rattle.it_space.specs.Spaces.{IsSpace, size_of};
+ghost use Rattle.it_syntax.specs.declared.types.Atom.TheVariants.{Mutual};
 ghost use Rattle.it_syntax.specs.Meaning.{IsAtomOf, atom_at, side_at, times_of};
 ghost use Rattle.it_demand.specs.Coefficients.{dense_form, largest, IsFormAdded, IsNoLarger, signed_by};
 
@@ -102,7 +103,7 @@ impl Coefficients {
         requires both { bit_or (bit_or left right) given < length self.old }
         requires given { given < length self.old }
         requires room { largest self.old + 4 * unsigned_abs times < 2 ^ 127 }
-        ensures { IsFormAdded self.old self.new (4 * unsigned_abs times) (λ p. times *ℤ ((p (bit_or left given) +ℤ p (bit_or right given)) -ℤ (p (bit_or (bit_or left right) given) +ℤ p given))) }
+        ensures { IsFormAdded self.old self.new (4 * unsigned_abs times) (λ p. times *ℤ atom_at 0 p (Mutual left right given)) }
     {
         self.add_set(left.union(given), times);
         self.add_set(right.union(given), times);

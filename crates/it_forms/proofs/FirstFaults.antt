@@ -48,13 +48,16 @@ clean_not_flagged : (prefix d : List Letter) (l : Letter) (more : FlaggedLetters
 clean_not_flagged [] d l more c k = let e : None ≡ Some c = second_is (l, None) (k.0, Some c) (without_flags d ++ more) k.1 k.2 in absurd cc
 clean_not_flagged (x ∷ prefix) d l more c k = clean_not_flagged prefix d l more c (k.0, k.1, same_tails (x, None) (x, None) (without_flags (prefix ++ (l ∷ d)) ++ more) (without_flags prefix ++ ((k.0, Some c) ∷ k.1)) k.2)
 
+-- the same of letters that are so
+not_flagged_as : (m : FlaggedLetters) (prefix d : List Letter) (l : Letter) (more : FlaggedLetters) (c : Code) → m ≡ without_flags (prefix ++ (l ∷ d)) ++ more → FlaggedAt m prefix c → ⊥
+not_flagged_as m prefix d l more c e k = clean_not_flagged prefix d l more c (subst (λ (m : FlaggedLetters). FlaggedAt m prefix c) e k)
+
 -- a fault that stands before another's place contradicts it
 no_earlier_fault : {X : Type 0} (spell : X → FlaggedLetters) (ls : List Letter) (c e : Code) (r s : List Letter) (f : FirstFault spell ls c r) (g : FirstFault spell ls e s) (l : Letter) (d : List Letter) → g.prefix ≡ f.prefix ++ (l ∷ d) → r ≡ l ∷ (d ++ s) → ⊥
 no_earlier_fault spell ls c e r s f g l d front-is r-is =
     let spelled : spell g.tree ≡ without_flags (f.prefix ++ (l ∷ d)) ++ g.more = g.viable ∙ ap (λ (t : List Letter). without_flags t ++ g.more) front-is in
     let here : letters (spell g.tree) ≡ f.prefix ++ (l ∷ (d ++ letters g.more)) = ap letters spelled ∙ letters_after (f.prefix ++ (l ∷ d)) g.more ∙ append_assoc f.prefix (l ∷ d) (letters g.more) in
-    let k = f.each g.tree (l ∷ (d ++ letters g.more)) (sym (ap (λ (ls : List Letter). slice_get ls 0) r-is)) here in
-    clean_not_flagged f.prefix d l g.more c (k.0, k.1, sym spelled ∙ k.2)
+    not_flagged_as (spell g.tree) f.prefix d l g.more c spelled (f.each g.tree (l ∷ (d ++ letters g.more)) (sym (ap (λ (ls : List Letter). slice_get ls 0) r-is)) here)
 
 flags_same : (m : FlaggedLetters) (prefix : List Letter) (c e : Code) → FlaggedAt m prefix c → FlaggedAt m prefix e → c ≡ e
 flags_same m [] c e j k = let p : Some c ≡ Some e = second_is (j.0, Some c) (k.0, Some e) j.1 k.1 (sym j.2 ∙ k.2) in cc

@@ -12,13 +12,14 @@ use Rattle.it_polymatroid.specs.Elementals.{Elemental, Conditional, Mutual, elem
 use Rattle.it_elemental.specs.Views.{IsElemental}
 use Rattle.it_elemental.proofs.PlaceLemmas.{is_elemental}
 use Rattle.it_forms.specs.declared.types.Code.{Code}
-use Rattle.it_forms.specs.Forms.{Form, is_of, Punctuation}
+use Rattle.it_forms.specs.Forms.{Form, Give, Take, If, is_of, Punctuation}
 use Rattle.it_forms.specs.Letters.{Word, Number, Sym}
 use Rattle.it_forms.specs.Words.{symbol, word, any_word, flagged, missing_flag}
 use Rattle.it_forms.specs.declared.types.Symbol.TheVariants.{Minus}
 use Rattle.it_syntax.specs.declared.types.Atom.{Atom}
 use Rattle.it_syntax.specs.declared.types.Sign.TheVariants.{AtLeast}
-use Rattle.it_syntax.specs.LineForms.{variable, more_names, names, given_set, entropy, mutual_information, measure_or, atom, atom_or_nothing, term, signs, more_terms, terms, sum, compare, relation}
+use Rattle.it_syntax.specs.declared.types.Atom.TheVariants.{Nothing}
+use Rattle.it_syntax.specs.LineForms.{variable, more_names, names, given_set, entropy, mutual_information, measure_or, rate, atom, atom_or_nothing, term, signs, more_terms, terms, sum, compare, relation}
 use Rattle.it_syntax.specs.Meaning.{multiple_from}
 use Rattle.it_syntax.specs.Multiples.{most_terms}
 use Rattle.it_syntax.specs.NamesViews.{NamesView}
@@ -172,13 +173,13 @@ set_ends true c rest = refl
 set_ends false c rest = refl
 
 entropy_written : (a c : ℕ) → IsSome a → c < 16 → (z : Bool) → (c == 0) ≡ z → (other : Form Atom) → IsWritten Anything (codes "H(" ++ (set_text four_names a ++ (given_or_nothing z c ++ codes ")"))) (measure_or env other)
-unfolding measure_or entropy is_word_byte
+unfolding entropy is_word_byte
 entropy_written a c h l z e other =
     first_written entropy_letter (then_written (letter_written left_paren) (then_written (set_written a h) (last_written (given_written c l z e)) (λ rest d. set_ends z c rest)) (λ rest d. tt)) (λ rest d. refl)
 
 mutual_written : (a b c : ℕ) → IsSome a → IsSome b → c < 16 → (z : Bool) → (c == 0) ≡ z → (other : Form Atom)
     → IsWritten Anything (codes "I(" ++ (set_text four_names a ++ (codes ";" ++ (set_text four_names b ++ (given_or_nothing z c ++ codes ")"))))) (measure_or env other)
-unfolding measure_or mutual_information is_word_byte
+unfolding mutual_information is_word_byte
 mutual_written a b c h g l z e other =
     other_written
     (first_written mutual_letter (then_written (letter_written left_paren) (then_written (set_written a h) (then_written (letter_written semicolon) (then_written (set_written b g) (last_written (given_written c l z e)) (λ rest d. set_ends z c rest)) (λ rest d. tt)) (λ rest d. refl)) (λ rest d. tt)) (λ rest d. refl))
@@ -213,8 +214,8 @@ digit_writes c h = writes_then (writes_number c (decimal c) (digit_text c h)) wr
 -- a digit, a space and an atom
 counted_written : (m c : ℕ) → c < 5 → (text : List ℕ) → ((other : Form Atom) → IsWritten Anything text (measure_or env other)) → IsWritten Anything (decimal c ++ codes " " ++ text) (flagged None (term m scope false))
 unfolding flagged term atom atom_or_nothing scope_of
-counted_written m zero h text p = first_written (record { letter = Number 0; writes = digit_writes 0 h; among = refl; says = refl }) (other_written (last_written (p _))) (λ rest d. tt)
-counted_written m (suc c) h text p = other_written (first_written (record { letter = Number (suc c); writes = digit_writes (suc c) h; among = refl; says = refl }) (other_written (last_written (p _))) (λ rest d. tt))
+counted_written m zero h text p = first_written (record { letter = Number 0; writes = digit_writes 0 h; among = refl; says = refl }) (other_written (last_written (p (If (rate scope.rates) Give (Give Nothing))))) (λ rest d. tt)
+counted_written m (suc c) h text p = other_written (first_written (record { letter = Number (suc c); writes = digit_writes (suc c) h; among = refl; says = refl }) (other_written (last_written (p (Take (rate scope.rates))))) (λ rest d. tt))
 
 -- a drawn number is below its bound
 pub drawn_below : (n m x : ℕ) → 0 < m → draw n m x < m

@@ -26,3 +26,5 @@ some_left most n h = by_left (most - n) (omega (arith, h))
     by_left : (m : ℕ) → ¬ (m ≡ 0) → new_flag false false m ≡ None
     by_left zero e = absurd (e refl)
     by_left (suc m) e = refl
+
+pub ruleset flag_lemmas = (too_many, some_left)

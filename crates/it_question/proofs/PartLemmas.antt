@@ -14,7 +14,7 @@ use Rattle.it_syntax.specs.declared.types.Token.{Token}
 use Rattle.it_syntax.specs.declared.rest.Stop.{Stop}
 use Rattle.it_syntax.specs.declared.rest.Stop.TheVariants as stops
 use Rattle.it_syntax.specs.Gives.{StopsAs}
-use Rattle.it_syntax.specs.LineForms.{variable, names, measure_or, atom, term, terms, sum, relation, given}
+use Rattle.it_syntax.specs.LineForms.{variable, names, atom, term, terms, sum, relation, given}
 use Rattle.it_syntax.specs.NamesViews.{NamesView}
 use Rattle.it_syntax.specs.GivenLines.{given_line}
 use Rattle.it_syntax.specs.RelationLines.{relation_line}
@@ -88,11 +88,11 @@ whole_ok {A} f o h ls more x e = by_result (read f ls) refl e
 -- ---- where nothing is left
 
 pub no_relation : (v : NamesView) (rates : Bool) → read (relation_line v rates) [] ≡ Err (codes.Word, [])
-unfolding read relation sum terms flagged term atom measure_or
+unfolding read relation sum terms flagged term atom
 no_relation v rates = refl
 
 pub no_given : (v : NamesView) → read (given_line v) [] ≡ Err (codes.Word, [])
-unfolding read given but relation sum terms flagged term atom measure_or
+unfolding read given but relation sum terms flagged term atom
 no_given v = refl
 
 pub no_list : (env : Environment) → read (names env) [] ≡ Err (codes.Word, [])

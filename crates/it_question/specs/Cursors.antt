@@ -1,9 +1,12 @@
 -- The letters that are left of a file. No public clause cites it.
-use Rattle.std.specs.Prelude.{List, [], ◌∷◌, ◌++◌, map, Option, Some, None}
+use Rattle.std.specs.Prelude.{List, [], ◌∷◌, ◌++◌, map, Option, Some, None, Result}
 use Rattle.it_syntax.specs.declared.rest.Rest.{Rest}
 use Rattle.it_syntax.specs.declared.rest.Piece.{Piece}
 use Rattle.it_syntax.specs.declared.rest.Piece.TheVariants as pieces
+use Rattle.it_syntax.specs.declared.rest.Stop.{Stop}
 use Rattle.it_forms.specs.Letters.{Letter, Word, Number, Sym, End, Bad}
+use Rattle.it_forms.specs.Forms.{Form}
+use Rattle.it_forms.specs.FormReading.{read}
 use Rattle.it_syntax.specs.Gives as gives
 use Rattle.it_question.specs.declared.cursor.Cursor.{Cursor}
 use Rattle.it_question.specs.declared.cursor.Line.{Line}
@@ -21,6 +24,14 @@ left_of (Some rest) after = gives.letters_left rest ++ letters_of_lines (map lin
 -- the letters that are left at a cursor
 unfoldable pub letters_left : Cursor → List Letter
 letters_left c = left_of c.rest c.after.now
+
+-- from the cursor `before` on it gave what the form reads, seen by a view, and left the cursor `rest`
+abbrev pub ParsesBy : {X Y : Type 0} → (X → Y) → Result X Stop → Form Y → Cursor → Cursor → Type 0
+ParsesBy view result f before rest = gives.GivesBy view result (letters_left rest) (read f (letters_left before))
+
+-- from the cursor `before` on it gave what the form reads, and left the cursor `rest`
+abbrev pub Parses : {X : Type 0} → Result X Stop → Form X → Cursor → Cursor → Type 0
+Parses result f before rest = ParsesBy (λ x. x) result f before rest
 
 -- after a line's end stands the next line
 abbrev pub with_letter : Piece → List Letter → List Letter

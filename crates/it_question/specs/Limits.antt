@@ -3,12 +3,13 @@ use Rattle.std.specs.Prelude.{◌≡◌, ℕ, ◌<◌, ◌≤◌, ◌^◌, List,
 use Rattle.std.specs.List.{IsDistinct}
 use Rattle.it_syntax.specs.NamesViews.{NamesView}
 use Rattle.it_syntax.specs.Givens.{IsRelationOf, IsGivenOf}
+use Rattle.it_question.specs.QuestionLimits.{most_auxiliaries, most_lines, most_rates, most_variables}
 use Rattle.it_question.specs.Questions.{OwnLinesView, RegionView, VerbView, Prove, Eliminate, Contain, BodyView}
 
 -- lines over these names: no given has a rate
 pub record AreLinesOver (v : NamesView) (own : OwnLinesView) : Type 0 where
-  pub few_givens : length own.givens ≤ 64
-  pub few_rows : length own.rows ≤ 64
+  pub few_givens : length own.givens ≤ most_lines
+  pub few_rows : length own.rows ≤ most_lines
   pub givens : All (IsGivenOf (length v.variables)) own.givens
   pub rows : All (IsRelationOf (length v.variables) (length v.rates)) own.rows
 
@@ -18,8 +19,8 @@ pub record IsRegionOf (v : NamesView) (r : RegionView) : Type 0 where
   pub variables : r.names.variables ≡ v.variables ++ own
   pub rates : r.names.rates ≡ v.rates
   pub counted : r.auxiliaries ≡ length own
-  pub few : length own ≤ 4
-  pub few_variables : length r.names.variables ≤ 10
+  pub few : length own ≤ most_auxiliaries
+  pub few_variables : length r.names.variables ≤ most_variables
   pub lines : AreLinesOver r.names r.lines
 
 -- four sets of n variables
@@ -37,12 +38,12 @@ pub record AreRatesOf (m : ℕ) (rates : List ℕ) : Type 0 where
 abbrev pub IsVerbOver : NamesView → VerbView → Type 0
 IsVerbOver v (Prove r) = IsRelationOf (length v.variables) (length v.rates) r
 IsVerbOver v (Eliminate rates) = AreRatesOf (length v.rates) rates
-IsVerbOver v (Contain first second tries) = IsRegionOf v first × IsRegionOf v second × (length tries ≤ 64) × All (IsTryOf (length first.names.variables)) tries
+IsVerbOver v (Contain first second tries) = IsRegionOf v first × IsRegionOf v second × (length tries ≤ most_lines) × All (IsTryOf (length first.names.variables)) tries
 
 -- 1 to 10 variables and at most 16 rates, and lines over them
 pub record IsQuestion (q : BodyView) : Type 0 where
   pub some : 1 ≤ length q.names.variables
-  pub few : length q.names.variables ≤ 10
-  pub few_rates : length q.names.rates ≤ 16
+  pub few : length q.names.variables ≤ most_variables
+  pub few_rates : length q.names.rates ≤ most_rates
   pub lines : AreLinesOver q.names q.lines
   pub verb : IsVerbOver q.names q.verb

@@ -4,6 +4,7 @@ use Rattle.it_syntax.specs.NamesViews.{NamesView}
 use Rattle.it_question.specs.declared.sorts.NameSort.{NameSort}
 use Rattle.it_question.specs.declared.sorts.NameSort.TheVariants as sorts
 use Rattle.it_question.specs.NewNames.{NameSortView, Variable, Rate}
+use Rattle.it_question.specs.QuestionLimits.{most_rates, most_variables}
 
 -- what contracts see of a sort of names
 abbrev pub name_sort_view : NameSort → NameSortView
@@ -12,10 +13,10 @@ name_sort_view sorts.Rate = Rate
 
 -- n names of the sort can be declared in all
 abbrev pub IsWithinLimit : NameSort → ℕ → Type 0
-IsWithinLimit sorts.Variable n = n ≤ 10
-IsWithinLimit sorts.Rate n = n ≤ 16
+IsWithinLimit sorts.Variable n = n ≤ most_variables
+IsWithinLimit sorts.Rate n = n ≤ most_rates
 
 -- one more name of the sort can be declared
 abbrev pub HasRoom : NameSort → NamesView → Type 0
-HasRoom sorts.Variable v = length v.variables < 10
-HasRoom sorts.Rate v = length v.rates < 16
+HasRoom sorts.Variable v = length v.variables < most_variables
+HasRoom sorts.Rate v = length v.rates < most_rates

@@ -14,9 +14,13 @@ use Rattle.it_demand.specs.LineDemands.{space_of, given_demands, row_demands}
 use Rattle.it_demand.specs.RowsOfForms.{terms_of_form}
 use Rattle.it_question.specs.Questions.{OwnLinesView, RegionView, VerbView, Prove, Eliminate, Contain, BodyView}
 
--- what lines of n variables demand: the givens before the rows
+-- what lines of n variables demand, from line number g of the givens and r of the rows on: the givens before the rows
+abbrev pub demands_from : ℕ → ℕ → ℕ → OwnLinesView → List LineDemand
+demands_from n g r own = given_demands n g own.givens ++ row_demands n r own.rows
+
+-- what all lines demand
 abbrev pub line_demands : ℕ → OwnLinesView → List LineDemand
-line_demands n own = given_demands n 1 own.givens ++ row_demands n 1 own.rows
+line_demands n own = demands_from n 1 1 own
 
 -- the givens alone
 abbrev pub givens_alone : OwnLinesView → OwnLinesView

@@ -5,24 +5,23 @@ ghost use Rattle.it_forms.specs.Forms.{Give, Then};
 ghost use Rattle.it_forms.specs.FormReading.{read};
 ghost use Rattle.it_forms.specs.Words as words;
 ghost use Rattle.it_syntax.specs.declared.rest.Stop.TheVariants.{Memory};
-ghost use Rattle.it_syntax.specs.Gives.{Gives, GivesBy};
 ghost use Rattle.it_syntax.specs.RelationLines.{relation_line};
 ghost use Rattle.it_space.specs.Spaces.{IsSpace};
 ghost use Rattle.it_demand.specs.LineDemands.{space_of};
 ghost use Rattle.it_syntax.specs.NamesViews.{index_of};
 ghost use Rattle.it_question.specs.Limits.{AreLinesOver};
 ghost use Rattle.it_question.specs.Bodies.{body_view};
-ghost use Rattle.it_question.specs.Cursors.{letters_left};
+ghost use Rattle.it_question.specs.Cursors.{Parses, ParsesBy};
 ghost use Rattle.it_question.specs.QuestionForms as forms;
 ghost use Rattle.it_question.specs.Questions.{own_lines_view, verb_view, Prove, Eliminate};
 
 use crate::bodies::Body;
 use crate::cursor::Cursor;
 use crate::names::{names_line, names_to_end};
-use crate::own::own_lines;
+use crate::own::{MOST_LINES, own_lines};
 use crate::parts::relation;
 use crate::rates::rates;
-use crate::regions::{MOST_LINES, MOST_VARIABLES, containment};
+use crate::regions::{MOST_VARIABLES, containment};
 use crate::sorts::NameSort;
 use crate::tables::{elimination_is_large, proof_is_large};
 use crate::types::{OwnLines, Verb};
@@ -41,7 +40,7 @@ const MOST_RATES: usize = 16;
 /// What is to be proved, after its `prove`.
 #[tactic(auto, unfolding(it_forms::specs::FormReading::read))]
 fn proof(alloc: Global, cursor: &mut Cursor<'_>, names: &Names) -> Result<Verb, Stop>
-    ensures { GivesBy verb_view result (letters_left cursor.new) (read (Then (relation_line names.now true) (λ x. Give (Prove x))) (letters_left cursor.old)) }
+    ensures { ParsesBy verb_view result (Then (relation_line names.now true) (λ x. Give (Prove x))) cursor.old cursor.new }
 {
     let relation = relation(alloc, cursor, names)?;
     Ok(Verb::Prove(relation))
@@ -50,7 +49,7 @@ fn proof(alloc: Global, cursor: &mut Cursor<'_>, names: &Names) -> Result<Verb, 
 /// The rates to be eliminated, after `eliminate`.
 #[tactic(auto, unfolding(it_forms::specs::FormReading::read))]
 fn elimination(alloc: Global, cursor: &mut Cursor<'_>, names: &Names) -> Result<Verb, Stop>
-    ensures { GivesBy verb_view result (letters_left cursor.new) (read (Then (words.to_end (forms.distinct (index_of names.now.rates))) (λ x. Give (Eliminate x))) (letters_left cursor.old)) }
+    ensures { ParsesBy verb_view result (Then (words.to_end (forms.distinct (index_of names.now.rates))) (λ x. Give (Eliminate x))) cursor.old cursor.new }
 {
     let rates = rates(alloc, cursor, names)?;
     Ok(Verb::Eliminate(rates))
@@ -66,7 +65,7 @@ fn verb(
 ) -> Result<Verb, Stop>
     requires space { IsSpace (space_of names.now) }
     requires lines { AreLinesOver names.now (own_lines_view lines.now) }
-    ensures { GivesBy verb_view result (letters_left cursor.new) (read (forms.verb (own_lines_view lines.now) names.now) (letters_left cursor.old)) }
+    ensures { ParsesBy verb_view result (forms.verb (own_lines_view lines.now) names.now) cursor.old cursor.new }
 {
     match cursor.front() {
         Some((Piece::Word(word), after)) => {
@@ -96,7 +95,7 @@ fn verb(
 /// A question, after its `vars`.
 #[tactic(auto, unfolding(crate::specs::QuestionForms::question, it_forms::specs::FormReading::read))]
 fn question(alloc: Global, cursor: &mut Cursor<'_>) -> Result<Body, Stop>
-    ensures { GivesBy body_view result (letters_left cursor.new) (read forms.question (letters_left cursor.old)) }
+    ensures { ParsesBy body_view result forms.question cursor.old cursor.new }
 {
     let mut names = Names::new(alloc);
     names_to_end(cursor, &mut names, NameSort::Variable, MOST_VARIABLES)?;
@@ -109,7 +108,7 @@ fn question(alloc: Global, cursor: &mut Cursor<'_>) -> Result<Body, Stop>
 /// Reads the end of the file, which must stand there. The fault is `Word` at another piece, or that piece's own.
 #[tactic(auto, unfolding(it_forms::specs::FormReading::read))]
 pub fn file_end(cursor: &mut Cursor<'_>) -> Result<(), Stop>
-    ensures { Gives result (letters_left cursor.new) (read words.file_end (letters_left cursor.old)) }
+    ensures { Parses result words.file_end cursor.old cursor.new }
 {
     match cursor.front() {
         Some((Piece::Bad(Code::Unfinished), after)) => {
@@ -125,19 +124,13 @@ fn add(bodies: &mut Vec<Body>, next: Body) -> Result<(), Stop>
     ensures added { OnOk result (map body_view bodies.new.items ≡ map body_view bodies.old.items ++ body_view next ∷ []) }
     ensures memory { IfErr result (λ e. e ≡ Memory) }
 {
-    // a match, since `?` makes no `Stop` of the error of `push`; a call lets the question go, not a step for each of its fields
-    match bodies.push(next) {
-        Ok(()) => Ok(()),
-        Err(failed) => {
-            drop(failed);
-            Err(Stop::Memory)
-        }
-    }
+    bodies.push(next)?;
+    Ok(())
 }
 
 /// The questions that stand there, at most `MOST_QUESTIONS`.
 fn questions(alloc: Global, cursor: &mut Cursor<'_>) -> Result<Vec<Body>, Stop>
-    ensures { GivesBy (λ x. map body_view x.items) result (letters_left cursor.new) (read (forms.more_questions []) (letters_left cursor.old)) }
+    ensures { ParsesBy (λ x. map body_view x.items) result (forms.more_questions []) cursor.old cursor.new }
 {
     let mut found = Vec::new(alloc);
     while let Some(after) = after_word(*cursor, VARS) {
@@ -156,7 +149,7 @@ fn questions(alloc: Global, cursor: &mut Cursor<'_>) -> Result<Vec<Body>, Stop>
 /// The questions up to the end of the file.
 #[tactic(auto, unfolding(crate::specs::QuestionForms::file, it_forms::specs::FormReading::read))]
 pub fn bodies(alloc: Global, cursor: &mut Cursor<'_>) -> Result<Vec<Body>, Stop>
-    ensures { GivesBy (λ x. map body_view x.items) result (letters_left cursor.new) (read forms.file (letters_left cursor.old)) }
+    ensures { ParsesBy (λ x. map body_view x.items) result forms.file cursor.old cursor.new }
 {
     let found = questions(alloc, cursor)?;
     file_end(cursor)?;

@@ -13,7 +13,6 @@ pub struct Body {
     pub verb: Verb,
 }
 
-// written out, so that letting a body go is one call
 impl Drop for Body {
     fn drop(self) {
         let Body {

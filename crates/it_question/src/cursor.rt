@@ -15,7 +15,6 @@ pub struct Line {
     pub ghost inside: { InLine text.items tokens.tokens.items } by { InLine-prop text.items tokens.tokens.items },
 }
 
-// written out, so that letting a line go is one call
 impl Drop for Line {
     fn drop(self) {
         let Line {

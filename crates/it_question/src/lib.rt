@@ -27,6 +27,6 @@ pub use files::questions;
 pub use laws::{
     file_has_one, file_is_one, questions_stand_alone, text_reads_back, texts_are_ascii,
 };
-pub use plain::{first_line, plain_text};
+pub use plain::first_line;
 pub use tables::{line_constraints, region_constraints};
 pub use types::{FileFault, OwnLines, Question, Region, Verb};

@@ -2,8 +2,7 @@
 ghost use Rattle.std.specs.Prelude.{◌≡◌, ◌≤◌, false, length, OnOk, IfErr};
 ghost use Rattle.it_forms.specs.FormReading.{read};
 ghost use Rattle.it_syntax.specs.declared.rest.Stop.TheVariants.{Memory};
-ghost use Rattle.it_syntax.specs.Gives.{GivesBy};
-ghost use Rattle.it_question.specs.Cursors.{letters_left};
+ghost use Rattle.it_question.specs.Cursors.{ParsesBy};
 ghost use Rattle.it_question.specs.NewNames.{with_name, is_taken};
 ghost use Rattle.it_question.specs.QuestionForms as forms;
 ghost use Rattle.it_question.specs.Sorts.{name_sort_view, HasRoom, IsWithinLimit};
@@ -46,16 +45,13 @@ fn declare(names: &mut Names, sort: NameSort, word: &[u8]) -> Result<(), Stop>
         NameSort::Variable => names.add_variable(word),
         NameSort::Rate => names.add_rate(word),
     };
-    // a match, since `?` makes no `Stop` of an `AllocError`
-    match added {
-        Ok(()) => Ok(()),
-        Err(_) => Err(Stop::Memory),
-    }
+    added?;
+    Ok(())
 }
 
 /// Reads a new name and declares it; there may be `most` of its sort. The fault is `Word` at a piece that is no name, `Twice` at a
 /// name that is taken, and `Many` at one where no more are allowed.
-#[tactic(auto, unfolding(crate::specs::QuestionForms::new_name, it_forms::specs::FormReading::read), using(crate::proofs::NewNameLemmas::too_many, crate::proofs::NewNameLemmas::some_left))]
+#[tactic(auto, unfolding(crate::specs::QuestionForms::new_name, it_forms::specs::FormReading::read), using(crate::proofs::NewNameLemmas::flag_lemmas))]
 pub fn new_name(
     cursor: &mut Cursor<'_>,
     names: &mut Names,
@@ -63,7 +59,7 @@ pub fn new_name(
     most: usize,
 ) -> Result<(), Stop>
     requires { IsWithinLimit sort most }
-    ensures { GivesBy (λ x. names.new) result (letters_left cursor.new) (read (forms.new_name (name_sort_view sort) most names.old) (letters_left cursor.old)) }
+    ensures { ParsesBy (λ x. names.new) result (forms.new_name (name_sort_view sort) most names.old) cursor.old cursor.new }
 {
     match cursor.front() {
         Some((Piece::Word(word), after)) => {
@@ -92,7 +88,7 @@ fn more_names(
     most: usize,
 ) -> Result<(), Stop>
     requires { IsWithinLimit sort most }
-    ensures { GivesBy (λ x. names.new) result (letters_left cursor.new) (read (forms.more_new (name_sort_view sort) most names.old) (letters_left cursor.old)) }
+    ensures { ParsesBy (λ x. names.new) result (forms.more_new (name_sort_view sort) most names.old) cursor.old cursor.new }
 {
     while comma(cursor) {
         // `?` would do; with the match each case is a goal of its own, with the reading's equation at hand
@@ -114,7 +110,7 @@ pub fn names_to_end(
     most: usize,
 ) -> Result<(), Stop>
     requires { IsWithinLimit sort most }
-    ensures { GivesBy (λ x. names.new) result (letters_left cursor.new) (read (forms.new_names (name_sort_view sort) most names.old) (letters_left cursor.old)) }
+    ensures { ParsesBy (λ x. names.new) result (forms.new_names (name_sort_view sort) most names.old) cursor.old cursor.new }
 {
     new_name(cursor, names, sort, most)?;
     more_names(cursor, names, sort, most)?;
@@ -122,7 +118,7 @@ pub fn names_to_end(
 }
 
 /// A line of new names after its keyword, if one stands there.
-#[tactic(auto, unfolding(crate::specs::QuestionForms::names_line, it_forms::specs::FormReading::read), using(it_syntax::proofs::Loops::taken_after, it_syntax::proofs::Loops::other_after))]
+#[tactic(auto, unfolding(crate::specs::QuestionForms::names_line, it_forms::specs::FormReading::read), using(it_syntax::proofs::Loops::front_lemmas))]
 pub fn names_line(
     cursor: &mut Cursor<'_>,
     names: &mut Names,
@@ -131,7 +127,7 @@ pub fn names_line(
     keyword: &[u8],
 ) -> Result<(), Stop>
     requires { IsWithinLimit sort most }
-    ensures { GivesBy (λ x. names.new) result (letters_left cursor.new) (read (forms.names_line (name_sort_view sort) most keyword.now names.old) (letters_left cursor.old)) }
+    ensures { ParsesBy (λ x. names.new) result (forms.names_line (name_sort_view sort) most keyword.now names.old) cursor.old cursor.new }
 {
     match after_word(*cursor, keyword) {
         Some(after) => {

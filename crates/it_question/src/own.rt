@@ -1,16 +1,14 @@
 //! The reader of `given` and `row` lines.
 //! A reader's result is matched where `?` would do: so each case is a goal of its own, with the reading's equation at hand.
-//! The result of `push` is matched, since `?` makes no `Stop` of its error.
-ghost use Rattle.std.specs.Prelude.{◌≡◌, Some, None, IfSome, IfNone, OnOk, IfErr, ◌++◌, ◌∷◌, [], if◌then◌else◌};
+ghost use Rattle.std.specs.Prelude.{◌≡◌, Some, None, IfSome, IfNone, OnOk, IfErr, if◌then◌else◌};
 ghost use Rattle.it_forms.specs.FormReading.{read, after};
 ghost use Rattle.it_syntax.specs.declared.rest.Stop.TheVariants.{Memory};
 ghost use Rattle.it_syntax.specs.Givens.{given_view};
-ghost use Rattle.it_syntax.specs.Gives.{GivesBy};
 ghost use Rattle.it_syntax.specs.Meaning.{relation_view};
-ghost use Rattle.it_question.specs.Cursors.{letters_left};
+ghost use Rattle.it_question.specs.Cursors.{ParsesBy, letters_left};
 ghost use Rattle.it_question.specs.Questions.{own_lines_view};
 ghost use Rattle.it_question.specs.QuestionForms as forms;
-ghost use Rattle.it_question.specs.ReaderSteps.{own_word};
+ghost use Rattle.it_question.specs.ReaderSteps.{own_word, with_given, with_row};
 ghost use Rattle.it_question.specs.QuestionLimits.{givens_left, rows_left};
 
 use crate::cursor::Cursor;
@@ -21,6 +19,9 @@ use it_syntax::Names;
 use it_syntax::rest::{Piece, Stop};
 use it_syntax::types::{Code, Given, Relation};
 use std::alloc::Global;
+
+/// The most lines of each kind of a question: `given`, `row` and `try` lines.
+pub const MOST_LINES: usize = 64;
 
 impl OwnLines {
     /// How many more `given` lines may follow these.
@@ -40,27 +41,20 @@ impl OwnLines {
 
 /// Puts the constraint of a `given` line after the others.
 fn add_given(own: &mut OwnLines, given: Given) -> Result<(), Stop>
-    ensures added { OnOk result (own_lines_view own.new ≡ record (own_lines_view own.old) { givens = (own_lines_view own.old).givens ++ given_view given ∷ [] }) }
+    ensures added { OnOk result (own_lines_view own.new ≡ with_given (own_lines_view own.old) (given_view given)) }
     ensures memory { IfErr result (λ e. e ≡ Memory) }
 {
-    match own.givens.push(given) {
-        Ok(()) => Ok(()),
-        Err(failed) => {
-            drop(failed);
-            Err(Stop::Memory)
-        }
-    }
+    own.givens.push(given)?;
+    Ok(())
 }
 
 /// Puts the relation of a `row` line after the others.
 fn add_row(own: &mut OwnLines, row: Relation) -> Result<(), Stop>
-    ensures added { OnOk result (own_lines_view own.new ≡ record (own_lines_view own.old) { rows = (own_lines_view own.old).rows ++ relation_view row ∷ [] }) }
+    ensures added { OnOk result (own_lines_view own.new ≡ with_row (own_lines_view own.old) (relation_view row)) }
     ensures memory { IfErr result (λ e. e ≡ Memory) }
 {
-    match own.rows.push(row) {
-        Ok(()) => Ok(()),
-        Err(_) => Err(Stop::Memory),
-    }
+    own.rows.push(row)?;
+    Ok(())
 }
 
 /// Whether a `given` line stands there, or a `row` line, and what is after its word.
@@ -102,7 +96,7 @@ fn own_line(
     cursor: &mut Cursor<'_>,
     names: &Names,
 ) -> Result<(), Stop>
-    ensures { GivesBy (λ x. own_lines_view own.new) result (letters_left cursor.new) (read (forms.own_line names.now (own_lines_view own.old) is_given) (letters_left cursor.old)) }
+    ensures { ParsesBy (λ x. own_lines_view own.new) result (forms.own_line names.now (own_lines_view own.old) is_given) cursor.old cursor.new }
 {
     if is_given {
         match given(alloc, cursor, names) {
@@ -125,7 +119,7 @@ pub fn own_lines(
     most_givens: usize,
     most_rows: usize,
 ) -> Result<OwnLines, Stop>
-    ensures { GivesBy own_lines_view result (letters_left cursor.new) (read (forms.own_lines most_givens most_rows names.now) (letters_left cursor.old)) }
+    ensures { ParsesBy own_lines_view result (forms.own_lines most_givens most_rows names.now) cursor.old cursor.new }
 {
     let mut own = OwnLines {
         givens: Vec::new(alloc),

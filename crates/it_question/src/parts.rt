@@ -1,14 +1,12 @@
 //! Readers of what a line has after its first word.
 ghost use Rattle.std.specs.Prelude.{true};
-ghost use Rattle.it_forms.specs.FormReading.{read};
 ghost use Rattle.it_syntax.specs.GivenLines.{given_line};
 ghost use Rattle.it_syntax.specs.Givens.{given_view};
-ghost use Rattle.it_syntax.specs.Gives.{Gives, GivesBy};
 ghost use Rattle.it_syntax.specs.LineForms as forms;
 ghost use Rattle.it_syntax.specs.Meaning.{relation_view};
 ghost use Rattle.it_syntax.specs.RelationLines.{relation_line};
 ghost use Rattle.it_syntax.specs.Scopes.{env_of};
-ghost use Rattle.it_question.specs.Cursors.{letters_left};
+ghost use Rattle.it_question.specs.Cursors.{Parses, ParsesBy};
 
 use crate::cursor::Cursor;
 use it_space::VarSet;
@@ -21,7 +19,7 @@ use std::alloc::Global;
 /// Reads a relation of variables and rates, with the line's end. The fault is the relation's first, as `relation` of `it_syntax`
 /// tells it, or `Word` at what stands after it.
 pub fn relation(alloc: Global, cursor: &mut Cursor<'_>, names: &Names) -> Result<Relation, Stop>
-    ensures { GivesBy relation_view result (letters_left cursor.new) (read (relation_line names.now true) (letters_left cursor.old)) }
+    ensures { ParsesBy relation_view result (relation_line names.now true) cursor.old cursor.new }
 {
     match cursor.rest {
         Some(mut rest) => match relation_to_end(alloc, &mut rest, names, true) {
@@ -40,7 +38,7 @@ pub fn relation(alloc: Global, cursor: &mut Cursor<'_>, names: &Names) -> Result
 
 /// A constraint, with the line's end.
 pub fn given(alloc: Global, cursor: &mut Cursor<'_>, names: &Names) -> Result<Given, Stop>
-    ensures { GivesBy given_view result (letters_left cursor.new) (read (given_line names.now) (letters_left cursor.old)) }
+    ensures { ParsesBy given_view result (given_line names.now) cursor.old cursor.new }
 {
     match cursor.rest {
         Some(mut rest) => match given_to_end(alloc, &mut rest, names) {
@@ -60,7 +58,7 @@ pub fn given(alloc: Global, cursor: &mut Cursor<'_>, names: &Names) -> Result<Gi
 /// Reads a list of names of variables, with commas between them, and gives their set; what stands after it is left. The fault is
 /// `Word` at a piece that is no name, and `Name` at a name of which no variable is declared.
 pub fn names_set(cursor: &mut Cursor<'_>, names: &Names) -> Result<VarSet, Stop>
-    ensures { Gives result (letters_left cursor.new) (read (forms.names (env_of names.now)) (letters_left cursor.old)) }
+    ensures { Parses result (forms.names (env_of names.now)) cursor.old cursor.new }
 {
     match cursor.rest {
         Some(mut rest) => match list(&mut rest, names) {

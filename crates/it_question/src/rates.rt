@@ -1,12 +1,10 @@
 //! Readers of the rates of an `eliminate` line.
-//! The results of `push` and `from_slice` are matched, since `?` makes no `Stop` of their errors.
 ghost use Rattle.std.specs.Prelude.{◌≡◌, ◌++◌, [], ◌∷◌, OnOk, IfErr};
 ghost use Rattle.it_forms.specs.FormReading.{read};
 ghost use Rattle.it_forms.specs.Words.{to_end};
 ghost use Rattle.it_syntax.specs.declared.rest.Stop.TheVariants.{Memory};
-ghost use Rattle.it_syntax.specs.Gives.{Gives, GivesBy};
 ghost use Rattle.it_syntax.specs.NamesViews.{index_of};
-ghost use Rattle.it_question.specs.Cursors.{letters_left};
+ghost use Rattle.it_question.specs.Cursors.{Parses, ParsesBy};
 ghost use Rattle.it_question.specs.QuestionForms as forms;
 
 use crate::cursor::Cursor;
@@ -26,7 +24,7 @@ fn rate(names: &Names, name: &[u8]) -> Option<u8>
 /// A rate that isn't among these.
 #[tactic(auto, unfolding(crate::specs::QuestionForms::once, it_forms::specs::FormReading::read))]
 fn new_rate(cursor: &mut Cursor<'_>, names: &Names, seen: &[u8]) -> Result<u8, Stop>
-    ensures { Gives result (letters_left cursor.new) (read (forms.once (index_of names.now.rates) seen.now) (letters_left cursor.old)) }
+    ensures { Parses result (forms.once (index_of names.now.rates) seen.now) cursor.old cursor.new }
 {
     match cursor.front() {
         Some((Piece::Word(word), after)) => {
@@ -53,15 +51,13 @@ fn add(rates: &mut Vec<u8>, rate: u8) -> Result<(), Stop>
     ensures added { OnOk result (rates.new.items ≡ rates.old.items ++ rate ∷ []) }
     ensures memory { IfErr result (λ e. e ≡ Memory) }
 {
-    match rates.push(rate) {
-        Ok(()) => Ok(()),
-        Err(_) => Err(Stop::Memory),
-    }
+    rates.push(rate)?;
+    Ok(())
 }
 
 /// The first rates and further ones, each after a comma.
 fn more_rates(first: Vec<u8>, cursor: &mut Cursor<'_>, names: &Names) -> Result<Vec<u8>, Stop>
-    ensures { GivesBy (λ x. x.items) result (letters_left cursor.new) (read (forms.more_once (index_of names.now.rates) first.items) (letters_left cursor.old)) }
+    ensures { ParsesBy (λ x. x.items) result (forms.more_once (index_of names.now.rates) first.items) cursor.old cursor.new }
 {
     let mut found = first;
     while comma(cursor) {
@@ -77,19 +73,17 @@ fn more_rates(first: Vec<u8>, cursor: &mut Cursor<'_>, names: &Names) -> Result<
 /// One rate or more, none twice.
 #[tactic(auto, unfolding(crate::specs::QuestionForms::distinct, it_forms::specs::FormReading::read))]
 fn distinct_rates(alloc: Global, cursor: &mut Cursor<'_>, names: &Names) -> Result<Vec<u8>, Stop>
-    ensures { GivesBy (λ x. x.items) result (letters_left cursor.new) (read (forms.distinct (index_of names.now.rates)) (letters_left cursor.old)) }
+    ensures { ParsesBy (λ x. x.items) result (forms.distinct (index_of names.now.rates)) cursor.old cursor.new }
 {
     let first = new_rate(cursor, names, &[])?;
-    match Vec::from_slice(alloc, &[first]) {
-        Ok(found) => more_rates(found, cursor, names),
-        Err(_) => Err(Stop::Memory),
-    }
+    let found = Vec::from_slice(alloc, &[first])?;
+    more_rates(found, cursor, names)
 }
 
 /// The rates, each once, with the line's end.
 #[tactic(auto, unfolding(it_forms::specs::FormReading::read))]
 pub fn rates(alloc: Global, cursor: &mut Cursor<'_>, names: &Names) -> Result<Vec<u8>, Stop>
-    ensures { GivesBy (λ x. x.items) result (letters_left cursor.new) (read (to_end (forms.distinct (index_of names.now.rates))) (letters_left cursor.old)) }
+    ensures { ParsesBy (λ x. x.items) result (to_end (forms.distinct (index_of names.now.rates))) cursor.old cursor.new }
 {
     let rates = distinct_rates(alloc, cursor, names)?;
     line_end(cursor)?;

@@ -1,23 +1,19 @@
 //! Readers of regions, and of the question whether one lies in the other.
-ghost use Rattle.std.specs.Prelude.{◌≡◌, ◌≤◌, ◌+◌, ◌-◌, length, IfOk, IfErr, codes};
-ghost use Rattle.it_forms.specs.Forms.{Take, Then};
+ghost use Rattle.std.specs.Prelude.{◌≡◌, ◌≤◌, ◌+◌, ◌-◌, length, codes};
 ghost use Rattle.it_forms.specs.FormReading.{read};
-ghost use Rattle.it_forms.specs.Words.{flagged_word, line_end};
-ghost use Rattle.it_syntax.specs.declared.rest.Stop.TheVariants.{Memory};
-ghost use Rattle.it_syntax.specs.Gives.{Gives, GivesBy};
-ghost use Rattle.it_question.specs.Cursors.{letters_left};
+ghost use Rattle.it_question.specs.Cursors.{Parses, ParsesBy};
 ghost use Rattle.it_question.specs.Questions.{own_lines_view, verb_view, region_view};
 ghost use Rattle.it_space.specs.Spaces.{IsSpace};
 ghost use Rattle.it_demand.specs.LineDemands.{space_of};
 ghost use Rattle.it_question.specs.Limits.{AreLinesOver, IsRegionOf};
-ghost use Rattle.it_question.specs.Tables.{lines_with, size_flag};
 ghost use Rattle.it_question.specs.QuestionForms as forms;
 ghost use Rattle.it_question.specs.NewNames.{Variable};
-ghost use Rattle.it_question.specs.QuestionLimits.{auxiliaries_left};
+ghost use Rattle.it_question.specs.QuestionLimits.{most_lines, most_variables};
+ghost use Rattle.it_question.specs.ReaderSteps.{contain_line, most_of_region};
 
 use crate::cursor::Cursor;
 use crate::names::names_line;
-use crate::own::own_lines;
+use crate::own::{MOST_LINES, own_lines};
 use crate::sorts::NameSort;
 use crate::tables::containment_is_large;
 use crate::tries::{Regions, tries};
@@ -34,13 +30,10 @@ pub const MOST_VARIABLES: usize = 10;
 /// The most variables that a region has of its own.
 const MOST_AUXILIARIES: usize = 4;
 
-/// The most `given` lines of a question, and the most `row` lines.
-pub const MOST_LINES: usize = 64;
-
 /// How many variables a region of a question with these names may have.
 fn most_of_region(names: &Names) -> usize
-    ensures most { result ≡ length names.now.variables + auxiliaries_left names.now }
-    ensures few { result ≤ 10 }
+    ensures most { result ≡ most_of_region names.now }
+    ensures few { result ≤ most_variables }
 {
     let variables = names.space().variables as usize;
     variables + MOST_AUXILIARIES.min(MOST_VARIABLES.saturating_sub(variables))
@@ -56,23 +49,11 @@ fn auxiliaries(inside: &Names, names: &Names) -> u8
         .saturating_sub(names.space().variables)
 }
 
-/// The names once more.
-fn copy_of(names: &Names) -> Result<Names, Stop>
-    ensures copy { IfOk result (λ n. n ≡ names.now) }
-    ensures memory { IfErr result (λ e. e ≡ Memory) }
-{
-    // a match, since `?` makes no `Stop` of an `AllocError`
-    match names.copy() {
-        Ok(names) => Ok(names),
-        Err(_) => Err(Stop::Memory),
-    }
-}
-
 /// The variables of a region of a question with these names.
 fn region_names(cursor: &mut Cursor<'_>, names: &Names) -> Result<Names, Stop>
-    ensures { GivesBy (λ x. x) result (letters_left cursor.new) (read (forms.names_line Variable (length names.now.variables + auxiliaries_left names.now) (codes "aux") names.now) (letters_left cursor.old)) }
+    ensures { Parses result (forms.names_line Variable (most_of_region names.now) (codes "aux") names.now) cursor.old cursor.new }
 {
-    let mut inside = copy_of(names)?;
+    let mut inside = names.copy()?;
     names_line(
         cursor,
         &mut inside,
@@ -92,7 +73,7 @@ fn region(
     givens: usize,
     rows: usize,
 ) -> Result<Region, Stop>
-    ensures { GivesBy region_view result (letters_left cursor.new) (read (forms.region givens rows names.now) (letters_left cursor.old)) }
+    ensures { ParsesBy region_view result (forms.region givens rows names.now) cursor.old cursor.new }
 {
     line_end(cursor)?;
     let inside = region_names(cursor, names)?;
@@ -117,9 +98,9 @@ fn contain(
     requires space { IsSpace (space_of names.now) }
     requires lines { AreLinesOver names.now (own_lines_view lines.now) }
     requires region { IsRegionOf names.now (region_view first.now) }
-    requires few_givens { length lines.now.givens.items + length first.now.lines.givens.items ≤ 64 }
-    requires few_rows { length lines.now.rows.items + length first.now.lines.rows.items ≤ 64 }
-    ensures { Gives result (letters_left cursor.new) (read (Then (Take (flagged_word (codes "contain") (size_flag (region_view first.now).names (lines_with (own_lines_view lines.now) (region_view first.now))))) (λ u. line_end)) (letters_left cursor.old)) }
+    requires few_givens { length lines.now.givens.items + length first.now.lines.givens.items ≤ most_lines }
+    requires few_rows { length lines.now.rows.items + length first.now.lines.rows.items ≤ most_lines }
+    ensures { Parses result (contain_line (own_lines_view lines.now) (region_view first.now)) cursor.old cursor.new }
 {
     match after_word(*cursor, CONTAIN) {
         Some(after) => {
@@ -143,7 +124,7 @@ pub fn containment(
 ) -> Result<Verb, Stop>
     requires space { IsSpace (space_of names.now) }
     requires lines { AreLinesOver names.now (own_lines_view lines.now) }
-    ensures { GivesBy verb_view result (letters_left cursor.new) (read (forms.containment (own_lines_view lines.now) names.now) (letters_left cursor.old)) }
+    ensures { ParsesBy verb_view result (forms.containment (own_lines_view lines.now) names.now) cursor.old cursor.new }
 {
     let most_givens = lines.givens_left(MOST_LINES);
     let most_rows = lines.rows_left(MOST_LINES);

@@ -1,5 +1,5 @@
 //! The constraints of a question's lines, and whether the table of the problem that they pose is too large.
-ghost use Rattle.std.specs.Prelude.{◌≡◌, ◌+◌, ◌≤◌, ◌++◌, nat_lt, length, map, All, IfOk, IfErr};
+ghost use Rattle.std.specs.Prelude.{◌≡◌, ◌+◌, ◌≤◌, nat_lt, length, All, IfOk, IfErr};
 ghost use Rattle.it_space.specs.Problems.{IsProblem};
 ghost use Rattle.it_space.specs.Spaces.{IsSpace};
 ghost use Rattle.it_closure.specs.Sizes.{table_size};
@@ -9,7 +9,8 @@ ghost use Rattle.it_demand.specs.Demands.{AreStated};
 ghost use Rattle.it_demand.specs.LineDemands.{space_of};
 ghost use Rattle.it_question.specs.Limits.{AreLinesOver, IsRegionOf};
 ghost use Rattle.it_question.specs.Questions.{own_lines_view, region_view};
-ghost use Rattle.it_question.specs.ReaderSteps.{flag_if_large};
+ghost use Rattle.it_question.specs.QuestionLimits.{most_lines};
+ghost use Rattle.it_question.specs.ReaderSteps.{containment_flag, flag_if_large};
 ghost use Rattle.it_question.specs.Tables.{line_demands, givens_alone, lines_with, most_entries, size_flag};
 
 use crate::types::{OwnLines, Region};
@@ -21,7 +22,7 @@ use it_syntax::rest::Stop;
 use std::alloc::{AllocError, Global};
 
 /// The most entries of a question's table.
-const MOST_ENTRIES: u64 = 4000000;
+pub const MOST_ENTRIES: u64 = 4000000;
 
 /// So many variables never have a table with more entries, within the limits of a question's lines.
 const MOST_SMALL: u8 = 9;
@@ -35,8 +36,8 @@ pub fn line_constraints(
     requires space { IsSpace space }
     requires givens { All (IsGivenOf space.variables) (own_lines_view lines.now).givens }
     requires rows { All (IsRelationOf space.variables space.rates) (own_lines_view lines.now).rows }
-    requires few_givens { length lines.now.givens.items ≤ 64 }
-    requires few_rows { length lines.now.rows.items ≤ 64 }
+    requires few_givens { length lines.now.givens.items ≤ most_lines }
+    requires few_rows { length lines.now.rows.items ≤ most_lines }
     ensures { IfOk result (λ v. AreStated space (line_demands space.variables (own_lines_view lines.now)) v.items) }
 {
     let mut constraints = given_constraints(alloc, lines.givens.as_slice(), 1, space)?;
@@ -55,8 +56,8 @@ pub fn region_constraints(
     requires space { IsSpace space }
     requires givens { All (IsGivenOf space.variables) (own_lines_view lines.now).givens }
     requires rows { All (IsRelationOf space.variables space.rates) (own_lines_view lines.now).rows }
-    requires few_givens { length lines.now.givens.items ≤ 64 }
-    requires few_rows { length lines.now.rows.items ≤ 64 }
+    requires few_givens { length lines.now.givens.items ≤ most_lines }
+    requires few_rows { length lines.now.rows.items ≤ most_lines }
     requires own { AreLinesOver region.now.names (region_view region.now).lines }
     requires names { space ≡ space_of region.now.names }
     ensures { IfOk result (λ v. AreStated space (line_demands space.variables (lines_with (own_lines_view lines.now) (region_view region.now))) v.items) }
@@ -80,10 +81,8 @@ fn is_large(alloc: Global, space: Space, constraints: Vec<Constraint>) -> Result
     ensures large { IfOk result (λ large. large ≡ nat_lt most_entries (table_size (record { space = space; constraints = constraints.items }))) }
     ensures memory { IfErr result (λ e. e ≡ Memory) }
 {
-    match size(alloc, &Problem { space, constraints }) {
-        Ok(size) => Ok(MOST_ENTRIES < size),
-        Err(_) => Err(Stop::Memory),
-    }
+    let size = size(alloc, &Problem { space, constraints })?;
+    Ok(MOST_ENTRIES < size)
 }
 
 /// Whether the table of a question with these lines is too large, where it asks for a proof.
@@ -97,13 +96,9 @@ pub fn proof_is_large(alloc: Global, names: &Names, lines: &OwnLines) -> Result<
     if space.variables <= MOST_SMALL {
         return Ok(false);
     }
-    match line_constraints(alloc, lines, space) {
-        Ok(constraints) => {
-            let large = is_large(alloc, space, constraints)?;
-            Ok(large)
-        }
-        Err(_) => Err(Stop::Memory),
-    }
+    let constraints = line_constraints(alloc, lines, space)?;
+    let large = is_large(alloc, space, constraints)?;
+    Ok(large)
 }
 
 /// The same where it asks for an elimination.
@@ -117,13 +112,9 @@ pub fn elimination_is_large(alloc: Global, names: &Names, lines: &OwnLines) -> R
     if space.variables <= MOST_SMALL {
         return Ok(false);
     }
-    match given_constraints(alloc, lines.givens.as_slice(), 1, space) {
-        Ok(constraints) => {
-            let large = is_large(alloc, space, constraints)?;
-            Ok(large)
-        }
-        Err(_) => Err(Stop::Memory),
-    }
+    let constraints = given_constraints(alloc, lines.givens.as_slice(), 1, space)?;
+    let large = is_large(alloc, space, constraints)?;
+    Ok(large)
 }
 
 /// The same where it asks for a containment, of this first region.
@@ -136,20 +127,16 @@ pub fn containment_is_large(
     requires space { IsSpace (space_of names.now) }
     requires lines { AreLinesOver names.now (own_lines_view lines.now) }
     requires region { IsRegionOf names.now (region_view first.now) }
-    requires few_givens { length lines.now.givens.items + length first.now.lines.givens.items ≤ 64 }
-    requires few_rows { length lines.now.rows.items + length first.now.lines.rows.items ≤ 64 }
-    ensures large { IfOk result (λ large. size_flag (region_view first.now).names (lines_with (own_lines_view lines.now) (region_view first.now)) ≡ flag_if_large large) }
+    requires few_givens { length lines.now.givens.items + length first.now.lines.givens.items ≤ most_lines }
+    requires few_rows { length lines.now.rows.items + length first.now.lines.rows.items ≤ most_lines }
+    ensures large { IfOk result (λ large. containment_flag (own_lines_view lines.now) (region_view first.now) ≡ flag_if_large large) }
     ensures memory { IfErr result (λ e. e ≡ Memory) }
 {
     let space = first.names.space();
     if space.variables <= MOST_SMALL {
         return Ok(false);
     }
-    match region_constraints(alloc, lines, first, space) {
-        Ok(constraints) => {
-            let large = is_large(alloc, space, constraints)?;
-            Ok(large)
-        }
-        Err(_) => Err(Stop::Memory),
-    }
+    let constraints = region_constraints(alloc, lines, first, space)?;
+    let large = is_large(alloc, space, constraints)?;
+    Ok(large)
 }

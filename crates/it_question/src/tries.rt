@@ -8,13 +8,14 @@ ghost use Rattle.it_forms.specs.Forms.{Take};
 ghost use Rattle.it_forms.specs.FormReading.{read, after};
 ghost use Rattle.it_forms.specs.Words.{symbol};
 ghost use Rattle.it_syntax.specs.declared.rest.Stop.TheVariants.{Memory};
-ghost use Rattle.it_syntax.specs.Gives.{Gives, GivesBy};
 ghost use Rattle.it_syntax.specs.Scopes.{env_of};
-ghost use Rattle.it_question.specs.Cursors.{letters_left};
+ghost use Rattle.it_question.specs.Cursors.{Parses, ParsesBy, letters_left};
 ghost use Rattle.it_question.specs.QuestionForms as forms;
-ghost use Rattle.it_question.specs.TrySets.{auxiliary_env, is_named, with_set, unnamed_sets};
+ghost use Rattle.it_question.specs.ReaderSteps.{auxiliaries_of, variables_of, tries_of};
+ghost use Rattle.it_question.specs.TrySets.{is_named, with_set, unnamed_sets};
 
 use crate::cursor::Cursor;
+use crate::own::MOST_LINES;
 use crate::parts::names_set;
 use crate::words::{TRY, after_word, line_end};
 use it_space::VarSet;
@@ -22,9 +23,6 @@ use it_syntax::rest::{Piece, Stop};
 use it_syntax::types::{Code, Symbol};
 use it_syntax::{Names, is_measure};
 use std::alloc::Global;
-
-/// The most `try` lines of a question.
-const MOST_TRIES: usize = 64;
 
 /// A set for each auxiliary of the second region, by number, and none where it has none yet. The places after the
 /// auxiliaries have the empty set.
@@ -41,7 +39,7 @@ pub struct Regions<'a> {
 /// Which auxiliary of the second region has this name.
 #[tactic(auto, unfolding(crate::specs::TrySets::auxiliary_env))]
 fn auxiliary_of(regions: Regions<'_>, name: &[u8]) -> Option<u8>
-    ensures { result ≡ auxiliary_env regions.entry.question.now regions.entry.second.now name.now }
+    ensures { result ≡ auxiliaries_of regions.entry name.now }
 {
     let own = regions.question.space().variables;
     match regions.second.variable(name) {
@@ -88,7 +86,7 @@ fn put(sets: &mut Sets, i: u8, set: VarSet)
 /// The auxiliary that is named, if it has no set yet.
 #[tactic(auto, unfolding(crate::specs::QuestionForms::auxiliary, it_forms::specs::FormReading::read))]
 fn auxiliary(cursor: &mut Cursor<'_>, regions: Regions<'_>, sets: &Sets) -> Result<u8, Stop>
-    ensures { Gives result (letters_left cursor.new) (read (forms.auxiliary (auxiliary_env regions.entry.question.now regions.entry.second.now) sets.now) (letters_left cursor.old)) }
+    ensures { Parses result (forms.auxiliary (auxiliaries_of regions.entry) sets.now) cursor.old cursor.new }
 {
     match cursor.front() {
         Some((Piece::Word(word), after)) => {
@@ -113,7 +111,7 @@ fn auxiliary(cursor: &mut Cursor<'_>, regions: Regions<'_>, sets: &Sets) -> Resu
 /// A `:=` that must stand there.
 #[tactic(auto, unfolding(it_forms::specs::FormReading::read))]
 fn assign(cursor: &mut Cursor<'_>) -> Result<(), Stop>
-    ensures { Gives result (letters_left cursor.new) (read (Take (symbol symbols.Assign)) (letters_left cursor.old)) }
+    ensures { Parses result (Take (symbol symbols.Assign)) cursor.old cursor.new }
 {
     match cursor.front() {
         Some((Piece::Symbol(Symbol::Assign), after)) => {
@@ -125,9 +123,9 @@ fn assign(cursor: &mut Cursor<'_>) -> Result<(), Stop>
 }
 
 /// `0`, or a list of names.
-#[tactic(auto, unfolding(crate::specs::QuestionForms::set, it_syntax::specs::LineForms::names, it_syntax::specs::LineForms::variable, it_forms::specs::FormReading::read), using(it_forms::proofs::SymbolLemmas::not_zero))]
+#[tactic(auto, unfolding(crate::specs::QuestionForms::set, it_forms::specs::FormReading::read), using(it_forms::proofs::SymbolLemmas::not_zero))]
 fn set(cursor: &mut Cursor<'_>, names: &Names) -> Result<VarSet, Stop>
-    ensures { Gives result (letters_left cursor.new) (read (forms.set (env_of names.now)) (letters_left cursor.old)) }
+    ensures { Parses result (forms.set (env_of names.now)) cursor.old cursor.new }
 {
     match cursor.front() {
         Some((Piece::Number(number), after)) => {
@@ -135,7 +133,7 @@ fn set(cursor: &mut Cursor<'_>, names: &Names) -> Result<VarSet, Stop>
                 *cursor = after;
                 Ok(VarSet::empty())
             } else {
-                Err(Stop::Fault(Code::Word))
+                names_set(cursor, names)
             }
         }
         _ => names_set(cursor, names),
@@ -145,7 +143,7 @@ fn set(cursor: &mut Cursor<'_>, names: &Names) -> Result<VarSet, Stop>
 /// `name := set`.
 #[tactic(auto, unfolding(crate::specs::QuestionForms::part, it_forms::specs::FormReading::read))]
 fn part(cursor: &mut Cursor<'_>, regions: Regions<'_>, sets: &mut Sets) -> Result<(), Stop>
-    ensures { GivesBy (λ x. sets.new) result (letters_left cursor.new) (read (forms.part (auxiliary_env regions.entry.question.now regions.entry.second.now) (env_of regions.entry.first.now) sets.old) (letters_left cursor.old)) }
+    ensures { ParsesBy (λ x. sets.new) result (forms.part (auxiliaries_of regions.entry) (variables_of regions.entry) sets.old) cursor.old cursor.new }
 {
     let i = auxiliary(cursor, regions, sets)?;
     assign(cursor)?;
@@ -171,7 +169,7 @@ fn semicolon(cursor: &mut Cursor<'_>) -> bool
 
 /// Further parts, each after a `;`.
 fn parts(cursor: &mut Cursor<'_>, regions: Regions<'_>, sets: &mut Sets) -> Result<(), Stop>
-    ensures { GivesBy (λ x. sets.new) result (letters_left cursor.new) (read (forms.more_parts (auxiliary_env regions.entry.question.now regions.entry.second.now) (env_of regions.entry.first.now) sets.old) (letters_left cursor.old)) }
+    ensures { ParsesBy (λ x. sets.new) result (forms.more_parts (auxiliaries_of regions.entry) (variables_of regions.entry) sets.old) cursor.old cursor.new }
 {
     while semicolon(cursor) {
         match part(cursor, regions, sets) {
@@ -185,7 +183,7 @@ fn parts(cursor: &mut Cursor<'_>, regions: Regions<'_>, sets: &mut Sets) -> Resu
 /// The line's end, if each auxiliary has its set.
 #[tactic(auto, unfolding(it_forms::specs::FormReading::read))]
 fn try_end(cursor: &mut Cursor<'_>, sets: &Sets) -> Result<(), Stop>
-    ensures { Gives result (letters_left cursor.new) (read (Take (forms.try_end sets.now)) (letters_left cursor.old)) }
+    ensures { Parses result (Take (forms.try_end sets.now)) cursor.old cursor.new }
 {
     if is_whole(sets) {
         return line_end(cursor);
@@ -248,7 +246,7 @@ fn substitution(
     regions: Regions<'_>,
     auxiliaries: u8,
 ) -> Result<[VarSet; 4], Stop>
-    ensures { Gives result (letters_left cursor.new) (read (forms.try_line (auxiliary_env regions.entry.question.now regions.entry.second.now) (env_of regions.entry.first.now) (unnamed_sets auxiliaries)) (letters_left cursor.old)) }
+    ensures { Parses result (forms.try_line (auxiliaries_of regions.entry) (variables_of regions.entry) (unnamed_sets auxiliaries)) cursor.old cursor.new }
 {
     let mut sets = unnamed_sets(auxiliaries);
     part(cursor, regions, &mut sets)?;
@@ -262,28 +260,25 @@ fn add(tries: &mut Vec<[VarSet; 4]>, sets: [VarSet; 4]) -> Result<(), Stop>
     ensures added { OnOk result (tries.new.items ≡ tries.old.items ++ sets ∷ []) }
     ensures memory { IfErr result (λ e. e ≡ Memory) }
 {
-    // a match, since `?` makes no `Stop` of the error of `push`
-    match tries.push(sets) {
-        Ok(()) => Ok(()),
-        Err(_) => Err(Stop::Memory),
-    }
+    tries.push(sets)?;
+    Ok(())
 }
 
-/// The `try` lines that stand there, at most `MOST_TRIES`. The second region has so many auxiliaries.
+/// The `try` lines that stand there, at most `MOST_LINES`. The second region has so many auxiliaries.
 pub fn tries(
     alloc: Global,
     cursor: &mut Cursor<'_>,
     regions: Regions<'_>,
     auxiliaries: u8,
 ) -> Result<Vec<[VarSet; 4]>, Stop>
-    ensures { GivesBy (λ x. x.items) result (letters_left cursor.new) (read (forms.more_tries (auxiliary_env regions.entry.question.now regions.entry.second.now) (env_of regions.entry.first.now) (unnamed_sets auxiliaries) []) (letters_left cursor.old)) }
+    ensures { ParsesBy (λ x. x.items) result (tries_of regions.entry auxiliaries) cursor.old cursor.new }
 {
     let mut found = Vec::new(alloc);
     while let Some(after) = after_word(*cursor, TRY) {
         if auxiliaries == 0 {
             return Err(Stop::Fault(Code::Word));
         }
-        if MOST_TRIES <= found.len() {
+        if MOST_LINES <= found.len() {
             return Err(Stop::Fault(Code::Many));
         }
         *cursor = after;

@@ -12,7 +12,6 @@ pub struct OwnLines {
     pub rows: Vec<Relation>,
 }
 
-// written out, so that letting the lines go is one call
 impl Drop for OwnLines {
     fn drop(self) {
         let OwnLines { givens: _, rows: _ } = self;
@@ -27,7 +26,6 @@ pub struct Region {
     pub lines: OwnLines,
 }
 
-// written out, so that letting a region go is one call
 impl Drop for Region {
     fn drop(self) {
         let Region {
@@ -52,7 +50,6 @@ pub enum Verb {
     },
 }
 
-// written out, so that letting a verb go is one call, and not a step for each field of each variant
 impl Drop for Verb {
     fn drop(self) {
         match self {
@@ -76,7 +73,6 @@ pub struct Question {
     pub verb: Verb,
 }
 
-// written out, as that of a verb
 impl Drop for Question {
     fn drop(self) {
         let Question {

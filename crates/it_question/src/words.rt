@@ -5,8 +5,7 @@ ghost use Rattle.it_forms.specs.declared.types.Symbol.TheVariants as symbols;
 ghost use Rattle.it_forms.specs.Forms.{Take};
 ghost use Rattle.it_forms.specs.FormReading.{read, after};
 ghost use Rattle.it_forms.specs.Words as words;
-ghost use Rattle.it_syntax.specs.Gives.{Gives};
-ghost use Rattle.it_question.specs.Cursors.{letters_left};
+ghost use Rattle.it_question.specs.Cursors.{Parses, letters_left};
 
 use crate::cursor::Cursor;
 use it_syntax::rest::{Piece, Stop};
@@ -56,7 +55,7 @@ pub fn after_word<'a>(cursor: Cursor<'a>, text: &[u8]) -> Option<Cursor<'a>>
 /// Reads this word, which must stand there. The fault is `Word` at another piece, or that piece's own.
 #[tactic(auto, unfolding(it_forms::specs::FormReading::read))]
 pub fn word(cursor: &mut Cursor<'_>, text: &[u8]) -> Result<(), Stop>
-    ensures { Gives result (letters_left cursor.new) (read (Take (words.word text.now)) (letters_left cursor.old)) }
+    ensures { Parses result (Take (words.word text.now)) cursor.old cursor.new }
 {
     match cursor.front() {
         Some((Piece::Word(word), after)) => {
@@ -74,7 +73,7 @@ pub fn word(cursor: &mut Cursor<'_>, text: &[u8]) -> Result<(), Stop>
 /// Reads the end of a line, which must stand there. The fault is `Word` at another piece, or that piece's own.
 #[tactic(auto, unfolding(it_forms::specs::FormReading::read))]
 pub fn line_end(cursor: &mut Cursor<'_>) -> Result<(), Stop>
-    ensures { Gives result (letters_left cursor.new) (read words.line_end (letters_left cursor.old)) }
+    ensures { Parses result words.line_end cursor.old cursor.new }
 {
     match cursor.front() {
         Some((Piece::End, after)) => {

@@ -9,7 +9,7 @@ use Rattle.it_polymatroid.specs.Certificates.{Form}
 use Rattle.it_question.specs.Questions.{RegionView, BodyView}
 use Rattle.it_demand.specs.Targets.{demanded_forms}
 use Rattle.it_demand.specs.Demands.{LineDemand}
-use Rattle.it_demand.specs.LineDemands.{given_demands, row_demands}
+use Rattle.it_question.specs.Tables.{demands_from}
 use Rattle.it_region.specs.Pulling.{substituted_sets, pulled_coordinate}
 
 -- the form at a map pulled back, which has at each coordinate c the value at f c
@@ -28,8 +28,7 @@ constraint_obligations f (c ∷ cs) = demanded_forms c.kind (pulled_form f (valu
 
 -- what the second region's own lines demand; its lines are counted after the question's own
 abbrev pub own_demands : BodyView → RegionView → List LineDemand
-own_demands q b = given_demands (length b.names.variables) (1 + length q.lines.givens) b.lines.givens
-    ++ row_demands (length b.names.variables) (1 + length q.lines.rows) b.lines.rows
+own_demands q b = demands_from (length b.names.variables) (1 + length q.lines.givens) (1 + length q.lines.rows) b.lines
 
 -- the obligations where each auxiliary of region b stands for a part, by the meaning of the lines
 abbrev pub obligations : BodyView → RegionView → RegionView → List ℕ → List Form

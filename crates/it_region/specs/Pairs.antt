@@ -1,5 +1,5 @@
 -- Pairs of regions, and the candidates that fit them.
-use Rattle.std.specs.Prelude.{◌≡◌, ℕ, ◌+◌, ◌<◌, ◌≤◌, ◌^◌, List, take, length, All}
+use Rattle.std.specs.Prelude.{◌≡◌, ℕ, ◌+◌, ◌<◌, ◌≤◌, ◌^◌, ℤ, List, take, length, All}
 use Rattle.it_space.specs.Problems.{IsProblem, problem_view}
 use Rattle.it_space.specs.Rows.{IsUpTo, row_mass}
 use Rattle.it_space.specs.Spaces.{IsSpace, size_of}
@@ -64,6 +64,10 @@ candidate_sets p c = substituted_sets p.common (take c.count c.parts)
 -- the same by a candidate
 abbrev pub candidate_coordinate : Pair → Candidate → ℕ → ℕ
 candidate_coordinate p c = pair_coordinate p (candidate_sets p c)
+
+-- a map pulled back by a candidate
+abbrev pub candidate_map : Pair → Candidate → (ℕ → ℤ) → ℕ → ℤ
+candidate_map p c m x = m (candidate_coordinate p c x)
 
 -- the obligations of a candidate, by the rows of the pair
 abbrev pub pair_obligations : Pair → Candidate → List Form

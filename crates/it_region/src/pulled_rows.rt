@@ -1,15 +1,14 @@
 //! The obligations of a candidate.
-ghost use Rattle.std.specs.Prelude.{◌≡◌, ℕ, ℤ, pos, ◌+◌, ◌<◌, ◌≤◌, ◌^◌, ◌*ℤ◌, ◌↔◌, unsigned_abs, length, All, IfOk};
+ghost use Rattle.std.specs.Prelude.{◌≡◌, ◌+◌, ◌<◌, ◌≤◌, ◌^◌, ◌*ℤ◌, ◌↔◌, unsigned_abs, length, All, IfOk};
 ghost use Rattle.it_space.specs.Problems.{AreMet};
 ghost use Rattle.it_space.specs.Rows.{IsUpTo, value, row_mass};
 ghost use Rattle.it_space.specs.Spaces.{size_of};
-ghost use Rattle.it_demand.specs.LineDemands.{AreAtLeastZero};
+ghost use Rattle.it_demand.specs.LineDemands.{AreAtLeastZero, AtMaps};
 ghost use Rattle.it_demand.specs.Coefficients.{largest, signed_by, IsFormAdded};
-ghost use Rattle.it_demand.specs.Targets.{demanded_forms};
-ghost use Rattle.it_region.specs.Obligations.{pulled_form, constraint_obligations, ArePulledRows, IsPulledRow};
+ghost use Rattle.it_region.specs.Obligations.{constraint_obligations, ArePulledRows, IsPulledRow};
 ghost use Rattle.it_region.specs.Pulling.{singles};
-ghost use Rattle.it_region.specs.PairSteps.{AreSetsFor};
-ghost use Rattle.it_region.specs.Pairs.{FitsPair, IsPair, pair_obligations, candidate_coordinate, pair_coordinate, candidate_sets};
+ghost use Rattle.it_region.specs.PairSteps.{AreSetsFor, obligations_of};
+ghost use Rattle.it_region.specs.Pairs.{FitsPair, IsPair, pair_obligations, candidate_map, pair_coordinate, candidate_sets};
 
 use crate::types::{Candidate, Pair};
 use it_canon::Coefficients;
@@ -118,7 +117,7 @@ fn demanded_rows(
     requires sets { AreSetsFor pair.now sets.now }
     requires row { IsUpTo (size_of pair.now.space) constraint.now.row }
     requires small { row_mass constraint.now.row < 2 ^ 127 }
-    ensures { IfOk result (λ v. ArePulledRows pair.now.first.space (demanded_forms constraint.now.kind (pulled_form (pair_coordinate pair.now sets.now) (value constraint.now.row))) v.items) }
+    ensures { IfOk result (λ v. ArePulledRows pair.now.first.space (obligations_of (pair_coordinate pair.now sets.now) constraint.now) v.items) }
 {
     let mut rows = Vec::new(alloc);
     rows.push(pulled_row(alloc, pair, sets, &constraint.row, false)?)?;
@@ -152,7 +151,7 @@ pub fn obligations(
     requires pair { IsPair pair.now }
     requires fits { FitsPair pair.now candidate.now }
     ensures rows { IfOk result (λ v. ArePulledRows pair.now.first.space (pair_obligations pair.now candidate.now) v.items) }
-    ensures met { IfOk result (λ v. (p : ℕ → ℤ) → p 0 ≡ pos 0 → AreAtLeastZero p v.items ↔ AreMet (λ c. p (candidate_coordinate pair.now candidate.now c)) pair.now.own.items) }
+    ensures met { IfOk result (λ v. AtMaps (λ p. AreAtLeastZero p v.items ↔ AreMet (candidate_map pair.now candidate.now p) pair.now.own.items)) }
     ensures limits { IfOk result (λ v. All (IsUpTo (size_of pair.now.first.space)) v.items) }
 {
     let sets = candidate_sets(alloc, pair, candidate)?;

@@ -20,7 +20,6 @@ pub struct Pair {
     pub own: Vec<Constraint>,
 }
 
-// written out, so that letting a pair go is one call
 impl Drop for Pair {
     fn drop(self) {
         let Pair {

@@ -3,7 +3,7 @@ use Rattle.std.proofs.Common.{◌≡◌, ℕ, List, [], ◌∷◌, Err, refl}
 use Rattle.std.specs.Prelude.{codes}
 use Rattle.it_forms.specs.FormReading.{read}
 use Rattle.it_forms.specs.Words.{to_end, flagged}
-use Rattle.it_syntax.specs.LineForms.{sum, terms, term, atom, measure_or}
+use Rattle.it_syntax.specs.LineForms.{sum, terms, term, atom}
 use Rattle.it_forms.specs.declared.types.Symbol.TheVariants.{AtLeast}
 use Rattle.it_forms.specs.declared.types.Code.TheVariants as codes
 use Rattle.it_forms.specs.Letters.{Bad}
@@ -28,7 +28,7 @@ bound_has s = has_then _ _ _ _ (sum_has _ _ s) (λ left. has_then _ _ _ _ (has_s
 
 -- no bound stands where nothing is left
 pub no_bound : (s : Scope) → read (to_end (bound s)) [] ≡ Err (codes.Word, [])
-unfolding read bound sum terms flagged term atom measure_or
+unfolding read bound sum terms flagged term atom
 no_bound s = refl
 
 aim_has : (v : NamesView) → Has (aim v) (one_of (Keyword (codes "prove") ∷ Keyword (codes "best") ∷ []))

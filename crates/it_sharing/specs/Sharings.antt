@@ -1,5 +1,5 @@
 -- What a sharing file says, as contracts compare it, and the question that is made of it.
-use Rattle.std.specs.Prelude.{◌≡◌, ℕ, ◌<◌, ◌≤◌, Bool, true, false, List, [], ◌∷◌, ◌++◌, length, map, All}
+use Rattle.std.specs.Prelude.{◌≡◌, ℕ, ◌+◌, ◌<◌, ◌≤◌, Bool, true, false, List, [], ◌∷◌, ◌++◌, length, map, All}
 use Rattle.it_syntax.specs.declared.types.Atom.{Atom}
 use Rattle.it_syntax.specs.declared.types.Atom.TheVariants.{Nothing, Entropy, Mutual}
 use Rattle.it_syntax.specs.declared.types.Sign.TheVariants.{AtLeast, Equal}
@@ -8,6 +8,7 @@ use Rattle.it_syntax.specs.Meaning.{RelationView, relation_view}
 use Rattle.it_syntax.specs.Givens.{GivenView, Relation, IsRelationOf}
 use Rattle.it_question.specs.Questions.{Prove, QuestionView}
 use Rattle.it_sharing.specs.declared.types.Sharing.{Sharing}
+use Rattle.it_sharing.specs.Parties.{most_parties, most_qualified}
 use Rattle.it_sharing.specs.AccessStructures.{secret, IsPartySet, minimal_sets, maximal_sets}
 
 -- the names, the listed sets in order, whether the least factor is asked for, and the relation
@@ -24,10 +25,10 @@ sharing_view x = record { names = x.names; qualified = x.qualified.items; best =
 -- 1 to 8 parties beside the secret, no rates, 1 to 64 listed sets, each a nonempty one of parties, and a relation of the variables
 pub record IsSharing (x : SharingView) : Type 0 where
   pub some : 2 ≤ length x.names.variables
-  pub few : length x.names.variables ≤ 9
+  pub few : length x.names.variables ≤ 1 + most_parties
   pub no_rates : x.names.rates ≡ []
   pub some_listed : 1 ≤ length x.qualified
-  pub few_listed : length x.qualified ≤ 64
+  pub few_listed : length x.qualified ≤ most_qualified
   pub nonempty : All (λ s. 0 < s) x.qualified
   pub parties : All (IsPartySet (length x.names.variables)) x.qualified
   pub relation : IsRelationOf (length x.names.variables) 0 x.relation

@@ -2,11 +2,11 @@
 ghost use Rattle.std.specs.Prelude.{true, false};
 ghost use Rattle.it_forms.specs.FormReading.{read};
 ghost use Rattle.it_forms.specs.Words.{to_end};
-ghost use Rattle.it_syntax.specs.Gives.{GivesBy, GivesAll};
+ghost use Rattle.it_syntax.specs.Gives.{GivesAll};
 ghost use Rattle.it_syntax.specs.Gives as line;
 ghost use Rattle.it_syntax.specs.Meaning.{relation_view};
 ghost use Rattle.it_syntax.specs.Scopes.{scope_of};
-ghost use Rattle.it_question.specs.Cursors.{letters_left};
+ghost use Rattle.it_question.specs.Cursors.{ParsesBy};
 ghost use Rattle.it_sharing.specs.SharingForms as forms;
 
 use it_question::readers::{Cursor, relation};
@@ -25,7 +25,7 @@ const BEST: &[u8] = b"best";
 /// Two sums with `>=` between them.
 #[tactic(auto, unfolding(crate::specs::SharingForms::bound, it_forms::specs::FormReading::read))]
 fn bound_part(alloc: Global, rest: &mut Rest<'_>, names: &Names) -> Result<Relation, Stop>
-    ensures { GivesBy relation_view result (line.letters_left rest.new) (read (forms.bound (scope_of names.now true)) (line.letters_left rest.old)) }
+    ensures { line.ParsesBy relation_view result (forms.bound (scope_of names.now true)) rest.old rest.new }
 {
     let (left, multiple) = sum(alloc, MOST_TERMS, 1, rest, names, true)?;
     symbol(rest, Symbol::AtLeast)?;
@@ -50,7 +50,7 @@ fn bound_to_end(alloc: Global, rest: &mut Rest<'_>, names: &Names) -> Result<Rel
 
 /// Two sums with `>=` between them, with the line's end.
 fn bound(alloc: Global, cursor: &mut Cursor<'_>, names: &Names) -> Result<Relation, Stop>
-    ensures { GivesBy relation_view result (letters_left cursor.new) (read (to_end (forms.bound (scope_of names.now true))) (letters_left cursor.old)) }
+    ensures { ParsesBy relation_view result (to_end (forms.bound (scope_of names.now true))) cursor.old cursor.new }
 {
     match cursor.rest {
         Some(mut rest) => match bound_to_end(alloc, &mut rest, names) {
@@ -70,7 +70,7 @@ fn bound(alloc: Global, cursor: &mut Cursor<'_>, names: &Names) -> Result<Relati
 /// Whether the least factor is asked for, and of which relation.
 #[tactic(auto, unfolding(crate::specs::SharingForms::aim, it_forms::specs::FormReading::read))]
 pub fn aim(alloc: Global, cursor: &mut Cursor<'_>, names: &Names) -> Result<(bool, Relation), Stop>
-    ensures { GivesBy (λ x. (x.0, relation_view x.1)) result (letters_left cursor.new) (read (forms.aim names.now) (letters_left cursor.old)) }
+    ensures { ParsesBy (λ x. (x.0, relation_view x.1)) result (forms.aim names.now) cursor.old cursor.new }
 {
     match cursor.front() {
         Some((Piece::Word(word), after)) => {

@@ -3,18 +3,17 @@ ghost use Rattle.std.specs.Prelude.{◌≡◌, ◌≤◌, ◌<◌, ◌+◌, ◌+
 ghost use Rattle.it_syntax.specs.Givens.{given_view};
 ghost use Rattle.it_question.specs.Questions.{question_view, question_body};
 ghost use Rattle.it_question.specs.Limits.{IsQuestion};
+ghost use Rattle.it_question.specs.QuestionLimits.{most_lines};
 ghost use Rattle.it_sharing.specs.declared.types.MadeFault.TheVariants.{Many};
 ghost use Rattle.it_sharing.specs.Sharings.{sharing_view, IsSharing, vanishing, knows, knows_nothing, made_question, question_under, maximal_count, minimal_count};
 
 use crate::sets::{maximal_sets, minimal_sets};
 use crate::types::{Made, MadeFault, Sharing};
+use it_question::readers::MOST_LINES;
 use it_question::types::{OwnLines, Question, Verb};
 use it_space::VarSet;
 use it_syntax::types::{Atom, Expr, Given, Relation, Sign, Term};
 use std::alloc::{AllocError, Global};
-
-/// The most givens of a question.
-const MOST_GIVENS: usize = 64;
 
 /// One term as a side of a relation.
 fn side(alloc: Global, number: u64, atom: Atom) -> Result<Expr, AllocError>
@@ -146,14 +145,14 @@ pub fn made(alloc: Global, from: &Sharing) -> Result<Made, MadeFault>
     ensures question { IfOk result (λ m. question_view m.question ≡ made_question (sharing_view from.now)) }
     ensures minimal { IfOk result (λ m. m.minimal ≡ minimal_count (sharing_view from.now)) }
     ensures maximal { IfOk result (λ m. m.maximal ≡ maximal_count (sharing_view from.now)) }
-    ensures few { IfOk result (λ m. m.minimal + m.maximal ≤ 64) }
+    ensures few { IfOk result (λ m. m.minimal + m.maximal ≤ most_lines) }
     ensures limits { IfOk result (λ m. IsQuestion (question_body m.question)) }
-    ensures many { IfErr result (λ e. e ≡ Many → 64 < minimal_count (sharing_view from.now) + maximal_count (sharing_view from.now)) }
+    ensures many { IfErr result (λ e. e ≡ Many → most_lines < minimal_count (sharing_view from.now) + maximal_count (sharing_view from.now)) }
 {
     let listed = from.qualified.as_slice();
     let minimal = minimal_sets(alloc, listed)?;
     let maximal = maximal_sets(alloc, from.names.space().variables, listed)?;
-    if minimal.len() + maximal.len() > MOST_GIVENS {
+    if minimal.len() + maximal.len() > MOST_LINES {
         return Err(MadeFault::Many);
     }
     let givens = made_givens(alloc, minimal.as_slice(), maximal.as_slice())?;

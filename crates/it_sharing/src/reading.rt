@@ -1,7 +1,6 @@
 //! The reader of sharing files.
 ghost use Rattle.std.specs.Prelude.{◌≡◌, ◌≤◌, length, OnOk, IfOk, IfErr};
-ghost use Rattle.it_syntax.specs.Gives.{GivesBy};
-ghost use Rattle.it_question.specs.Cursors.{letters_left};
+ghost use Rattle.it_question.specs.Cursors.{ParsesBy};
 ghost use Rattle.it_question.specs.NewNames.{no_names};
 ghost use Rattle.it_forms.specs.FormReading.{read};
 ghost use Rattle.it_sharing.specs.Sharings.{sharing_view, IsSharing, IsBoundWhereBest};
@@ -32,7 +31,7 @@ const MOST_PARTIES: usize = 8;
 #[tactic(auto, unfolding(it_forms::specs::FormReading::read))]
 fn secret(cursor: &mut Cursor<'_>, names: &mut Names) -> Result<(), Stop>
     requires { names.old ≡ no_names }
-    ensures gives { GivesBy (λ x. names.new) result (letters_left cursor.new) (read forms.secret_name (letters_left cursor.old)) }
+    ensures gives { ParsesBy (λ x. names.new) result forms.secret_name cursor.old cursor.new }
     ensures one { OnOk result (length names.new.variables ≡ 1) }
 {
     new_name(cursor, names, NameSort::Variable, 1)?;
@@ -42,7 +41,7 @@ fn secret(cursor: &mut Cursor<'_>, names: &mut Names) -> Result<(), Stop>
 /// The names of the parties, up to the line's end.
 fn parties(cursor: &mut Cursor<'_>, names: &mut Names) -> Result<(), Stop>
     requires { length names.old.variables ≡ 1 }
-    ensures { GivesBy (λ x. names.new) result (letters_left cursor.new) (read (forms.party_names names.old) (letters_left cursor.old)) }
+    ensures { ParsesBy (λ x. names.new) result (forms.party_names names.old) cursor.old cursor.new }
 {
     names_to_end(cursor, names, NameSort::Variable, 1 + MOST_PARTIES)
 }
@@ -50,7 +49,7 @@ fn parties(cursor: &mut Cursor<'_>, names: &mut Names) -> Result<(), Stop>
 /// What a file says, up to its end.
 #[tactic(auto, unfolding(crate::specs::SharingForms::sharing, it_forms::specs::FormReading::read))]
 fn whole(alloc: Global, cursor: &mut Cursor<'_>) -> Result<Sharing, Stop>
-    ensures { GivesBy sharing_view result (letters_left cursor.new) (read forms.sharing (letters_left cursor.old)) }
+    ensures { ParsesBy sharing_view result forms.sharing cursor.old cursor.new }
 {
     let mut names = Names::new(alloc);
     word(cursor, SECRET)?;

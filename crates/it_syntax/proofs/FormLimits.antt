@@ -12,7 +12,7 @@ use Rattle.it_forms.specs.declared.types.Code.TheVariants as codes
 use Rattle.it_forms.specs.declared.types.Symbol.{Symbol}
 use Rattle.it_forms.specs.declared.types.Symbol.TheVariants.{Comma, Minus}
 use Rattle.it_forms.specs.Letters.{Letter}
-use Rattle.it_forms.specs.Forms.{Punctuation, Form, is_of}
+use Rattle.it_forms.specs.Forms.{Punctuation, Form, Give, Take, If, is_of}
 use Rattle.it_forms.specs.FormReading.{read}
 use Rattle.it_forms.specs.Words.{text_of, number_of, allowed, but, missing_flag}
 use Rattle.it_forms.proofs.FormParts.{Always, always_weaker, each_keeps, line_keeps, value_read}
@@ -22,7 +22,8 @@ use Rattle.it_syntax.specs.declared.types.Term.{Term}
 use Rattle.it_syntax.specs.declared.types.Sign.{Sign}
 use Rattle.it_syntax.specs.GivenLines.{given_line}
 use Rattle.it_syntax.specs.Givens.{GivenView, AreSetsOf, IsRelationOf, IsGivenOf}
-use Rattle.it_syntax.specs.LineForms.{variable, more_names, names, given_set, entropy, mutual_information, measure_or, atom, atom_or_nothing, counted, over_or, term, signs, more_terms, terms, sum, compare, relation, more_members, chain, after_bar, independence, function, given}
+use Rattle.it_syntax.specs.declared.types.Atom.TheVariants.{Nothing}
+use Rattle.it_syntax.specs.LineForms.{variable, more_names, names, given_set, entropy, mutual_information, measure_or, rate, atom, atom_or_nothing, counted, over_or, term, signs, more_terms, terms, sum, compare, relation, more_members, chain, after_bar, independence, function, given}
 use Rattle.it_syntax.specs.Meaning.{RelationView, IsAtomOf, multiple_from}
 use Rattle.it_syntax.specs.Multiples.{most_terms, multiple_with}
 use Rattle.it_syntax.specs.MeasureWords.{is_measure}
@@ -84,16 +85,16 @@ unfolding mutual_information Always
 mutual_information_keeps env n m k l e u = always_weaker (names env) _ _ (λ p a ha l e u. always_weaker (names env) _ _ (λ q b hb. always_weaker (given_set env) _ _ (λ r c hc. (ha, hb, hc)) (given_set_keeps env n k)) (names_keep env n k)) (names_keep env n k)
 
 measure_or_keeps : (env : Environment) (n m : ℕ) (other : Form Atom) → Knows env n → Always other (λ p a. IsAtomOf n m a) → Always (measure_or env other) (λ p a. IsAtomOf n m a)
-unfolding measure_or Always
+unfolding Always
 measure_or_keeps env n m other k h = (λ l e u. entropy_keeps env n m k, (λ l e u. mutual_information_keeps env n m k, h))
 
 atom_keeps : (s : Scope) (n m : ℕ) → Covers s n m → Always (atom s) (λ p a. IsAtomOf n m a)
 unfolding atom Always
-atom_keeps s n m k = measure_or_keeps s.variables n m _ k.variables (λ l e u. known_below m (s.rates (text_of l)) u (k.rates (text_of l)))
+atom_keeps s n m k = measure_or_keeps s.variables n m (Take (rate s.rates)) k.variables (λ l e u. known_below m (s.rates (text_of l)) u (k.rates (text_of l)))
 
 atom_or_nothing_keeps : (s : Scope) (n m : ℕ) → Covers s n m → Always (atom_or_nothing s) (λ p a. IsAtomOf n m a)
 unfolding atom_or_nothing Always
-atom_or_nothing_keeps s n m k = measure_or_keeps s.variables n m _ k.variables (λ l e u. known_below m (s.rates (text_of l)) u (k.rates (text_of l)), tt)
+atom_or_nothing_keeps s n m k = measure_or_keeps s.variables n m (If (rate s.rates) Give (Give Nothing)) k.variables (λ l e u. known_below m (s.rates (text_of l)) u (k.rates (text_of l)), tt)
 
 -- ---- terms; k is the least common multiple of the denominators before
 
@@ -140,7 +141,7 @@ one_more_term n m k most ts t left h e = (
 )
 
 term_takes : (k : ℕ) (s : Scope) (minus : Bool) → Takes (term k s minus)
-unfolding term atom measure_or Takes
+unfolding term atom Takes
 term_takes k s minus = tt
 
 more_terms_keep : (s : Scope) (n m k most : ℕ) → Covers s n m → (ts : List Term) → AreFew n m k most ts → Always (more_terms most k s ts) (λ p ts. AreFew n m k most ts)

@@ -1,4 +1,5 @@
 pub mod Loops
+pub mod NameLists
 pub mod TermLemmas
 pub mod FormLimits
 pub mod OneLine

@@ -5,7 +5,7 @@ use Rattle.it_forms.specs.declared.types.Symbol.{Symbol}
 use Rattle.it_syntax.specs.declared.types.Term.{Term}
 use Rattle.it_forms.specs.Letters.{Word, Number}
 use Rattle.it_syntax.specs.Scopes.{Environment, Scope}
-use Rattle.it_syntax.specs.LineForms.{signs, counted, denominator, over_or, variable, more_names, names, given_set, entropy, mutual_information, measure_or, atom, atom_or_nothing, term, more_terms, terms, sum, compare, relation, more_members, chain, after_bar, independence, function, given}
+use Rattle.it_syntax.specs.LineForms.{signs, counted, denominator, over_or, variable, more_names, names, given_set, entropy, mutual_information, atom, atom_or_nothing, term, more_terms, terms, sum, compare, relation, more_members, chain, after_bar, independence, function, given}
 use Rattle.it_forms.specs.declared.types.Symbol.TheVariants.{LeftParen, RightParen, Comma, Semicolon, Bar, Plus, Minus, Slash, Arrow, AtLeast, AtMost, Equal}
 use Rattle.it_forms.specs.declared.types.Code.{Code}
 use Rattle.it_forms.specs.Forms.{Kind, WordBut, Punctuation, Keyword, Zero, Positive, Form, Give, Take, Then, If, While}
@@ -53,14 +53,14 @@ abbrev an_atom : List (List ℕ) → Outline
 an_atom ts = one_of (measures ++ rates_but ts ∷ [])
 
 pub atom_has : (s : Scope) → Has (atom s) (an_atom [])
-unfolding atom measure_or
+unfolding atom
 atom_has s = has_if _ _ _ _ _ (λ u. entropy_has s.variables) (has_if _ _ _ _ _ (λ u. mutual_information_has s.variables) (has_take _ (Word []) refl) refl) refl
 
 abbrev maybe_atom : Outline
 maybe_atom = record { begins = measures ++ rates_but [] ∷ []; skips = true; goes = rates_but [] ∷ Keyword (codes "I") ∷ Keyword (codes "H") ∷ [] }
 
 pub atom_or_nothing_has : (s : Scope) → Has (atom_or_nothing s) maybe_atom
-unfolding atom_or_nothing measure_or
+unfolding atom_or_nothing
 atom_or_nothing_has s = has_if _ _ _ _ _ (λ u. entropy_has s.variables) (has_if _ _ _ _ _ (λ u. mutual_information_has s.variables) (has_if _ _ _ _ _ (λ a. has_give a) (has_give _) refl) refl) refl
 
 abbrev pub a_term : List (List ℕ) → Outline
@@ -153,7 +153,7 @@ abbrev forms : List (List ℕ)
 forms = codes "markov" ∷ codes "indep" ∷ codes "func" ∷ []
 
 atom_but : (s : Scope) → Has (but forms (atom s)) (an_atom forms)
-unfolding atom measure_or but
+unfolding atom but
 atom_but s = has_if _ _ _ _ _ (λ u. entropy_has s.variables) (has_if _ _ _ _ _ (λ u. mutual_information_has s.variables) (has_take _ (Word []) refl) refl) refl
 
 term_but : (m : ℕ) (s : Scope) (minus : Bool) → Has (but forms (term m s minus)) (a_term forms)

@@ -46,6 +46,9 @@ other_after {A} t (l ∷ ls) g other e = by_test (is_among t.kinds l) (t.says l)
     by_test true p e = absurd cc
     by_test false p e = refl
 
+-- by whether a terminal stands in front
+pub ruleset front_lemmas = (taken_after, other_after)
+
 -- one more turn
 pub loop_goes : {A B : Type 0} (ks : List Kind) (says : A → Letter → Option Code × B) (step : A → B → Form A) (a c : A) (b : B) (ls tail rest : List Letter) → after (record { kinds = ks; says = says a }) ls ≡ Some ((None, b), tail) → read (step a b) tail ≡ Ok (c, rest)
     → read (While ks says step c) rest ≡ read (While ks says step a) ls

@@ -1,10 +1,11 @@
 -- The forms of the grammar of relations and constraints end neither a line nor the file.
 use Rattle.std.proofs.Common.{ℕ, Bool, List, refl}
 use Rattle.it_forms.specs.declared.types.Symbol.{Symbol}
-use Rattle.it_forms.specs.Forms.{Form}
+use Rattle.it_forms.specs.Forms.{Form, Give, Take, If}
 use Rattle.it_forms.proofs.LineEnds.{HasNoEnd, no_end_flagged, no_end_but}
 use Rattle.it_syntax.specs.declared.types.Atom.{Atom}
-use Rattle.it_syntax.specs.LineForms.{variable, more_names, names, given_set, entropy, mutual_information, measure_or, atom, atom_or_nothing, over_or, term, more_terms, terms, sum, compare, relation, more_members, chain, after_bar, independence, function, given}
+use Rattle.it_syntax.specs.declared.types.Atom.TheVariants.{Nothing}
+use Rattle.it_syntax.specs.LineForms.{variable, more_names, names, given_set, entropy, mutual_information, measure_or, rate, atom, atom_or_nothing, over_or, term, more_terms, terms, sum, compare, relation, more_members, chain, after_bar, independence, function, given}
 use Rattle.it_syntax.specs.Scopes.{Environment, Scope}
 
 variable_has_no_end : (env : Environment) → HasNoEnd (variable env)
@@ -28,16 +29,16 @@ unfolding mutual_information HasNoEnd
 mutual_information_has_no_end env = (refl, λ u. (names_has_no_end env, λ a. (refl, λ u. (names_has_no_end env, λ b. (given_set_has_no_end env, λ c. tt)))))
 
 measure_or_has_no_end : (env : Environment) (other : Form Atom) → HasNoEnd other → HasNoEnd (measure_or env other)
-unfolding measure_or HasNoEnd
+unfolding HasNoEnd
 measure_or_has_no_end env other h = (refl, λ u. entropy_has_no_end env, (refl, λ u. mutual_information_has_no_end env, h))
 
 atom_has_no_end : (s : Scope) → HasNoEnd (atom s)
 unfolding atom HasNoEnd
-atom_has_no_end s = measure_or_has_no_end s.variables _ refl
+atom_has_no_end s = measure_or_has_no_end s.variables (Take (rate s.rates)) refl
 
 atom_or_nothing_has_no_end : (s : Scope) → HasNoEnd (atom_or_nothing s)
 unfolding atom_or_nothing HasNoEnd
-atom_or_nothing_has_no_end s = measure_or_has_no_end s.variables _ (refl, λ a. tt, tt)
+atom_or_nothing_has_no_end s = measure_or_has_no_end s.variables (If (rate s.rates) Give (Give Nothing)) (refl, λ a. tt, tt)
 
 over_or_has_no_end : (m : ℕ) (s : Scope) (minus : Bool) (n : ℕ) (f : Form Atom) → HasNoEnd f → HasNoEnd (over_or m s minus n f)
 unfolding HasNoEnd

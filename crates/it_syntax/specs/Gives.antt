@@ -4,6 +4,8 @@ use Rattle.it_syntax.specs.declared.rest.Stop.{Stop}
 use Rattle.it_syntax.specs.declared.rest.Rest.{Rest}
 use Rattle.it_forms.specs.Letters.{Letter}
 use Rattle.it_forms.specs.Reads.{Reads, Fault}
+use Rattle.it_forms.specs.Forms.{Form}
+use Rattle.it_forms.specs.FormReading.{read}
 use Rattle.it_syntax.specs.Spans.{letters_until, last_letter}
 use Rattle.it_syntax.specs.declared.rest.Stop.TheVariants as stops
 
@@ -24,6 +26,14 @@ GivesBy view (Err e) rest read = StopsAs e rest read
 -- it gave what reading gives, and left `rest`
 abbrev pub Gives : {X : Type 0} → Result X Stop → List Letter → Reads X → Type 0
 Gives result rest read = GivesBy (λ x. x) result rest read
+
+-- from `before` on it gave what the form reads, seen by a view, and left `rest`
+abbrev pub ParsesBy : {X Y : Type 0} → (X → Y) → Result X Stop → Form Y → Rest → Rest → Type 0
+ParsesBy view result f before rest = GivesBy view result (letters_left rest) (read f (letters_left before))
+
+-- from `before` on it gave what the form reads, and left `rest`
+abbrev pub Parses : {X : Type 0} → Result X Stop → Form X → Rest → Rest → Type 0
+Parses result f before rest = ParsesBy (λ x. x) result f before rest
 
 -- it read the whole line
 abbrev pub GivesAll : {X Y : Type 0} → (X → Y) → Result X Stop → List Letter → Reads Y → Type 0

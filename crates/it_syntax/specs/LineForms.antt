@@ -61,7 +61,7 @@ mutual_information env = do
   Give (Mutual a b c)
 
 -- an entropy, a mutual information, or something else
-unfoldable pub measure_or : Environment → Form Atom → Form Atom
+abbrev pub measure_or : Environment → Form Atom → Form Atom
 measure_or env other = If (word (codes "H")) (λ u. entropy env) (If (word (codes "I")) (λ u. mutual_information env) other)
 
 -- the name of a rate: any word but `H` and `I`

@@ -27,13 +27,17 @@ abbrev pub column_of : List Token → ℕ → ℕ
 column_of [] after = after
 column_of (t ∷ ts) after = t.start + 1
 
+-- the column of token number `at`, or where there is none of what stands after the tokens
+abbrev pub column_at : ℕ → List Token → Option Misspelling → ℕ
+column_at at ts m = column_of (drop at ts) (column_after ts m)
+
 -- Of a line from its token number `from` on, the first fault in this form is `code`, at this column.
 pub record FaultAt {A : Type 0} (f : Form A) (line : List ℕ) (ts : LineTokens) (from : ℕ) (column : ℕ) (code : Code) : Type 0 where
   -- the number of the token that it comes at, or the number of tokens
   pub at : ℕ
   pub within : at ≤ length ts.tokens.items
   pub first : FirstFault (spelling f) (letters_from line ts from) code (letters_from line ts at)
-  pub place : column ≡ column_of (drop at ts.tokens.items) (column_after ts.tokens.items ts.misspelling)
+  pub place : column ≡ column_at at ts.tokens.items ts.misspelling
 
 -- of an error: memory ran out, or it is the first fault
 abbrev pub IsFirstFault : {A : Type 0} → Form A → List ℕ → LineTokens → ℕ → SyntaxFault → Type 0

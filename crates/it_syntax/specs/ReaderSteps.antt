@@ -1,11 +1,16 @@
 -- What the readers' own functions say of their steps. No public clause cites it.
-use Rattle.std.specs.Prelude.{◌≡◌, ◌≤◌, ◌<◌, ℕ, zero, suc, ◌-◌, ◌^◌, Bool, List, [], ◌∷◌, length, take, drop, Some, None}
+use Rattle.std.specs.Prelude.{◌≡◌, ◌≤◌, ◌<◌, ℕ, zero, suc, ◌-◌, ◌^◌, Bool, List, [], ◌∷◌, length, take, drop, Option, Some, None}
 use Rattle.std.specs.Char.{is_ascii_alphabetic, is_ascii_digit}
 use Rattle.it_number.specs.Decimals.{value_from}
+use Rattle.it_number.specs.Gcd.{lcm}
 use Rattle.it_forms.specs.Letters.{Letter, Word, Number, Sym, End, Bad}
 use Rattle.it_forms.specs.SymbolTexts.{symbol_text}
 use Rattle.it_forms.specs.declared.types.Symbol.TheVariants.{Minus}
 use Rattle.it_forms.specs.Forms.{Punctuation, is_of, Terminal, Form, Take, Then}
+use Rattle.it_forms.specs.FormReading.{read, after}
+use Rattle.it_syntax.specs.Gives.{letters_left, StopsAs}
+use Rattle.it_syntax.specs.declared.rest.Rest.{Rest}
+use Rattle.it_syntax.specs.declared.rest.Stop.{Stop}
 use Rattle.it_syntax.specs.declared.rest.Piece.{Piece}
 use Rattle.it_syntax.specs.declared.rest.Piece.TheVariants as pieces
 use Rattle.it_syntax.specs.declared.types.Atom.{Atom}
@@ -14,7 +19,7 @@ use Rattle.it_syntax.specs.declared.types.Token.{Token}
 use Rattle.it_syntax.specs.declared.types.TokenKind.{TokenKind}
 use Rattle.it_syntax.specs.declared.types.TokenKind.TheVariants as kinds
 use Rattle.it_syntax.specs.Prefixes.{IsLongestRun, symbol_of}
-use Rattle.it_syntax.specs.LineForms.{signs, denominator, counted, atom, atom_or_nothing}
+use Rattle.it_syntax.specs.LineForms.{signs, denominator, counted, atom, atom_or_nothing, over_or, more_terms}
 use Rattle.it_syntax.specs.Scopes.{Scope}
 use Rattle.it_syntax.specs.Spelling.{is_word_byte, StartsWith}
 
@@ -45,6 +50,15 @@ token_text line t = take (t.end - t.start) (drop t.start line)
 abbrev pub sign : Terminal Bool
 sign = record { kinds = signs; says = λ l. (None, is_of (Punctuation Minus) l) }
 
+-- the letter of a terminal was taken where it stands, and nothing where it doesn't
+abbrev pub MayTake : {A : Type 0} → Terminal A → Option A → Rest → Rest → Type 0
+MayTake t None before rest = (after t (letters_left before) ≡ None) × (letters_left rest ≡ letters_left before)
+MayTake t (Some a) before rest = after t (letters_left before) ≡ Some ((None, a), letters_left rest)
+
+-- a form's reading stops at its first letter, and the code's reader as it does
+abbrev pub StopsAtOnce : {A : Type 0} → Stop → Form A → Rest → Type 0
+StopsAtOnce stop f rest = StopsAs stop (letters_left rest) (read f (letters_left rest))
+
 -- what a number counts, which may be nothing after 0
 abbrev pub counted_by : ℕ → Scope → Form Atom
 counted_by zero s = atom_or_nothing s
@@ -53,3 +67,15 @@ counted_by (suc n) s = atom s
 -- a denominator and what is counted by a number over it, under a sign
 abbrev pub over : ℕ → Scope → Bool → ℕ → Form Term
 over m s minus n = Then (Take (denominator m)) (λ d. counted minus n d (atom s))
+
+-- what stands after a number
+abbrev pub after_number : ℕ → Scope → Bool → ℕ → Form Term
+after_number m s minus n = over_or m s minus n (counted_by n s)
+
+-- a sum after its first term
+abbrev pub after_first : ℕ → ℕ → Scope → Term → Form (List Term)
+after_first most m s t = more_terms most m s (t ∷ [])
+
+-- for each number with which the term's denominator has this least common multiple
+abbrev pub EachBefore : ℕ → Term → (ℕ → Type 0) → Type 0
+EachBefore multiple t P = (m : ℕ) → multiple ≡ lcm m t.denominator → P m

@@ -1,12 +1,11 @@
 //! Readers of entropies, mutual informations and rates, and of terms that count them.
 ghost use Rattle.std.specs.Prelude.{◌≡◌, ◌≤◌, ℕ, Bool, IfOk};
 ghost use Rattle.it_forms.specs.Forms.{Take};
-ghost use Rattle.it_forms.specs.FormReading.{read};
 ghost use Rattle.it_forms.specs.Words.{allowed};
 ghost use Rattle.it_number.specs.Gcd.{lcm};
-ghost use Rattle.it_syntax.specs.Gives.{Gives, GivesBy, StopsAs, letters_left};
+ghost use Rattle.it_syntax.specs.Gives.{Parses, ParsesBy};
 ghost use Rattle.it_syntax.specs.LineForms as forms;
-ghost use Rattle.it_syntax.specs.ReaderSteps.{over, counted_by};
+ghost use Rattle.it_syntax.specs.ReaderSteps.{StopsAtOnce, after_number, over, counted_by};
 ghost use Rattle.it_syntax.specs.Scopes.{scope_of};
 
 use crate::denominators::denominator;
@@ -28,7 +27,7 @@ fn rate_number(names: &Names, rates: bool, name: &[u8]) -> Option<u8>
 /// A rate.
 #[tactic(auto, unfolding(it_forms::specs::FormReading::read))]
 fn rate(rest: &mut Rest<'_>, names: &Names, rates: bool) -> Result<Atom, Stop>
-    ensures { Gives result (letters_left rest.new) (read (Take (forms.rate (scope_of names.now rates).rates)) (letters_left rest.old)) }
+    ensures { Parses result (Take (forms.rate (scope_of names.now rates).rates)) rest.old rest.new }
 {
     match rest.front() {
         (Piece::Word(word), after) => {
@@ -48,9 +47,9 @@ fn rate(rest: &mut Rest<'_>, names: &Names, rates: bool) -> Result<Atom, Stop>
 }
 
 /// An entropy, a mutual information or a rate.
-#[tactic(auto, unfolding(crate::specs::LineForms::atom, crate::specs::LineForms::measure_or, it_forms::specs::FormReading::read, crate::specs::Scopes::scope_of), using(crate::proofs::Loops::taken_after, crate::proofs::Loops::other_after))]
+#[tactic(auto, unfolding(crate::specs::LineForms::atom, it_forms::specs::FormReading::read), using(crate::proofs::TermLemmas::atom_lemmas))]
 fn atom(rest: &mut Rest<'_>, names: &Names, rates: bool) -> Result<Atom, Stop>
-    ensures { Gives result (letters_left rest.new) (read (forms.atom (scope_of names.now rates)) (letters_left rest.old)) }
+    ensures { Parses result (forms.atom (scope_of names.now rates)) rest.old rest.new }
 {
     if takes_word(rest, ENTROPY) {
         entropy(rest, names)
@@ -62,9 +61,9 @@ fn atom(rest: &mut Rest<'_>, names: &Names, rates: bool) -> Result<Atom, Stop>
 }
 
 /// An entropy, a mutual information, a rate or, where no word stands, nothing.
-#[tactic(auto, unfolding(crate::specs::LineForms::atom_or_nothing, crate::specs::LineForms::atom, crate::specs::LineForms::measure_or, it_forms::specs::FormReading::read))]
+#[tactic(auto, unfolding(crate::specs::LineForms::atom_or_nothing, crate::specs::LineForms::atom, it_forms::specs::FormReading::read))]
 fn atom_or_nothing(rest: &mut Rest<'_>, names: &Names, rates: bool) -> Result<Atom, Stop>
-    ensures { Gives result (letters_left rest.new) (read (forms.atom_or_nothing (scope_of names.now rates)) (letters_left rest.old)) }
+    ensures { Parses result (forms.atom_or_nothing (scope_of names.now rates)) rest.old rest.new }
 {
     match rest.front() {
         (Piece::Word(_), _) => atom(rest, names, rates),
@@ -75,7 +74,7 @@ fn atom_or_nothing(rest: &mut Rest<'_>, names: &Names, rates: bool) -> Result<At
 /// What a number counts, which may be nothing after 0.
 #[tactic(auto, using(crate::proofs::TermLemmas::counted_some))]
 fn counted(number: u64, rest: &mut Rest<'_>, names: &Names, rates: bool) -> Result<Atom, Stop>
-    ensures { Gives result (letters_left rest.new) (read (counted_by number (scope_of names.now rates)) (letters_left rest.old)) }
+    ensures { Parses result (counted_by number (scope_of names.now rates)) rest.old rest.new }
 {
     if number == 0 {
         atom_or_nothing(rest, names, rates)
@@ -95,7 +94,7 @@ fn term_over(
     rates: bool,
 ) -> Result<(Term, u64), Stop>
     requires some { 1 ≤ multiple }
-    ensures read { GivesBy (λ x. x.0) result (letters_left rest.new) (read (over multiple (scope_of names.now rates) negative number) (letters_left rest.old)) }
+    ensures read { ParsesBy (λ x. x.0) result (over multiple (scope_of names.now rates) negative number) rest.old rest.new }
     ensures multiple { IfOk result (λ x. (1 ≤ x.1) × (x.1 ≡ lcm multiple x.0.denominator)) }
 {
     let (denominator, multiple) = denominator(multiple, rest)?;
@@ -112,7 +111,7 @@ fn term_over(
 }
 
 /// The term after its number, with the least common multiple of all denominators up to it.
-#[tactic(auto, unfolding(it_forms::specs::FormReading::read), using(crate::proofs::MultipleLemmas::lcm_one, crate::proofs::Loops::taken_after, crate::proofs::Loops::other_after))]
+#[tactic(auto, unfolding(it_forms::specs::FormReading::read), using(crate::proofs::MultipleLemmas::lcm_one, crate::proofs::Loops::front_lemmas))]
 fn after_number(
     negative: bool,
     number: u64,
@@ -122,7 +121,7 @@ fn after_number(
     rates: bool,
 ) -> Result<(Term, u64), Stop>
     requires some { 1 ≤ multiple }
-    ensures read { GivesBy (λ x. x.0) result (letters_left rest.new) (read (forms.over_or multiple (scope_of names.now rates) negative number (counted_by number (scope_of names.now rates))) (letters_left rest.old)) }
+    ensures read { ParsesBy (λ x. x.0) result (after_number multiple (scope_of names.now rates) negative number) rest.old rest.new }
     ensures multiple { IfOk result (λ x. (1 ≤ x.1) × (x.1 ≡ lcm multiple x.0.denominator)) }
 {
     if takes(rest, Symbol::Slash) {
@@ -155,7 +154,7 @@ fn term(
     rates: bool,
 ) -> Result<(Term, u64), Stop>
     requires some { 1 ≤ multiple }
-    ensures read { GivesBy (λ x. x.0) result (letters_left rest.new) (read (forms.term multiple (scope_of names.now rates) negative) (letters_left rest.old)) }
+    ensures read { ParsesBy (λ x. x.0) result (forms.term multiple (scope_of names.now rates) negative) rest.old rest.new }
     ensures multiple { IfOk result (λ x. (1 ≤ x.1) × (x.1 ≡ lcm multiple x.0.denominator)) }
 {
     match rest.front() {
@@ -171,9 +170,9 @@ fn term(
 }
 
 /// The fault of a term too many.
-#[tactic(auto, unfolding(it_forms::specs::Words::flagged, crate::specs::LineForms::term, crate::specs::LineForms::atom, crate::specs::LineForms::measure_or, it_forms::specs::FormReading::read))]
+#[tactic(auto, unfolding(it_forms::specs::Words::flagged, crate::specs::LineForms::term, crate::specs::LineForms::atom, it_forms::specs::FormReading::read))]
 fn surplus_term_fault(rest: &Rest<'_>, names: &Names, rates: bool) -> Stop
-    ensures { (m : ℕ) (minus : Bool) → StopsAs result (letters_left rest.now) (read (allowed 0 (forms.term m (scope_of names.now rates) minus)) (letters_left rest.now)) }
+    ensures { (m : ℕ) (minus : Bool) → StopsAtOnce result (allowed 0 (forms.term m (scope_of names.now rates) minus)) rest.now }
 {
     match rest.front() {
         (Piece::Number(_), _) => Stop::Fault(Code::Many),
@@ -201,7 +200,7 @@ pub fn allowed_term(
     rates: bool,
 ) -> Result<(Term, u64), Stop>
     requires some { 1 ≤ multiple }
-    ensures read { GivesBy (λ x. x.0) result (letters_left rest.new) (read (allowed left (forms.term multiple (scope_of names.now rates) negative)) (letters_left rest.old)) }
+    ensures read { ParsesBy (λ x. x.0) result (allowed left (forms.term multiple (scope_of names.now rates) negative)) rest.old rest.new }
     ensures multiple { IfOk result (λ x. (1 ≤ x.1) × (x.1 ≡ lcm multiple x.0.denominator)) }
 {
     if left == 0 {

@@ -7,7 +7,7 @@ ghost use Rattle.it_syntax.specs.Multiples.{multiple_with};
 ghost use Rattle.it_forms.specs.Forms.{Take};
 ghost use Rattle.it_forms.specs.FormReading.{read};
 ghost use Rattle.it_syntax.specs.LineForms as forms;
-ghost use Rattle.it_syntax.specs.Gives.{GivesBy, letters_left};
+ghost use Rattle.it_syntax.specs.Gives.{ParsesBy};
 
 use crate::rest::{Piece, Rest, Stop};
 use crate::types::{Code, Relation, Term};
@@ -50,7 +50,7 @@ fn multiple_with(multiple: u64, denominator: u64) -> Option<u64>
 #[tactic(auto, using(crate::proofs::MultipleLemmas::multiple_found), unfolding(it_forms::specs::FormReading::read))]
 pub fn denominator(multiple: u64, rest: &mut Rest<'_>) -> Result<(u64, u64), Stop>
     requires some { 1 ≤ multiple }
-    ensures read { GivesBy (λ x. x.0) result (letters_left rest.new) (read (Take (forms.denominator multiple)) (letters_left rest.old)) }
+    ensures read { ParsesBy (λ x. x.0) result (Take (forms.denominator multiple)) rest.old rest.new }
     ensures multiple { IfOk result (λ x. (1 ≤ x.1) × (x.1 ≡ lcm multiple x.0)) }
 {
     match rest.front() {

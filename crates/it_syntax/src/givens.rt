@@ -1,18 +1,16 @@
 //! The reader of the constraint of a `given` line.
-//! The lists of first sets are matched where `?` would do: so the proof has the only fault, `Memory`, by its name.
-ghost use Rattle.std.specs.Prelude.{◌≡◌, ◌≤◌, false, [], ◌∷◌, length, IfOk, IfErr};
+ghost use Rattle.std.specs.Prelude.{◌≤◌, false, length, IfOk, IfErr};
 ghost use Rattle.it_forms.specs.FormReading.{read};
-ghost use Rattle.it_syntax.specs.declared.rest.Stop.TheVariants.{Memory};
 ghost use Rattle.it_syntax.specs.GivenLines.{IsGiven, given_line};
 ghost use Rattle.it_syntax.specs.Givens.{given_view, IsGivenOf};
-ghost use Rattle.it_syntax.specs.Gives.{Gives, GivesBy, GivesAll, letters_left};
+ghost use Rattle.it_syntax.specs.Gives.{Parses, ParsesBy, GivesAll, letters_left};
 ghost use Rattle.it_syntax.specs.LineForms as forms;
 ghost use Rattle.it_syntax.specs.Lines.{IsFirstFault};
 ghost use Rattle.it_syntax.specs.Scopes.{env_of, scope_of};
 ghost use Rattle.it_syntax.specs.Spans.{InLine};
 
 use crate::lists::list;
-use crate::members::{add, more_members};
+use crate::members::more_members;
 use crate::names::Names;
 use crate::relations::relation_part;
 use crate::rest::{Rest, Stop};
@@ -34,9 +32,9 @@ const FUNCTION: &[u8] = b"func";
 const OF: &[u8] = b"of";
 
 /// The set after `|`; the empty set where none stands there.
-#[tactic(auto, unfolding(crate::specs::LineForms::after_bar, it_forms::specs::FormReading::read), using(crate::proofs::Loops::taken_after, crate::proofs::Loops::other_after))]
+#[tactic(auto, unfolding(crate::specs::LineForms::after_bar, it_forms::specs::FormReading::read), using(crate::proofs::Loops::front_lemmas))]
 fn after_bar(rest: &mut Rest<'_>, names: &Names) -> Result<VarSet, Stop>
-    ensures { Gives result (letters_left rest.new) (read (forms.after_bar (env_of names.now)) (letters_left rest.old)) }
+    ensures { Parses result (forms.after_bar (env_of names.now)) rest.old rest.new }
 {
     if takes(rest, Symbol::Bar) {
         list(rest, names)
@@ -45,75 +43,39 @@ fn after_bar(rest: &mut Rest<'_>, names: &Names) -> Result<VarSet, Stop>
     }
 }
 
-/// A list of three sets.
-fn three_sets(
-    alloc: Global,
-    first: VarSet,
-    second: VarSet,
-    third: VarSet,
-) -> Result<Vec<VarSet>, Stop>
-    ensures sets { IfOk result (λ sets. sets.items ≡ first ∷ second ∷ third ∷ []) }
-    ensures memory { IfErr result (λ e. e ≡ Memory) }
-{
-    let mut sets = Vec::new(alloc);
-    add(&mut sets, first)?;
-    add(&mut sets, second)?;
-    add(&mut sets, third)?;
-    Ok(sets)
-}
-
-/// A list of two sets.
-fn two_sets(alloc: Global, first: VarSet, second: VarSet) -> Result<Vec<VarSet>, Stop>
-    ensures sets { IfOk result (λ sets. sets.items ≡ first ∷ second ∷ []) }
-    ensures memory { IfErr result (λ e. e ≡ Memory) }
-{
-    let mut sets = Vec::new(alloc);
-    add(&mut sets, first)?;
-    add(&mut sets, second)?;
-    Ok(sets)
-}
-
 /// A chain, after its `markov`.
 #[tactic(auto, unfolding(crate::specs::LineForms::chain, it_forms::specs::FormReading::read))]
 fn chain(alloc: Global, rest: &mut Rest<'_>, names: &Names) -> Result<Given, Stop>
-    ensures { GivesBy given_view result (letters_left rest.new) (read (forms.chain (env_of names.now)) (letters_left rest.old)) }
+    ensures { ParsesBy given_view result (forms.chain (env_of names.now)) rest.old rest.new }
 {
     let first = list(rest, names)?;
     symbol(rest, Symbol::Arrow)?;
     let second = list(rest, names)?;
     symbol(rest, Symbol::Arrow)?;
     let third = list(rest, names)?;
-    match three_sets(alloc, first, second, third) {
-        Ok(sets) => {
-            let sets = more_members(sets, Symbol::Arrow, rest, names)?;
-            Ok(Given::Markov(sets))
-        }
-        Err(_) => Err(Stop::Memory),
-    }
+    let sets = Vec::from_slice(alloc, &[first, second, third])?;
+    let sets = more_members(sets, Symbol::Arrow, rest, names)?;
+    Ok(Given::Markov(sets))
 }
 
 /// An independence, after its `indep`.
 #[tactic(auto, unfolding(crate::specs::LineForms::independence, it_forms::specs::FormReading::read))]
 fn independence(alloc: Global, rest: &mut Rest<'_>, names: &Names) -> Result<Given, Stop>
-    ensures { GivesBy given_view result (letters_left rest.new) (read (forms.independence (env_of names.now)) (letters_left rest.old)) }
+    ensures { ParsesBy given_view result (forms.independence (env_of names.now)) rest.old rest.new }
 {
     let first = list(rest, names)?;
     symbol(rest, Symbol::Semicolon)?;
     let second = list(rest, names)?;
-    match two_sets(alloc, first, second) {
-        Ok(sets) => {
-            let members = more_members(sets, Symbol::Semicolon, rest, names)?;
-            let given = after_bar(rest, names)?;
-            Ok(Given::Independent { members, given })
-        }
-        Err(_) => Err(Stop::Memory),
-    }
+    let sets = Vec::from_slice(alloc, &[first, second])?;
+    let members = more_members(sets, Symbol::Semicolon, rest, names)?;
+    let given = after_bar(rest, names)?;
+    Ok(Given::Independent { members, given })
 }
 
 /// A function, after its `func`.
 #[tactic(auto, unfolding(crate::specs::LineForms::function, it_forms::specs::FormReading::read))]
 fn function(rest: &mut Rest<'_>, names: &Names) -> Result<Given, Stop>
-    ensures { GivesBy given_view result (letters_left rest.new) (read (forms.function (env_of names.now)) (letters_left rest.old)) }
+    ensures { ParsesBy given_view result (forms.function (env_of names.now)) rest.old rest.new }
 {
     let value = list(rest, names)?;
     word(rest, OF)?;
@@ -122,9 +84,9 @@ fn function(rest: &mut Rest<'_>, names: &Names) -> Result<Given, Stop>
 }
 
 /// A constraint, without the line's end.
-#[tactic(auto, unfolding(crate::specs::LineForms::given, it_forms::specs::FormReading::read, crate::specs::Scopes::scope_of), using(crate::proofs::Loops::taken_after, crate::proofs::Loops::other_after, it_forms::proofs::ButLemmas::none_stands, it_forms::proofs::ButLemmas::read_but))]
+#[tactic(auto, unfolding(crate::specs::LineForms::given, it_forms::specs::FormReading::read), using(crate::proofs::TermLemmas::given_lemmas))]
 pub fn given_part(alloc: Global, rest: &mut Rest<'_>, names: &Names) -> Result<Given, Stop>
-    ensures { GivesBy given_view result (letters_left rest.new) (read (forms.given (scope_of names.now false)) (letters_left rest.old)) }
+    ensures { ParsesBy given_view result (forms.given (scope_of names.now false)) rest.old rest.new }
 {
     if takes_word(rest, MARKOV) {
         chain(alloc, rest, names)

@@ -1,10 +1,10 @@
 //! Readers of names and lists of names.
 ghost use Rattle.std.specs.Prelude.{◌≡◌, ◌<◌, IfSome, OnOk, IfOk, length};
-ghost use Rattle.it_forms.specs.FormReading.{read};
 ghost use Rattle.it_forms.specs.Words.{allowed};
-ghost use Rattle.it_syntax.specs.Gives.{Gives, StopsAs, letters_left};
+ghost use Rattle.it_syntax.specs.Gives.{Parses, letters_left};
 ghost use Rattle.it_syntax.specs.LineForms as forms;
 ghost use Rattle.it_syntax.specs.MeasureWords.{is_measure};
+ghost use Rattle.it_syntax.specs.ReaderSteps.{StopsAtOnce};
 ghost use Rattle.it_syntax.specs.Scopes.{env_of};
 
 use crate::names::Names;
@@ -38,7 +38,7 @@ fn variable(names: &Names, name: &[u8]) -> Option<u8>
 /// The name of a variable, which must stand there, by the variable's number.
 #[tactic(auto, unfolding(crate::specs::LineForms::variable, it_forms::specs::FormReading::read))]
 fn name(rest: &mut Rest<'_>, names: &Names) -> Result<u8, Stop>
-    ensures gives { Gives result (letters_left rest.new) (read (forms.variable (env_of names.now)) (letters_left rest.old)) }
+    ensures gives { Parses result (forms.variable (env_of names.now)) rest.old rest.new }
     ensures shorter { OnOk result (length (letters_left rest.new) < length (letters_left rest.old)) }
     ensures small { IfOk result (λ i. i < 16) }
 {
@@ -61,7 +61,7 @@ fn name(rest: &mut Rest<'_>, names: &Names) -> Result<u8, Stop>
 
 /// The set with further names, each after a comma.
 fn more(first: VarSet, rest: &mut Rest<'_>, names: &Names) -> Result<VarSet, Stop>
-    ensures { Gives result (letters_left rest.new) (read (forms.more_names (env_of names.now) first) (letters_left rest.old)) }
+    ensures { Parses result (forms.more_names (env_of names.now) first) rest.old rest.new }
 {
     let mut set = first;
     while takes(rest, Symbol::Comma) {
@@ -77,35 +77,28 @@ fn more(first: VarSet, rest: &mut Rest<'_>, names: &Names) -> Result<VarSet, Sto
 /// The set of a list of names.
 #[tactic(auto, unfolding(crate::specs::LineForms::names, it_forms::specs::FormReading::read))]
 pub fn list(rest: &mut Rest<'_>, names: &Names) -> Result<VarSet, Stop>
-    ensures { Gives result (letters_left rest.new) (read (forms.names (env_of names.now)) (letters_left rest.old)) }
+    ensures { Parses result (forms.names (env_of names.now)) rest.old rest.new }
 {
     let first = name(rest, names)?;
     more(VarSet::single(first), rest, names)
 }
 
 /// The fault of a list too many.
-#[tactic(auto, unfolding(it_forms::specs::Words::flagged, crate::specs::LineForms::names, crate::specs::LineForms::variable, it_forms::specs::FormReading::read))]
+#[tactic(auto, using(crate::proofs::NameLists::surplus_many))]
 fn surplus_list_fault(rest: &Rest<'_>, names: &Names) -> Stop
-    ensures { StopsAs result (letters_left rest.now) (read (allowed 0 (forms.names (env_of names.now))) (letters_left rest.now)) }
+    ensures { StopsAtOnce result (allowed 0 (forms.names (env_of names.now))) rest.now }
 {
-    match rest.front() {
-        (Piece::Word(word), _) => {
-            if is_measure(word) {
-                return Stop::Fault(Code::Word);
-            }
-            match variable(names, word) {
-                Some(_) => Stop::Fault(Code::Many),
-                None => Stop::Fault(Code::Name),
-            }
-        }
-        _ => rest.fault(),
+    let mut after = *rest;
+    match name(&mut after, names) {
+        Ok(_) => Stop::Fault(Code::Many),
+        Err(stop) => stop,
     }
 }
 
 /// The set of a list of names, where `left` more lists are allowed.
 #[tactic(auto, using(it_forms::proofs::FlagLemmas::read_allowed))]
 pub fn allowed_list(left: usize, rest: &mut Rest<'_>, names: &Names) -> Result<VarSet, Stop>
-    ensures { Gives result (letters_left rest.new) (read (allowed left (forms.names (env_of names.now))) (letters_left rest.old)) }
+    ensures { Parses result (allowed left (forms.names (env_of names.now))) rest.old rest.new }
 {
     if left == 0 {
         Err(surplus_list_fault(rest, names))

@@ -1,6 +1,6 @@
 //! Readers of entropies and mutual informations.
 ghost use Rattle.it_forms.specs.FormReading.{read};
-ghost use Rattle.it_syntax.specs.Gives.{Gives, letters_left};
+ghost use Rattle.it_syntax.specs.Gives.{Parses};
 ghost use Rattle.it_syntax.specs.LineForms as forms;
 ghost use Rattle.it_syntax.specs.Scopes.{env_of};
 
@@ -12,9 +12,9 @@ use crate::types::{Atom, Symbol};
 use it_space::VarSet;
 
 /// What is given, up to `)`.
-#[tactic(auto, unfolding(crate::specs::LineForms::given_set, it_forms::specs::FormReading::read), using(crate::proofs::Loops::taken_after, crate::proofs::Loops::other_after))]
+#[tactic(auto, unfolding(crate::specs::LineForms::given_set, it_forms::specs::FormReading::read), using(crate::proofs::Loops::front_lemmas))]
 fn given_set(rest: &mut Rest<'_>, names: &Names) -> Result<VarSet, Stop>
-    ensures { Gives result (letters_left rest.new) (read (forms.given_set (env_of names.now)) (letters_left rest.old)) }
+    ensures { Parses result (forms.given_set (env_of names.now)) rest.old rest.new }
 {
     if takes(rest, Symbol::Bar) {
         let set = list(rest, names)?;
@@ -29,7 +29,7 @@ fn given_set(rest: &mut Rest<'_>, names: &Names) -> Result<VarSet, Stop>
 /// An entropy, after its `H`.
 #[tactic(auto, unfolding(crate::specs::LineForms::entropy, it_forms::specs::FormReading::read))]
 pub fn entropy(rest: &mut Rest<'_>, names: &Names) -> Result<Atom, Stop>
-    ensures { Gives result (letters_left rest.new) (read (forms.entropy (env_of names.now)) (letters_left rest.old)) }
+    ensures { Parses result (forms.entropy (env_of names.now)) rest.old rest.new }
 {
     symbol(rest, Symbol::LeftParen)?;
     let of = list(rest, names)?;
@@ -40,7 +40,7 @@ pub fn entropy(rest: &mut Rest<'_>, names: &Names) -> Result<Atom, Stop>
 /// A mutual information, after its `I`.
 #[tactic(auto, unfolding(crate::specs::LineForms::mutual_information, it_forms::specs::FormReading::read))]
 pub fn mutual_information(rest: &mut Rest<'_>, names: &Names) -> Result<Atom, Stop>
-    ensures { Gives result (letters_left rest.new) (read (forms.mutual_information (env_of names.now)) (letters_left rest.old)) }
+    ensures { Parses result (forms.mutual_information (env_of names.now)) rest.old rest.new }
 {
     symbol(rest, Symbol::LeftParen)?;
     let left = list(rest, names)?;

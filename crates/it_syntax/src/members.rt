@@ -1,8 +1,7 @@
 //! Readers of the members of chains and independences.
 ghost use Rattle.std.specs.Prelude.{◌≡◌, ◌++◌, [], ◌∷◌, OnOk, IfErr};
-ghost use Rattle.it_forms.specs.FormReading.{read};
 ghost use Rattle.it_syntax.specs.declared.rest.Stop.TheVariants.{Memory};
-ghost use Rattle.it_syntax.specs.Gives.{GivesBy, letters_left};
+ghost use Rattle.it_syntax.specs.Gives.{ParsesBy};
 ghost use Rattle.it_syntax.specs.LineForms as forms;
 ghost use Rattle.it_syntax.specs.Scopes.{env_of};
 
@@ -17,15 +16,12 @@ use it_space::VarSet;
 const MOST_MEMBERS: usize = 16;
 
 /// Puts a set after the others.
-pub fn add(sets: &mut Vec<VarSet>, set: VarSet) -> Result<(), Stop>
+fn add(sets: &mut Vec<VarSet>, set: VarSet) -> Result<(), Stop>
     ensures added { OnOk result (sets.new.items ≡ sets.old.items ++ set ∷ []) }
     ensures memory { IfErr result (λ e. e ≡ Memory) }
 {
-    // a match, since `?` makes no `Stop` of the error of `push`
-    match sets.push(set) {
-        Ok(()) => Ok(()),
-        Err(_) => Err(Stop::Memory),
-    }
+    sets.push(set)?;
+    Ok(())
 }
 
 /// The first members and further ones, each after a divider, 16 in all.
@@ -35,7 +31,7 @@ pub fn more_members(
     rest: &mut Rest<'_>,
     names: &Names,
 ) -> Result<Vec<VarSet>, Stop>
-    ensures { GivesBy (λ x. x.items) result (letters_left rest.new) (read (forms.more_members divider (env_of names.now) first.items) (letters_left rest.old)) }
+    ensures { ParsesBy (λ x. x.items) result (forms.more_members divider (env_of names.now) first.items) rest.old rest.new }
 {
     let mut found = first;
     while takes(rest, divider) {

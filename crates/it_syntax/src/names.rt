@@ -14,7 +14,6 @@ pub struct Names {
     rates: IndexSet<Vec<u8>>,
 }
 
-// written out, so that letting names go is one call, and not a step for each field of the two sets
 impl Drop for Names {
     fn drop(self) {
         let Names {

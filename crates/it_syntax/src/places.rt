@@ -1,6 +1,6 @@
 //! The columns of faults.
-ghost use Rattle.std.specs.Prelude.{◌≡◌, ◌≤◌, ◌-◌, length, drop};
-ghost use Rattle.it_syntax.specs.Lines.{column_after, column_of};
+ghost use Rattle.std.specs.Prelude.{◌≡◌, ◌≤◌, ◌-◌, length};
+ghost use Rattle.it_syntax.specs.Lines.{column_after, column_at};
 
 use crate::rest::Rest;
 
@@ -23,7 +23,7 @@ impl<'a> Rest<'a> {
     pub fn column(self, left: usize) -> u32
         requires short { length self.line.now ≤ 1048577 }
         requires within { left ≤ length self.tokens.now }
-        ensures { result ≡ column_of (drop (length self.entry.tokens.now - left) self.entry.tokens.now) (column_after self.entry.tokens.now self.entry.misspelling) }
+        ensures { result ≡ column_at (length self.entry.tokens.now - left) self.entry.tokens.now self.entry.misspelling }
     {
         let after = self.column_after();
         match self.tokens.split_at(self.tokens.len() - left).1 {

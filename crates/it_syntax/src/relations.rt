@@ -2,7 +2,7 @@
 ghost use Rattle.std.specs.Prelude.{◌≤◌, length, IfOk, IfErr};
 ghost use Rattle.it_forms.specs.FormReading.{read};
 ghost use Rattle.it_syntax.specs.Givens.{IsRelationOf};
-ghost use Rattle.it_syntax.specs.Gives.{GivesBy, GivesAll, letters_left};
+ghost use Rattle.it_syntax.specs.Gives.{ParsesBy, GivesAll, letters_left};
 ghost use Rattle.it_syntax.specs.LineForms as forms;
 ghost use Rattle.it_syntax.specs.Lines.{IsFirstFault};
 ghost use Rattle.it_syntax.specs.Meaning.{relation_view};
@@ -29,7 +29,7 @@ pub fn relation_part(
     names: &Names,
     rates: bool,
 ) -> Result<Relation, Stop>
-    ensures { GivesBy relation_view result (letters_left rest.new) (read (forms.relation (scope_of names.now rates)) (letters_left rest.old)) }
+    ensures { ParsesBy relation_view result (forms.relation (scope_of names.now rates)) rest.old rest.new }
 {
     let (left, multiple) = sum(alloc, MOST_TERMS, 1, rest, names, rates)?;
     let sign = compare(rest)?;

@@ -2,6 +2,7 @@
 ghost use Rattle.it_syntax.specs.Spans.{InLine, InLine-prop};
 
 use crate::types::{Code, Misspelling, Symbol, Token};
+use std::alloc::{AllocError, AllocFailed};
 
 /// A piece of a line: a token, a misspelling, or the line's end.
 #[derive(Clone, Copy)]
@@ -28,4 +29,26 @@ pub struct Rest<'a> {
 pub enum Stop {
     Memory,
     Fault(Code),
+}
+
+impl From<AllocError> for Stop {
+    ghost use Rattle.std.specs.Prelude.{◌≡◌};
+    ghost use Rattle.it_syntax.specs.declared.rest.Stop.TheVariants.{Memory};
+
+    ghost from_gives = { λ _ e. e ≡ Memory };
+
+    fn from(_error: AllocError) -> Stop {
+        Stop::Memory
+    }
+}
+
+impl<T: Drop> From<AllocFailed<T>> for Stop {
+    ghost use Rattle.std.specs.Prelude.{◌≡◌};
+    ghost use Rattle.it_syntax.specs.declared.rest.Stop.TheVariants.{Memory};
+
+    ghost from_gives = { λ _ e. e ≡ Memory };
+
+    fn from(_error: AllocFailed<T>) -> Stop {
+        Stop::Memory
+    }
 }

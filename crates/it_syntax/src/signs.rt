@@ -1,9 +1,8 @@
 //! Readers of signs and comparisons.
-ghost use Rattle.std.specs.Prelude.{◌≡◌, Some, None, MatchOption};
 ghost use Rattle.it_forms.specs.FormReading.{read, after};
-ghost use Rattle.it_syntax.specs.Gives.{Gives, letters_left};
+ghost use Rattle.it_syntax.specs.Gives.{Parses};
 ghost use Rattle.it_syntax.specs.LineForms as forms;
-ghost use Rattle.it_syntax.specs.ReaderSteps.{sign};
+ghost use Rattle.it_syntax.specs.ReaderSteps.{MayTake, sign};
 
 use crate::rest::{Piece, Rest, Stop};
 use crate::terminals::{symbol, takes};
@@ -11,7 +10,7 @@ use crate::types::{Sign, Symbol};
 
 /// Takes the sign that stands there, and says whether it is `-`; None where none stands there.
 pub fn sign(rest: &mut Rest<'_>) -> Option<bool>
-    ensures { MatchOption result ((after sign (letters_left rest.old) ≡ None) × (letters_left rest.new ≡ letters_left rest.old)) (λ negative. after sign (letters_left rest.old) ≡ Some ((None, negative), letters_left rest.new)) }
+    ensures { MayTake sign result rest.old rest.new }
 {
     match rest.front() {
         (Piece::Symbol(Symbol::Plus), after) => {
@@ -27,9 +26,9 @@ pub fn sign(rest: &mut Rest<'_>) -> Option<bool>
 }
 
 /// A `>=`, `<=` or `=`, which must stand there.
-#[tactic(auto, unfolding(crate::specs::LineForms::compare, it_forms::specs::FormReading::read), using(crate::proofs::Loops::taken_after, crate::proofs::Loops::other_after))]
+#[tactic(auto, unfolding(crate::specs::LineForms::compare, it_forms::specs::FormReading::read), using(crate::proofs::Loops::front_lemmas))]
 pub fn compare(rest: &mut Rest<'_>) -> Result<Sign, Stop>
-    ensures { Gives result (letters_left rest.new) (read forms.compare (letters_left rest.old)) }
+    ensures { Parses result forms.compare rest.old rest.new }
 {
     if takes(rest, Symbol::AtLeast) {
         Ok(Sign::AtLeast)

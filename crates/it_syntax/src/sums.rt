@@ -1,12 +1,12 @@
 //! Readers of sums of terms.
 //! A reader's result is matched where `?` would do: so each case is a goal of its own, with the reading's equation at hand.
-ghost use Rattle.std.specs.Prelude.{◌≡◌, ◌≤◌, ◌++◌, ℕ, [], ◌∷◌, OnOk, IfOk, IfErr};
+ghost use Rattle.std.specs.Prelude.{◌≡◌, ◌≤◌, ◌++◌, [], ◌∷◌, OnOk, IfOk, IfErr};
 ghost use Rattle.it_forms.specs.FormReading.{read};
-ghost use Rattle.it_number.specs.Gcd.{lcm};
 ghost use Rattle.it_syntax.specs.declared.rest.Stop.TheVariants.{Memory};
-ghost use Rattle.it_syntax.specs.Gives.{GivesBy, letters_left};
+ghost use Rattle.it_syntax.specs.Gives.{ParsesBy};
 ghost use Rattle.it_syntax.specs.LineForms as forms;
 ghost use Rattle.it_syntax.specs.Meaning.{multiple_from};
+ghost use Rattle.it_syntax.specs.ReaderSteps.{EachBefore, after_first};
 ghost use Rattle.it_syntax.specs.Scopes.{scope_of};
 
 use crate::atoms::allowed_term;
@@ -29,15 +29,13 @@ fn add(terms: &mut Vec<Term>, term: Term) -> Result<(), Stop>
         denominator,
         atom,
     } = term;
-    match terms.push(Term {
+    terms.push(Term {
         negative,
         number,
         denominator,
         atom,
-    }) {
-        Ok(()) => Ok(()),
-        Err(_) => Err(Stop::Memory),
-    }
+    })?;
+    Ok(())
 }
 
 /// The first term and further ones, `most` in all. `multiple` is the least common multiple of all denominators up to the first
@@ -52,8 +50,8 @@ fn more_terms(
     rates: bool,
 ) -> Result<(Vec<Term>, u64), Stop>
     requires some { 1 ≤ multiple }
-    ensures read { (m : ℕ) → multiple ≡ lcm m first.denominator → GivesBy (λ x. x.0.items) result (letters_left rest.new) (read (forms.more_terms most m (scope_of names.now rates) (first ∷ [])) (letters_left rest.old)) }
-    ensures multiple { IfOk result (λ x. (1 ≤ x.1) × ((m : ℕ) → multiple ≡ lcm m first.denominator → x.1 ≡ multiple_from m x.0.items)) }
+    ensures read { EachBefore multiple first (λ m. ParsesBy (λ x. x.0.items) result (after_first most m (scope_of names.now rates) first) rest.old rest.new) }
+    ensures multiple { IfOk result (λ x. (1 ≤ x.1) × EachBefore multiple first (λ m. x.1 ≡ multiple_from m x.0.items)) }
 {
     let mut found = Vec::new(alloc);
     add(&mut found, first)?;
@@ -83,7 +81,7 @@ fn terms(
     rates: bool,
 ) -> Result<(Vec<Term>, u64), Stop>
     requires some { 1 ≤ multiple }
-    ensures read { GivesBy (λ x. x.0.items) result (letters_left rest.new) (read (forms.terms most multiple (scope_of names.now rates) negative) (letters_left rest.old)) }
+    ensures read { ParsesBy (λ x. x.0.items) result (forms.terms most multiple (scope_of names.now rates) negative) rest.old rest.new }
     ensures multiple { IfOk result (λ x. (1 ≤ x.1) × (x.1 ≡ multiple_from multiple x.0.items)) }
 {
     match allowed_term(most, negative, multiple, rest, names, rates) {
@@ -94,7 +92,7 @@ fn terms(
 
 /// Reads a sum of one to `most` terms, after denominators whose least common multiple is `multiple`, and gives its terms with that of
 /// all denominators up to its end. `rates` says whether rates may stand there. The fault is the first, as `relation` tells it.
-#[tactic(auto, unfolding(crate::specs::LineForms::sum, it_forms::specs::FormReading::read), using(crate::proofs::Loops::taken_after, crate::proofs::Loops::other_after))]
+#[tactic(auto, unfolding(crate::specs::LineForms::sum, it_forms::specs::FormReading::read), using(crate::proofs::Loops::front_lemmas))]
 pub fn sum(
     alloc: Global,
     most: usize,
@@ -104,7 +102,7 @@ pub fn sum(
     rates: bool,
 ) -> Result<(Vec<Term>, u64), Stop>
     requires some { 1 ≤ multiple }
-    ensures read { GivesBy (λ x. x.0.items) result (letters_left rest.new) (read (forms.sum most multiple (scope_of names.now rates)) (letters_left rest.old)) }
+    ensures read { ParsesBy (λ x. x.0.items) result (forms.sum most multiple (scope_of names.now rates)) rest.old rest.new }
     ensures multiple { IfOk result (λ x. (1 ≤ x.1) × (x.1 ≡ multiple_from multiple x.0.items)) }
 {
     if takes(rest, Symbol::Plus) {

@@ -4,7 +4,7 @@ ghost use Rattle.std.specs.Prelude.{◌≡◌, Some, None};
 ghost use Rattle.it_forms.specs.Forms.{Take};
 ghost use Rattle.it_forms.specs.FormReading.{read, after};
 ghost use Rattle.it_forms.specs.Words as words;
-ghost use Rattle.it_syntax.specs.Gives.{Gives, GivesAll, letters_left};
+ghost use Rattle.it_syntax.specs.Gives.{Parses, GivesAll, letters_left};
 
 use crate::rest::{Piece, Rest, Stop};
 use crate::types::Symbol;
@@ -30,9 +30,9 @@ pub fn takes(rest: &mut Rest<'_>, symbol: Symbol) -> bool
 }
 
 /// A symbol that must stand there.
-#[tactic(auto, unfolding(it_forms::specs::FormReading::read), using(crate::proofs::Loops::taken_after, crate::proofs::Loops::other_after))]
+#[tactic(auto, unfolding(it_forms::specs::FormReading::read), using(crate::proofs::Loops::front_lemmas))]
 pub fn symbol(rest: &mut Rest<'_>, symbol: Symbol) -> Result<(), Stop>
-    ensures { Gives result (letters_left rest.new) (read (Take (words.symbol symbol)) (letters_left rest.old)) }
+    ensures { Parses result (Take (words.symbol symbol)) rest.old rest.new }
 {
     if takes(rest, symbol) {
         Ok(())
@@ -61,9 +61,9 @@ pub fn takes_word(rest: &mut Rest<'_>, word: &[u8]) -> bool
 }
 
 /// A word that must stand there.
-#[tactic(auto, unfolding(it_forms::specs::FormReading::read), using(crate::proofs::Loops::taken_after, crate::proofs::Loops::other_after))]
+#[tactic(auto, unfolding(it_forms::specs::FormReading::read), using(crate::proofs::Loops::front_lemmas))]
 pub fn word(rest: &mut Rest<'_>, word: &[u8]) -> Result<(), Stop>
-    ensures { Gives result (letters_left rest.new) (read (Take (words.word word.now)) (letters_left rest.old)) }
+    ensures { Parses result (Take (words.word word.now)) rest.old rest.new }
 {
     if takes_word(rest, word) {
         Ok(())

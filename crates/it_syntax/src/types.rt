@@ -111,7 +111,6 @@ pub struct Relation {
     pub right: Expr,
 }
 
-// written out, so that letting a relation go is one call
 impl Drop for Relation {
     fn drop(self) {
         let Relation {
@@ -131,7 +130,6 @@ pub enum Given {
     Function { value: VarSet, argument: VarSet },
 }
 
-// written out, so that letting a constraint go is one call, and not a step for each field of each variant
 impl Drop for Given {
     fn drop(self) {
         match self {

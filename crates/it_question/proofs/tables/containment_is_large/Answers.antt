@@ -27,11 +27,11 @@ is_large-requires c =
     let space = subst IsSpace same (region_space c.args.names.now first c.requires.space c.requires.region) in
     let givens = subst (λ (s : Space). All (IsGivenOf s.variables) (own.givens ++ first.lines.givens)) same
     (All-append (IsGivenOf (length first.names.variables)) own.givens first.lines.givens (region_givens c.args.names.now first own.givens c.requires.region c.requires.lines.givens) c.requires.region.lines.givens) in
-    lines_problem c.space-space.result (lines_with own first) c.in-Ok.constraints.items space givens
-    (omega (arith, length-append own.givens first.lines.givens, c.requires.lines.few_givens, c.requires.region.lines.few_givens)) (omega (arith, length-append own.rows first.lines.rows, c.requires.lines.few_rows, c.requires.region.lines.few_rows)) c.in-Ok.ensures
+    lines_problem c.space-space.result (lines_with own first) c.in_ok-constraints.constraints.items space givens
+    (omega (arith, length-append own.givens first.lines.givens, c.requires.lines.few_givens, c.requires.region.lines.few_givens)) (omega (arith, length-append own.rows first.lines.rows, c.requires.lines.few_rows, c.requires.region.lines.few_rows)) c.in_ok-constraints.ensures
 
-pub returns-in_ok-large-in-Ok-clause-large : goal.returns-in_ok-large-in-Ok-clause-large
-returns-in_ok-large-in-Ok-clause-large c = space_flag c.space-space.result c.args.first.now.names (lines_with (own_lines_view c.args.lines.now) (region_view c.args.first.now)) c.in-Ok.constraints.items c.in_ok-large-in-Ok.large c.space-space.ensures.counts c.in-Ok.ensures c.in_ok-large-in-Ok.ensures.large
+pub returns-clause-large : goal.returns-clause-large
+returns-clause-large c = space_flag c.space-space.result c.args.first.now.names (lines_with (own_lines_view c.args.lines.now) (region_view c.args.first.now)) c.in_ok-constraints.constraints.items c.in_ok-large.large c.space-space.ensures.counts c.in_ok-constraints.ensures c.in_ok-large.ensures.large
 
 pub returns-then-space-le-MOST_SMALL-clause-large : goal.returns-then-space-le-MOST_SMALL-clause-large
 returns-then-space-le-MOST_SMALL-clause-large c =

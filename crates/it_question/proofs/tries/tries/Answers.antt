@@ -13,9 +13,9 @@ pub returns-then-auxiliaries-eq0 : goal.returns-then-auxiliaries-eq0
 unfolding more_tries
 returns-then-auxiliaries-eq0 c = word_flagged (codes "try") _ (λ ts. try_line _ _ _) (λ ts t. ts ++ t ∷ []) c.loop-after.found.items (letters_left c.loop-after.cursor) _ c.loop-after.invariant Word _ (no_auxiliary c.args.auxiliaries c.loop-after.found.items c.if-auxiliaries-eq0.true) c.in-Some.ensures.found
 
-pub returns-then-len-ge-MOST_TRIES : goal.returns-then-len-ge-MOST_TRIES
+pub returns-then-len-ge-MOST_LINES : goal.returns-then-len-ge-MOST_LINES
 unfolding more_tries
-returns-then-len-ge-MOST_TRIES c = word_flagged (codes "try") _ (λ ts. try_line _ _ _) (λ ts t. ts ++ t ∷ []) c.loop-after.found.items (letters_left c.loop-after.cursor) _ c.loop-after.invariant Many _ (no_more_tries c.args.auxiliaries c.loop-after.found.items c.if-auxiliaries-eq0.false (omega (arith, c.len.ensures, c.if-len-ge-MOST_TRIES.true))) c.in-Some.ensures.found
+returns-then-len-ge-MOST_LINES c = word_flagged (codes "try") _ (λ ts. try_line _ _ _) (λ ts t. ts ++ t ∷ []) c.loop-after.found.items (letters_left c.loop-after.cursor) _ c.loop-after.invariant Many _ (no_more_tries c.args.auxiliaries c.loop-after.found.items c.if-auxiliaries-eq0.false (omega (arith, c.len.ensures, c.if-len-ge-MOST_LINES.true))) c.in-Some.ensures.found
 
 pub loop-after-smaller : goal.loop-after-smaller
 loop-after-smaller c = rest_is_shorter (word (codes "try")) _ _ _ _ _ _ c.in-Some.ensures.found c.in-Ok.ensures
@@ -23,13 +23,13 @@ loop-after-smaller c = rest_is_shorter (word (codes "try")) _ _ _ _ _ _ c.in-Som
 pub loop-after-preserved : goal.loop-after-preserved
 unfolding more_tries
 loop-after-preserved c =
-    let free = try_allowed c.args.auxiliaries c.loop-after.found.items c.if-auxiliaries-eq0.false (λ e. omega (arith, c.len.ensures, c.if-len-ge-MOST_TRIES.false, e)) in
+    let free = try_allowed c.args.auxiliaries c.loop-after.found.items c.if-auxiliaries-eq0.false (λ e. omega (arith, c.len.ensures, c.if-len-ge-MOST_LINES.false, e)) in
     rw c.in_ok-add-in-Ok.ensures.added (word_goes (codes "try") _ (λ ts. try_line _ _ _) (λ ts t. ts ++ t ∷ []) c.loop-after.found.items (letters_left c.loop-after.cursor) _ c.loop-after.invariant c.in-Ok.next _ _ free c.in-Some.ensures.found c.in-Ok.ensures)
 
 pub returns-in-Err : goal.returns-in-Err
 unfolding more_tries
 returns-in-Err c =
-    let free = try_allowed c.args.auxiliaries c.loop-after.found.items c.if-auxiliaries-eq0.false (λ e. omega (arith, c.len.ensures, c.if-len-ge-MOST_TRIES.false, e)) in
+    let free = try_allowed c.args.auxiliaries c.loop-after.found.items c.if-auxiliaries-eq0.false (λ e. omega (arith, c.len.ensures, c.if-len-ge-MOST_LINES.false, e)) in
     word_stops (codes "try") _ (λ ts. try_line _ _ _) (λ ts t. ts ++ t ∷ []) c.loop-after.found.items (letters_left c.loop-after.cursor) _ c.loop-after.invariant c.in-Err.stop _ _ free c.in-Some.ensures.found c.in-Err.ensures
 
 pub returns : goal.returns
