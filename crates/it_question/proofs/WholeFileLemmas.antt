@@ -5,7 +5,7 @@ use Rattle.std.proofs.lemmas.List.{append-nil}
 use Rattle.std.proofs.lemmas.Option.{slice_get-get_or}
 use Rattle.it_forms.specs.declared.types.Code.{Code}
 use Rattle.it_forms.specs.Letters.{Letter, End, Bad, FlaggedLetters, letters, without_flags}
-use Rattle.it_forms.specs.FirstFault.{FirstFault}
+use Rattle.it_forms.specs.FirstFault.{FirstFault, FlaggedAt}
 use Rattle.it_forms.specs.Forms.{Form, Spells}
 use Rattle.it_forms.specs.FormReading.{read}
 use Rattle.it_forms.specs.FormTexts.{Says, IsFirstFault}
@@ -156,8 +156,7 @@ whole_or_fault spell value bytes y line column c f g =
     let lines : f.lines ≡ g.lines = lines_are_one 1 (split_lines bytes) f.lines g.lines f.cut g.cut in
     let ls = letters_of_lines g.lines in
     let spelled : spell f.tree ≡ without_flags ls = f.spelled ∙ ap (λ (ls : List LineView). without_flags (letters_of_lines ls)) lines in
-    let k = g.first.each f.tree g.left refl (ap letters spelled ∙ letters_cleaned ls ∙ g.first.parts) in
-    clean_is_clean ls g.first.prefix c (k.0, k.1, sym spelled ∙ k.2)
+    clean_is_clean ls g.first.prefix c (subst (λ (m : FlaggedLetters). FlaggedAt m g.first.prefix c) spelled (g.first.each f.tree g.left refl (ap letters spelled ∙ letters_cleaned ls ∙ g.first.parts)))
 
 -- ---- a file of at most 1,048,577 bytes has few letters
 

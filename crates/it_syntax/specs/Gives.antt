@@ -23,10 +23,6 @@ abbrev pub GivesBy : {X Y : Type 0} → (X → Y) → Result X Stop → List Let
 GivesBy view (Ok x) rest read = read ≡ Ok (view x, rest)
 GivesBy view (Err e) rest read = StopsAs e rest read
 
--- it gave what reading gives, and left `rest`
-abbrev pub Gives : {X : Type 0} → Result X Stop → List Letter → Reads X → Type 0
-Gives result rest read = GivesBy (λ x. x) result rest read
-
 -- from `before` on it gave what the form reads, seen by a view, and left `rest`
 abbrev pub ParsesBy : {X Y : Type 0} → (X → Y) → Result X Stop → Form Y → Rest → Rest → Type 0
 ParsesBy view result f before rest = GivesBy view result (letters_left rest) (read f (letters_left before))
