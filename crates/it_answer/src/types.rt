@@ -30,7 +30,6 @@ pub struct AnsweredProblem {
     pub answer: Answer,
 }
 
-// written out, so that letting it go is one call, and not a step for each field below
 impl Drop for AnsweredProblem {
     fn drop(self) {
         let AnsweredProblem {

@@ -38,21 +38,33 @@ IsLarge q = 4000000 < third_rows q * third_columns q
 
 -- ---- the scaled answers
 
--- the row of num times the left side less den times the right one, over so many coordinates
-unfoldable pub factor_row : ℕ → Terms → Terms → ℤ → ℤ → Terms
-factor_row size left right num den = terms_from 1 (map (λ c. num *ℤ coefficient left c -ℤ den *ℤ coefficient right c) (span 1 size))
+-- the coefficient at c of a factor's numerator times the left side less its denominator times the right one
+abbrev pub factor_coefficient : Terms → Terms → Rational → ℕ → ℤ
+factor_coefficient left right factor c = factor.num *ℤ coefficient left c -ℤ pos factor.den *ℤ coefficient right c
 
--- two products and their difference are within the limit
-pub record DifferenceOfProductsFits (a x b y : ℤ) : Type 0 where
-  pub left : IsWithin (a *ℤ x)
-  pub right : IsWithin (b *ℤ y)
-  pub difference : IsWithin (a *ℤ x -ℤ b *ℤ y)
+-- it and its two products are within the limit
+pub record CoefficientFits (left right : Terms) (factor : Rational) (c : ℕ) : Type 0 where
+  pub left_times : IsWithin (factor.num *ℤ coefficient left c)
+  pub right_times : IsWithin (pos factor.den *ℤ coefficient right c)
+  pub difference : IsWithin (factor_coefficient left right factor c)
 
--- the numbers of a factor's certificate are within the limit: the scaled weights, the row, and what the check forms
+-- the row of these coefficients, over so many coordinates
+unfoldable pub factor_row : ℕ → Terms → Terms → Rational → Terms
+factor_row size left right factor = terms_from 1 (map (factor_coefficient left right factor) (span 1 size))
+
+-- its coefficients are formed within the limit
+abbrev pub RowFits : ℕ → Terms → Terms → Rational → Type 0
+RowFits size left right factor = (c : ℕ) → 1 ≤ c → c ≤ size → CoefficientFits left right factor c
+
+-- the numbers of a row's certificate by weights over a denominator are within the limit: the scaled weights, and what the check forms
+pub record ProofFits (q : ProblemView) (row : Terms) (den : ℤ) (weights : List Rational) : Type 0 where
+  pub scaled : WeightsFit den weights
+  pub check : CertificateFits q row (weights_certificate den weights)
+
+-- those of a factor's certificate are, and its row is
 pub record FactorFits (q : ProblemView) (left right : Terms) (factor : Rational) (weights : List Rational) : Type 0 where
-  pub scaled : WeightsFit (pos factor.den) weights
-  pub row : (c : ℕ) → 1 ≤ c → c ≤ size_of q.space → DifferenceOfProductsFits factor.num (coefficient left c) (pos factor.den) (coefficient right c)
-  pub check : CertificateFits q (factor_row (size_of q.space) left right factor.num (pos factor.den)) (weights_certificate (pos factor.den) weights)
+  pub row : RowFits (size_of q.space) left right factor
+  pub proof : ProofFits q (factor_row (size_of q.space) left right factor) (pos factor.den) weights
 
 -- the values of each generator and of both sides at a point are formed within the limit
 pub record SidesFit (q : ProblemView) (left right : Terms) (values : List ℤ) : Type 0 where
@@ -115,8 +127,7 @@ module _ (q : ProblemView) (left right : Terms) where
     pub differences : DifferencesFit 0 first (column_weight ws)
     pub factor : FactorFits q left right (factor_by first ws) (weights_by first ws)
     pub below_differences : DifferencesFit 0 (generators q) (column_weight below)
-    pub below_scaled : WeightsFit (pos 1) (numbers (generators q) below)
-    pub below_check : CertificateFits q (negated_terms left) (weights_certificate (pos 1) (numbers (generators q) below))
+    pub below_proof : ProofFits q (negated_terms left) (pos 1) (numbers (generators q) below)
 
   -- the factor and both certificates, by the weights of the first phase and of the second
   abbrev pub unbounded_view : List (ℕ × Rational) → List (ℕ × Rational) → BestView

@@ -1,9 +1,9 @@
--- What the contracts between the phases speak of; no public clause cites it.
-use Rattle.std.specs.Prelude.{◌≡◌, ℕ, ◌+◌, ◌≤◌, ℤ, pos, neg_ℤ, ◌-ℤ◌, ◌*ℤ◌, List, length, map, Option}
+-- No public clause cites this module: what the contracts between the phases speak of.
+use Rattle.std.specs.Prelude.{◌≡◌, ℕ, ◌+◌, ℤ, pos, neg_ℤ, List, length, map, Option}
 use Rattle.it_rational.specs.Rational.{Rational, plus, minus}
 use Rattle.it_space.specs.declared.problems.Kind.{Kind}
 use Rattle.it_space.specs.Problems.{ProblemView, IsProblem}
-use Rattle.it_space.specs.Rows.{Terms, IsUpTo, coefficient, map_of, negated_terms, value}
+use Rattle.it_space.specs.Rows.{Terms, IsUpTo, map_of, negated_terms, value}
 use Rattle.it_space.specs.Spaces.{size_of}
 use Rattle.it_polymatroid.specs.Certificates.{IsCertificate}
 use Rattle.it_polymatroid.specs.Elementals.{span}
@@ -14,13 +14,12 @@ use Rattle.it_run.specs.Readings.{Separates, SumsUp}
 use Rattle.it_run.specs.Runs.{RunEndView}
 use Rattle.it_run.specs.declared.answering.Solved.{Solved}
 use Rattle.it_simplex.specs.Answers.{IsRightSolved}
-use Rattle.it_check.specs.Meaning.{CertificateFits}
 use Rattle.it_columns.specs.Columns.{columns, number_by}
 use Rattle.it_columns.specs.Scaling.{scaled_point}
 use Rattle.it_best.specs.BestViews.{BestView, Never}
-use Rattle.it_best.specs.Ends.{DifferenceOfProductsFits, FirstFollows, NeverFits, OrScale, PhaseEnds, ThirdFollows, UnboundedFits, first, third, unbounded_view}
+use Rattle.it_best.specs.Ends.{FirstFollows, NeverFits, OrScale, PhaseEnds, ThirdFollows, UnboundedFits, first, third, unbounded_view}
 use Rattle.it_best.specs.Factors.{IsFactor, ground_of}
-use Rattle.it_best.specs.Numbers.{WeightsFit, column_weight, weights_certificate}
+use Rattle.it_best.specs.Numbers.{column_weight, weights_certificate}
 use Rattle.it_best.specs.Phases.{coordinate_unknown, right_equation, slacks, third_target}
 
 -- a problem, and the sides of a relation as rows over its coordinates
@@ -66,13 +65,26 @@ module _ (q : ProblemView) (right : Terms) (us : List Generator) where
   abbrev pub ThirdIsRight : Solved → Type 0
   ThirdIsRight solved = PhaseIsRight (last_equation q) us (last_target q right) solved
 
-  -- weights sum to the target
-  abbrev pub ThirdSums : List (ℕ × Rational) → Type 0
-  ThirdSums ws = PhaseSums (last_equation q) us (last_target q right) ws
-
   -- no point separates the target from the columns
   abbrev pub HasNoThirdPoint : Type 0
   HasNoThirdPoint = (qs : List Rational) → PhaseSeparates (last_equation q) us (last_target q right) qs → ⊥
+
+-- ---- the phases that end by weights: their unknowns, as the code has them, and weights of these that sum to their targets
+
+-- those of the first phase
+pub record FirstSums (q : ProblemView) (left right : Terms) (us : List Generator) (ws : List (ℕ × Rational)) : Type 0 where
+  pub unknowns : us ≡ first q left right
+  pub sums : PhaseSums (size_of q.space) (first q left right) right ws
+
+-- those of the second
+pub record SecondSums (q : ProblemView) (left : Terms) (us : List Generator) (ws : List (ℕ × Rational)) : Type 0 where
+  pub unknowns : us ≡ generators q
+  pub sums : PhaseSums (size_of q.space) (generators q) (negated_terms left) ws
+
+-- those of the third
+pub record ThirdSums (q : ProblemView) (left right : Terms) (us : List Generator) (ws : List (ℕ × Rational)) : Type 0 where
+  pub unknowns : us ≡ third q left right
+  pub sums : PhaseSums (last_equation q) (third q left right) (last_target q right) ws
 
 -- ---- the answers that are left to be found
 
@@ -113,26 +125,6 @@ all_slacks q = slacks (size_of q.space + 1) (generators q)
 
 -- ---- the certificates and the points
 
--- the coefficient at c of num times the left side less den times the right one
-abbrev pub factor_coefficient : Terms → Terms → ℤ → ℤ → ℕ → ℤ
-factor_coefficient left right num den c = num *ℤ coefficient left c -ℤ den *ℤ coefficient right c
-
--- it and its two products are within the limit
-abbrev pub CoefficientFits : Terms → Terms → ℤ → ℤ → ℕ → Type 0
-CoefficientFits left right num den c = DifferenceOfProductsFits num (coefficient left c) den (coefficient right c)
-
--- that of a factor, a fraction
-abbrev pub coefficient_at : Terms → Terms → Rational → ℕ → ℤ
-coefficient_at left right x c = factor_coefficient left right x.num (pos x.den) c
-
--- it and its two products are within the limit
-abbrev pub FitsAt : Terms → Terms → Rational → ℕ → Type 0
-FitsAt left right x c = CoefficientFits left right x.num (pos x.den) c
-
--- those at all coordinates from 1 on are
-abbrev pub RowFits : ℕ → Terms → Terms → Rational → Type 0
-RowFits size left right x = (c : ℕ) → 1 ≤ c → c ≤ size → FitsAt left right x c
-
 -- weights of the generators certify a factor
 abbrev pub CertifyFactor : ProblemView → Terms → Terms → Rational → List Rational → Type 0
 CertifyFactor q left right x ws = IsFactor (ground_of q) (value left) (value right) x.num (pos x.den) (weights_certificate (pos x.den) ws)
@@ -140,10 +132,6 @@ CertifyFactor q left right x ws = IsFactor (ground_of q) (value left) (value rig
 -- they certify that the left side is at most 0
 abbrev pub CertifyBelow : ProblemView → Terms → List Rational → Type 0
 CertifyBelow q left ws = IsCertificate (size_of q.space + 1) (generators_of q) (λ p. neg_ℤ (value left p)) (weights_certificate (pos 1) ws)
-
--- the numbers of that certificate and of its check are within the limit
-abbrev pub BelowFits : ProblemView → Terms → List Rational → Type 0
-BelowFits q left ws = WeightsFit (pos 1) ws × CertificateFits q (negated_terms left) (weights_certificate (pos 1) ws)
 
 -- the values of both sides at a point
 abbrev pub side_values : Terms → Terms → List ℤ → ℤ × ℤ

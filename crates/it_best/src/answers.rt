@@ -1,14 +1,12 @@
 //! The answers by the numbers of the phases, where these fit.
 ghost use Rattle.std.specs.Prelude.{◌≡◌, IfErr, IfOk, OnOk};
 ghost use Rattle.it_space.specs.Problems.{problem_view};
-ghost use Rattle.it_space.specs.Rows.{negated_terms};
 ghost use Rattle.it_space.specs.Spaces.{size_of};
 ghost use Rattle.it_run.specs.Runs.RunEndView.{Weights};
-ghost use Rattle.it_elemental.specs.Generators.{generators};
 ghost use Rattle.it_best.specs.BestViews.{best_view};
-ghost use Rattle.it_best.specs.Ends.{LeastFits, ThirdFollows, UnboundedFits, first, least_view, third, unbounded_view};
+ghost use Rattle.it_best.specs.Ends.{LeastFits, ThirdFollows, UnboundedFits, first, least_view, unbounded_view};
 ghost use Rattle.it_best.specs.Phases.{unknown_views};
-ghost use Rattle.it_best.specs.PhaseSteps.{AreSides, FollowsPoint, FollowsWeights, PhaseSeparates, PhaseSums, ThirdSums};
+ghost use Rattle.it_best.specs.PhaseSteps.{AreSides, FirstSums, FollowsPoint, FollowsWeights, PhaseSeparates, SecondSums, ThirdSums};
 
 use crate::judging::{below_proof, factor_proof, least_point, never_point};
 use crate::numbers::{factor_of, numbers, values_of, weights_of};
@@ -48,8 +46,7 @@ fn least_answer(
     weights: &[(usize, Fraction)],
 ) -> Result<Best, RowFault>
     requires sides { AreSides (problem_view problem.now) left.now right.now }
-    requires unknowns { unknown_views unknowns.now ≡ third (problem_view problem.now) left.now right.now }
-    requires sums { ThirdSums (problem_view problem.now) right.now (third (problem_view problem.now) left.now right.now) weights.now }
+    requires third { ThirdSums (problem_view problem.now) left.now right.now (unknown_views unknowns.now) weights.now }
     ensures value { IfOk result (λ b. best_view b ≡ least_view (problem_view problem.now) left.now right.now weights.now) }
     ensures fits { OnOk result (LeastFits (problem_view problem.now) left.now right.now weights.now) }
     ensures wide { IfErr result (λ f. f ≡ RowFault.Wide → ¬ (LeastFits (problem_view problem.now) left.now right.now weights.now)) }
@@ -91,8 +88,7 @@ pub fn least(
     weights: &[(usize, Fraction)],
 ) -> Result<Best, AllocError>
     requires sides { AreSides (problem_view problem.now) left.now right.now }
-    requires unknowns { unknown_views unknowns.now ≡ third (problem_view problem.now) left.now right.now }
-    requires sums { ThirdSums (problem_view problem.now) right.now (third (problem_view problem.now) left.now right.now) weights.now }
+    requires third { ThirdSums (problem_view problem.now) left.now right.now (unknown_views unknowns.now) weights.now }
     ensures { IfOk result (λ b. ThirdFollows (problem_view problem.now) left.now right.now (Weights weights.now) (best_view b)) }
 {
     match least_answer(alloc, problem, left, right, unknowns, weights) {
@@ -114,10 +110,8 @@ fn unbounded_answer(
     below: &[(usize, Fraction)],
 ) -> Result<Best, RowFault>
     requires sides { AreSides (problem_view problem.now) left.now right.now }
-    requires unknowns { unknown_views unknowns.now ≡ first (problem_view problem.now) left.now right.now }
-    requires sums { PhaseSums (size_of problem.now.space) (first (problem_view problem.now) left.now right.now) right.now weights.now }
-    requires others { unknown_views others.now ≡ generators (problem_view problem.now) }
-    requires below { PhaseSums (size_of problem.now.space) (generators (problem_view problem.now)) (negated_terms left.now) below.now }
+    requires first { FirstSums (problem_view problem.now) left.now right.now (unknown_views unknowns.now) weights.now }
+    requires second { SecondSums (problem_view problem.now) left.now (unknown_views others.now) below.now }
     ensures value { IfOk result (λ b. best_view b ≡ unbounded_view (problem_view problem.now) left.now right.now weights.now below.now) }
     ensures fits { OnOk result (UnboundedFits (problem_view problem.now) left.now right.now weights.now below.now) }
     ensures wide { IfErr result (λ f. f ≡ RowFault.Wide → ¬ (UnboundedFits (problem_view problem.now) left.now right.now weights.now below.now)) }
@@ -155,10 +149,8 @@ pub fn unbounded(
     below: &[(usize, Fraction)],
 ) -> Result<Best, AllocError>
     requires sides { AreSides (problem_view problem.now) left.now right.now }
-    requires unknowns { unknown_views unknowns.now ≡ first (problem_view problem.now) left.now right.now }
-    requires sums { PhaseSums (size_of problem.now.space) (first (problem_view problem.now) left.now right.now) right.now weights.now }
-    requires others { unknown_views others.now ≡ generators (problem_view problem.now) }
-    requires below { PhaseSums (size_of problem.now.space) (generators (problem_view problem.now)) (negated_terms left.now) below.now }
+    requires first { FirstSums (problem_view problem.now) left.now right.now (unknown_views unknowns.now) weights.now }
+    requires second { SecondSums (problem_view problem.now) left.now (unknown_views others.now) below.now }
     ensures { IfOk result (λ b. FollowsWeights (problem_view problem.now) left.now right.now weights.now below.now (best_view b)) }
 {
     match unbounded_answer(

@@ -10,7 +10,7 @@ ghost use Rattle.it_best.specs.BestViews.{best_view};
 ghost use Rattle.it_best.specs.Ends.{EndsWith, FirstFollows, PhaseEnds, SecondFollows, ThirdFollows, first, third};
 ghost use Rattle.it_best.specs.Factors.{IsRightBest, ground_of};
 ghost use Rattle.it_best.specs.Phases.{unknown_views};
-ghost use Rattle.it_best.specs.PhaseSteps.{AreSides, FollowsPhases, FollowsThird, HasNoThirdPoint, PhaseIsRight, PhaseSums, ThirdEnds, ThirdIsRight};
+ghost use Rattle.it_best.specs.PhaseSteps.{AreSides, FirstSums, FollowsPhases, FollowsThird, HasNoThirdPoint, PhaseIsRight, ThirdEnds, ThirdIsRight};
 
 use crate::answers::{least, never, unbounded};
 use crate::sizes::is_large;
@@ -131,8 +131,7 @@ fn second_answer(
     budget: Budget,
 ) -> Result<Best, AllocError>
     requires sides { AreSides (problem_view problem.now) left.now right.now }
-    requires unknowns { unknown_views unknowns.now ≡ first (problem_view problem.now) left.now right.now }
-    requires sums { PhaseSums (size_of problem.now.space) (first (problem_view problem.now) left.now right.now) right.now weights.now }
+    requires first { FirstSums (problem_view problem.now) left.now right.now (unknown_views unknowns.now) weights.now }
     requires others { unknown_views others.now ≡ generators (problem_view problem.now) }
     requires end { PhaseIsRight (size_of problem.now.space) (generators (problem_view problem.now)) (negated_terms left.now) end.now }
     ensures { IfOk result (λ b. SecondFollows (problem_view problem.now) left.now right.now budget weights.now (end_of_answer end.now) (best_view b)) }
@@ -187,8 +186,7 @@ fn by_second_phase(
     budget: Budget,
 ) -> Result<Best, AllocError>
     requires sides { AreSides (problem_view problem.now) left.now right.now }
-    requires unknowns { unknown_views unknowns.now ≡ first (problem_view problem.now) left.now right.now }
-    requires sums { PhaseSums (size_of problem.now.space) (first (problem_view problem.now) left.now right.now) right.now weights.now }
+    requires first { FirstSums (problem_view problem.now) left.now right.now (unknown_views unknowns.now) weights.now }
     ensures { IfOk result (λ b. FirstFollows (problem_view problem.now) left.now right.now budget (Weights weights.now) (best_view b)) }
 {
     let others = second_phase(alloc, problem)?;

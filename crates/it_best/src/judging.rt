@@ -3,14 +3,14 @@ ghost use Rattle.std.specs.Prelude.{◌≡◌, ◌<◌, ◌^◌, ◌++◌, ◌*�
 ghost use Rattle.it_number.specs.Limit.{IsWithin};
 ghost use Rattle.it_space.specs.Answers.{certificate_view};
 ghost use Rattle.it_space.specs.Problems.{IsProblem, problem_view};
-ghost use Rattle.it_space.specs.Rows.{IsUpTo, ValueFits, map_of, single_term, value};
+ghost use Rattle.it_space.specs.Rows.{IsUpTo, ValueFits, map_of, negated_terms, single_term, value};
 ghost use Rattle.it_space.specs.Spaces.{size_of};
 ghost use Rattle.it_check.specs.Meaning.{CertificateFits, CertifiesRow, PointFits};
 ghost use Rattle.it_columns.specs.Scaling.{scaled_point};
-ghost use Rattle.it_best.specs.Ends.{FactorFits, LeastPointFits, NeverFits, factor_row};
+ghost use Rattle.it_best.specs.Ends.{CoefficientFits, FactorFits, LeastPointFits, NeverFits, ProofFits, RowFits, factor_coefficient, factor_row};
 ghost use Rattle.it_best.specs.Factors.{HasNoFactor, IsPoint, ground_of};
 ghost use Rattle.it_best.specs.Numbers.{weights_certificate};
-ghost use Rattle.it_best.specs.PhaseSteps.{AreSides, BelowFits, CertifyBelow, CertifyFactor, CoefficientFits, RowFits, FitsAt, coefficient_at, factor_coefficient, side_values};
+ghost use Rattle.it_best.specs.PhaseSteps.{AreSides, CertifyBelow, CertifyFactor, side_values};
 
 use crate::numbers::{certificate, turned_point, whole_point};
 use it_check::{Verdict, check_no, check_yes};
@@ -19,18 +19,17 @@ use it_fraction::{Fraction, Wide, difference, signed_product};
 use it_space::{Certificate, Point, Problem, Row, RowFault, value};
 use std::alloc::Global;
 
-/// A coefficient of `num` times the left side less `den` times the right one.
+/// A coefficient of a factor's numerator times the left side less its denominator times the right one.
 fn factor_coefficient(
     left: &Row,
     right: &Row,
-    num: i128,
-    den: i128,
+    factor: &Fraction,
     coordinate: u32,
 ) -> Result<i128, Wide>
-    ensures { OkIff result (CoefficientFits left.now right.now num den coordinate) (factor_coefficient left.now right.now num den coordinate) }
+    ensures { OkIff result (CoefficientFits left.now right.now factor.now coordinate) (factor_coefficient left.now right.now factor.now coordinate) }
 {
-    let above = signed_product(num, left.coefficient(coordinate))?;
-    let below = signed_product(den, right.coefficient(coordinate))?;
+    let above = signed_product(factor.num(), left.coefficient(coordinate))?;
+    let below = signed_product(factor.den(), right.coefficient(coordinate))?;
     difference(above, below)
 }
 
@@ -42,11 +41,11 @@ fn push_coefficient(
     factor: &Fraction,
     coordinate: u32,
 ) -> Result<(), RowFault>
-    ensures value { OnOk result (terms.new.items ≡ terms.old.items ++ single_term coordinate (coefficient_at left.now right.now factor.now coordinate)) }
-    ensures fits { OnOk result (FitsAt left.now right.now factor.now coordinate) }
-    ensures wide { IfErr result (λ f. f ≡ RowFault.Wide → ¬ (FitsAt left.now right.now factor.now coordinate)) }
+    ensures value { OnOk result (terms.new.items ≡ terms.old.items ++ single_term coordinate (factor_coefficient left.now right.now factor.now coordinate)) }
+    ensures fits { OnOk result (CoefficientFits left.now right.now factor.now coordinate) }
+    ensures wide { IfErr result (λ f. f ≡ RowFault.Wide → ¬ (CoefficientFits left.now right.now factor.now coordinate)) }
 {
-    let coefficient = factor_coefficient(left, right, factor.num(), factor.den(), coordinate)?;
+    let coefficient = factor_coefficient(left, right, factor, coordinate)?;
     match push_some(terms, coordinate, coefficient) {
         Ok(()) => Ok(()),
         Err(_) => Err(RowFault::Memory),
@@ -63,7 +62,7 @@ fn factor_row(
     factor: &Fraction,
 ) -> Result<Row, RowFault>
     requires { IsProblem (problem_view problem.now) }
-    ensures value { IfOk result (λ r. r ≡ factor_row (size_of problem.now.space) left.now right.now factor.now.num (pos factor.now.den)) }
+    ensures value { IfOk result (λ r. r ≡ factor_row (size_of problem.now.space) left.now right.now factor.now) }
     ensures fits { OnOk result (RowFits (size_of problem.now.space) left.now right.now factor.now) }
     ensures wide { IfErr result (λ f. f ≡ RowFault.Wide → ¬ (RowFits (size_of problem.now.space) left.now right.now factor.now)) }
 {
@@ -123,8 +122,8 @@ pub fn below_proof(
     requires few { length weights.now < 2 ^ 32 }
     requires certified { CertifyBelow (problem_view problem.now) left.now weights.now }
     ensures value { IfOk result (λ c. certificate_view c ≡ weights_certificate (pos 1) weights.now) }
-    ensures fits { OnOk result (BelowFits (problem_view problem.now) left.now weights.now) }
-    ensures wide { IfErr result (λ f. f ≡ RowFault.Wide → ¬ (BelowFits (problem_view problem.now) left.now weights.now)) }
+    ensures fits { OnOk result (ProofFits (problem_view problem.now) (negated_terms left.now) (pos 1) weights.now) }
+    ensures wide { IfErr result (λ f. f ≡ RowFault.Wide → ¬ (ProofFits (problem_view problem.now) (negated_terms left.now) (pos 1) weights.now)) }
 {
     let proof = certificate(alloc, weights, 1)?;
     let row = opposite_row(alloc, left)?;

@@ -15,7 +15,6 @@ pub struct Unknown {
     pub row: Row,
 }
 
-// written out, so that letting an unknown go is one call
 impl Drop for Unknown {
     fn drop(self) {
         let Unknown { kind: _, row: _ } = self;

@@ -1,5 +1,5 @@
 -- What is written of an answer reads back.
-use Rattle.std.proofs.Common.{◌≡◌, ℕ, ◌+◌, ◌<◌, ◌≤◌, ◌^◌, ◌==◌, ◌&&◌, ℤ, not, unsigned_abs, List, [], ◌∷◌, length, map, filter, refl, ap, ◌∙◌, Option, Some, None, Ok, option_and_then, option_map, Bool, true, false, cond, nat_le, nat_lt, rules, arith, codes, eq-eqb, decimal, if◌then◌else◌}
+use Rattle.std.proofs.Common.{◌≡◌, ℕ, ◌+◌, ◌<◌, ◌≤◌, ◌^◌, ◌==◌, ◌&&◌, ℤ, not, unsigned_abs, List, [], ◌∷◌, length, map, filter, refl, ap, ◌∙◌, Option, Some, None, Ok, option_and_then, option_map, Bool, true, false, cond, nat_le, nat_lt, rules, arith, codes, eq-eqb, decimal}
 use Rattle.std.specs.Prelude.{All, ok_or, get_or}
 use Rattle.std.proofs.lemmas.List.{length-map}
 use Rattle.std.proofs.lemmas.List.Elements.{All-head, All-tail, All-filter}

@@ -23,7 +23,6 @@ pub(crate) struct Outcomes {
     pub(crate) closed: ClosedProblem,
 }
 
-// written out, so that letting outcomes go is one call
 impl Drop for Outcomes {
     fn drop(self) {
         let Outcomes {

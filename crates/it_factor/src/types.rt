@@ -18,7 +18,6 @@ pub struct RepliedProblem {
     pub reply: Reply,
 }
 
-// written out, so that letting it go is one call, and not a step for each field below
 impl Drop for RepliedProblem {
     fn drop(self) {
         let RepliedProblem {

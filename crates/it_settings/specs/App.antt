@@ -1,5 +1,5 @@
 -- The command as clap reads it (clap: the command line parser of Rust).
-use Rattle.std.specs.Prelude.{[], ◌∷◌, true, Some, codes}
+use Rattle.std.specs.Prelude.{List, [], ◌∷◌, true, Some, codes}
 use Rattle.std.specs.List.{fold}
 use Rattle.clap.specs.Words.{App, Rule, Text, new_app, new_rule, with_rule}
 use Rattle.clap.specs.declared.builder.action.ArgAction.TheVariants.{Set}
@@ -16,7 +16,10 @@ mode_rule = record (new_rule (codes "mode")) { action = Some Set; required = tru
 unfoldable pub bare_app : App
 bare_app = let a = new_app (codes "itip") in record a { top = record a.top { no_binary_name = true; disable_help_flag = true; disable_version_flag = true } }
 
+-- the options of all modes
+abbrev pub option_names : List Text
+option_names = codes "format" ∷ codes "pivots" ∷ codes "rows" ∷ codes "tries" ∷ codes "seed" ∷ codes "count" ∷ []
+
 -- the mode, and the options of all modes
 unfoldable pub itip_app : App
-itip_app = fold (λ a name. with_rule a (option_rule name)) (with_rule bare_app mode_rule)
-    (codes "format" ∷ codes "pivots" ∷ codes "rows" ∷ codes "tries" ∷ codes "seed" ∷ codes "count" ∷ [])
+itip_app = fold (λ a name. with_rule a (option_rule name)) (with_rule bare_app mode_rule) option_names

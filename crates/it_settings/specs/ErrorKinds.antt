@@ -1,4 +1,4 @@
--- What an error of clap says of the words. No public clause cites this module: it serves the proofs of `settings`.
+-- No public clause cites this module: what an error of clap says of the words.
 use Rattle.std.specs.Prelude.{◌≡◌}
 use Rattle.clap.specs.declared.error.kind.ErrorKind.{ErrorKind}
 use Rattle.clap.specs.declared.error.kind.ErrorKind.TheVariants as kinds

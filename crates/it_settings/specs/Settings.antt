@@ -6,7 +6,7 @@ use Rattle.std.specs.Map.{lookup}
 use Rattle.std.specs.Option.{option_map_or}
 use Rattle.it_number.specs.Decimals.{value_from}
 use Rattle.clap.specs.Words.{Text, fault_of, matches_of, first_of}
-use Rattle.it_settings.specs.App.{itip_app}
+use Rattle.it_settings.specs.App.{itip_app, option_names}
 use Rattle.it_settings.specs.declared.types.Format.{Format}
 use Rattle.it_settings.specs.declared.types.Format.TheVariants as formats
 use Rattle.it_settings.specs.declared.types.Settings.{Settings}
@@ -75,7 +75,7 @@ steps_of given = without given (codes "format" ∷ codes "rows" ∷ codes "tries
 abbrev pub settings_in : (Text → Option Text) → Text → Option Settings
 settings_in given mode =
     if bytes_eq mode (codes "answer") then without given (codes "seed" ∷ codes "count" ∷ []) (answer_of given) else
-    if bytes_eq mode (codes "check") then without given (codes "format" ∷ codes "pivots" ∷ codes "rows" ∷ codes "tries" ∷ codes "seed" ∷ codes "count" ∷ []) (Some settings.Check) else
+    if bytes_eq mode (codes "check") then without given option_names (Some settings.Check) else
     if bytes_eq mode (codes "bench") then without given (codes "format" ∷ []) (bench_of given) else
     if bytes_eq mode (codes "copy") then option_map settings.Copy (steps_of given) else
     if bytes_eq mode (codes "best") then option_map settings.Best (steps_of given) else

@@ -1,4 +1,4 @@
--- The texts of the mode and of each option by their names. No public clause cites this module: it serves the proofs of `settings`.
+-- No public clause cites this module: the texts of the mode and of each option by their names.
 use Rattle.std.specs.Prelude.{◌≡◌, Option, None, if◌then◌else◌, codes, option_map}
 use Rattle.std.proofs.Common.{Bor}
 use Rattle.std.specs.Str.{bytes_eq}

@@ -3,6 +3,7 @@ ghost use Rattle.std.specs.Prelude.{◌≡◌, [], ◌∷◌, Option, Some, code
 ghost use Rattle.clap.specs.Words.{first_value, found_of, kind_of};
 ghost use Rattle.it_settings.specs.ValuesViews.{AreTexts, texts_of};
 ghost use Rattle.it_settings.specs.declared.types.Settings.TheVariants as settings;
+ghost use Rattle.it_settings.specs.App.{option_names};
 ghost use Rattle.it_settings.specs.ErrorKinds.{IsFaultOf};
 ghost use Rattle.it_settings.specs.Settings.{answer_of, bench_of, steps_of, settings_by, settings_of, without, TellsReading, AreInRange};
 
@@ -63,7 +64,7 @@ fn answer(values: Values) -> Option<Settings>
 
 /// The settings of mode `check`, which has no options.
 fn check(values: Values) -> Option<Settings>
-    ensures reads { result ≡ without (texts_of values.entry) (codes "format" ∷ codes "pivots" ∷ codes "rows" ∷ codes "tries" ∷ codes "seed" ∷ codes "count" ∷ []) (Some settings.Check) }
+    ensures reads { result ≡ without (texts_of values.entry) option_names (Some settings.Check) }
     ensures ranges { IfSome result AreInRange }
 {
     let none = values.format.is_none()

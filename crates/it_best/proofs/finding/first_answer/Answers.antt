@@ -5,11 +5,12 @@ use Rattle.it_best.specs.Ends.{first}
 use Rattle.it_best.specs.PhaseSteps.{PhaseIsRight, PhaseSeparates, PhaseSums}
 use Rattle.it_best.proofs.finding.first_answer.Goals as goal
 
-pub by_second_phase-requires-clause-sums : goal.by_second_phase-requires-clause-sums
-by_second_phase-requires-clause-sums c =
+pub by_second_phase-requires-clause-first : goal.by_second_phase-requires-clause-first
+by_second_phase-requires-clause-first c =
     let q = problem_view c.args.problem.now in
     let us = first q c.args.left.now c.args.right.now in
-    subst (PhaseSums (size_of q.space) us c.args.right.now) (sym c.as_slice.ensures.value) (subst (PhaseIsRight (size_of q.space) us c.args.right.now) c.in-Weights.is c.requires.end)
+    let sums = subst (PhaseSums (size_of q.space) us c.args.right.now) (sym c.as_slice.ensures.value) (subst (PhaseIsRight (size_of q.space) us c.args.right.now) c.in-Weights.is c.requires.end) in
+    record { unknowns = c.requires.unknowns; sums = sums }
 
 pub never-requires-clause-separates : goal.never-requires-clause-separates
 never-requires-clause-separates c =
