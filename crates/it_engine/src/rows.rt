@@ -27,7 +27,6 @@ pub struct WholeRow {
     row: AnyRow,
 }
 
-// written out, so that letting a whole row go is one call
 impl Drop for WholeRow {
     fn drop(self) {
         let WholeRow { row: _ } = self;

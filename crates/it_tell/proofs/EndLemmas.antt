@@ -2,7 +2,7 @@
 use Rattle.std.proofs.Common.{◌≡◌, ℕ, inl, inr, List, [], Some, option_and_then, sym, ap, subst, ◌∙◌}
 use Rattle.it_outside.specs.Traffic.{GaveMore}
 use Rattle.it_outside.specs.Causes.{next_count}
-use Rattle.it_cli.specs.Ends.{Call, IsUntouched, Wrote, FaultsAre}
+use Rattle.it_cli.specs.Ends.{Call, IsUntouched, Wrote, FaultsAre, IsFaultless}
 use Rattle.it_cli.specs.InnerEnds.{EndOfBytes, EndOfLine}
 use Rattle.it_cli.specs.Refusals.{long_line}
 use Rattle.it_cli.specs.declared.status.Status.{Status}
@@ -37,7 +37,7 @@ module _ (r : Call) (options : Options) (asked : AsksToTell r options) where
   pub end_of_failed_read : FaultsAre r (next_count r.read_faults) r.write_faults → Wrote r [] → Ends r ReadFault
   end_of_failed_read failed wrote = (failed, (options, asked), wrote)
 
-  pub end_of_memory : FaultsAre r r.read_faults r.write_faults → Wrote r [] → Ends r Memory
+  pub end_of_memory : IsFaultless r → Wrote r [] → Ends r Memory
   end_of_memory faultless wrote = (faultless, inl ((options, asked), wrote))
 
 -- a text was asked for

@@ -4,7 +4,7 @@ use Rattle.it_outside.specs.Traffic.{GaveMore, TookPrefix}
 use Rattle.std.specs.List.{list_any}
 use Rattle.it_outside.specs.Causes.{next_count}
 use Rattle.it_question.specs.Lines.{split_lines}
-use Rattle.it_cli.specs.Ends.{Call, IsTaken, IsUntouched, Wrote, FaultsAre}
+use Rattle.it_cli.specs.Ends.{Call, IsFaultless, IsTaken, IsUntouched, Wrote, FaultsAre}
 use Rattle.it_cli.specs.Modes.{FirstOutput, Mode, OutputInPart, WholeOutput}
 use Rattle.it_cli.specs.Outputs.{verdict_status}
 use Rattle.it_cli.specs.Refusals.{long_line}
@@ -95,12 +95,12 @@ pub record IsShowing (r : Call) (text : List ℕ) : Type 0 where
 
 -- By the status. Each case says which calls of source and sink failed, all of its cause and all that the sink took.
 abbrev pub Ends : Call → Status → Type 0
-Ends r Done = FaultsAre r r.read_faults r.write_faults × (HasTold r Done ⊎ ((text : List ℕ) × (IsShowing r text × Wrote r text)))
-Ends r Invalid = FaultsAre r r.read_faults r.write_faults × HasTold r Invalid
-Ends r Usage = FaultsAre r r.read_faults r.write_faults × HasNone r × IsUntouched r × Wrote r []
-Ends r Refused = FaultsAre r r.read_faults r.write_faults × IsTooLong r × Wrote r long_line
+Ends r Done = IsFaultless r × (HasTold r Done ⊎ ((text : List ℕ) × (IsShowing r text × Wrote r text)))
+Ends r Invalid = IsFaultless r × HasTold r Invalid
+Ends r Usage = IsFaultless r × HasNone r × IsUntouched r × Wrote r []
+Ends r Refused = IsFaultless r × IsTooLong r × Wrote r long_line
 Ends r ReadFault = FaultsAre r (next_count r.read_faults) r.write_faults × ((options : Options) × AsksToTell r options) × Wrote r []
 Ends r WriteFault = FaultsAre r r.read_faults (next_count r.write_faults)
     × ((IsTooLong r × TookPrefix r.taken r.taken_after long_line)
     ⊎ (HasToldInPart r ⊎ ((text : List ℕ) × (IsShowing r text × TookPrefix r.taken r.taken_after text))))
-Ends r Memory = FaultsAre r r.read_faults r.write_faults × ((((options : Options) × AsksToTell r options) × Wrote r []) ⊎ HasToldFirst r)
+Ends r Memory = IsFaultless r × ((((options : Options) × AsksToTell r options) × Wrote r []) ⊎ HasToldFirst r)

@@ -15,7 +15,6 @@ pub struct Draft {
     pub right: Vec<Term>,
 }
 
-// written out, so that letting it go is one call, and not a step for each side
 impl Drop for Draft {
     fn drop(self) {
         let Draft {

@@ -19,7 +19,6 @@ struct Choice {
     weights: Vec<(usize, Fraction)>,
 }
 
-// written out, so that letting it go is one call, and not a step for each list
 impl Drop for Choice {
     fn drop(self) {
         let Choice {
@@ -35,7 +34,6 @@ pub struct Found {
     pub terms: Vec<Term>,
 }
 
-// written out, so that letting it go is one call, and not a step for each field
 impl Drop for Found {
     fn drop(self) {
         let Found { scale: _, terms: _ } = self;

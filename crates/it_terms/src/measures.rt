@@ -15,7 +15,6 @@ pub struct Measure {
     pub row: Row,
 }
 
-// written out, so that letting it go is one call, and not a step for each field
 impl Drop for Measure {
     fn drop(self) {
         let Measure {

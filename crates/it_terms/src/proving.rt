@@ -33,7 +33,6 @@ struct Goal {
     factor: i128,
 }
 
-// written out, so that letting it go is one call, and not a step for each field
 impl Drop for Goal {
     fn drop(self) {
         let Goal {
@@ -51,7 +50,6 @@ struct Summands {
     weights: Vec<(u32, i128)>,
 }
 
-// written out, so that letting them go is one call, and not a step for each list
 impl Drop for Summands {
     fn drop(self) {
         let Summands {

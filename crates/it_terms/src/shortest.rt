@@ -26,7 +26,6 @@ pub struct LeastSum {
     pub weights: Vec<(u32, i128)>,
 }
 
-// written out, so that letting it go is one call, and not a step for each field
 impl Drop for LeastSum {
     fn drop(self) {
         let LeastSum {
@@ -45,7 +44,6 @@ struct Columns {
     rows: Vec<Row>,
 }
 
-// written out, so that letting them go is one call, and not a step for each list
 impl Drop for Columns {
     fn drop(self) {
         let Columns {
