@@ -16,7 +16,7 @@ use crate::measures::{Measure, measures};
 use crate::proof_judging::{Proposal, tells_proof};
 use crate::shortest::shortest;
 use crate::telling::names_of;
-use crate::untold::{Untold, unless_memory};
+use crate::untold::Untold;
 use crate::writing::sums_text;
 use it_canon::{problem, target_rows};
 use it_elemental::{Elemental, count, parts};
@@ -188,18 +188,45 @@ fn proposal(
     })
 }
 
-/// Puts the proposals by what is summed up after the others: with the terms over sets joined, and with each by itself.
-fn put_proposals(
-    proposals: &mut Vec<Proposal>,
+/// The text of an equation with these terms over sets, where it tells a proof of the target.
+fn judged(
+    alloc: Global,
+    asked: &Asked<'_>,
+    shannon: &[Term],
+    summands: &Summands,
+) -> Result<Option<Vec<u8>>, Untold>
+    requires { 1 ≤ length asked.now.names.now.variables }
+    ensures { IfOk result (MayProve asked.now.names.now asked.now.target.now asked.now.constraints.now) }
+{
+    let proposal = proposal(alloc, asked, shannon, summands)?;
+    if tells_proof(
+        alloc,
+        asked.names,
+        asked.target,
+        asked.constraints,
+        &proposal,
+    )? {
+        Ok(Some(proposal.text))
+    } else {
+        Ok(None)
+    }
+}
+
+/// The text of a proof by what is summed up: with the terms over sets joined, else with each by itself.
+fn proof_by(
     alloc: Global,
     asked: &Asked<'_>,
     summands: &Summands,
-) -> Result<(), Untold> {
+) -> Result<Option<Vec<u8>>, Untold>
+    requires { 1 ≤ length asked.now.names.now.variables }
+    ensures { IfOk result (MayProve asked.now.names.now asked.now.target.now asked.now.constraints.now) }
+{
     let single = summands.shannon.as_slice();
     let joined = joined_terms(alloc, single)?;
-    proposals.push(proposal(alloc, asked, joined.as_slice(), summands)?)?;
-    proposals.push(proposal(alloc, asked, single, summands)?)?;
-    Ok(())
+    if let Some(text) = judged(alloc, asked, joined.as_slice(), summands)? {
+        return Ok(Some(text));
+    }
+    judged(alloc, asked, single, summands)
 }
 
 /// The sum of the numbers of terms.
@@ -237,18 +264,19 @@ fn least_summands(
     Ok(summands)
 }
 
-/// Puts the proposals with the least sum of terms over sets after the others, where one is found that is no longer than these
-/// summands.
-fn put_least(
-    proposals: &mut Vec<Proposal>,
+/// The text of a proof with the least sum of terms over sets, where one is found that is no longer than these summands.
+fn least_proof(
     alloc: Global,
     asked: &Asked<'_>,
     summands: &Summands,
-) -> Result<(), Untold> {
+) -> Result<Option<Vec<u8>>, Untold>
+    requires { 1 ≤ length asked.now.names.now.variables }
+    ensures { IfOk result (MayProve asked.now.names.now asked.now.target.now asked.now.constraints.now) }
+{
     let terms = joined_terms(alloc, summands.shannon.as_slice())?;
     let most = sum_of_numbers(terms.as_slice());
     let least = least_summands(alloc, asked, summands.scale, most)?;
-    put_proposals(proposals, alloc, asked, &least)
+    proof_by(alloc, asked, &least)
 }
 
 /// A row as a goal, in measures where it is a sum of these, else in joint entropies.
@@ -302,20 +330,20 @@ fn goal_of(
     row_goal(alloc, measures, names, row)
 }
 
-/// Puts the proposals of proofs by a certificate after the others, and before these, where a short one is asked for, those
-/// with the least sum.
-fn put_all(
-    proposals: &mut Vec<Proposal>,
+/// The text of a proof by a certificate, where a short one is asked for first with the least sum.
+fn any_proof(
     alloc: Global,
     question: &Question,
+    names: &Names,
     target: &Row,
     constraints: &[Constraint],
     certificate: &Certificate,
     short: bool,
-) -> Result<(), Untold>
-    requires { IsQuestion (question_body question.now) }
+) -> Result<Option<Vec<u8>>, Untold>
+    requires question { IsQuestion (question_body question.now) }
+    requires some { 1 ≤ length names.now.variables }
+    ensures { IfOk result (MayProve names.now target.now constraints.now) }
 {
-    let names = names_of(question);
     let measures = measures(alloc, question.text.as_slice(), names)?;
     let goal = goal_of(alloc, question, measures.as_slice(), names, target)?;
     let asked = Asked {
@@ -328,46 +356,12 @@ fn put_all(
     };
     let summands = summed_up(alloc, &asked, certificate)?;
     if short {
-        unless_memory(put_least(proposals, alloc, &asked, &summands))?;
-    }
-    put_proposals(proposals, alloc, &asked, &summands)
-}
-
-/// The text of a proposal, where it tells a proof of the target.
-fn judged(
-    alloc: Global,
-    names: &Names,
-    target: &Row,
-    constraints: &[Constraint],
-    proposal: Proposal,
-) -> Result<Option<Vec<u8>>, AllocError>
-    requires { 1 ≤ length names.now.variables }
-    ensures { IfOk result (MayProve names.now target.now constraints.now) }
-{
-    if tells_proof(alloc, names, target, constraints, &proposal)? {
-        Ok(Some(proposal.text))
-    } else {
-        Ok(None)
-    }
-}
-
-/// The text of the first proposal that tells a proof of the target.
-fn first_proof(
-    alloc: Global,
-    names: &Names,
-    target: &Row,
-    constraints: &[Constraint],
-    proposals: Vec<Proposal>,
-) -> Result<Option<Vec<u8>>, AllocError>
-    requires { 1 ≤ length names.now.variables }
-    ensures { IfOk result (MayProve names.now target.now constraints.now) }
-{
-    for proposal in proposals {
-        if let Some(text) = judged(alloc, names, target, constraints, proposal)? {
-            return Ok(Some(text));
+        match least_proof(alloc, &asked, &summands) {
+            Ok(None) | Err(Untold::NotFound) => {}
+            told => return told,
         }
     }
-    Ok(None)
+    proof_by(alloc, &asked, &summands)
 }
 
 /// The text of the proof of a row from the lines of a question, by a certificate: an equation between a multiple of the row
@@ -386,16 +380,17 @@ pub fn told_form(
     let names = names_of(question);
     let posed = problem(alloc, question)?;
     let constraints = posed.constraints.as_slice();
-    let mut proposals = Vec::new(alloc);
-    unless_memory(put_all(
-        &mut proposals,
+    match any_proof(
         alloc,
         question,
+        names,
         target,
         constraints,
         certificate,
         short,
-    ))?;
-    let text = first_proof(alloc, names, target, constraints, proposals)?;
-    Ok(text)
+    ) {
+        Ok(text) => Ok(text),
+        Err(Untold::NotFound) => Ok(None),
+        Err(Untold::Memory) => Err(AllocError),
+    }
 }

@@ -33,11 +33,3 @@ impl From<TryFromIntError> for Untold {
         Untold::NotFound
     }
 }
-
-/// Whether memory ran out: that nothing was found is let pass.
-pub fn unless_memory(told: Result<(), Untold>) -> Result<(), AllocError> {
-    match told {
-        Err(Untold::Memory) => Err(AllocError),
-        _ => Ok(()),
-    }
-}
