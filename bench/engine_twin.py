@@ -1,8 +1,8 @@
 #!/usr/bin/env python3
 """A twin of the engine in plain Rust, made of its own sources, so that an idea is measured before it is proved.
 
-`engine_twin.py build FOLDER` takes the contracts out of crates/it_engine/src of the checkout that it is called in, and compiles what is
-left to FOLDER/twin. `engine_twin.py system FAMILY N` prints a system over N variables, by the elemental inequalities in their order:
+`engine_twin.py build FOLDER` takes the contracts out of crates/it_whole/src and crates/it_engine/src of the checkout that it is called
+in, and compiles what is left to FOLDER/twin. `engine_twin.py system FAMILY N` prints a system over N variables, by the elemental inequalities in their order:
 FAMILY is parts, chain or ingleton, as in bench/simplex.txt. `FOLDER/twin BUDGET TURNS < SYSTEM` makes the run so often, and prints how it
 ends, in which width, and sums over the last basis and the last rows: two versions of the sources have to print the same. Unlike the
 product the twin tests indexes, so times are to be compared with those of another twin only."""
@@ -11,7 +11,10 @@ import re
 import subprocess
 import sys
 
-MODULES = "arithmetic behind choice columns divisors engine narrow narrow_numbers numbers pivots rows wide".split()
+MODULES = {
+    "it_whole": "arithmetic columns divisors narrow_numbers narrow_rows numbers rows wide_rows".split(),
+    "it_engine": "behind choice engine pivots".split(),
+}
 
 # what the modules take from others, and a main function
 MAIN = r"""
@@ -124,16 +127,21 @@ def plain(text):
     text = re.sub(r"Vec::with_capacity\(alloc, (.*)\)\?", r"Vec::with_capacity(\1)", text)
     text = re.sub(r"Vec::from_elem\(alloc, (.*), (.*)\)\?", r"vec![\1; \2]", text)
     text = re.sub(r"\.push\((.*)\)\?;", r".push(\1);", text)
+    text = re.sub(r"^use it_whole::", "use crate::it_whole::", text, flags=re.M)
     return re.sub(r"\b(Global|AllocError)\b", r"crate::\1", text)
 
 
 def build(folder):
     os.makedirs(folder, exist_ok=True)
-    for name in MODULES:
-        with open(f"crates/it_engine/src/{name}.rt", encoding="utf-8") as source, open(f"{folder}/{name}.rs", "w", encoding="utf-8") as target:
-            target.write(plain(source.read()))
+    for crate, names in MODULES.items():
+        for name in names:
+            with open(f"crates/{crate}/src/{name}.rt", encoding="utf-8") as source, open(f"{folder}/{name}.rs", "w", encoding="utf-8") as target:
+                target.write(plain(source.read()))
+    with open("crates/it_whole/src/lib.rt", encoding="utf-8") as source:
+        exported = re.sub(r"^pub use ", "pub use crate::", "\n".join(re.findall(r"^pub use .*;", source.read(), re.M)), flags=re.M)
     with open(f"{folder}/main.rs", "w", encoding="utf-8") as target:
-        target.write("".join(f"mod {name};\n" for name in MODULES) + MAIN)
+        modules = "".join(f"mod {name};\n" for names in MODULES.values() for name in names)
+        target.write(f"{modules}mod it_whole {{\n{exported}\n}}\n{MAIN}")
     flags = "--edition 2021 -A warnings -C opt-level=3 -C target-cpu=x86-64-v2 -C codegen-units=1".split()
     subprocess.run(["rustc", *flags, f"{folder}/main.rs", "-o", f"{folder}/twin"], check=True)
 

@@ -15,7 +15,7 @@ use Rattle.it_run.specs.declared.answering.Solved.{Solved}
 use Rattle.it_run.proofs.AnswerLemmas.{read_run}
 use Rattle.it_engine.specs.Ends.{AnswersQuestion, AreWeightsOf, IsPointOf}
 use Rattle.it_engine.specs.Engine.{Represents, IsFinished}
-use Rattle.it_engine.specs.Whole.{WholeRowView}
+use Rattle.it_whole.specs.WholeRows.{WholeRowView}
 use Rattle.it_engine.specs.declared.engine.EngineEnd.TheVariants as engine_ends
 use Rattle.it_engine.proofs.Starts.{stands_start, IsLoaded}
 

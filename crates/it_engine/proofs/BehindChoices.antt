@@ -15,11 +15,13 @@ use Rattle.it_space.specs.Sums.{number_at}
 use Rattle.it_space.proofs.TermLemmas.{value-append}
 use Rattle.it_tableau.specs.FieldOperations.{sum_to}
 use Rattle.it_tableau.specs.SimplexTables.{SimplexTable, FeasibilityProblem}
-use Rattle.it_engine.specs.Behind.{AreBaseBounds, AreMovedEntries, BoundsShares, column_less_moved, has_moved, IsCommonMultiple, IsFirstToLeave, LeavesStill, multiple_of_terms, share_of, ShowsBehind, taken_terms}
+use Rattle.it_engine.specs.Behind.{AreBaseBounds, AreMovedEntries, BoundsShares, column_less_moved, has_moved, IsCommonMultiple, IsFirstToLeave, LeavesStill, share_of, ShowsBehind, taken_terms}
+use Rattle.it_whole.specs.ColumnTerms.{multiple_of_terms}
 use Rattle.it_engine.specs.Choosing.{entry_of, is_above_zero}
 use Rattle.it_engine.specs.Loading.{IsNorm}
-use Rattle.it_engine.specs.Updates.{IsFitting}
-use Rattle.it_engine.specs.Whole.{whole_row_at, WholeRowView}
+use Rattle.it_engine.specs.PivotedRows.{IsFitting}
+use Rattle.it_engine.specs.Tables.{whole_row_at}
+use Rattle.it_whole.specs.WholeRows.{WholeRowView}
 use Rattle.it_engine.proofs.BehindTables as T
 use native.Mathlib.Nat.{div-mul_cancel}
 

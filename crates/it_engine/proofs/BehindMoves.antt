@@ -12,11 +12,12 @@ use Rattle.it_run.specs.Choice.{next}
 use Rattle.it_engine.specs.Behind.{AreMovedEntries, has_moved, IsBehindStep, IsRowBrought, mixed_table, ShowsBehind}
 use Rattle.it_engine.specs.Choosing.{entry_of}
 use Rattle.it_engine.specs.Engine.{IsSafe}
-use Rattle.it_engine.specs.Updates.{AreShort, AreUsable, AreWholeRowsPivoted, IsFitting, IsUsable}
-use Rattle.it_engine.specs.Whole.{IsRow, ShowsTable, whole_row_at, WholeRowView}
+use Rattle.it_whole.specs.WholeRows.{AreShort, IsUsable, IsRow, WholeRowView}
+use Rattle.it_engine.specs.PivotedRows.{AreUsable, AreWholeRowsPivoted, IsFitting}
+use Rattle.it_engine.specs.Tables.{ShowsTable, whole_row_at}
 use Rattle.it_engine.proofs.BehindSteps.{moved_with, shows_next}
 use Rattle.it_engine.proofs.Steps.{engine_kept}
-use Rattle.it_engine.proofs.Usable.{fitting_short}
+use Rattle.it_engine.proofs.Fitting.{fitting_short}
 
 -- the rows with row r up to date
 pub record AreReady (columns : List Terms) (limit : ℕ) (old : List WholeRowView) (basis : List ℕ) (moved : List Bool) (r : ℕ) (now : List WholeRowView) : Type 0 where

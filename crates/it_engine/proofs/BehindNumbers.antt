@@ -7,9 +7,11 @@ use Rattle.std.proofs.lemmas.Nat.Gcd.{dvd_trans}
 use Rattle.it_number.specs.Gcd.{gcd, lcm}
 use Rattle.it_number.proofs.Divisors.{lcm_is, lcm-over, lcm-pos}
 use Rattle.it_space.specs.Rows.{Terms}
-use Rattle.it_engine.specs.Behind.{BoundsShares, column_less_moved, has_moved, IsCommonMultiple, IsNextMoved, multiple_of_term, multiple_of_terms, share_of, share_sum, taken_terms}
+use Rattle.it_engine.specs.Behind.{BoundsShares, column_less_moved, has_moved, IsCommonMultiple, IsNextMoved, share_of, share_sum, taken_terms}
+use Rattle.it_whole.specs.ColumnTerms.{multiple_of_term, multiple_of_terms}
 use Rattle.it_space.specs.Sums.{number_at}
-use Rattle.it_engine.specs.Whole.{AreAtMost, whole_row_at, WholeRowView}
+use Rattle.it_whole.specs.WholeRows.{AreAtMost, WholeRowView}
+use Rattle.it_engine.specs.Tables.{whole_row_at}
 use Prim.Native.Nat.{◌∣◌}
 
 -- what holds of the first rows still holds after more of them, none of which moved

@@ -17,10 +17,11 @@ use Rattle.it_tableau.proofs.Sums.{sum_same, sum_null, sum_add, sum_times}
 use Rattle.it_tableau.proofs.ViewLemmas.{same_functions}
 use Rattle.it_run.proofs.Behind.{row_behind}
 use Rattle.it_engine.specs.Behind.{ShowsBehind}
-use Rattle.it_engine.specs.Updates.{IsWholeRowReduced}
-use Rattle.it_engine.specs.Whole.{IsRow, whole_row_at, WholeRowView}
+use Rattle.it_whole.specs.Updates.{IsWholeRowReduced}
+use Rattle.it_whole.specs.WholeRows.{IsRow, WholeRowView}
+use Rattle.it_engine.specs.Tables.{whole_row_at}
 use Rattle.it_engine.proofs.Generators.{value_named}
-use Rattle.it_engine.proofs.Names.{scaled_name}
+use Rattle.it_whole.proofs.Names.{scaled_name}
 
 module _ (p : FeasibilityProblem Rational) (b t : SimplexTable Rational) (columns : List Terms) (limit : ℕ) (rows : List WholeRowView) (basis : List ℕ) (moved : ℕ → Bool)
     (s : ShowsBehind p b t columns limit rows basis moved) (r : ℕ) (row : r < length basis) (stays : moved r ≡ false) where

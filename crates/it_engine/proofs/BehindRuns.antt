@@ -8,8 +8,10 @@ use Rattle.it_space.specs.Rows.{Terms, value}
 use Rattle.it_space.specs.Sums.{number_at}
 use Rattle.it_tableau.specs.SimplexTables.{SimplexTable, FeasibilityProblem}
 use Rattle.it_engine.specs.Behind.{AgreeOnMoved, AreBrought, has_moved, IsBrought, IsLessMoved, IsNextMoved, IsRowBrought, IsUpToDate, ShowsBehind}
-use Rattle.it_engine.specs.Updates.{AreUsable, IsUpdated, IsUsable, IsWholeRowReduced}
-use Rattle.it_engine.specs.Whole.{whole_row_at, WholeRowView}
+use Rattle.it_engine.specs.PivotedRows.{AreUsable}
+use Rattle.it_whole.specs.Updates.{IsUpdated, IsWholeRowReduced}
+use Rattle.it_whole.specs.WholeRows.{IsUsable, WholeRowView}
+use Rattle.it_engine.specs.Tables.{whole_row_at}
 use Rattle.it_engine.proofs.BehindNumbers.{past_still}
 use Rattle.it_engine.proofs.BehindRows as R
 

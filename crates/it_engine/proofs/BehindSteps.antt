@@ -17,8 +17,9 @@ use Rattle.it_tableau.proofs.ViewLemmas.{same_functions}
 use Rattle.it_run.specs.Choice.{entering_column, leaving_row, next, IsStuck}
 use Rattle.it_run.proofs.DegenerateSteps.{IsBehind, row_moves}
 use Rattle.it_engine.specs.Behind.{mixed_table, ShowsBehind}
-use Rattle.it_engine.specs.Updates.{AreWholeRowsPivoted}
-use Rattle.it_engine.specs.Whole.{AreStartColumns, IsRow, ShowsTable, whole_row_at, WholeRowView}
+use Rattle.it_engine.specs.PivotedRows.{AreWholeRowsPivoted}
+use Rattle.it_engine.specs.Tables.{AreStartColumns, ShowsTable, whole_row_at}
+use Rattle.it_whole.specs.WholeRows.{IsRow, WholeRowView}
 use Rattle.it_engine.proofs.Generators.{zero_named, value_named}
 
 -- the rows that moved, with row r

@@ -25,11 +25,12 @@ use Rattle.it_run.proofs.RunSteps.{stuck_without_entering, not_stuck_with_enteri
 use Rattle.it_engine.specs.Behind.{mixed_table, share_sum, BoundsShares, ShowsBehind}
 use Rattle.it_engine.specs.Choosing.{first_negative_cost, is_above_zero}
 use Rattle.it_engine.specs.Loading.{IsNorm}
-use Rattle.it_engine.specs.Whole.{AreAtMost, IsShort, IsOver, whole_row_at, WholeRowView}
+use Rattle.it_whole.specs.WholeRows.{AreAtMost, IsShort, WholeRowView}
+use Rattle.it_engine.specs.Tables.{IsOver, whole_row_at}
 use Rattle.it_engine.proofs.Generators.{table_is_over, number, bottom, price_named, value_bounded}
 use Rattle.it_engine.proofs.NoWide as W
 use Rattle.it_engine.proofs.NamedBehind.{difference_is_named, sum_is_bounded}
-use Rattle.it_engine.proofs.Names.{sign_named, minus_names, null_named, number_null}
+use Rattle.it_whole.proofs.Names.{sign_named, minus_names, null_named, number_null}
 
 module _ (p : FeasibilityProblem Rational) (b t : SimplexTable Rational) (columns : List Terms) (limit : ℕ) (rows : List WholeRowView) (basis : List ℕ) (moved : ℕ → Bool)
     (s : ShowsBehind p b t columns limit rows basis moved) where

@@ -10,7 +10,7 @@ use Rattle.it_tableau.specs.SimplexTables.{SimplexTable, ratio}
 use Rattle.it_run.specs.Choice.{is_candidate, precedes, leaving_row_of}
 use Rattle.std.specs.Option.{IfSome}
 use Rattle.it_engine.specs.Choosing.{is_above_zero, comes_first, best_after_row, best_row_below}
-use Rattle.it_engine.proofs.Names.{sign_named, minus_names, quotient_in_row}
+use Rattle.it_whole.proofs.Names.{sign_named, minus_names, quotient_in_row}
 
 -- the best row so far is one of those seen
 pub best_within : (entry right : ℕ → ℤ) (basis : ℕ → ℕ) (i m : ℕ) (o : Option ℕ) → o ≡ best_row_below entry right basis i → i ≤ m → IfSome o (λ k. k < m)

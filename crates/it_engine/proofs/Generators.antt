@@ -3,26 +3,18 @@ use Rattle.std.proofs.Common.{◌≡◌, ℕ, suc, ◌+◌, ◌*◌, ◌-◌, �
 use Rattle.std.proofs.lemmas.Bool.{cases_lt, lt-ltb, le-ltb}
 use Rattle.std.proofs.lemmas.Int.{ints, unsigned_abs-mul}
 use Rattle.std.proofs.lemmas.Nat.{mul-le}
-use Rattle.it_number.proofs.Integers.{zring}
 use Rattle.it_rational.specs.Rational.{Rational, IsRatio}
 use Rattle.it_rational.specs.Rational as Q
-use Rattle.it_rational.proofs.Names.{plus_names, times_names, whole_names, quotient_names}
+use Rattle.it_rational.proofs.Names.{times_names, whole_names, quotient_names}
 use Rattle.it_space.specs.Rows.{Terms, value, row_mass}
 use Rattle.it_tableau.specs.Operations.{rationals}
 use Rattle.it_tableau.specs.Invariants.{CombinesStart}
 use Rattle.it_tableau.specs.SimplexTables.{SimplexTable, FeasibilityProblem}
 use Rattle.it_run.specs.RowValues.{rational_value}
 use Rattle.it_space.specs.Sums.{number_at}
-use Rattle.it_engine.specs.Whole.{WholeRowView, whole_row_at, IsShort, IsOver, AreStartColumns, ShowsTable}
-use Rattle.it_engine.proofs.Names.{reduced_name}
-
--- n / d plus k / d
-pub sum_named : (x y : Rational) (n k : ℤ) (d : ℕ) → 0 < d → IsRatio x n d → IsRatio y k d → IsRatio (Q.plus x y) (n +ℤ k) d
-sum_named x y n k d h e f = reduced_name (Q.plus x y) (n +ℤ k) d d h
-    (subst (λ (z : ℤ). IsRatio (Q.plus x y) z (d * d)) (factor_moves_out n k d) (plus_names x y n k d d h h e f))
-  where
-    factor_moves_out : (n k : ℤ) (d : ℕ) → n *ℤ pos d +ℤ k *ℤ pos d ≡ (n +ℤ k) *ℤ pos d
-    factor_moves_out n k d = omega (arith, zring)
+use Rattle.it_whole.specs.WholeRows.{WholeRowView, IsShort}
+use Rattle.it_engine.specs.Tables.{whole_row_at, IsOver, AreStartColumns, ShowsTable}
+use Rattle.it_whole.proofs.Names.{sum_named}
 
 -- a whole multiple of n / d
 pub multiple_named : (a : ℤ) (x : Rational) (n : ℤ) (d : ℕ) → 0 < d → IsRatio x n d → IsRatio (Q.times (Q.integer a) x) (a *ℤ n) d

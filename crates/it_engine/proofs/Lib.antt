@@ -1,17 +1,10 @@
-pub mod Items
 pub mod Signs
-pub mod Names
 pub mod Narrowness
 pub mod NoWide
 pub mod Generators
 pub mod Choices
-pub mod Places
-pub mod RowSteps
-pub mod Pricing
-pub mod Quotients
-pub mod Divisions
-pub mod Usable
-pub mod NarrowSteps
+pub mod DividedRows
+pub mod Fitting
 pub mod Pivoting
 pub mod Steps
 pub mod Runs
@@ -24,7 +17,6 @@ pub mod StartSums
 pub mod Readings
 pub mod Answers
 pub mod LowerLimits
-pub mod Bounds
 pub mod StepsLeft
 pub mod UnboundRuns
 pub mod NamedBehind

@@ -8,7 +8,8 @@ use Rattle.it_tableau.specs.SimplexTables.{SimplexTable, FeasibilityProblem}
 use Rattle.it_run.specs.declared.answering.Solved.{Solved}
 use Rattle.it_engine.specs.Ends.{AnswersQuestion}
 use Rattle.it_engine.specs.Engine.{IsSafe, Represents}
-use Rattle.it_engine.specs.Whole.{AreAllAtMost, WholeRowView}
+use Rattle.it_engine.specs.Tables.{AreAllAtMost}
+use Rattle.it_whole.specs.WholeRows.{WholeRowView}
 
 module _ (columns : List Terms) (limit lower : ℕ) (rows : List WholeRowView) (basis : List ℕ) (less : lower ≤ limit) (most : AreAllAtMost lower rows) where
   product_less : (k : ℕ) → k * lower ≤ k * limit

@@ -20,10 +20,11 @@ use Rattle.it_run.proofs.StepsLeft.{steps_left, steps_fall}
 use Rattle.it_engine.specs.Behind.{AreBaseBounds, AreBrought, AreEngineSteps, AreStillSteps, has_moved, IsBehindStep, IsStillChoice, ShowsBehind, StepsLead}
 use Rattle.it_engine.specs.Choosing.{right_side_of}
 use Rattle.it_engine.specs.Engine.{IsSafe, Represents}
-use Rattle.it_engine.specs.Updates.{IsFitting, IsUsable}
-use Rattle.it_engine.specs.Whole.{AreAtMost, IsRow, whole_row_at, WholeRowView}
+use Rattle.it_engine.specs.PivotedRows.{IsFitting}
+use Rattle.it_whole.specs.WholeRows.{IsUsable, AreAtMost, IsRow, WholeRowView}
+use Rattle.it_engine.specs.Tables.{whole_row_at}
 use Rattle.it_engine.proofs.BehindTables as T
-use Rattle.it_engine.proofs.Names.{number_null}
+use Rattle.it_whole.proofs.Names.{number_null}
 
 -- what the run does after so many steps it does from before them
 pub steps_lead_on : (m n k left made : ℕ) (t s : SimplexTable Rational) (e : RunEndView (SimplexTable Rational) (SimplexTable Rational)) → k ≤ left → StepsLead m n k t s → Reaches m n (left - k) (made + k) s e → Reaches m n left made t e

@@ -10,8 +10,8 @@ use Rattle.it_rational.proofs.Names.{times_names}
 use Rattle.it_rational.proofs.RationalLaws.{ring_ℚ}
 use Rattle.it_tableau.specs.FieldOperations.{sum_to, difference}
 use Rattle.it_engine.specs.Behind.{share_sum}
-use Rattle.it_engine.proofs.Generators.{sum_named, zero_named}
-use Rattle.it_engine.proofs.Names.{minus_names, scaled_name}
+use Rattle.it_whole.proofs.Names.{sum_named, minus_names, scaled_name}
+use Rattle.it_engine.proofs.Generators.{zero_named}
 
 module _ (m d multiple : ℕ) (some : 0 < d) (whole : 0 < multiple) (moved : ℕ → Bool) (x u : ℕ → Rational) (a y : ℕ → ℤ) (e share : ℕ → ℕ)
     (x_named : (q : ℕ) → q < m → IsRatio (x q) (a q) d)

@@ -13,7 +13,7 @@ use Rattle.it_number.proofs.Integers.{zring}
 use Rattle.it_rational.specs.Rational.{Rational, IsRatio}
 use Rattle.it_rational.specs.Rational as Q
 use Rattle.it_rational.proofs.Names.{cancel_factor}
-use Rattle.it_engine.proofs.Names.{minus_names, factors_join}
+use Rattle.it_whole.proofs.Names.{minus_names, factors_join}
 use Rattle.it_fraction.specs.Fits.{IsNarrow, PartsFit, DifferenceFits, common_numerator, shared_rest}
 use Prim.Native.Nat.{◌∣◌}
 use native.Mathlib.Nat.{dvd-mul_left, le_of_dvd, div-mul_cancel, mul-div_cancel', le_of_mul-le-mul_right, eq_of_mul-eq-mul_left, div-le_self}

@@ -1,8 +1,7 @@
 -- A step on a table of short whole numbers, each row over one short denominator, isn't wide.
 use Rattle.std.proofs.Common.{◌≡◌, ℕ, zero, suc, ◌+◌, ◌*◌, ◌<◌, ◌≤◌, ◌^◌, ℤ, pos, negsuc, ◌+ℤ◌, ◌*ℤ◌, neg_ℤ, unsigned_abs, true, not, refl, sym, ap, subst, ◌∙◌, arith, mul-pos}
 use Rattle.std.proofs.lemmas.Bool.{true≢false}
-use Rattle.std.proofs.lemmas.Int.{ints, unsigned_abs-mul}
-use Rattle.std.proofs.lemmas.Nat.{mul-lt}
+use Rattle.std.proofs.lemmas.Int.{ints}
 use Rattle.it_number.specs.Limit.{IsWithin}
 use Rattle.it_number.proofs.SignLemmas.{size_negated}
 use Rattle.it_rational.specs.Rational.{Rational, sign_least, is_at_least_zero, IsRatio}
@@ -13,16 +12,11 @@ use Rattle.it_tableau.specs.SimplexTables.{SimplexTable, ratio}
 use Rattle.it_tableau.specs.Fits.{EntryFits, PivotFits}
 use Rattle.it_run.specs.Choice.{entering_column, leaving_row, is_candidate}
 use Rattle.it_run.specs.Solving.{StepFits}
-use Rattle.it_engine.specs.Whole.{IsShort, IsOver}
+use Rattle.it_whole.specs.WholeRows.{IsShort}
+use Rattle.it_engine.specs.Tables.{IsOver}
 use Rattle.it_engine.proofs.Narrowness.{narrow_by, difference_fits}
-use Rattle.it_engine.proofs.Names.{minus_names, sign_named, scaled_name, quotient_in_row, quotient_of_names, product_in_row}
-
--- what short numbers form
-pub half_product : (a b : ℤ) → IsShort a → IsShort b → unsigned_abs (a *ℤ b) < 2 ^ 126
-half_product a b h k = subst (λ n. n < 2 ^ 126) (sym (unsigned_abs-mul a b)) (product_below_limit (unsigned_abs a) (unsigned_abs b) h k)
-  where
-    product_below_limit : (x y : ℕ) → x < 2 ^ 63 → y < 2 ^ 63 → x * y < 2 ^ 126
-    product_below_limit x y h k = mul-lt x y (2 ^ 63) (2 ^ 63) h k
+use Rattle.it_whole.proofs.Bounds.{half_product}
+use Rattle.it_whole.proofs.Names.{minus_names, sign_named, scaled_name, quotient_in_row, quotient_of_names, product_in_row}
 
 pub half_within : (z : ℤ) → unsigned_abs z < 2 ^ 126 → IsWithin z
 half_within z h = for_each (unsigned_abs z) h

@@ -2,10 +2,12 @@
 use Rattle.std.proofs.Common.{◌≡◌, ◌≢◌, ◌⊎◌, inl, inr, ℤ, pos, ◌≤ℤ◌, ◌^◌, unsigned_abs, refl, ℕ, ◌+◌, ◌<◌, ◌≤◌, List, [], length, slice_set, sym, subst, ◌∙◌, arith}
 use Rattle.std.proofs.lemmas.Bool.{cases_eq}
 use Rattle.std.proofs.lemmas.List.{get_or-set_same, get_or-set_other, length-set}
-use Rattle.it_engine.specs.Updates.{AreWholeRowsPivoted, IsWholeRowDivided, IsQuotient, IsUpdated, IsUsable}
-use Rattle.it_engine.specs.Whole.{WholeRowView, whole_row_at}
-use Rattle.it_engine.proofs.RowSteps.{divided_row, less_divided}
-use Rattle.it_engine.proofs.Usable.{quotient_usable, shortened_divided}
+use Rattle.it_engine.specs.PivotedRows.{AreWholeRowsPivoted, IsWholeRowDivided}
+use Rattle.it_whole.specs.Updates.{IsQuotient, IsUpdated}
+use Rattle.it_whole.specs.WholeRows.{IsUsable, WholeRowView}
+use Rattle.it_engine.specs.Tables.{whole_row_at}
+use Rattle.it_engine.proofs.DividedRows.{divided_row, less_divided, shortened_divided}
+use Rattle.it_whole.proofs.Usable.{quotient_usable}
 
 -- the rows below i but row r are done, and those from it on are the old ones
 pub record IsPivotUnderWay (old now : List WholeRowView) (r i : ℕ) (Done : ℕ → WholeRowView → Type 0) : Type 0 where

@@ -15,7 +15,8 @@ use Rattle.it_run.proofs.Reading.{weight_found, weight_none}
 use Rattle.it_engine.specs.Choosing.{right_side_of}
 use Rattle.it_engine.specs.Engine.{Represents}
 use Rattle.it_engine.specs.Ends.{IsNextBasic, IsWeightOf, IsPointOf}
-use Rattle.it_engine.specs.Whole.{whole_row_at, WholeRowView}
+use Rattle.it_engine.specs.Tables.{whole_row_at}
+use Rattle.it_whole.specs.WholeRows.{WholeRowView}
 
 pub quotient_named : (q : Rational) (n : ℤ) (d : ℕ) → 0 < d → IsRatio q n d → quotient n d ≡ q
 quotient_named q n d h e = same_value (quotient n d) q n n d d h h (quotient_names n d h) e refl

@@ -8,7 +8,7 @@ use Rattle.it_space.specs.Rows.{Terms}
 use Rattle.it_space.specs.Sums.{number_at}
 use Rattle.it_tableau.specs.TableauViews.{start_of}
 use Rattle.it_engine.specs.Loading.{right_size, right_sum, IsReadRow, IsShortWhole}
-use Rattle.it_engine.specs.Whole.{WholeRowView}
+use Rattle.it_whole.specs.WholeRows.{WholeRowView}
 use Rattle.it_engine.proofs.StartNumbers.{cost_right_side, row_right_side, unit_cost, unit_entry}
 
 short_whole : (limit : ℕ) (q : Rational) (y z : ℤ) → q ≡ integer y → z ≡ y → unsigned_abs y ≤ limit → IsShortWhole limit q z

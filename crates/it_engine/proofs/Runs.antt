@@ -12,9 +12,10 @@ use Rattle.it_run.proofs.RunSteps.{run_done, run_stuck, run_more, run_budget}
 use Rattle.it_engine.specs.Behind.{AreEngineSteps, StepsLead}
 use Rattle.it_engine.specs.Choosing.{right_side_of, first_negative_cost}
 use Rattle.it_engine.specs.Engine.{IsSafe, Represents, IsEngineStep, IsFinished}
-use Rattle.it_engine.specs.Whole.{whole_row_at, WholeRowView}
+use Rattle.it_engine.specs.Tables.{whole_row_at}
+use Rattle.it_whole.specs.WholeRows.{WholeRowView}
 use Rattle.it_engine.specs.declared.engine.EngineEnd.TheVariants.{Weights, Point, Pivots}
-use Rattle.it_engine.proofs.Names.{null_named, number_null}
+use Rattle.it_whole.proofs.Names.{null_named, number_null}
 use Rattle.it_engine.proofs.ManySteps.{steps_lead_on}
 use Rattle.it_engine.proofs.Steps.{entering_same}
 

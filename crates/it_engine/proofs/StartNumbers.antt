@@ -16,8 +16,7 @@ use Rattle.it_tableau.specs.SimplexTables.{start_row}
 use Rattle.it_tableau.proofs.StartLemmas.{row_artificial, row_column, row_right, start_cost, start_entry}
 use Rattle.it_tableau.proofs.Sums.{eqb_comm, sum_null, sum_one, sum_same}
 use Rattle.it_engine.specs.Loading.{keeps_sign, right_size, right_sum, signed_coefficient}
-use Rattle.it_engine.proofs.Generators.{sum_named}
-use Rattle.it_engine.proofs.Names.{minus_names, sign_named}
+use Rattle.it_whole.proofs.Names.{sum_named, minus_names, sign_named}
 
 -- whole numbers as rational ones
 pub plus_integers : (a b : ℤ) → Q.plus (integer a) (integer b) ≡ integer (a +ℤ b)

@@ -17,7 +17,7 @@ use Rattle.it_tableau.specs.Problems.{feasibility_problem}
 use Rattle.it_tableau.specs.SimplexTables.{start_row}
 use Rattle.it_tableau.proofs.Sums.{sum_same}
 use Rattle.it_engine.specs.Loading.{right_size, right_sum}
-use Rattle.it_engine.specs.Whole.{AreStartColumns, IsStartColumn}
+use Rattle.it_engine.specs.Tables.{AreStartColumns, IsStartColumn}
 use Rattle.it_engine.proofs.Generators.{value_bounded, value_named}
 use Rattle.it_engine.proofs.Narrowness.{narrow_by}
 use Rattle.it_engine.proofs.NoWide.{short_within}

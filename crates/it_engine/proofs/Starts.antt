@@ -17,7 +17,8 @@ use Rattle.it_tableau.proofs.Sums.{sum_same}
 use Rattle.it_engine.specs.Engine.{IsSafe, Represents}
 use Rattle.it_engine.specs.Loading.{signed_coefficient, AreReadColumns, AreReadRows, IsNorm}
 use Rattle.it_space.specs.Sums.{number_at}
-use Rattle.it_engine.specs.Whole.{whole_row_at, WholeRowView, AreStartColumns, ShowsTable}
+use Rattle.it_engine.specs.Tables.{whole_row_at, AreStartColumns, ShowsTable}
+use Rattle.it_whole.specs.WholeRows.{WholeRowView}
 use Rattle.it_engine.proofs.StartNumbers.{column_entry}
 use native.Mathlib.Nat.{mul-div-le}
 

@@ -18,14 +18,15 @@ use Rattle.it_run.proofs.RunLemmas.{next_holds}
 use Rattle.it_run.proofs.RunSteps.{stuck_without_entering, not_stuck_with_entering}
 use Rattle.it_engine.specs.Choosing.{is_above_zero, first_negative_cost, best_row_below, best_row, comes_first, entry_of, right_side_of, basic_column_at, best_after_row}
 use Rattle.it_engine.specs.Engine.{IsSafe, Represents, IsStepMade}
-use Rattle.it_engine.specs.Updates.{AreWholeRowsPivoted, IsFitting, IsUsable}
+use Rattle.it_engine.specs.PivotedRows.{AreWholeRowsPivoted, IsFitting}
+use Rattle.it_whole.specs.WholeRows.{IsUsable, WholeRowView, IsRow}
 use Rattle.it_space.specs.Sums.{number_at}
-use Rattle.it_engine.specs.Whole.{whole_row_at, WholeRowView, IsRow, AreStartColumns, ShowsTable}
+use Rattle.it_engine.specs.Tables.{whole_row_at, AreStartColumns, ShowsTable}
 use Rattle.it_run.proofs.SearchLemmas.{first_false_agrees}
 use Rattle.it_engine.proofs.Choices.{best_row_leaves, IsBestRowBelow}
 use Rattle.it_engine.proofs.Generators.{table_is_over, price_named, number, bottom}
 use Rattle.it_engine.proofs.NoWide as W
-use Rattle.it_engine.proofs.Names.{sign_named}
+use Rattle.it_whole.proofs.Names.{sign_named}
 
 -- the row, if there is one, has an entry above 0
 abbrev IfAbove : (ℕ → ℤ) → Option ℕ → Type 0

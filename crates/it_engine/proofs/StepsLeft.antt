@@ -11,7 +11,8 @@ use Rattle.it_run.proofs.StepsLeft.{steps_left, steps_fall}
 use Rattle.it_engine.specs.Behind.{AreEngineSteps}
 use Rattle.it_engine.specs.Engine.{Represents, IsEngineStep}
 use Rattle.it_space.specs.Sums.{number_at}
-use Rattle.it_engine.specs.Whole.{whole_row_at, WholeRowView}
+use Rattle.it_engine.specs.Tables.{whole_row_at}
+use Rattle.it_whole.specs.WholeRows.{WholeRowView}
 use Rattle.it_engine.proofs.Generators.{table_is_over}
 use Rattle.it_engine.proofs.ManySteps.{steps_lead_down}
 use Rattle.it_engine.proofs.Readings.{quotient_named}

@@ -13,7 +13,7 @@ use Rattle.it_run.proofs.RunSteps.{run_done, run_stuck, run_more}
 use Rattle.it_engine.specs.Behind.{AreEngineSteps, StepsLead}
 use Rattle.it_engine.specs.Choosing.{right_side_of}
 use Rattle.it_engine.specs.Engine.{IsSafe, Represents, RepresentsSome, IsEngineStep, IsFinished}
-use Rattle.it_engine.specs.Whole.{WholeRowView}
+use Rattle.it_whole.specs.WholeRows.{WholeRowView}
 use Rattle.it_engine.specs.declared.engine.EngineEnd.TheVariants as engine_ends
 use Rattle.it_engine.proofs.StepsLeft.{steps_left_to, steps_left_falls, several_steps_left}
 use Rattle.it_engine.proofs.ManySteps.{steps_lead_on}

@@ -1,5 +1,5 @@
 -- No public clause cites this module: rows that stay as they were in an earlier table of the run, the base, until they are brought up to date.
-use Rattle.std.specs.Prelude.{◌≡◌, ℕ, zero, suc, ◌+◌, ◌*◌, ◌/◌, ◌<◌, ◌≤◌, ◌^◌, ◌++◌, Bool, true, false, cond, ◌≢◌, ℤ, pos, negsuc, ◌*ℤ◌, neg_ℤ, unsigned_abs, List, [], length, map, slice_index_or, slice_set, Option, Some, None}
+use Rattle.std.specs.Prelude.{◌≡◌, ℕ, zero, suc, ◌+◌, ◌*◌, ◌/◌, ◌<◌, ◌≤◌, ◌^◌, ◌++◌, Bool, true, false, cond, ◌≢◌, ℤ, pos, negsuc, ◌*ℤ◌, neg_ℤ, unsigned_abs, List, [], length, slice_index_or, slice_set, Option, Some, None}
 use Prim.Native.Nat.{◌∣◌}
 use Rattle.it_rational.specs.Rational.{Rational, integer}
 use Rattle.it_rational.proofs.Field.{field_ℚ}
@@ -12,8 +12,11 @@ use Rattle.it_tableau.specs.Operations.{rationals}
 use Rattle.it_tableau.specs.SimplexTables.{SimplexTable, FeasibilityProblem}
 use Rattle.it_engine.specs.Choosing.{entry_of, first_negative_cost, is_above_zero, right_side_of}
 use Rattle.it_engine.specs.Engine.{IsSafe, Represents}
-use Rattle.it_engine.specs.Updates.{AreUsable, IsUsable, IsWholeRowReduced}
-use Rattle.it_engine.specs.Whole.{AreAtMost, AreStartColumns, IsRow, ShowsTable, whole_row_at, WholeRowView}
+use Rattle.it_engine.specs.PivotedRows.{AreUsable}
+use Rattle.it_whole.specs.ColumnTerms.{multiple_of_terms}
+use Rattle.it_whole.specs.WholeRows.{IsUsable, AreAtMost, IsRow, WholeRowView}
+use Rattle.it_whole.specs.Updates.{IsWholeRowReduced}
+use Rattle.it_engine.specs.Tables.{AreStartColumns, ShowsTable, whole_row_at}
 
 -- the table that has of t the rows that moved and the basic columns, and of the base b all other rows
 abbrev pub mixed_table : (ℕ → Bool) → SimplexTable Rational → SimplexTable Rational → SimplexTable Rational
@@ -29,14 +32,6 @@ pub record ShowsBehind (p : FeasibilityProblem Rational) (b t : SimplexTable Rat
   pub entered : (q : ℕ) → q < length basis → moved q ≡ true → t.basis q < length columns
   pub shows : ShowsTable (length basis) (length columns) limit (mixed_table moved b t) rows basis
   pub columns_are : AreStartColumns (length basis) (length columns) norm p columns
-
--- a term times a factor
-abbrev pub multiple_of_term : ℤ → ℕ × ℤ → ℕ × ℤ
-multiple_of_term factor t = (t.0, t.1 *ℤ factor)
-
--- a column times a factor
-abbrev pub multiple_of_terms : ℤ → Terms → Terms
-multiple_of_terms factor terms = map (multiple_of_term factor) terms
 
 -- the share of row q in a common multiple of the denominators
 abbrev pub share_of : ℕ → List WholeRowView → ℕ → ℕ
@@ -63,6 +58,18 @@ abbrev pub column_less_moved : List Terms → List WholeRowView → List ℕ →
 column_less_moved columns rows basis moved entries multiple c zero = multiple_of_terms (pos multiple) (slice_index_or columns c [])
 column_less_moved columns rows basis moved entries multiple c (suc k) = column_less_moved columns rows basis moved entries multiple c k
     ++ terms_of_moved columns rows basis moved entries multiple k
+
+-- the combined column less so much of the basic column of row q as its entry says, if it moved
+abbrev pub TakesRow : List Terms → List WholeRowView → List ℕ → List Bool → List ℤ → ℕ → ℕ → Terms → Terms → Type 0
+TakesRow columns rows basis moved entries multiple q old new = new ≡ old ++ terms_of_moved columns rows basis moved entries multiple q
+
+-- the column less that for all rows
+abbrev pub column_behind : List Terms → List WholeRowView → List ℕ → List Bool → List ℤ → ℕ → ℕ → Terms
+column_behind columns rows basis moved entries multiple c = column_less_moved columns rows basis moved entries multiple c (length basis)
+
+-- the rows that moved are usable
+abbrev pub AreMovedUsable : ℕ → List WholeRowView → List Bool → Type 0
+AreMovedUsable limit rows moved = (i : ℕ) → i < length rows → has_moved moved i ≡ true → IsUsable (length rows) limit (whole_row_at rows i)
 
 -- the entries at a column of the rows that moved, 0 for all others
 pub record AreMovedEntries (terms : Terms) (rows : List WholeRowView) (moved : List Bool) (entries : List ℤ) : Type 0 where
@@ -196,3 +203,7 @@ share_sum moved most share (suc k) = cond (moved k) (most k * share k) 0 + share
 abbrev pub BoundsShares : ℕ → List WholeRowView → (ℕ → Bool) → (ℕ → ℕ) → ℕ → ℕ → Type 0
 BoundsShares norm rows moved share k bound = (y : ℕ → ℤ) → ((q : ℕ) → q < k → moved q ≡ true → (l : ℕ) → AreAtMost (whole_row_at rows q).numbers l → unsigned_abs (y q) ≤ norm * l)
     → share_sum moved (λ q. unsigned_abs (y q)) share k ≤ bound
+
+-- no entries of the first k rows that moved, each times its share of a multiple, sum to more
+abbrev pub BoundsMovedShares : ℕ → List WholeRowView → List Bool → ℕ → ℕ → ℕ → Type 0
+BoundsMovedShares norm rows moved multiple k bound = BoundsShares norm rows (has_moved moved) (share_of multiple rows) k bound

@@ -4,7 +4,8 @@ use Rattle.it_rational.specs.Rational.{sign_least}
 use Rattle.it_space.specs.Rows.{Terms, value}
 use Rattle.it_run.specs.Choice.{first_false}
 use Rattle.it_space.specs.Sums.{number_at}
-use Rattle.it_engine.specs.Whole.{whole_row_at, WholeRowView}
+use Rattle.it_engine.specs.Tables.{whole_row_at}
+use Rattle.it_whole.specs.WholeRows.{WholeRowView}
 
 -- whether z is above 0
 abbrev pub is_above_zero : ℤ → Bool

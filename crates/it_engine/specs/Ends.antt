@@ -11,7 +11,8 @@ use Rattle.it_run.specs.Solving.{RunsTo}
 use Rattle.it_run.specs.declared.answering.Solved.{Solved}
 use Rattle.it_engine.specs.Choosing.{right_side_of}
 use Rattle.it_engine.specs.Engine.{EngineView, Represents}
-use Rattle.it_engine.specs.Whole.{whole_row_at, WholeRowView}
+use Rattle.it_engine.specs.Tables.{whole_row_at}
+use Rattle.it_whole.specs.WholeRows.{WholeRowView}
 
 -- the right side of a row whose basic column is j
 pub record IsWeightOf (rows : List WholeRowView) (basis : List ℕ) (j : ℕ) (w : Rational) : Type 0 where

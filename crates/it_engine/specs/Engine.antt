@@ -1,6 +1,6 @@
 -- No public clause cites this module: what the engine keeps of a table, and a step on it.
 -- The engine stands for a table of the run: it keeps no table, and its contracts range over all tables that it may stand for.
-use Rattle.std.specs.Prelude.{◌≡◌, ℕ, ◌+◌, ◌*◌, ◌<◌, ◌≤◌, ◌^◌, Bool, true, false, List, [], length, slice_index_or, Option}
+use Rattle.std.specs.Prelude.{◌≡◌, ℕ, ◌+◌, ◌*◌, ◌<◌, ◌≤◌, ◌^◌, Bool, true, false, List, length, Option}
 use Rattle.it_rational.specs.Rational.{Rational}
 use Rattle.it_space.specs.Rows.{Terms}
 use Rattle.it_tableau.specs.Operations.{rationals}
@@ -13,19 +13,24 @@ use Rattle.it_run.specs.Runs.RunEndView.{Weights, Point, Pivots}
 use Rattle.it_run.specs.Steps.{ReachesBy}
 use Rattle.it_engine.specs.declared.engine.EngineEnd.{EngineEnd}
 use Rattle.it_engine.specs.declared.engine.EngineEnd.TheVariants as engine_ends
-use Rattle.it_engine.specs.Updates.{AreUsable, IsFitting}
-use Rattle.it_engine.specs.Whole.{WholeRowView, AreStartColumns, ShowsTable}
+use Rattle.it_engine.specs.PivotedRows.{AreFitting, AreUsable}
+use Rattle.it_whole.specs.WholeRows.{WholeRowView}
+use Rattle.it_engine.specs.Tables.{AreStartColumns, ShowsTable}
 
 -- what contracts see of the engine
 pub record EngineView : Type 0 where
   pub rows : List WholeRowView
   pub basis : List ℕ
 
+-- beside so many basic columns there is room for a pivot's notes on the leaving row, for a row, and for an entry and a note of each row
+abbrev pub HasRoom : (height next room entries moved : ℕ) → Type 0
+HasRoom height next room entries moved = (next ≡ height + 2) × (room ≡ height + 1) × (entries ≡ height + 1) × (moved ≡ height + 1)
+
 -- the parts agree, and all numbers that are formed are short
 pub record IsSafe (columns : List Terms) (limit : ℕ) (rows : List WholeRowView) (basis : List ℕ) : Type 0 where
   pub rows_are : length rows ≡ length basis + 1
   pub usable : AreUsable (length rows) limit rows
-  pub fitting : (j : ℕ) → j < length columns → IsFitting (length rows) limit (slice_index_or columns j [])
+  pub fitting : AreFitting (length rows) limit columns
   pub limit_is : limit < 2 ^ 63
 
 -- the engine shows a table of the problem that has the invariants, and no column weighs more than a norm that keeps all prices short

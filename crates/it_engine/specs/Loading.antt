@@ -7,7 +7,8 @@ use Rattle.it_tableau.specs.TableauViews.{start_of}
 use Rattle.it_tableau.specs.FieldOperations.{sum_to}
 use Rattle.it_run.specs.RowValues.{rational_value}
 use Rattle.it_space.specs.Sums.{number_at}
-use Rattle.it_engine.specs.Whole.{whole_row_at, WholeRowView}
+use Rattle.it_engine.specs.Tables.{whole_row_at}
+use Rattle.it_whole.specs.WholeRows.{WholeRowView}
 
 -- whether row k keeps its sign: the target's coefficient isn't below 0
 abbrev pub keeps_sign : List ℕ → Terms → ℕ → Bool

@@ -4,31 +4,53 @@
 //! degenerate steps keeps up to date only the rows that left in it, and the cost row; all others stay as they were when it began,
 //! and are brought up to date where they leave, or when the block ends. The row of a table of the run is that of any other table
 //! less, for each row whose basic column changed, its entry there times that row.
-ghost use Rattle.std.specs.Prelude.{◌≡◌, ◌≤ℤ◌, ◌+◌, ◌*◌, ◌<◌, ◌≤◌, ◌^◌, ◌++◌, ◌*ℤ◌, neg_ℤ, ℕ, pos, [], length, cond, false, true, slice_index_or, slice_set};
+ghost use Rattle.std.specs.Prelude.{◌≡◌, ◌≤ℤ◌, ◌+◌, ◌*◌, ◌<◌, ◌≤◌, ◌^◌, ◌*ℤ◌, neg_ℤ, ℕ, pos, [], length, cond, false, true, slice_index_or, slice_set};
 ghost use Rattle.std.specs.Bool.{OnFalse, OnTrue};
 ghost use Rattle.std.specs.Option.{IfNone, IfSome};
 ghost use Prim.Native.Nat.{◌∣◌};
-ghost use Rattle.it_engine.specs.Behind.{AreBaseBounds, AreBrought, AreEngineSteps, AreMovedEntries, AreNextMoved, AreStillSteps, BoundsShares, column_less_moved, has_moved, IsBehindStep, IsCommonMultiple, IsBrought, IsFirstAfter, IsFirstToLeave, IsLessMoved, IsRowBrought, IsStillChoice, LeavesStill, MayLeave, multiple_of_terms, share_of, terms_of_moved};
+ghost use Rattle.it_engine.specs.Behind.{AreBaseBounds, AreBrought, AreEngineSteps, AreMovedEntries, AreMovedUsable, AreNextMoved, AreStillSteps, BoundsMovedShares, column_behind, has_moved, IsBehindStep, IsCommonMultiple, IsBrought, IsFirstAfter, IsFirstToLeave, IsLessMoved, IsRowBrought, IsStillChoice, LeavesStill, MayLeave, share_of, TakesRow};
+ghost use Rattle.it_whole.specs.ColumnTerms.{multiple_of_terms, Suits};
 ghost use Rattle.it_engine.specs.Choosing.{entry_of, right_side_of};
-ghost use Rattle.it_engine.specs.Updates.{AreUsable, IsFitting, IsUpdated, IsUsable, Suits, SuitsAll};
+ghost use Rattle.it_engine.specs.PivotedRows.{AreFitting, AreUsable, IsFitting, SuitsAll};
+ghost use Rattle.it_whole.specs.Updates.{IsUpdated};
+ghost use Rattle.it_whole.specs.WholeRows.{IsUsable, AreAtMost};
 ghost use Rattle.it_engine.specs.Engine.{IsSafe};
 ghost use Rattle.it_engine.specs.Loading.{IsNorm};
 ghost use Rattle.it_space.specs.Rows.{row_mass, value};
-ghost use Rattle.it_engine.specs.Whole.{AreAtMost, whole_row_at};
+ghost use Rattle.it_engine.specs.Tables.{whole_row_at};
 ghost use Rattle.it_space.specs.Sums.{number_at};
 
-use crate::arithmetic::{
-    common_divisor, is_above_zero, is_zero, narrow, product, short_product, short_sum,
-};
-use crate::choice::{entering_column, right_side};
-use crate::columns::Column;
-use crate::numbers::read;
+use crate::choice::{entering_column, is_above_zero, right_side};
 use crate::pivots::pivot;
-use crate::rows::WholeRow;
+use it_whole::{
+    Column, WholeRow, common_divisor, is_zero, narrow, product, read, short_product, short_sum,
+};
 use std::alloc::Global;
 
 /// The largest number of the engine, 2^63 - 1.
 const LARGEST: u64 = i64::MAX as u64;
+
+/// What stays through a run.
+#[derive(Drop)]
+pub struct Run<'a> {
+    /// The columns of the start but the artificial ones.
+    pub columns: &'a [Column],
+    /// No number of a row is greater in absolute value.
+    pub limit: u64,
+    /// No column weighs more.
+    pub norm: u64,
+}
+
+/// Rows of which some stay behind, as they are between two steps.
+#[derive(Drop)]
+struct Block<'a> {
+    rows: &'a [WholeRow],
+    basis: &'a [usize],
+    // whether each row moved since the block of steps began
+    moved: &'a [bool],
+    // for each row the next one that moved
+    next: &'a [usize],
+}
 
 /// Whether row i moved.
 #[inline]
@@ -93,28 +115,22 @@ fn clear_entries(entries: &mut [i64])
 }
 
 /// Writes down the entry at the column of each row that moved, the cost row at last, and 0 for each other.
-fn note_moved_entries(
-    column: &Column,
-    rows: &[WholeRow],
-    moved: &[bool],
-    next: &[usize],
-    height: usize,
-    entries: &mut [i64],
-)
-    requires even { length entries.old ≡ length rows.now }
-    requires moved { length moved.now ≡ length rows.now }
-    requires height { length rows.now ≡ height + 1 }
-    requires next { AreNextMoved moved.now height next.now }
-    requires suits { SuitsAll column.now rows.now }
-    ensures { AreMovedEntries column.now rows.now moved.now entries.new }
+fn note_moved_entries(column: &Column, block: &Block<'_>, entries: &mut [i64])
+    requires even { length entries.old ≡ length block.now.rows.now }
+    requires moved { length block.now.moved.now ≡ length block.now.rows.now }
+    requires height { length block.now.rows.now ≡ length block.now.basis.now + 1 }
+    requires next { AreNextMoved block.now.moved.now (length block.now.basis.now) block.now.next.now }
+    requires suits { SuitsAll column.now block.now.rows.now }
+    ensures { AreMovedEntries column.now block.now.rows.now block.now.moved.now entries.new }
 {
     clear_entries(entries);
-    let mut q = next[0];
-    while q < height {
-        entries[q] = moved_entry(column, rows, moved, q);
-        q = next[q + 1];
+    let mut q = block.next[0];
+    while q < block.basis.len() {
+        entries[q] = moved_entry(column, block.rows, block.moved, q);
+        q = block.next[q + 1];
     }
-    entries[height] = moved_entry(column, rows, moved, height);
+    let last = block.basis.len();
+    entries[last] = moved_entry(column, block.rows, block.moved, last);
 }
 
 /// The least common multiple, where it is below 2^63. Mostly b divides a.
@@ -162,18 +178,18 @@ fn more_multiple(rows: &[WholeRow], moved: &[bool], q: usize, multiple: u64) -> 
 }
 
 /// A common multiple of the denominators of the rows that moved, but the cost row, where it is below 2^63.
-fn common_multiple(rows: &[WholeRow], moved: &[bool], next: &[usize], height: usize) -> Option<u64>
-    requires rows { height ≤ length rows.now }
-    requires moved { height ≤ length moved.now }
-    requires next { AreNextMoved moved.now height next.now }
-    requires some { (i : ℕ) → i < length rows.now → 0 < (whole_row_at rows.now i).bottom }
-    ensures { IfSome result (λ multiple. IsCommonMultiple rows.now moved.now height multiple) }
+fn common_multiple(block: &Block<'_>) -> Option<u64>
+    requires rows { length block.now.basis.now ≤ length block.now.rows.now }
+    requires moved { length block.now.basis.now ≤ length block.now.moved.now }
+    requires next { AreNextMoved block.now.moved.now (length block.now.basis.now) block.now.next.now }
+    requires some { (i : ℕ) → i < length block.now.rows.now → 0 < (whole_row_at block.now.rows.now i).bottom }
+    ensures { IfSome result (λ multiple. IsCommonMultiple block.now.rows.now block.now.moved.now (length block.now.basis.now) multiple) }
 {
     let mut multiple: u64 = 1;
-    let mut q = next[0];
-    while q < height {
-        multiple = more_multiple(rows, moved, q, multiple)?;
-        q = next[q + 1];
+    let mut q = block.next[0];
+    while q < block.basis.len() {
+        multiple = more_multiple(block.rows, block.moved, q, multiple)?;
+        q = block.next[q + 1];
     }
     Some(multiple)
 }
@@ -190,8 +206,8 @@ fn more_shares(
     requires rows { q < length rows.now }
     requires moved { q < length moved.now }
     requires some { 0 < (whole_row_at rows.now q).bottom }
-    requires bound { BoundsShares norm rows.now (has_moved moved.now) (share_of multiple rows.now) q bound }
-    ensures { IfSome result (λ bound. BoundsShares norm rows.now (has_moved moved.now) (share_of multiple rows.now) (q + 1) bound) }
+    requires bound { BoundsMovedShares norm rows.now moved.now multiple q bound }
+    ensures { IfSome result (λ bound. BoundsMovedShares norm rows.now moved.now multiple (q + 1) bound) }
 {
     if !moved_at(moved, q) {
         return Some(bound);
@@ -202,25 +218,18 @@ fn more_shares(
 }
 
 /// A bound on what the entries at any column of the rows that moved, each times its share of the multiple, sum to.
-fn bound_of_shares(
-    rows: &[WholeRow],
-    moved: &[bool],
-    next: &[usize],
-    height: usize,
-    multiple: u64,
-    norm: u64,
-) -> Option<u64>
-    requires rows { height ≤ length rows.now }
-    requires moved { height ≤ length moved.now }
-    requires next { AreNextMoved moved.now height next.now }
-    requires some { (i : ℕ) → i < length rows.now → 0 < (whole_row_at rows.now i).bottom }
-    ensures { IfSome result (λ bound. BoundsShares norm rows.now (has_moved moved.now) (share_of multiple rows.now) height bound) }
+fn bound_of_shares(block: &Block<'_>, multiple: u64, norm: u64) -> Option<u64>
+    requires rows { length block.now.basis.now ≤ length block.now.rows.now }
+    requires moved { length block.now.basis.now ≤ length block.now.moved.now }
+    requires next { AreNextMoved block.now.moved.now (length block.now.basis.now) block.now.next.now }
+    requires some { (i : ℕ) → i < length block.now.rows.now → 0 < (whole_row_at block.now.rows.now i).bottom }
+    ensures { IfSome result (λ bound. BoundsMovedShares norm block.now.rows.now block.now.moved.now multiple (length block.now.basis.now) bound) }
 {
     let mut bound: u64 = 0;
-    let mut q = next[0];
-    while q < height {
-        bound = more_shares(rows, moved, q, multiple, norm, bound)?;
-        q = next[q + 1];
+    let mut q = block.next[0];
+    while q < block.basis.len() {
+        bound = more_shares(block.rows, block.moved, q, multiple, norm, bound)?;
+        q = block.next[q + 1];
     }
     Some(bound)
 }
@@ -246,35 +255,33 @@ fn are_short(most: u64, low: u64, multiple: u64, norm: u64, shares: u64) -> bool
 fn less_moved(
     combined: &mut Column,
     columns: &[Column],
-    rows: &[WholeRow],
-    basis: &[usize],
-    moved: &[bool],
+    block: &Block<'_>,
     entries: &[i64],
     q: usize,
     multiple: u64,
 ) -> bool
-    requires rows { q < length rows.now }
-    requires basis { q < length basis.now }
-    requires moved { q < length moved.now }
+    requires rows { q < length block.now.rows.now }
+    requires basis { q < length block.now.basis.now }
+    requires moved { q < length block.now.moved.now }
     requires entries { q < length entries.now }
-    requires some { 0 < (whole_row_at rows.now q).bottom }
+    requires some { 0 < (whole_row_at block.now.rows.now q).bottom }
     requires low { multiple < 2 ^ 63 }
-    ensures { OnTrue result (combined.new ≡ combined.old ++ terms_of_moved columns.now rows.now basis.now moved.now entries.now multiple q) }
+    ensures { OnTrue result (TakesRow columns.now block.now.rows.now block.now.basis.now block.now.moved.now entries.now multiple q combined.old combined.new) }
 {
-    if !moved_at(moved, q) {
+    if !moved_at(block.moved, q) {
         return true;
     }
     let entry = read(entries, q);
     if is_zero(entry) {
         return true;
     }
-    if basis[q] >= columns.len() {
+    if block.basis[q] >= columns.len() {
         return false;
     }
-    let Some(taken) = taken_times(entry, share_at(rows, q, multiple)) else {
+    let Some(taken) = taken_times(entry, share_at(block.rows, q, multiple)) else {
         return false;
     };
-    combined.add_multiple(&columns[basis[q]], taken)
+    combined.add_multiple(&columns[block.basis[q]], taken)
 }
 
 /// The negated product, where that is below 2^63.
@@ -302,32 +309,29 @@ fn begin_combined(combined: &mut Column, columns: &[Column], column: usize, mult
 fn combine_columns(
     combined: &mut Column,
     columns: &[Column],
-    rows: &[WholeRow],
-    basis: &[usize],
-    moved: &[bool],
-    next: &[usize],
+    block: &Block<'_>,
     entries: &[i64],
     column: usize,
     multiple: u64,
 ) -> bool
     requires column { column < length columns.now }
-    requires rows { length basis.now ≤ length rows.now }
-    requires moved { length basis.now ≤ length moved.now }
-    requires next { AreNextMoved moved.now (length basis.now) next.now }
-    requires entries { length basis.now ≤ length entries.now }
-    requires some { (i : ℕ) → i < length rows.now → 0 < (whole_row_at rows.now i).bottom }
+    requires rows { length block.now.basis.now ≤ length block.now.rows.now }
+    requires moved { length block.now.basis.now ≤ length block.now.moved.now }
+    requires next { AreNextMoved block.now.moved.now (length block.now.basis.now) block.now.next.now }
+    requires entries { length block.now.basis.now ≤ length entries.now }
+    requires some { (i : ℕ) → i < length block.now.rows.now → 0 < (whole_row_at block.now.rows.now i).bottom }
     requires low { multiple < 2 ^ 63 }
-    ensures { OnTrue result (combined.new ≡ column_less_moved columns.now rows.now basis.now moved.now entries.now multiple column (length basis.now)) }
+    ensures { OnTrue result (combined.new ≡ column_behind columns.now block.now.rows.now block.now.basis.now block.now.moved.now entries.now multiple column) }
 {
     if !begin_combined(combined, columns, column, multiple) {
         return false;
     }
-    let mut q = next[0];
-    while q < basis.len() {
-        if !less_moved(combined, columns, rows, basis, moved, entries, q, multiple) {
+    let mut q = block.next[0];
+    while q < block.basis.len() {
+        if !less_moved(combined, columns, block, entries, q, multiple) {
             return false;
         }
-        q = next[q + 1];
+        q = block.next[q + 1];
     }
     true
 }
@@ -376,29 +380,34 @@ fn may_leave(
 #[inline(always)]
 fn earlier_row(
     best: Option<usize>,
-    rows: &[WholeRow],
-    basis: &[usize],
-    moved: &[bool],
+    block: &Block<'_>,
     entries: &[i64],
     combined: &Column,
     i: usize,
 ) -> Option<usize>
-    requires row { i < length basis.now }
-    requires rows { length basis.now < length rows.now }
-    requires moved { i < length moved.now }
+    requires row { i < length block.now.basis.now }
+    requires rows { length block.now.basis.now < length block.now.rows.now }
+    requires moved { i < length block.now.moved.now }
     requires entries { i < length entries.now }
-    requires suits { SuitsAll combined.now rows.now }
-    requires place { length basis.now < length (whole_row_at rows.now i).numbers }
-    requires best { IsFirstToLeave rows.now basis.now moved.now entries.now combined.now 0 best }
-    ensures one { IsFirstToLeave rows.now basis.now moved.now entries.now combined.now 0 result }
-    ensures next { IsFirstAfter rows.now basis.now moved.now entries.now combined.now i best result }
+    requires suits { SuitsAll combined.now block.now.rows.now }
+    requires place { length block.now.basis.now < length (whole_row_at block.now.rows.now i).numbers }
+    requires best { IsFirstToLeave block.now.rows.now block.now.basis.now block.now.moved.now entries.now combined.now 0 best }
+    ensures one { IsFirstToLeave block.now.rows.now block.now.basis.now block.now.moved.now entries.now combined.now 0 result }
+    ensures next { IsFirstAfter block.now.rows.now block.now.basis.now block.now.moved.now entries.now combined.now i best result }
 {
     if let Some(k) = best {
-        if basis[k] <= basis[i] {
+        if block.basis[k] <= block.basis[i] {
             return Some(k);
         }
     }
-    if may_leave(rows, moved, entries, combined, basis.len(), i) {
+    if may_leave(
+        block.rows,
+        block.moved,
+        entries,
+        combined,
+        block.basis.len(),
+        i,
+    ) {
         Some(i)
     } else {
         best
@@ -407,51 +416,37 @@ fn earlier_row(
 
 /// Of the rows that moved and may leave with ratio 0 the one with the least basic column. It is looked for first, since then few
 /// of the other rows come before it.
-fn first_moved_to_leave(
-    rows: &[WholeRow],
-    basis: &[usize],
-    moved: &[bool],
-    next: &[usize],
-    entries: &[i64],
-    combined: &Column,
-) -> Option<usize>
-    requires rows { length basis.now < length rows.now }
-    requires moved { length basis.now ≤ length moved.now }
-    requires next { AreNextMoved moved.now (length basis.now) next.now }
-    requires entries { length basis.now ≤ length entries.now }
-    requires suits { SuitsAll combined.now rows.now }
-    requires places { (i : ℕ) → i < length basis.now → length basis.now < length (whole_row_at rows.now i).numbers }
-    ensures { IsFirstToLeave rows.now basis.now moved.now entries.now combined.now 0 result }
+fn first_moved_to_leave(block: &Block<'_>, entries: &[i64], combined: &Column) -> Option<usize>
+    requires rows { length block.now.basis.now < length block.now.rows.now }
+    requires moved { length block.now.basis.now ≤ length block.now.moved.now }
+    requires next { AreNextMoved block.now.moved.now (length block.now.basis.now) block.now.next.now }
+    requires entries { length block.now.basis.now ≤ length entries.now }
+    requires suits { SuitsAll combined.now block.now.rows.now }
+    requires places { (i : ℕ) → i < length block.now.basis.now → length block.now.basis.now < length (whole_row_at block.now.rows.now i).numbers }
+    ensures { IsFirstToLeave block.now.rows.now block.now.basis.now block.now.moved.now entries.now combined.now 0 result }
 {
     let mut best: Option<usize> = None;
-    let mut q = next[0];
-    while q < basis.len() {
-        best = earlier_row(best, rows, basis, moved, entries, combined, q);
-        q = next[q + 1];
+    let mut q = block.next[0];
+    while q < block.basis.len() {
+        best = earlier_row(best, block, entries, combined, q);
+        q = block.next[q + 1];
     }
     best
 }
 
 /// Of the rows that may leave with ratio 0 the one with the least basic column.
-fn first_to_leave(
-    rows: &[WholeRow],
-    basis: &[usize],
-    moved: &[bool],
-    next: &[usize],
-    entries: &[i64],
-    combined: &Column,
-) -> Option<usize>
-    requires rows { length basis.now < length rows.now }
-    requires moved { length basis.now ≤ length moved.now }
-    requires next { AreNextMoved moved.now (length basis.now) next.now }
-    requires entries { length basis.now ≤ length entries.now }
-    requires suits { SuitsAll combined.now rows.now }
-    requires places { (i : ℕ) → i < length basis.now → length basis.now < length (whole_row_at rows.now i).numbers }
-    ensures { IsFirstToLeave rows.now basis.now moved.now entries.now combined.now (length basis.now) result }
+fn first_to_leave(block: &Block<'_>, entries: &[i64], combined: &Column) -> Option<usize>
+    requires rows { length block.now.basis.now < length block.now.rows.now }
+    requires moved { length block.now.basis.now ≤ length block.now.moved.now }
+    requires next { AreNextMoved block.now.moved.now (length block.now.basis.now) block.now.next.now }
+    requires entries { length block.now.basis.now ≤ length entries.now }
+    requires suits { SuitsAll combined.now block.now.rows.now }
+    requires places { (i : ℕ) → i < length block.now.basis.now → length block.now.basis.now < length (whole_row_at block.now.rows.now i).numbers }
+    ensures { IsFirstToLeave block.now.rows.now block.now.basis.now block.now.moved.now entries.now combined.now (length block.now.basis.now) result }
 {
-    let mut best = first_moved_to_leave(rows, basis, moved, next, entries, combined);
-    for i in 0..basis.len() {
-        best = earlier_row(best, rows, basis, moved, entries, combined, i);
+    let mut best = first_moved_to_leave(block, entries, combined);
+    for i in 0..block.basis.len() {
+        best = earlier_row(best, block, entries, combined, i);
     }
     best
 }
@@ -505,76 +500,63 @@ fn take_off(
 /// too large, and then nothing is known of the row.
 fn take_off_moved(
     row: &mut WholeRow,
-    columns: &[Column],
-    rows: &[WholeRow],
-    basis: &[usize],
-    moved: &[bool],
-    next: &[usize],
+    run: &Run<'_>,
+    block: &Block<'_>,
     room: &mut [i64],
     q: usize,
-    limit: u64,
 ) -> bool
-    requires height { length rows.now ≡ length basis.now + 1 }
-    requires moved { length moved.now ≡ length rows.now }
-    requires q { q < length basis.now }
-    requires row { IsUsable (length rows.now) limit row.old }
-    requires rows { (i : ℕ) → i < length rows.now → has_moved moved.now i ≡ true → IsUsable (length rows.now) limit (whole_row_at rows.now i) }
-    requires columns { (j : ℕ) → j < length columns.now → IsFitting (length rows.now) limit (slice_index_or columns.now j []) }
-    requires room { length room.old ≡ length rows.now }
-    requires limit { limit < 2 ^ 63 }
+    requires height { length block.now.rows.now ≡ length block.now.basis.now + 1 }
+    requires moved { length block.now.moved.now ≡ length block.now.rows.now }
+    requires q { q < length block.now.basis.now }
+    requires row { IsUsable (length block.now.rows.now) run.now.limit row.old }
+    requires rows { AreMovedUsable run.now.limit block.now.rows.now block.now.moved.now }
+    requires columns { AreFitting (length block.now.rows.now) run.now.limit run.now.columns.now }
+    requires room { length room.old ≡ length block.now.rows.now }
+    requires limit { run.now.limit < 2 ^ 63 }
     ensures room { length room.new ≡ length room.old }
-    ensures less { OnTrue result (IsLessMoved columns.now limit rows.now basis.now moved.now q row.old row.new) }
-    ensures usable { OnTrue result (IsUsable (length rows.now) limit row.new) }
+    ensures less { OnTrue result (IsLessMoved run.now.columns.now run.now.limit block.now.rows.now block.now.basis.now block.now.moved.now q row.old row.new) }
+    ensures usable { OnTrue result (IsUsable (length block.now.rows.now) run.now.limit row.new) }
 {
-    if !moved_at(moved, q) {
+    if !moved_at(block.moved, q) {
         return true;
     }
-    if basis[q] >= columns.len() {
+    if block.basis[q] >= run.columns.len() {
         return false;
     }
-    let Some(unit) = unit_at(rows, q) else {
+    let Some(unit) = unit_at(block.rows, q) else {
         return false;
     };
     take_off(
         row,
-        &rows[q],
-        basic_column(columns, basis, q),
+        &block.rows[q],
+        basic_column(run.columns, block.basis, q),
         unit,
-        next,
+        block.next,
         room,
-        limit,
+        run.limit,
     )
 }
 
 /// Brings a row that stayed behind up to date; false where a number would be too large, and then nothing is known of the row.
-fn bring_row(
-    row: &mut WholeRow,
-    columns: &[Column],
-    rows: &[WholeRow],
-    basis: &[usize],
-    moved: &[bool],
-    next: &[usize],
-    room: &mut [i64],
-    limit: u64,
-) -> bool
-    requires height { length rows.now ≡ length basis.now + 1 }
-    requires moved { length moved.now ≡ length rows.now }
-    requires next { AreNextMoved moved.now (length basis.now) next.now }
-    requires row { IsUsable (length rows.now) limit row.old }
-    requires rows { (i : ℕ) → i < length rows.now → has_moved moved.now i ≡ true → IsUsable (length rows.now) limit (whole_row_at rows.now i) }
-    requires columns { (j : ℕ) → j < length columns.now → IsFitting (length rows.now) limit (slice_index_or columns.now j []) }
-    requires room { length room.old ≡ length rows.now }
-    requires limit { limit < 2 ^ 63 }
+fn bring_row(row: &mut WholeRow, run: &Run<'_>, block: &Block<'_>, room: &mut [i64]) -> bool
+    requires height { length block.now.rows.now ≡ length block.now.basis.now + 1 }
+    requires moved { length block.now.moved.now ≡ length block.now.rows.now }
+    requires next { AreNextMoved block.now.moved.now (length block.now.basis.now) block.now.next.now }
+    requires row { IsUsable (length block.now.rows.now) run.now.limit row.old }
+    requires rows { AreMovedUsable run.now.limit block.now.rows.now block.now.moved.now }
+    requires columns { AreFitting (length block.now.rows.now) run.now.limit run.now.columns.now }
+    requires room { length room.old ≡ length block.now.rows.now }
+    requires limit { run.now.limit < 2 ^ 63 }
     ensures room { length room.new ≡ length room.old }
-    ensures brought { OnTrue result (IsBrought columns.now limit rows.now basis.now moved.now row.old row.new) }
-    ensures usable { OnTrue result (IsUsable (length rows.now) limit row.new) }
+    ensures brought { OnTrue result (IsBrought run.now.columns.now run.now.limit block.now.rows.now block.now.basis.now block.now.moved.now row.old row.new) }
+    ensures usable { OnTrue result (IsUsable (length block.now.rows.now) run.now.limit row.new) }
 {
-    let mut q = next[0];
-    while q < basis.len() {
-        if !take_off_moved(row, columns, rows, basis, moved, next, room, q, limit) {
+    let mut q = block.next[0];
+    while q < block.basis.len() {
+        if !take_off_moved(row, run, block, room, q) {
             return false;
         }
-        q = next[q + 1];
+        q = block.next[q + 1];
     }
     true
 }
@@ -583,28 +565,33 @@ fn bring_row(
 fn bring(
     alloc: Global,
     rows: &mut [WholeRow],
-    columns: &[Column],
+    run: &Run<'_>,
     basis: &[usize],
     moved: &[bool],
     next: &[usize],
     room: &mut [i64],
     r: usize,
-    limit: u64,
 ) -> bool
     requires height { length rows.old ≡ length basis.now + 1 }
     requires moved { length moved.now ≡ length rows.old }
     requires r { r < length basis.now }
     requires behind { has_moved moved.now r ≡ false }
     requires next { AreNextMoved moved.now (length basis.now) next.now }
-    requires rows { AreUsable (length rows.old) limit rows.old }
-    requires columns { (j : ℕ) → j < length columns.now → IsFitting (length rows.old) limit (slice_index_or columns.now j []) }
+    requires rows { AreUsable (length rows.old) run.now.limit rows.old }
+    requires columns { AreFitting (length rows.old) run.now.limit run.now.columns.now }
     requires room { length room.old ≡ length rows.old }
-    requires limit { limit < 2 ^ 63 }
+    requires limit { run.now.limit < 2 ^ 63 }
     ensures room { length room.new ≡ length room.old }
-    ensures brought { OnTrue result (IsRowBrought columns.now limit rows.old basis.now moved.now r rows.new) }
+    ensures brought { OnTrue result (IsRowBrought run.now.columns.now run.now.limit rows.old basis.now moved.now r rows.new) }
 {
     let mut row = std::mem::replace(&mut rows[r], WholeRow::empty(alloc));
-    let done = bring_row(&mut row, columns, rows, basis, moved, next, room, limit);
+    let block = Block {
+        rows,
+        basis,
+        moved,
+        next,
+    };
+    let done = bring_row(&mut row, run, &block, room);
     rows[r] = row;
     done
 }
@@ -638,57 +625,55 @@ fn note_next_moved(moved: &[bool], next: &mut [usize], height: usize)
 fn bring_noted(
     alloc: Global,
     rows: &mut [WholeRow],
-    columns: &[Column],
+    run: &Run<'_>,
     basis: &[usize],
     moved: &[bool],
     next: &[usize],
     room: &mut [i64],
     r: usize,
-    limit: u64,
 ) -> bool
     requires height { length rows.old ≡ length basis.now + 1 }
     requires moved { length moved.now ≡ length rows.old }
     requires r { r < length basis.now }
     requires next { AreNextMoved moved.now (length basis.now) next.now }
-    requires rows { AreUsable (length rows.old) limit rows.old }
-    requires columns { (j : ℕ) → j < length columns.now → IsFitting (length rows.old) limit (slice_index_or columns.now j []) }
+    requires rows { AreUsable (length rows.old) run.now.limit rows.old }
+    requires columns { AreFitting (length rows.old) run.now.limit run.now.columns.now }
     requires room { length room.old ≡ length rows.old }
-    requires limit { limit < 2 ^ 63 }
+    requires limit { run.now.limit < 2 ^ 63 }
     ensures room { length room.new ≡ length room.old }
-    ensures brought { OnTrue result (has_moved moved.now r ≡ false → IsRowBrought columns.now limit rows.old basis.now moved.now r rows.new) }
+    ensures brought { OnTrue result (has_moved moved.now r ≡ false → IsRowBrought run.now.columns.now run.now.limit rows.old basis.now moved.now r rows.new) }
     ensures kept { OnTrue result (has_moved moved.now r ≡ true → rows.new ≡ rows.old) }
 {
     if moved_at(moved, r) {
         return true;
     }
-    bring(alloc, rows, columns, basis, moved, next, room, r, limit)
+    bring(alloc, rows, run, basis, moved, next, room, r)
 }
 
 /// Brings all rows up to date; false where a number would be too large, and then nothing is known of the rows.
 fn bring_all(
     alloc: Global,
     rows: &mut [WholeRow],
-    columns: &[Column],
+    run: &Run<'_>,
     basis: &[usize],
     moved: &[bool],
     next: &mut [usize],
     room: &mut [i64],
-    limit: u64,
 ) -> bool
     requires height { length rows.old ≡ length basis.now + 1 }
     requires moved { length moved.now ≡ length rows.old }
-    requires rows { AreUsable (length rows.old) limit rows.old }
-    requires columns { (j : ℕ) → j < length columns.now → IsFitting (length rows.old) limit (slice_index_or columns.now j []) }
+    requires rows { AreUsable (length rows.old) run.now.limit rows.old }
+    requires columns { AreFitting (length rows.old) run.now.limit run.now.columns.now }
     requires next { length next.old ≡ length rows.old + 1 }
     requires room { length room.old ≡ length rows.old }
-    requires limit { limit < 2 ^ 63 }
+    requires limit { run.now.limit < 2 ^ 63 }
     ensures next { length next.new ≡ length next.old }
     ensures room { length room.new ≡ length room.old }
-    ensures brought { OnTrue result (AreBrought columns.now limit rows.old basis.now moved.now (length basis.now) rows.new) }
+    ensures brought { OnTrue result (AreBrought run.now.columns.now run.now.limit rows.old basis.now moved.now (length basis.now) rows.new) }
 {
     note_next_moved(moved, next, basis.len());
     for r in 0..basis.len() {
-        if !bring_noted(alloc, rows, columns, basis, moved, next, room, r, limit) {
+        if !bring_noted(alloc, rows, run, basis, moved, next, room, r) {
             return false;
         }
     }
@@ -708,45 +693,38 @@ fn is_light(combined: &Column, limit: u64) -> bool
 /// The row that leaves at a degenerate step by this column. None where the step isn't degenerate, or where the numbers of the
 /// rows that stay behind may be too large, or for want of memory.
 fn still_row(
-    rows: &[WholeRow],
-    basis: &[usize],
-    moved: &[bool],
-    next: &[usize],
+    block: &Block<'_>,
+    run: &Run<'_>,
     entries: &mut [i64],
     combined: &mut Column,
-    columns: &[Column],
     column: usize,
-    limit: u64,
     bound: u64,
-    norm: u64,
 ) -> Option<usize>
-    requires engine { IsSafe columns.now limit rows.now basis.now }
-    requires moved { length moved.now ≡ length rows.now }
-    requires next { AreNextMoved moved.now (length basis.now) next.now }
-    requires entries { length entries.old ≡ length rows.now }
-    requires column { column < length columns.now }
-    requires bound { AreBaseBounds bound bound rows.now moved.now (length basis.now) }
-    requires norm { IsNorm columns.now norm }
+    requires engine { IsSafe run.now.columns.now run.now.limit block.now.rows.now block.now.basis.now }
+    requires moved { length block.now.moved.now ≡ length block.now.rows.now }
+    requires next { AreNextMoved block.now.moved.now (length block.now.basis.now) block.now.next.now }
+    requires entries { length entries.old ≡ length block.now.rows.now }
+    requires column { column < length run.now.columns.now }
+    requires bound { AreBaseBounds bound bound block.now.rows.now block.now.moved.now (length block.now.basis.now) }
+    requires norm { IsNorm run.now.columns.now run.now.norm }
     ensures entries { length entries.new ≡ length entries.old }
-    ensures within { IfSome result (λ r. r < length basis.now) }
-    ensures leaves { IfSome result (λ r. LeavesStill columns.now limit rows.now basis.now moved.now column r) }
-    ensures noted { IfSome result (λ r. AreMovedEntries (slice_index_or columns.now column []) rows.now moved.now entries.new) }
+    ensures within { IfSome result (λ r. r < length block.now.basis.now) }
+    ensures leaves { IfSome result (λ r. LeavesStill run.now.columns.now run.now.limit block.now.rows.now block.now.basis.now block.now.moved.now column r) }
+    ensures noted { IfSome result (λ r. AreMovedEntries (slice_index_or run.now.columns.now column []) block.now.rows.now block.now.moved.now entries.new) }
 {
-    note_moved_entries(&columns[column], rows, moved, next, basis.len(), entries);
-    let multiple = common_multiple(rows, moved, next, basis.len())?;
-    let shares = bound_of_shares(rows, moved, next, basis.len(), multiple, norm)?;
-    if !are_short(bound, bound, multiple, norm, shares) {
+    note_moved_entries(&run.columns[column], block, entries);
+    let multiple = common_multiple(block)?;
+    let shares = bound_of_shares(block, multiple, run.norm)?;
+    if !are_short(bound, bound, multiple, run.norm, shares) {
         return None;
     }
-    if !combine_columns(
-        combined, columns, rows, basis, moved, next, entries, column, multiple,
-    ) {
+    if !combine_columns(combined, run.columns, block, entries, column, multiple) {
         return None;
     }
-    if !is_light(combined, limit) {
+    if !is_light(combined, run.limit) {
         return None;
     }
-    first_to_leave(rows, basis, moved, next, entries, combined)
+    first_to_leave(block, entries, combined)
 }
 
 /// The bound with the numbers and the denominator of row i, if it stays behind.
@@ -779,35 +757,28 @@ fn bound_behind(rows: &[WholeRow], moved: &[bool], height: usize) -> u64
 /// The column that enters and the row that leaves, if the next step is degenerate. None otherwise, or where no step is left, or
 /// where the numbers of the rows that stay behind may be too large, or for want of memory.
 fn still_choice(
-    rows: &[WholeRow],
-    basis: &[usize],
-    moved: &[bool],
-    next: &[usize],
+    block: &Block<'_>,
+    run: &Run<'_>,
     entries: &mut [i64],
     combined: &mut Column,
-    columns: &[Column],
-    limit: u64,
     bound: u64,
-    norm: u64,
 ) -> Option<(usize, usize)>
-    requires engine { IsSafe columns.now limit rows.now basis.now }
-    requires moved { length moved.now ≡ length rows.now }
-    requires next { AreNextMoved moved.now (length basis.now) next.now }
-    requires entries { length entries.old ≡ length rows.now }
-    requires bound { AreBaseBounds bound bound rows.now moved.now (length basis.now) }
-    requires norm { IsNorm columns.now norm }
+    requires engine { IsSafe run.now.columns.now run.now.limit block.now.rows.now block.now.basis.now }
+    requires moved { length block.now.moved.now ≡ length block.now.rows.now }
+    requires next { AreNextMoved block.now.moved.now (length block.now.basis.now) block.now.next.now }
+    requires entries { length entries.old ≡ length block.now.rows.now }
+    requires bound { AreBaseBounds bound bound block.now.rows.now block.now.moved.now (length block.now.basis.now) }
+    requires norm { IsNorm run.now.columns.now run.now.norm }
     ensures entries { length entries.new ≡ length entries.old }
-    ensures choice { IfSome result (λ x. IsStillChoice columns.now limit rows.now basis.now moved.now x.0 x.1) }
-    ensures noted { IfSome result (λ x. AreMovedEntries (slice_index_or columns.now x.0 []) rows.now moved.now entries.new) }
+    ensures choice { IfSome result (λ x. IsStillChoice run.now.columns.now run.now.limit block.now.rows.now block.now.basis.now block.now.moved.now x.0 x.1) }
+    ensures noted { IfSome result (λ x. AreMovedEntries (slice_index_or run.now.columns.now x.0 []) block.now.rows.now block.now.moved.now entries.new) }
 {
-    let last = basis.len();
-    if is_zero(right_side(rows, last, last)) {
+    let last = block.basis.len();
+    if is_zero(right_side(block.rows, last, last)) {
         return None;
     }
-    let column = entering_column(columns, &rows[last])?;
-    let row = still_row(
-        rows, basis, moved, next, entries, combined, columns, column, limit, bound, norm,
-    )?;
+    let column = entering_column(run.columns, &block.rows[last])?;
+    let row = still_row(block, run, entries, combined, column, bound)?;
     Some((column, row))
 }
 
@@ -821,35 +792,34 @@ fn make_step(
     entries: &mut [i64],
     next: &mut [usize],
     room: &mut [i64],
-    columns: &[Column],
-    limit: u64,
+    run: &Run<'_>,
     column: usize,
     row: usize,
 ) -> bool
-    requires engine { IsSafe columns.now limit rows.old basis.old }
+    requires engine { IsSafe run.now.columns.now run.now.limit rows.old basis.old }
     requires moved { length moved.old ≡ length rows.old }
-    requires entries { AreMovedEntries (slice_index_or columns.now column []) rows.old moved.old entries.old }
+    requires entries { AreMovedEntries (slice_index_or run.now.columns.now column []) rows.old moved.old entries.old }
     requires next { length next.old ≡ length rows.old + 1 }
     requires noted { AreNextMoved moved.old (length basis.old) next.old }
     requires room { length room.old ≡ length rows.old }
-    requires column { column < length columns.now }
+    requires column { column < length run.now.columns.now }
     requires row { row < length basis.old }
-    ensures step { OnTrue result (IsBehindStep columns.now limit rows.old basis.old moved.old column row rows.new) }
+    ensures step { OnTrue result (IsBehindStep run.now.columns.now run.now.limit rows.old basis.old moved.old column row rows.new) }
     ensures basis { OnTrue result (basis.new ≡ slice_set basis.old row column) }
     ensures moved { OnTrue result (moved.new ≡ slice_set moved.old row true) }
     ensures entries { length entries.new ≡ length entries.old }
     ensures next { length next.new ≡ length next.old }
     ensures room { length room.new ≡ length room.old }
 {
-    if !bring_noted(alloc, rows, columns, basis, moved, next, room, row, limit) {
+    if !bring_noted(alloc, rows, run, basis, moved, next, room, row) {
         return false;
     }
     moved[row] = true;
-    entries[row] = entry_at(&columns[column], rows, row);
+    entries[row] = entry_at(&run.columns[column], rows, row);
     if !is_above_zero(read(entries, row)) {
         return false;
     }
-    if !pivot(alloc, rows, next, room, entries, row, limit) {
+    if !pivot(alloc, rows, next, room, entries, row, run.limit) {
         return false;
     }
     basis[row] = column;
@@ -878,18 +848,16 @@ fn still_steps(
     next: &mut [usize],
     room: &mut [i64],
     combined: &mut Column,
-    columns: &[Column],
-    limit: u64,
-    norm: u64,
+    run: &Run<'_>,
     most: u32,
 ) -> Option<u32>
-    requires engine { IsSafe columns.now limit rows.old basis.old }
+    requires engine { IsSafe run.now.columns.now run.now.limit rows.old basis.old }
     requires moved { length moved.old ≡ length rows.old }
     requires entries { length entries.old ≡ length rows.old }
     requires next { length next.old ≡ length rows.old + 1 }
     requires room { length room.old ≡ length rows.old }
-    requires norm { IsNorm columns.now norm }
-    ensures steps { IfSome result (λ k. AreStillSteps columns.now limit rows.old basis.old moved.old k rows.new basis.new moved.new) }
+    requires norm { IsNorm run.now.columns.now run.now.norm }
+    ensures steps { IfSome result (λ k. AreStillSteps run.now.columns.now run.now.limit rows.old basis.old moved.old k rows.new basis.new moved.new) }
     ensures most { IfSome result (λ k. k ≤ most) }
     ensures entries { length entries.new ≡ length entries.old }
     ensures next { length next.new ≡ length next.old }
@@ -901,13 +869,17 @@ fn still_steps(
             return Some(k);
         }
         note_next_moved(moved, next, basis.len());
-        let Some((column, row)) = still_choice(
-            rows, basis, moved, next, entries, combined, columns, limit, bound, norm,
-        ) else {
+        let block = Block {
+            rows,
+            basis,
+            moved,
+            next,
+        };
+        let Some((column, row)) = still_choice(&block, run, entries, combined, bound) else {
             return Some(k);
         };
         if !make_step(
-            alloc, rows, basis, moved, entries, next, room, columns, limit, column, row,
+            alloc, rows, basis, moved, entries, next, room, run, column, row,
         ) {
             return None;
         }
@@ -939,18 +911,16 @@ pub fn make_steps(
     next: &mut [usize],
     room: &mut [i64],
     combined: &mut Column,
-    columns: &[Column],
-    limit: u64,
-    norm: u64,
+    run: &Run<'_>,
     most: u32,
 ) -> Option<u32>
-    requires engine { IsSafe columns.now limit rows.old basis.old }
+    requires engine { IsSafe run.now.columns.now run.now.limit rows.old basis.old }
     requires moved { length moved.old ≡ length rows.old }
     requires entries { length entries.old ≡ length rows.old }
     requires next { length next.old ≡ length rows.old + 1 }
     requires room { length room.old ≡ length rows.old }
-    requires norm { IsNorm columns.now norm }
-    ensures steps { IfSome result (λ k. AreEngineSteps columns.now limit rows.old basis.old k rows.new basis.new) }
+    requires norm { IsNorm run.now.columns.now run.now.norm }
+    ensures steps { IfSome result (λ k. AreEngineSteps run.now.columns.now run.now.limit rows.old basis.old k rows.new basis.new) }
     ensures most { IfSome result (λ k. k ≤ most) }
     ensures moved { length moved.new ≡ length moved.old }
     ensures entries { length entries.new ≡ length entries.old }
@@ -959,9 +929,9 @@ pub fn make_steps(
 {
     note_none_moved(moved, basis.len());
     let made = still_steps(
-        alloc, rows, basis, moved, entries, next, room, combined, columns, limit, norm, most,
+        alloc, rows, basis, moved, entries, next, room, combined, run, most,
     )?;
-    if bring_all(alloc, rows, columns, basis, moved, next, room, limit) {
+    if bring_all(alloc, rows, run, basis, moved, next, room) {
         Some(made)
     } else {
         None

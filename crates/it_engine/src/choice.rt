@@ -1,15 +1,48 @@
 //! The column that enters, the entries of the rows there, and the row that leaves.
 ghost use Rattle.std.specs.Prelude.{◌≡◌, ◌+◌, ◌<◌, ℕ, length};
 ghost use Rattle.std.specs.Option.{IfNone, IfSome};
-ghost use Rattle.it_engine.specs.Choosing.{AreEntries, best_after_row, basic_column_at, best_row_below, entry_of, first_negative_cost, right_side_of};
-ghost use Rattle.it_engine.specs.Updates.{AllSuit, SuitsAll};
-ghost use Rattle.it_engine.specs.Whole.{whole_row_at};
+ghost use Rattle.it_engine.specs.Choosing.{AreEntries, best_after_row, basic_column_at, best_row_below, comes_first as comes_first_of, entry_of, first_negative_cost, is_above_zero as is_above_zero_of, is_earlier as is_earlier_of, right_side_of};
+ghost use Rattle.it_engine.specs.PivotedRows.{AllSuit, SuitsAll};
+ghost use Rattle.it_engine.specs.Tables.{whole_row_at};
+ghost use Rattle.it_rational.specs.Rational.{sign_least};
 ghost use Rattle.it_space.specs.Sums.{number_at};
 
-use crate::arithmetic::{comes_first, is_above_zero, is_at_least_zero};
-use crate::columns::Column;
-use crate::numbers::read;
-use crate::rows::WholeRow;
+use it_whole::{Column, WholeRow, product, read};
+
+/// Whether z is above 0.
+pub fn is_above_zero(z: i64) -> bool
+    ensures { result ≡ is_above_zero_of z }
+{
+    z > 0
+}
+
+/// Whether z is at least 0.
+pub fn is_at_least_zero(z: i64) -> bool
+    ensures { result ≡ sign_least z }
+{
+    z >= 0
+}
+
+/// Whether left comes before right, and of equal ones d before f.
+#[tactic(auto, using(crate::proofs::Signs::order_less, crate::proofs::Signs::order_same, crate::proofs::Signs::order_more))]
+fn is_earlier(left: i128, right: i128, d: usize, f: usize) -> bool
+    ensures { result ≡ is_earlier_of left right d f }
+{
+    if left < right {
+        true
+    } else if left == right {
+        d < f
+    } else {
+        false
+    }
+}
+
+/// Whether b / x with the basic column d comes before e / y with f.
+pub fn comes_first(b: i64, x: i64, d: usize, e: i64, y: i64, f: usize) -> bool
+    ensures { result ≡ comes_first_of b x d e y f }
+{
+    is_earlier(product(b, y), product(e, x), d, f)
+}
 
 /// The first column with a cost below 0.
 #[tactic(auto, using(it_run::proofs::SearchLemmas::first_is, it_run::proofs::SearchLemmas::first_none))]

@@ -6,15 +6,14 @@ ghost use Rattle.it_engine.specs.Behind.{AreEngineSteps};
 ghost use Rattle.it_engine.specs.Loading.{IsNorm};
 ghost use Rattle.it_engine.specs.Choosing.{first_negative_cost, right_side_of};
 ghost use Rattle.it_engine.specs.Engine.{IsFinished, IsSafe, IsEngineStepOrStuck, RepresentsSome};
-ghost use Rattle.it_engine.specs.Whole.{AreAllAtMost, AreAtMost, whole_row_at};
+ghost use Rattle.it_engine.specs.Tables.{AreAllAtMost, whole_row_at};
+ghost use Rattle.it_whole.specs.WholeRows.{AreAtMost};
 
-use crate::arithmetic::is_zero;
-use crate::behind::make_steps;
+use crate::behind::{Run, make_steps};
 use crate::choice::entering_column;
-use crate::columns::Column;
 use crate::loading::norm;
 use crate::pivots::enter;
-use crate::rows::WholeRow;
+use it_whole::{Column, WholeRow, is_zero};
 use std::alloc::{AllocError, Global};
 use std::marker::Model;
 
@@ -66,14 +65,14 @@ impl Drop for Engine {
 }
 
 impl Model for Engine {
-    ghost use Rattle.std.specs.Prelude.{◌≡◌, ◌+◌, length};
-    ghost use Rattle.it_engine.specs.Engine.{EngineView};
+    ghost use Rattle.std.specs.Prelude.{length};
+    ghost use Rattle.it_engine.specs.Engine.{EngineView, HasRoom};
 
     ghost Value = { EngineView };
 
     ghost view = { λ e. record { rows = e.rows.items; basis = e.basis.items } };
 
-    ghost invariant = { λ e. (length e.next.items ≡ length e.basis.items + 2) × (length e.room.items ≡ length e.basis.items + 1) × (length e.entries.items ≡ length e.basis.items + 1) × (length e.moved.items ≡ length e.basis.items + 1) };
+    ghost invariant = { λ e. HasRoom (length e.basis.items) (length e.next.items) (length e.room.items) (length e.entries.items) (length e.moved.items) };
 }
 
 impl Engine {
@@ -196,9 +195,11 @@ impl Engine {
             self.next.as_mut_slice(),
             self.room.as_mut_slice(),
             &mut self.combined,
-            columns,
-            limit,
-            norm,
+            &Run {
+                columns,
+                limit,
+                norm,
+            },
             most,
         )
     }
@@ -317,7 +318,7 @@ fn narrowed_row(
 }
 
 /// The row of this number, which is the last one.
-#[tactic(auto, using(crate::proofs::Items::item_by_default))]
+#[tactic(auto, using(it_whole::proofs::Items::item_by_default))]
 fn last_row(rows: &[WholeRow], last: usize) -> &WholeRow
     requires { last < length rows.now }
     ensures { result.now ≡ whole_row_at rows.now last }

@@ -7,20 +7,12 @@
 //! several numbers at once, and where a row doesn't fit these, with rows in 64 bits from the start.
 #![tactic(auto)]
 
-mod arithmetic;
 mod behind;
 mod choice;
-mod columns;
-mod divisors;
 mod engine;
 mod loading;
-mod narrow;
-mod narrow_numbers;
-mod numbers;
 mod pivots;
 mod reading;
-mod rows;
 mod whole;
-mod wide;
 
 pub use whole::whole_run;

@@ -7,11 +7,9 @@ ghost use Rattle.it_space.specs.Rows.{coefficient};
 ghost use Rattle.it_tableau.specs.Problems.{IsAscending};
 ghost use Rattle.it_engine.specs.Loading.{right_size, right_sum, AreReadColumns, AreReadRows, IsColumnOf, IsNorm, IsReadRow, IsTermPut};
 
-use crate::arithmetic::{narrow, short_sum};
-use crate::columns::Column;
-use crate::rows::WholeRow;
 use it_space::Row;
 use it_tableau::{keeps_sign, place_of};
+use it_whole::{Column, WholeRow, narrow, short_sum};
 use std::alloc::{AllocError, Global};
 
 /// The largest number of the engine, 2^63 - 1.

@@ -3,13 +3,12 @@ ghost use Rattle.std.specs.Prelude.{◌≡◌, ◌+◌, ◌<◌, ◌^◌, ◌≤
 ghost use Rattle.std.specs.Bool.{OnTrue};
 ghost use Rattle.std.specs.Option.{IfSome};
 ghost use Rattle.it_engine.specs.Choosing.{best_row, entry_of};
-ghost use Rattle.it_engine.specs.Updates.{AreShort, AreWholeRowsPivoted, AreUsable, IsFitting};
+ghost use Rattle.it_whole.specs.WholeRows.{AreShort};
+ghost use Rattle.it_engine.specs.PivotedRows.{AreWholeRowsPivoted, AreUsable, IsFitting};
 ghost use Rattle.it_space.specs.Sums.{number_at};
 
 use crate::choice::{leaving_row, note_entries};
-use crate::columns::Column;
-use crate::numbers::read;
-use crate::rows::WholeRow;
+use it_whole::{Column, WholeRow, read};
 use std::alloc::Global;
 
 /// Makes the column at which the rows have these entries basic in row r; false where a number would be too large, and then nothing

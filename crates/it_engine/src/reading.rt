@@ -5,13 +5,12 @@ ghost use Rattle.it_engine.specs.Choosing.{right_side_of};
 ghost use Rattle.it_engine.specs.Engine.{IsSafe};
 ghost use Rattle.it_engine.specs.Ends.{AreWeightsOf, IsNextBasic, IsPointOf};
 ghost use Rattle.it_space.specs.Sums.{number_at};
-ghost use Rattle.it_engine.specs.Whole.{whole_row_at};
+ghost use Rattle.it_engine.specs.Tables.{whole_row_at};
 
-use crate::columns::Column;
-use crate::rows::WholeRow;
 use it_fraction::Fraction;
 use it_space::Row;
 use it_tableau::keeps_sign;
+use it_whole::{Column, WholeRow};
 use std::alloc::{AllocError, Global};
 
 /// The number at place k over the row's denominator.

@@ -5,13 +5,13 @@ ghost use Rattle.it_engine.specs.Answers.{RunsFromStart};
 ghost use Rattle.it_engine.specs.Engine.{IsSafe, RepresentsSome};
 ghost use Rattle.it_engine.specs.Ends.{AnswersFrom};
 
-use crate::columns::Column;
 use crate::engine::{Engine, EngineEnd};
 use crate::loading::{columns, norm, rows};
 use crate::reading::{point, weights};
 use it_run::Solved;
 use it_space::Row;
 use it_tableau::{artificials, ascends};
+use it_whole::Column;
 use std::alloc::{AllocError, Global};
 
 /// The largest number of the engine, 2^63 - 1.

@@ -1,23 +1,23 @@
-use Rattle.std.proofs.Common.{◌≡◌, ◌+◌, ℕ, slice_index_or, subst, arith}
+use Rattle.std.proofs.Common.{◌≡◌, ◌+◌, ℕ, slice_index_or, subst, arith, length}
 use Rattle.it_engine.specs.Behind.{IsCommonMultiple, IsNextMoved}
 use Rattle.it_engine.proofs.BehindNumbers.{no_multiple, multiple_past_still}
 use Rattle.it_engine.proofs.behind.common_multiple.Goals as goal
 
 pub loop-q-init : goal.loop-q-init
 loop-q-init c =
-    let n : IsNextMoved c.args.moved.now c.args.height 0 (slice_index_or c.args.next.now 0 0) = c.requires.next.each 0 (omega arith) in record {
+    let n : IsNextMoved c.args.block.now.moved.now (length c.args.block.now.basis.now) 0 (slice_index_or c.args.block.now.next.now 0 0) = c.requires.next.each 0 (omega arith) in record {
       within = n.within;
-      multiple_is = multiple_past_still c.args.rows.now c.args.moved.now c.args.height 1 0 (slice_index_or c.args.next.now 0 0) n (no_multiple c.args.rows.now c.args.moved.now);
+      multiple_is = multiple_past_still c.args.block.now.rows.now c.args.block.now.moved.now (length c.args.block.now.basis.now) 1 0 (slice_index_or c.args.block.now.next.now 0 0) n (no_multiple c.args.block.now.rows.now c.args.block.now.moved.now);
     }
 
 pub loop-q-preserved : goal.loop-q-preserved
 loop-q-preserved c =
-    let n : IsNextMoved c.args.moved.now c.args.height (c.loop-q.q + 1) (slice_index_or c.args.next.now (c.loop-q.q + 1) 0) = c.requires.next.each (c.loop-q.q + 1) (omega (arith, c.loop-q-test.true)) in record {
+    let n : IsNextMoved c.args.block.now.moved.now (length c.args.block.now.basis.now) (c.loop-q.q + 1) (slice_index_or c.args.block.now.next.now (c.loop-q.q + 1) 0) = c.requires.next.each (c.loop-q.q + 1) (omega (arith, c.loop-q-test.true)) in record {
       within = n.within;
-      multiple_is = multiple_past_still c.args.rows.now c.args.moved.now c.args.height c.in_ok-multiple.multiple (c.loop-q.q + 1) (slice_index_or c.args.next.now (c.loop-q.q + 1) 0) n c.in_ok-multiple.ensures;
+      multiple_is = multiple_past_still c.args.block.now.rows.now c.args.block.now.moved.now (length c.args.block.now.basis.now) c.in_ok-multiple.multiple (c.loop-q.q + 1) (slice_index_or c.args.block.now.next.now (c.loop-q.q + 1) 0) n c.in_ok-multiple.ensures;
     }
 
 pub returns : goal.returns
 returns c =
-    let e : c.loop-q.q ≡ c.args.height = omega (arith, c.loop-q-test.false, c.loop-q.invariant.within) in
-    subst (λ (q : ℕ). IsCommonMultiple c.args.rows.now c.args.moved.now q c.loop-q.multiple) e c.loop-q.invariant.multiple_is
+    let e : c.loop-q.q ≡ (length c.args.block.now.basis.now) = omega (arith, c.loop-q-test.false, c.loop-q.invariant.within) in
+    subst (λ (q : ℕ). IsCommonMultiple c.args.block.now.rows.now c.args.block.now.moved.now q c.loop-q.multiple) e c.loop-q.invariant.multiple_is

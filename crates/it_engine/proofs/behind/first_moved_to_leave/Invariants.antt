@@ -4,9 +4,9 @@ use Rattle.it_engine.proofs.behind.first_moved_to_leave.Given as goal
 
 abbrev pub invariant-loop-q : goal.invariant-loop-q
 invariant-loop-q l = record {
-  within : l.q ≤ length l.basis;
-  first : IsFirstToLeave l.rows l.basis l.moved l.entries l.combined 0 l.best;
+  within : l.q ≤ length l.block.basis.now;
+  first : IsFirstToLeave l.block.rows.now l.block.basis.now l.block.moved.now l.entries l.combined 0 l.best;
 }
 
 abbrev pub decreases-loop-q : goal.decreases-loop-q
-decreases-loop-q l = length l.basis - l.q
+decreases-loop-q l = length l.block.basis.now - l.q

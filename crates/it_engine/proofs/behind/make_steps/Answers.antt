@@ -2,5 +2,5 @@ use Rattle.it_engine.proofs.ManySteps.{steps_made}
 use Rattle.it_engine.proofs.behind.make_steps.Goals as goal
 
 pub returns-then-bring_all-clause-steps : goal.returns-then-bring_all-clause-steps
-returns-then-bring_all-clause-steps c = steps_made c.args.columns.now c.args.limit c.args.rows.now c.args.basis.now c.note_none_moved.new.moved c.in_ok-made.made c.still_steps.new.rows c.still_steps.new.basis c.still_steps.new.moved c.bring_all.new.rows
+returns-then-bring_all-clause-steps c = steps_made c.args.run.now.columns.now c.args.run.now.limit c.args.rows.now c.args.basis.now c.note_none_moved.new.moved c.in_ok-made.made c.still_steps.new.rows c.still_steps.new.basis c.still_steps.new.moved c.bring_all.new.rows
     c.note_none_moved.ensures.moved c.note_none_moved.ensures.cost c.in_ok-made.ensures.steps c.if-bring_all.ensures.brought

@@ -5,20 +5,20 @@ use Rattle.it_engine.proofs.ManySteps.{bounds_kept, no_steps, more_steps}
 use Rattle.it_engine.proofs.behind.still_steps.Goals as goal
 
 pub loop-k-init : goal.loop-k-init
-loop-k-init c = record { steps = no_steps c.args.columns.now c.args.limit c.args.rows.now c.args.basis.now c.args.moved.now c.requires.engine; bound_is = c.bound_behind-bound.ensures; rows = refl; entries = refl; next = refl; room = refl }
+loop-k-init c = record { steps = no_steps c.args.run.now.columns.now c.args.run.now.limit c.args.rows.now c.args.basis.now c.args.moved.now c.requires.engine; bound_is = c.bound_behind-bound.ensures; rows = refl; entries = refl; next = refl; room = refl }
 
 pub loop-k-preserved : goal.loop-k-preserved
 loop-k-preserved c =
     let made = c.if-not-make_step.ensures in
     let steps = c.loop-k.invariant.steps in record {
-      steps = subst (λ (bs : List ℕ). AreStillSteps c.args.columns.now c.args.limit c.args.rows.now c.args.basis.now c.args.moved.now (c.loop-k.k + 1) c.make_step.new.rows bs c.make_step.new.moved) (sym made.basis)
-          (subst (λ (ms : List Bool). AreStillSteps c.args.columns.now c.args.limit c.args.rows.now c.args.basis.now c.args.moved.now (c.loop-k.k + 1) c.make_step.new.rows (slice_set c.loop-k.basis c.in-Some.row c.in-Some.column) ms) (sym made.moved)
-          (more_steps c.args.columns.now c.args.limit c.args.rows.now c.args.basis.now c.args.moved.now c.loop-k.k c.in-Some.column c.in-Some.row c.loop-k.rows c.loop-k.basis c.loop-k.moved c.make_step.new.rows
+      steps = subst (λ (bs : List ℕ). AreStillSteps c.args.run.now.columns.now c.args.run.now.limit c.args.rows.now c.args.basis.now c.args.moved.now (c.loop-k.k + 1) c.make_step.new.rows bs c.make_step.new.moved) (sym made.basis)
+          (subst (λ (ms : List Bool). AreStillSteps c.args.run.now.columns.now c.args.run.now.limit c.args.rows.now c.args.basis.now c.args.moved.now (c.loop-k.k + 1) c.make_step.new.rows (slice_set c.loop-k.basis c.in-Some.row c.in-Some.column) ms) (sym made.moved)
+          (more_steps c.args.run.now.columns.now c.args.run.now.limit c.args.rows.now c.args.basis.now c.args.moved.now c.loop-k.k c.in-Some.column c.in-Some.row c.loop-k.rows c.loop-k.basis c.loop-k.moved c.make_step.new.rows
           steps c.in-Some.ensures.choice made.step));
       bound_is =
           subst (λ (m : ℕ). AreBaseBounds c.bound_behind-bound.result c.bound_behind-bound.result c.make_step.new.rows c.make_step.new.moved m) (sym (ap length made.basis ∙ length-set c.loop-k.basis c.in-Some.row c.in-Some.column))
           (subst (λ (ms : List Bool). AreBaseBounds c.bound_behind-bound.result c.bound_behind-bound.result c.make_step.new.rows ms (length c.loop-k.basis)) (sym made.moved)
-          (bounds_kept c.args.columns.now c.args.limit c.loop-k.rows c.loop-k.basis c.loop-k.moved c.in-Some.column c.in-Some.row c.bound_behind-bound.result c.bound_behind-bound.result (length c.loop-k.basis) c.make_step.new.rows
+          (bounds_kept c.args.run.now.columns.now c.args.run.now.limit c.loop-k.rows c.loop-k.basis c.loop-k.moved c.in-Some.column c.in-Some.row c.bound_behind-bound.result c.bound_behind-bound.result (length c.loop-k.basis) c.make_step.new.rows
           made.step (omega (arith, c.in-Some.ensures.choice.row, steps.engine.rows_are, steps.even, c.requires.moved, c.loop-k.invariant.rows)) (omega (arith, steps.engine.rows_are)) c.loop-k.invariant.bound_is));
       rows = made.step.engine.rows_are ∙ omega (arith, length-set c.loop-k.basis c.in-Some.row c.in-Some.column, steps.engine.rows_are, c.loop-k.invariant.rows);
       entries = c.make_step.ensures.entries ∙ c.still_choice.ensures.entries ∙ c.loop-k.invariant.entries;

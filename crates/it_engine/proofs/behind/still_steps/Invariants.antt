@@ -4,7 +4,7 @@ use Rattle.it_engine.proofs.behind.still_steps.Given as goal
 
 abbrev pub invariant-loop-k : goal.invariant-loop-k
 invariant-loop-k l = record {
-  steps : AreStillSteps l.columns l.limit l.fn.rows l.fn.basis l.fn.moved l.k l.rows l.basis l.moved;
+  steps : AreStillSteps l.run.columns.now l.run.limit l.fn.rows l.fn.basis l.fn.moved l.k l.rows l.basis l.moved;
   bound_is : AreBaseBounds l.bound l.bound l.rows l.moved (length l.basis);
   rows : length l.rows ≡ length l.fn.rows;
   entries : length l.entries ≡ length l.fn.entries;

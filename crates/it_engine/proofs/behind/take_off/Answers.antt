@@ -1,5 +1,5 @@
 use Rattle.std.proofs.Common.{rules, ◌<◌, ◌^◌, length, sym, subst, ℤ, unsigned_abs, FitsSigned, to_z-of_z, w64}
-use Rattle.it_engine.proofs.Usable.{fitting_short}
+use Rattle.it_engine.proofs.Fitting.{fitting_short}
 use Rattle.it_engine.proofs.behind.take_off.Goals as goal
 
 pub update-requires-clause-entry : goal.update-requires-clause-entry

@@ -1,9 +1,9 @@
 use Rattle.std.proofs.Common.{rules, FitsSigned, to_z-of_z, w64, length, subst, sym, ap, ◌∙◌, [], slice_index_or}
 use Rattle.it_rational.specs.Rational.{sign_least}
 use Rattle.it_space.specs.Rows.{Terms, value}
-use Rattle.it_engine.specs.Updates.{Suits}
+use Rattle.it_whole.specs.ColumnTerms.{Suits}
 use Rattle.it_space.specs.Sums.{number_at}
-use Rattle.it_engine.proofs.Items.{item_by_default}
+use Rattle.it_whole.proofs.Items.{item_by_default}
 use Rattle.it_run.proofs.SearchLemmas.{first_is}
 use Rattle.it_engine.proofs.choice.entering_column.Goals as goal
 

@@ -1,8 +1,9 @@
 use Rattle.std.proofs.Common.{rules, ◌≡◌, ◌<◌, ◌++◌, ◌∷◌, [], ◌∙◌, List, Option, ap, sym, subst, length, arith}
 use Rattle.std.proofs.lemmas.List.{take_all, take_more}
 use Rattle.std.specs.Option.{IfSome}
-use Rattle.it_engine.specs.Whole.{AreAtMost, whole_row_at, WholeRowView}
-use Rattle.it_engine.proofs.Items.{below_more}
+use Rattle.it_whole.specs.WholeRows.{AreAtMost, WholeRowView}
+use Rattle.it_engine.specs.Tables.{whole_row_at}
+use Rattle.it_whole.proofs.Items.{below_more}
 use Rattle.it_engine.proofs.engine.narrowed_rows.Goals as goal
 
 pub loop-k-preserved : goal.loop-k-preserved

@@ -1,6 +1,6 @@
 use Rattle.std.proofs.Common.{◌≡◌, ◌+◌, ℕ, List, length, sym, subst, arith}
 use Rattle.it_engine.specs.Loading.{AreReadRows, IsReadRow}
-use Rattle.it_engine.specs.Whole.{WholeRowView}
+use Rattle.it_whole.specs.WholeRows.{WholeRowView}
 use Rattle.it_engine.proofs.Answers.{of_some}
 use Rattle.it_engine.proofs.LoadLemmas.{rows_more}
 use Rattle.it_engine.proofs.loading.rows.Goals as goal

@@ -1,11 +1,11 @@
 use Rattle.std.proofs.Common.{◌<◌, ◌^◌, ◌∙◌, sym, subst, ℤ, length, unsigned_abs, arith}
 use Rattle.it_space.specs.Sums.{number_at}
 use Rattle.it_engine.specs.Choosing.{basic_column_at, entry_of, right_side_of}
-use Rattle.it_engine.specs.Whole.{whole_row_at}
+use Rattle.it_engine.specs.Tables.{whole_row_at}
 use Rattle.it_engine.proofs.Choices.{best_by_entries}
 use Rattle.it_engine.proofs.Pivoting.{pivoted_by_entries}
 use Rattle.it_engine.proofs.Steps.{above_one, best_above}
-use Rattle.it_engine.proofs.Usable.{fitting_short, fitting_suits}
+use Rattle.it_engine.proofs.Fitting.{fitting_short, fitting_suits}
 use Rattle.it_engine.proofs.pivots.enter.Goals as goal
 
 pub note_entries-requires-clause-suits : goal.note_entries-requires-clause-suits

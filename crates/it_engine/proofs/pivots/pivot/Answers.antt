@@ -1,10 +1,11 @@
 use Rattle.std.proofs.Common.{rules, ◌≡◌, ap, ℤ, ◌<◌, ◌+◌, ◌^◌, ◌∙◌, sym, subst, FitsSigned, to_z-of_z, to_z, of_z, w64, length, List, ℕ, [], slice_index_or, unsigned_abs, arith}
 use Rattle.std.proofs.lemmas.List.{get_or_default}
 use Rattle.it_space.specs.Sums.{number_at}
-use Rattle.it_engine.specs.Whole.{whole_row_at, WholeRowView}
-use Rattle.it_engine.specs.Updates.{IsQuotient, IsUpdated, IsUsable}
+use Rattle.it_engine.specs.Tables.{whole_row_at}
+use Rattle.it_whole.specs.WholeRows.{WholeRowView, IsUsable}
+use Rattle.it_whole.specs.Updates.{IsQuotient, IsUpdated}
 use Rattle.it_engine.proofs.Pivoting.{IsPivotUnderWay, own_row_is_skipped, row_is_updated, pivot_ends}
-use Rattle.it_engine.proofs.Usable.{quotient_usable}
+use Rattle.it_whole.proofs.Usable.{quotient_usable}
 use Rattle.it_engine.proofs.pivots.pivot.Goals as goal
 use Rattle.it_engine.proofs.pivots.pivot.Goals.{then-i-r+else-not-update, else-i-r, After-read, After-unit-p}
 

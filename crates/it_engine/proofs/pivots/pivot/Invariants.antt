@@ -1,6 +1,6 @@
 use Rattle.std.proofs.Common.{◌≡◌, length}
-use Rattle.it_engine.specs.Updates.{IsUpdated}
-use Rattle.it_engine.specs.Whole.{whole_row_at}
+use Rattle.it_whole.specs.Updates.{IsUpdated}
+use Rattle.it_engine.specs.Tables.{whole_row_at}
 use Rattle.it_space.specs.Sums.{number_at}
 use Rattle.it_engine.proofs.Pivoting.{IsPivotUnderWay}
 use Rattle.it_engine.proofs.pivots.pivot.Given as goal

@@ -2,7 +2,7 @@ use Rattle.std.proofs.Common.{◌∙◌, ℕ, List, [], length, ap, sym, subst, 
 use Rattle.it_space.specs.Rows.{Terms}
 use Rattle.it_engine.specs.Ends.{AreWeightsOf, IsPointOf}
 use Rattle.it_engine.specs.Engine.{IsFinished, IsSafe}
-use Rattle.it_engine.specs.Whole.{WholeRowView}
+use Rattle.it_whole.specs.WholeRows.{WholeRowView}
 use Rattle.it_engine.specs.declared.engine.EngineEnd.{EngineEnd}
 use Rattle.it_engine.proofs.Answers.{by_budget, by_point, by_weights}
 use Rattle.it_engine.proofs.whole.answer.Goals as goal

@@ -4,7 +4,7 @@ use Rattle.it_run.specs.declared.answering.Solved.{Solved}
 use Rattle.it_run.proofs.AnswerLemmas.{if_ok}
 use Rattle.it_engine.specs.Ends.{AnswersQuestion}
 use Rattle.it_engine.specs.Engine.{EngineView, IsSafe, Represents}
-use Rattle.it_engine.specs.Whole.{AreAllAtMost}
+use Rattle.it_engine.specs.Tables.{AreAllAtMost}
 use Rattle.it_engine.proofs.Answers.{if_some_more, of_some}
 use Rattle.it_engine.proofs.LowerLimits.{answers_below, safe_below, stands_below}
 use Rattle.it_engine.proofs.whole.narrow_answer.Goals as goal

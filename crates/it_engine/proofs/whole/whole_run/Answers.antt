@@ -8,7 +8,7 @@ use Rattle.it_tableau.specs.Problems.{feasibility_problem}
 use Rattle.it_engine.specs.Answers.{RunsFromStart}
 use Rattle.it_engine.specs.Ends.{AnswersQuestion}
 use Rattle.it_engine.specs.Loading.{right_sum, AreReadColumns, AreReadRows, IsNorm}
-use Rattle.it_engine.specs.Whole.{WholeRowView}
+use Rattle.it_whole.specs.WholeRows.{WholeRowView}
 use Rattle.it_engine.proofs.Answers.{answer_from_start, if_some_more, of_some}
 use Rattle.it_engine.proofs.Starts.{columns_are_of_start, engine_start, limit_fits, limit_short, stands_start, IsLoaded}
 use Rattle.it_engine.proofs.StartSums.{start_fits}

@@ -1,9 +1,10 @@
 use Rattle.std.proofs.Common.{◌≡◌, ◌<◌, sym, subst, length, [], slice_index_or, arith}
 use Rattle.std.specs.Option.{IfSome}
 use Rattle.it_engine.specs.Choosing.{first_negative_cost}
-use Rattle.it_engine.specs.Updates.{Suits}
-use Rattle.it_engine.specs.Whole.{whole_row_at, WholeRowView}
-use Rattle.it_engine.proofs.Usable.{fitting_suits}
+use Rattle.it_whole.specs.ColumnTerms.{Suits}
+use Rattle.it_engine.specs.Tables.{whole_row_at}
+use Rattle.it_whole.specs.WholeRows.{WholeRowView}
+use Rattle.it_engine.proofs.Fitting.{fitting_suits}
 use Rattle.it_engine.proofs.engine.Engine.next_column.Goals as goal
 
 pub returns-clause-some : goal.returns-clause-some

@@ -1,6 +1,6 @@
 use Rattle.std.proofs.Common.{◌<◌, ◌≤◌, ℕ, sym, subst, List, false, None, arith}
 use Rattle.it_engine.specs.Engine.{IsFinished, IsEngineStep, IsEngineStepOrStuck}
-use Rattle.it_engine.specs.Whole.{WholeRowView}
+use Rattle.it_whole.specs.WholeRows.{WholeRowView}
 use Rattle.it_engine.specs.declared.engine.EngineEnd.TheVariants.{Point}
 use Rattle.it_engine.proofs.StepsLeft.{steps_left_to}
 use Rattle.it_engine.proofs.UnboundRuns.{IsRunUnderWay, run_begins, unbound_done, step_lowers_steps_left, steps_lower_steps_left, step_is_made, steps_are_made, unbound_stuck}

@@ -1,6 +1,6 @@
 use Rattle.std.proofs.Common.{◌+◌, sym, subst, List, ℕ, arith, false, Some}
 use Rattle.it_engine.specs.Engine.{IsFinished, IsEngineStep, IsEngineStepOrStuck}
-use Rattle.it_engine.specs.Whole.{WholeRowView}
+use Rattle.it_whole.specs.WholeRows.{WholeRowView}
 use Rattle.it_engine.specs.declared.engine.EngineEnd.TheVariants.{Point}
 use Rattle.it_engine.proofs.Steps.{stuck_here}
 use Rattle.it_engine.proofs.Runs.{IsRunUnderWay, run_begins, not_stuck_here, run_ends_at_budget, run_ends_done, step_is_made, steps_are_made, run_ends_stuck}

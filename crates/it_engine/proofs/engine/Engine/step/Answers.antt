@@ -4,9 +4,9 @@ use Rattle.std.specs.Vec.{with_items}
 use Rattle.it_space.specs.Rows.{Terms}
 use Rattle.it_engine.specs.Choosing.{best_row, entry_of}
 use Rattle.it_engine.specs.Engine.{EngineView, IsEngineStep}
-use Rattle.it_engine.specs.Updates.{AreUsable, AreWholeRowsPivoted, IsFitting}
-use Rattle.it_engine.specs.Whole.{WholeRowView}
-use Rattle.it_engine.proofs.Items.{item_by_default}
+use Rattle.it_engine.specs.PivotedRows.{AreUsable, AreWholeRowsPivoted, IsFitting}
+use Rattle.it_whole.specs.WholeRows.{WholeRowView}
+use Rattle.it_whole.proofs.Items.{item_by_default}
 use Rattle.it_engine.proofs.Steps.{engine_kept, step_is_made, stuck_here}
 use Rattle.it_engine.proofs.engine.Engine.step.Goals as goal
 use Rattle.it_engine.proofs.engine.Engine.step.Goals.{After-index-columns-column}

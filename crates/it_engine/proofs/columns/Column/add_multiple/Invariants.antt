@@ -1,6 +1,0 @@
-use Rattle.std.proofs.Common.{◌≡◌, ◌++◌, take}
-use Rattle.it_engine.specs.Behind.{multiple_of_terms}
-use Rattle.it_engine.proofs.columns.Column.add_multiple.Given as goal
-
-abbrev pub invariant-loop-i : goal.invariant-loop-i
-invariant-loop-i l = l.self ≡ l.initial.self ++ multiple_of_terms l.factor (take l.i l.other)

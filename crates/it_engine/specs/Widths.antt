@@ -1,9 +1,0 @@
--- No public clause cites this module: rows in 32 and in 64 bits.
-use Rattle.it_engine.specs.Whole.{WholeRowView}
-use Rattle.it_engine.specs.declared.rows.AnyRow.{AnyRow}
-use Rattle.it_engine.specs.declared.rows.AnyRow.TheVariants.{Narrow, Wide}
-
--- what contracts see of a row in either width
-abbrev pub row_of : AnyRow → WholeRowView
-row_of (Narrow row) = row
-row_of (Wide row) = row

@@ -1,0 +1,40 @@
+-- What a step of the simplex method makes of a row, said of the rational numbers that it shows.
+use Rattle.std.specs.Prelude.{◌≡◌, ℕ, ◌+◌, ◌*◌, ◌<◌, ◌≤◌, ℤ, pos, ◌*ℤ◌, unsigned_abs, List, length, slice_index_or}
+use Rattle.it_rational.specs.Rational.{Rational, plus, times, minus, inverse, IsRatio}
+use Rattle.it_space.specs.Sums.{number_at}
+use Rattle.it_whole.specs.WholeRows.{IsRow, IsUsable, WholeRowView}
+
+-- the row less as much of the leaving row as makes its entry z at the column 0, where the leaving row's entry is p
+abbrev pub IsWholeRowReduced : ℕ → ℕ → WholeRowView → WholeRowView → ℤ → ℤ → WholeRowView → Type 0
+IsWholeRowReduced width limit old own z p new = (f g : ℕ → Rational) (x w : Rational)
+    → IsRow width limit f old.numbers old.bottom → IsRow width limit g own.numbers own.bottom → IsRatio x z old.bottom → IsRatio w p own.bottom
+    → IsRow width limit (λ k. plus (f k) (minus (times (g k) (times x (inverse w))))) new.numbers new.bottom
+
+-- the row is made less as above, and is usable; it stays as it is where its entry is 0
+pub record IsUpdated (width limit : ℕ) (old own : WholeRowView) (z p : ℤ) (new : WholeRowView) : Type 0 where
+  pub less : IsWholeRowReduced width limit old own z p new
+  pub usable : IsUsable width limit new
+  pub kept : z ≡ pos 0 → new ≡ old
+
+-- a common divisor of the numbers and the denominator is divided away
+pub record IsShortened (old new : WholeRowView) : Type 0 where
+  pub shared : ℕ
+  pub some : 0 < shared
+  pub length_is : length new.numbers ≡ length old.numbers
+  pub entries : (k : ℕ) → k < length old.numbers → number_at new.numbers k *ℤ pos shared ≡ number_at old.numbers k
+  pub bottom_is : new.bottom * shared ≡ old.bottom
+
+-- the row over its entry p, without a common divisor of its numbers and p
+abbrev pub IsQuotient : WholeRowView → ℤ → WholeRowView → Type 0
+IsQuotient old p new = IsShortened record { numbers = old.numbers; bottom = unsigned_abs p } new
+
+-- a row is 0 at each place from one on up to another
+pub record IsNextPlace (row : List ℤ) (from to : ℕ) : Type 0 where
+  pub after : from ≤ to
+  pub within : to ≤ length row
+  pub nulls : (k : ℕ) → from ≤ k → k < to → number_at row k ≡ pos 0
+
+-- next has for each place such a next one, so that all places where the row isn't 0 are met from each to the next
+pub record AreNextPlaces (row : List ℤ) (next : List ℕ) : Type 0 where
+  pub length_is : length next ≡ length row + 1
+  pub each : (k : ℕ) → k ≤ length row → IsNextPlace row k (slice_index_or next k 0)

@@ -1,0 +1,35 @@
+-- Rows of whole numbers over one denominator.
+use Rattle.std.specs.Prelude.{◌≡◌, ℕ, ◌<◌, ◌≤◌, ◌^◌, ℤ, unsigned_abs, List, length}
+use Rattle.it_rational.specs.Rational.{Rational, IsRatio}
+use Rattle.it_space.specs.Sums.{number_at}
+
+-- what contracts see of a row of whole numbers over one denominator
+pub record WholeRowView : Type 0 where
+  pub numbers : List ℤ
+  pub bottom : ℕ
+
+-- no number is greater in absolute value
+abbrev pub AreAtMost : List ℤ → ℕ → Type 0
+AreAtMost numbers most = (k : ℕ) → k < length numbers → unsigned_abs (number_at numbers k) ≤ most
+
+-- at most 2 ^ 63 - 1 in absolute value
+abbrev pub IsShort : ℤ → Type 0
+IsShort z = unsigned_abs z < 2 ^ 63
+
+-- all numbers are below 2 ^ 63 in absolute value
+abbrev pub AreShort : List ℤ → Type 0
+AreShort numbers = (k : ℕ) → k < length numbers → IsShort (number_at numbers k)
+
+-- a row shows the first numbers of f: each is a whole number within a bound over one denominator, which is below 2 ^ 63
+pub record IsRow (width limit : ℕ) (f : ℕ → Rational) (row : List ℤ) (bottom : ℕ) : Type 0 where
+  pub length_is : length row ≡ width
+  pub some : 0 < bottom
+  pub low : bottom < 2 ^ 63
+  pub named : (k : ℕ) → k < width → IsRatio (f k) (number_at row k) bottom
+  pub small : (k : ℕ) → k < width → unsigned_abs (number_at row k) ≤ limit
+
+-- so many numbers within a bound, over a denominator above 0
+pub record IsUsable (width limit : ℕ) (row : WholeRowView) : Type 0 where
+  pub length_is : length row.numbers ≡ width
+  pub some : 0 < row.bottom
+  pub small : (k : ℕ) → k < width → unsigned_abs (number_at row.numbers k) ≤ limit

@@ -1,0 +1,132 @@
+//! Operations on single whole numbers.
+ghost use Rattle.std.specs.Bool.{OnFalse, OnTrue};
+ghost use Rattle.std.specs.Prelude.{◌≡◌, pos, ◌+◌, ◌*◌, ◌<◌, ◌≤◌, ◌^◌, ◌+ℤ◌, ◌*ℤ◌, neg_ℤ, unsigned_abs, SomeIff};
+ghost use Rattle.std.specs.Option.{IfNone, IfSome};
+ghost use Rattle.it_number.specs.Division.{int_quotient};
+ghost use Rattle.it_number.specs.Gcd.{gcd};
+
+/// Whether a number is 0. The clauses have each case by itself, for callers that go by cases on it.
+pub fn is_zero(z: i64) -> bool
+    ensures yes { OnTrue result (z ≡ pos 0) }
+    ensures no { OnFalse result (¬ (z ≡ pos 0)) }
+{
+    // written out, so that the prover has each case with its test
+    if z == 0 { true } else { false }
+}
+
+/// The product, where that is below 2^63, so that it fits a number with a sign too. None where it is larger.
+#[inline]
+pub fn short_product(a: u64, b: u64) -> Option<u64>
+    ensures { SomeIff result (a * b < 2 ^ 63) (a * b) }
+{
+    let product = a.checked_mul(b)?;
+    if product < 1 << 63 {
+        Some(product)
+    } else {
+        None
+    }
+}
+
+/// The sum plus the product.
+#[inline]
+pub fn plus_product(sum: i64, factor: i64, x: i64) -> i64
+    requires { unsigned_abs sum + unsigned_abs (factor *ℤ x) < 2 ^ 63 }
+    ensures { result ≡ sum +ℤ factor *ℤ x }
+{
+    sum + factor * x
+}
+
+/// The product, in 128 bits, which hold every one.
+#[inline]
+pub fn product(x: i64, y: i64) -> i128
+    ensures { result ≡ x *ℤ y }
+{
+    i128::from(x) * i128::from(y)
+}
+
+/// One number less another.
+#[inline]
+fn difference(x: i128, y: i128) -> i128
+    requires x { unsigned_abs x < 2 ^ 126 }
+    requires y { unsigned_abs y < 2 ^ 126 }
+    ensures { result ≡ x +ℤ neg_ℤ y }
+{
+    x - y
+}
+
+/// The number itself in 64 bits, where it is at most the limit in absolute value. None where it is larger.
+#[inline]
+pub fn narrow(z: i128, limit: u64) -> Option<i64>
+    requires { limit < 2 ^ 63 }
+    ensures { SomeIff result (unsigned_abs z ≤ limit) z }
+{
+    if z.unsigned_abs() <= u128::from(limit) {
+        Some(z as i64)
+    } else {
+        None
+    }
+}
+
+/// The difference x a - y b, where that is at most the limit in absolute value.
+#[inline]
+#[tactic(auto, using(crate::proofs::Bounds::half_product))]
+pub fn narrow_difference(x: i64, a: i64, y: i64, b: i64, limit: u64) -> Option<i64>
+    requires x { unsigned_abs x < 2 ^ 63 }
+    requires a { unsigned_abs a < 2 ^ 63 }
+    requires y { unsigned_abs y < 2 ^ 63 }
+    requires b { unsigned_abs b < 2 ^ 63 }
+    requires limit { limit < 2 ^ 63 }
+    ensures { SomeIff result (unsigned_abs (x *ℤ a +ℤ neg_ℤ (y *ℤ b)) ≤ limit) (x *ℤ a +ℤ neg_ℤ (y *ℤ b)) }
+{
+    narrow(difference(product(x, a), product(y, b)), limit)
+}
+
+/// The greatest common divisor, by Euclid's algorithm; that of 0 and 0 is 0.
+pub fn common_divisor(a: u64, b: u64) -> u64
+    ensures value { result ≡ gcd a b }
+    ensures some { 0 < a → 0 < result }
+{
+    if a == 1 {
+        return 1;
+    }
+    // mostly a is smaller, and divides b
+    let mut larger = b;
+    let mut smaller = a;
+    while smaller != 0 {
+        let rest = larger % smaller;
+        larger = smaller;
+        smaller = rest;
+    }
+    larger
+}
+
+/// The quotient z / k, toward 0.
+pub fn quotient(z: i64, k: u64) -> i64
+    requires z { unsigned_abs z < 2 ^ 63 }
+    requires some { 0 < k }
+    ensures { result ≡ int_quotient z k }
+{
+    if k == 1 {
+        return z;
+    }
+    let size = (z.unsigned_abs() / k) as i64;
+    if z < 0 { -size } else { size }
+}
+
+/// The sum, where that is below 2^63, so that it fits a number with a sign too. None where it is larger.
+#[inline]
+pub fn short_sum(a: u64, b: u64) -> Option<u64>
+    ensures { SomeIff result (a + b < 2 ^ 63) (a + b) }
+{
+    let sum = a.checked_add(b)?;
+    if sum < 1 << 63 { Some(sum) } else { None }
+}
+
+/// The sum x a + y b, where that is at most the limit.
+pub fn sum_within(x: u64, a: u64, y: u64, b: u64, limit: u64) -> Option<u64>
+    ensures some { IfSome result (λ s. (s ≡ x * a + y * b) × (s ≤ limit)) }
+    ensures none { IfNone result (¬ (x * a + y * b ≤ limit)) }
+{
+    let sum = x.checked_mul(a)?.checked_add(y.checked_mul(b)?)?;
+    if sum <= limit { Some(sum) } else { None }
+}

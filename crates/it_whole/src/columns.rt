@@ -1,0 +1,214 @@
+//! The columns of the start.
+ghost use Rattle.std.specs.Prelude.{◌≡◌, ◌+◌, ◌<◌, ◌^◌, ◌++◌, ◌∷◌, [], length, pos, slice_index_or, OnOk};
+ghost use Rattle.std.specs.Bool.{OnTrue};
+ghost use Rattle.std.specs.Option.{IfSome};
+ghost use Rattle.it_whole.specs.ColumnTerms.{multiple_of_term, multiple_of_terms, Suits};
+ghost use Rattle.it_space.specs.Rows.{value, row_mass};
+ghost use Rattle.it_whole.specs.Combinations.{IsPriced};
+ghost use Rattle.it_space.specs.Sums.{number_at};
+
+use crate::arithmetic::{narrow, plus_product, product, short_sum};
+use crate::narrow_rows::NarrowRow;
+use crate::rows::{AnyRow, WholeRow};
+use crate::wide_rows::WideRow;
+use std::alloc::{AllocError, Global};
+use std::marker::Model;
+
+/// The largest number of the engine, 2^63 - 1.
+const LARGEST: u64 = i64::MAX as u64;
+
+/// The entries of a column of the start other than 0, each after its row, by ascending row; or a sum of multiples of such columns, in
+/// which rows may repeat.
+#[derive(Drop)]
+pub struct Column {
+    terms: Vec<(usize, i64)>,
+}
+
+impl Model for Column {
+    ghost use Rattle.it_space.specs.Rows.{Terms};
+
+    ghost Value = { Terms };
+
+    ghost view = { λ c. c.terms.items };
+}
+
+impl Column {
+    /// A column whose entries are all 0. It takes no memory.
+    pub fn empty(alloc: Global) -> Column
+        ensures { result ≡ [] }
+    {
+        Column {
+            terms: Vec::new(alloc),
+        }
+    }
+
+    /// Puts the entry of a row after those that the column has. Err, where memory runs out.
+    pub fn push_entry(&mut self, row: usize, number: i64) -> Result<(), AllocError>
+        ensures { OnOk result (self.new ≡ self.old ++ (row, number) ∷ []) }
+    {
+        self.terms.push((row, number))?;
+        Ok(())
+    }
+
+    /// Takes all entries away, and keeps the memory.
+    pub fn clear(&mut self)
+        ensures { self.new ≡ [] }
+    {
+        self.terms.clear();
+    }
+
+    /// Puts entry i of another column times a factor after the entries; false where it is too large, or for want of memory.
+    fn push_multiple(&mut self, other: &Column, i: usize, factor: i64) -> bool
+        requires { i < length other.now }
+        ensures { OnTrue result (self.new ≡ self.old ++ multiple_of_term factor (slice_index_or other.now i (0, pos 0)) ∷ []) }
+    {
+        match narrow(product(other.factor(i), factor), LARGEST) {
+            Some(number) => self.push_entry(other.place(i), number).is_ok(),
+            None => false,
+        }
+    }
+
+    /// Puts the entries of another column times a factor after the entries; false where one is too large, or for want of memory.
+    pub fn add_multiple(&mut self, other: &Column, factor: i64) -> bool
+        ensures { OnTrue result (self.new ≡ self.old ++ multiple_of_terms factor other.now) }
+    {
+        for i in 0..other.size() {
+            if !self.push_multiple(other, i, factor) {
+                return false;
+            }
+        }
+        true
+    }
+
+    /// How many entries it has.
+    fn size(&self) -> usize
+        ensures { result ≡ length self.now }
+    {
+        self.terms.len()
+    }
+
+    /// The row of entry i.
+    #[inline]
+    fn place(&self, i: usize) -> usize
+        requires { i < length self.now }
+        ensures { result ≡ (slice_index_or self.now i (0, pos 0)).0 }
+    {
+        self.terms[i].0
+    }
+
+    /// The number of entry i.
+    #[inline]
+    fn factor(&self, i: usize) -> i64
+        requires { i < length self.now }
+        ensures { result ≡ (slice_index_or self.now i (0, pos 0)).1 }
+    {
+        self.terms[i].1
+    }
+
+    /// The sum of the absolute values of the entries, where it is below 2^63. None where it is larger.
+    pub fn weight(&self) -> Option<u64>
+        ensures { IfSome result (λ w. (w ≡ row_mass self.now) × (w < 2 ^ 63)) }
+    {
+        let mut sum: u64 = 0;
+        for i in 0..self.size() {
+            sum = short_sum(sum, self.factor(i).unsigned_abs())?;
+        }
+        Some(sum)
+    }
+
+    /// The sum with one more term.
+    #[inline]
+    fn add_narrow_term(&self, row: &NarrowRow, i: usize, sum: i64) -> i64
+        requires suits { Suits self.now row.now.numbers }
+        requires place { i < length self.now }
+        requires priced { IsPriced self.now row.now.numbers i sum }
+        ensures { IsPriced self.now row.now.numbers (i + 1) result }
+    {
+        plus_product(sum, self.factor(i), row.number(self.place(i)))
+    }
+
+    /// The entry of a row in 32 bits at a column of four terms, as most columns are.
+    #[inline]
+    #[tactic(auto, using(crate::proofs::Pricing::priced_none, crate::proofs::Pricing::priced_all))]
+    fn price_narrow_four(&self, row: &NarrowRow) -> i64
+        requires suits { Suits self.now row.now.numbers }
+        requires four { length self.now ≡ 4 }
+        ensures { result ≡ value self.now (number_at row.now.numbers) }
+    {
+        let one = self.add_narrow_term(row, 0, 0);
+        let two = self.add_narrow_term(row, 1, one);
+        let three = self.add_narrow_term(row, 2, two);
+        self.add_narrow_term(row, 3, three)
+    }
+
+    /// The entry of a row in 32 bits at this column, over the row's denominator.
+    #[inline(always)]
+    #[tactic(auto, using(crate::proofs::Pricing::priced_none, crate::proofs::Pricing::priced_all))]
+    fn price_narrow(&self, row: &NarrowRow) -> i64
+        requires suits { Suits self.now row.now.numbers }
+        ensures { result ≡ value self.now (number_at row.now.numbers) }
+    {
+        if self.size() == 4 {
+            return self.price_narrow_four(row);
+        }
+        let mut sum: i64 = 0;
+        for i in 0..self.size() {
+            sum = self.add_narrow_term(row, i, sum);
+        }
+        sum
+    }
+
+    /// The sum with one more term.
+    #[inline]
+    fn add_wide_term(&self, row: &WideRow, i: usize, sum: i64) -> i64
+        requires suits { Suits self.now row.now.numbers }
+        requires place { i < length self.now }
+        requires priced { IsPriced self.now row.now.numbers i sum }
+        ensures { IsPriced self.now row.now.numbers (i + 1) result }
+    {
+        plus_product(sum, self.factor(i), row.number(self.place(i)))
+    }
+
+    /// The entry of a row in 64 bits at a column of four terms, as most columns are.
+    #[inline]
+    #[tactic(auto, using(crate::proofs::Pricing::priced_none, crate::proofs::Pricing::priced_all))]
+    fn price_wide_four(&self, row: &WideRow) -> i64
+        requires suits { Suits self.now row.now.numbers }
+        requires four { length self.now ≡ 4 }
+        ensures { result ≡ value self.now (number_at row.now.numbers) }
+    {
+        let one = self.add_wide_term(row, 0, 0);
+        let two = self.add_wide_term(row, 1, one);
+        let three = self.add_wide_term(row, 2, two);
+        self.add_wide_term(row, 3, three)
+    }
+
+    /// The entry of a row in 64 bits at this column, over the row's denominator.
+    #[inline(always)]
+    #[tactic(auto, using(crate::proofs::Pricing::priced_none, crate::proofs::Pricing::priced_all))]
+    fn price_wide(&self, row: &WideRow) -> i64
+        requires suits { Suits self.now row.now.numbers }
+        ensures { result ≡ value self.now (number_at row.now.numbers) }
+    {
+        if self.size() == 4 {
+            return self.price_wide_four(row);
+        }
+        let mut sum: i64 = 0;
+        for i in 0..self.size() {
+            sum = self.add_wide_term(row, i, sum);
+        }
+        sum
+    }
+
+    /// The entry of a row at this column, over the row's denominator: the sum of the column's terms at the row's numbers.
+    #[inline(always)]
+    pub fn price(&self, row: &WholeRow) -> i64
+        requires suits { Suits self.now row.now.numbers }
+        ensures { result ≡ value self.now (number_at row.now.numbers) }
+    {
+        match row.any_width() {
+            AnyRow::Narrow(row) => self.price_narrow(row),
+            AnyRow::Wide(row) => self.price_wide(row),
+        }
+    }
+}

@@ -1,0 +1,243 @@
+//! Rows of whole numbers over one denominator, in 32 or in 64 bits.
+ghost use Rattle.std.specs.Prelude.{◌≡◌, ◌+◌, ◌<◌, ◌^◌, ◌≤ℤ◌, [], unsigned_abs, length, pos, IfOk};
+ghost use Rattle.std.specs.Bool.{OnTrue};
+ghost use Rattle.std.specs.Option.{IfSome};
+ghost use Rattle.it_space.specs.Sums.{number_at};
+ghost use Rattle.it_whole.specs.WholeRows.{AreAtMost, AreShort, IsUsable};
+ghost use Rattle.it_whole.specs.Updates.{AreNextPlaces, IsQuotient, IsUpdated};
+ghost use Rattle.it_whole.specs.Widths.{row_of};
+
+use crate::arithmetic::is_zero;
+use crate::narrow_rows::NarrowRow;
+use crate::wide_rows::WideRow;
+use std::alloc::{AllocError, Global};
+use std::marker::Model;
+
+/// A row in either width.
+#[derive(Drop)]
+pub enum AnyRow {
+    /// In 32 bits.
+    Narrow(NarrowRow),
+    /// In 64 bits.
+    Wide(WideRow),
+}
+
+/// Whole numbers over one denominator, mostly not in lowest terms, in 32 bits or in 64. Contracts see the numbers and the denominator,
+/// and not the width.
+pub struct WholeRow {
+    row: AnyRow,
+}
+
+impl Drop for WholeRow {
+    fn drop(self) {
+        let WholeRow { row: _ } = self;
+    }
+}
+
+impl Model for WholeRow {
+    ghost use Rattle.it_whole.specs.WholeRows.{WholeRowView};
+
+    ghost Value = { WholeRowView };
+
+    ghost use Rattle.it_whole.specs.Widths.{row_of};
+
+    ghost view = { λ r. row_of r.row };
+}
+
+impl WholeRow {
+    /// A row of whole numbers in 64 bits, over the denominator 1. It takes no further memory.
+    pub fn from_numbers(numbers: Vec<i64>) -> WholeRow
+        ensures numbers { result.numbers ≡ numbers.items }
+        ensures bottom { result.bottom ≡ 1 }
+    {
+        WholeRow {
+            row: AnyRow::Wide(WideRow::from_numbers(numbers)),
+        }
+    }
+
+    /// A row without numbers. It takes no memory.
+    pub fn empty(alloc: Global) -> WholeRow
+        ensures numbers { result.numbers ≡ [] }
+        ensures bottom { result.bottom ≡ 1 }
+    {
+        WholeRow {
+            row: AnyRow::Wide(WideRow::empty(alloc)),
+        }
+    }
+
+    /// The same row in 32 bits, where no number is above the limit. None where one is, and for a row in 32 bits, which is given no second
+    /// time. Err, where memory runs out.
+    pub fn narrowed(&self, alloc: Global, limit: u64) -> Result<Option<WholeRow>, AllocError>
+        requires { limit < 2 ^ 31 }
+        ensures row { IfOk result (λ o. IfSome o (λ row. row ≡ self.now)) }
+        ensures small { IfOk result (λ o. IfSome o (λ row. AreAtMost self.now.numbers limit)) }
+    {
+        match &self.row {
+            AnyRow::Narrow(_) => Ok(None),
+            AnyRow::Wide(row) => {
+                match NarrowRow::from_numbers(alloc, row.numbers(), row.bottom(), limit)? {
+                    Some(row) => Ok(Some(WholeRow {
+                        row: AnyRow::Narrow(row),
+                    })),
+                    None => Ok(None),
+                }
+            }
+        }
+    }
+
+    /// The row in its width.
+    #[inline]
+    pub(crate) fn any_width(&self) -> &AnyRow
+        ensures { row_of result.now ≡ self.now }
+    {
+        &self.row
+    }
+
+    /// The number at place k, before it is divided.
+    #[inline]
+    pub fn number(&self, k: usize) -> i64
+        requires { k < length self.now.numbers }
+        ensures { result ≡ number_at self.now.numbers k }
+    {
+        match &self.row {
+            AnyRow::Narrow(row) => row.number(k),
+            AnyRow::Wide(row) => row.number(k),
+        }
+    }
+
+    /// The denominator.
+    pub fn bottom(&self) -> u64
+        ensures { result ≡ self.now.bottom }
+    {
+        match &self.row {
+            AnyRow::Narrow(row) => row.bottom(),
+            AnyRow::Wide(row) => row.bottom(),
+        }
+    }
+
+    /// What stands for 1 in the row: its denominator.
+    pub fn unit(&self) -> i64
+        requires { self.now.bottom < 2 ^ 63 }
+        ensures { result ≡ pos self.now.bottom }
+    {
+        self.bottom() as i64
+    }
+
+    /// Notes for each place the next one where the row isn't 0, unless it is in 32 bits and few numbers are 0; tells whether it did.
+    pub fn note_places(&self, next: &mut [usize]) -> bool
+        requires { length next.old ≡ length self.now.numbers + 1 }
+        ensures places { OnTrue result (AreNextPlaces self.now.numbers next.new) }
+        ensures room { length next.new ≡ length next.old }
+    {
+        match &self.row {
+            AnyRow::Narrow(row) => row.note_places(next),
+            AnyRow::Wide(row) => {
+                row.note_places(next);
+                true
+            }
+        }
+    }
+
+    /// A bound: no number is greater in absolute value. It is kept with the row, and mostly not the least one.
+    pub fn most(&self) -> u64
+        ensures { AreAtMost self.now.numbers result }
+    {
+        match &self.row {
+            AnyRow::Narrow(row) => row.most(),
+            AnyRow::Wide(row) => row.most(),
+        }
+    }
+
+    /// Whether it is in 32 bits. It has no clause: contracts don't see the width, and callers ask only for the sake of speed.
+    pub fn is_narrow(&self) -> bool {
+        match &self.row {
+            AnyRow::Narrow(_) => true,
+            AnyRow::Wide(_) => false,
+        }
+    }
+
+    /// The row, which has this entry at the column, after a step in which another row leaves, whose entry there is the pivot; false
+    /// where a number would be larger than the limit, or the other row is of another width, or no places are noted of a row in 64
+    /// bits, and then nothing is known of the row. Next has the next places where the leaving row isn't 0, if they are noted, and
+    /// room is room for a row.
+    #[inline(always)]
+    pub fn update(
+        &mut self,
+        own: &WholeRow,
+        next: &[usize],
+        noted: bool,
+        room: &mut [i64],
+        entry: i64,
+        pivot: i64,
+        limit: u64,
+    ) -> bool
+        requires row { IsUsable (length own.now.numbers) limit self.old }
+        requires own { IsUsable (length own.now.numbers) limit own.now }
+        requires places { OnTrue noted (AreNextPlaces own.now.numbers next.now) }
+        requires room { length room.old ≡ length own.now.numbers }
+        requires entry { unsigned_abs entry < 2 ^ 63 }
+        requires pivot { pos 1 ≤ℤ pivot }
+        requires limit { limit < 2 ^ 63 }
+        ensures room { length room.new ≡ length room.old }
+        ensures updated { OnTrue result (IsUpdated (length own.now.numbers) limit self.old own.now entry pivot self.new) }
+    {
+        if is_zero(entry) {
+            return true;
+        }
+        self.update_other(own, next, noted, room, entry, pivot, limit)
+    }
+
+    /// The same, where the entry isn't 0.
+    #[inline(always)]
+    fn update_other(
+        &mut self,
+        own: &WholeRow,
+        next: &[usize],
+        noted: bool,
+        room: &mut [i64],
+        entry: i64,
+        pivot: i64,
+        limit: u64,
+    ) -> bool
+        requires row { IsUsable (length own.now.numbers) limit self.old }
+        requires own { IsUsable (length own.now.numbers) limit own.now }
+        requires places { OnTrue noted (AreNextPlaces own.now.numbers next.now) }
+        requires room { length room.old ≡ length own.now.numbers }
+        requires entry { unsigned_abs entry < 2 ^ 63 }
+        requires some { ¬ (entry ≡ pos 0) }
+        requires pivot { pos 1 ≤ℤ pivot }
+        requires limit { limit < 2 ^ 63 }
+        ensures room { length room.new ≡ length room.old }
+        ensures updated { OnTrue result (IsUpdated (length own.now.numbers) limit self.old own.now entry pivot self.new) }
+    {
+        match &own.row {
+            AnyRow::Narrow(own) => match &mut self.row {
+                AnyRow::Narrow(row) => {
+                    limit < 1 << 31 && row.update(own, next, noted, room, entry, pivot, limit)
+                }
+                AnyRow::Wide(_) => false,
+            },
+            AnyRow::Wide(own) => match &mut self.row {
+                AnyRow::Narrow(_) => false,
+                AnyRow::Wide(row) => noted && row.update(own, next, entry, pivot, limit),
+            },
+        }
+    }
+
+    /// The leaving row after a step: it is divided by its entry at the column, over the least denominator. It keeps its width.
+    pub fn divided_by(self, pivot: i64) -> WholeRow
+        requires pivot { pos 1 ≤ℤ pivot }
+        requires short { AreShort self.numbers }
+        ensures { IsQuotient self pivot result }
+    {
+        let WholeRow { row } = self;
+        match row {
+            AnyRow::Narrow(row) => WholeRow {
+                row: AnyRow::Narrow(row.divided_by(pivot)),
+            },
+            AnyRow::Wide(row) => WholeRow {
+                row: AnyRow::Wide(row.divided_by(pivot)),
+            },
+        }
+    }
+}

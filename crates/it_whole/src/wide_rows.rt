@@ -1,0 +1,213 @@
+//! Rows of numbers in 64 bits.
+ghost use Rattle.std.specs.Prelude.{◌≡◌, ◌+◌, ◌<◌, ◌^◌, ◌≤ℤ◌, [], unsigned_abs, length, pos};
+ghost use Rattle.std.specs.Bool.{OnTrue};
+ghost use Rattle.it_space.specs.Sums.{number_at};
+ghost use Rattle.it_whole.specs.WholeRows.{AreAtMost, AreShort, IsUsable};
+ghost use Rattle.it_whole.specs.Updates.{AreNextPlaces, IsWholeRowReduced, IsQuotient, IsShortened, IsUpdated};
+
+use crate::arithmetic::{common_divisor, quotient, short_product};
+use crate::numbers::{combine, divide, divisor, greatest_size, note_places};
+use std::alloc::Global;
+use std::marker::Model;
+
+/// Whole numbers in 64 bits over one denominator, not in lowest terms.
+#[derive(Drop)]
+pub struct WideRow {
+    numbers: Vec<i64>,
+    bottom: u64,
+    // no number is greater in absolute value; kept, so that a step mostly needs no pass over the numbers for it
+    most: u64,
+}
+
+impl Model for WideRow {
+    ghost use Rattle.it_whole.specs.WholeRows.{AreAtMost, WholeRowView};
+
+    ghost Value = { WholeRowView };
+
+    ghost view = { λ r. record { numbers = r.numbers.items; bottom = r.bottom } };
+
+    ghost invariant = { λ r. AreAtMost r.numbers.items r.most };
+}
+
+impl WideRow {
+    /// A row of whole numbers.
+    pub fn from_numbers(numbers: Vec<i64>) -> WideRow
+        ensures numbers { result.numbers ≡ numbers.items }
+        ensures bottom { result.bottom ≡ 1 }
+    {
+        let most = greatest_size(numbers.as_slice());
+        WideRow {
+            numbers,
+            bottom: 1,
+            most,
+        }
+    }
+
+    /// A row without numbers. It takes no memory.
+    pub fn empty(alloc: Global) -> WideRow
+        ensures numbers { result.numbers ≡ [] }
+        ensures bottom { result.bottom ≡ 1 }
+    {
+        WideRow {
+            numbers: Vec::new(alloc),
+            bottom: 1,
+            most: 0,
+        }
+    }
+
+    /// The number at place k, before it is divided.
+    #[inline]
+    pub fn number(&self, k: usize) -> i64
+        requires { k < length self.now.numbers }
+        ensures { result ≡ number_at self.now.numbers k }
+    {
+        self.numbers[k]
+    }
+
+    /// The denominator.
+    pub fn bottom(&self) -> u64
+        ensures { result ≡ self.now.bottom }
+    {
+        self.bottom
+    }
+
+    /// The numbers.
+    pub fn numbers(&self) -> &[i64]
+        ensures { result.now ≡ self.now.numbers }
+    {
+        self.numbers.as_slice()
+    }
+
+    /// No number is greater in absolute value.
+    pub fn most(&self) -> u64
+        ensures { AreAtMost self.now.numbers result }
+    {
+        self.most
+    }
+
+    /// Notes for each place the next one where the row isn't 0.
+    pub fn note_places(&self, next: &mut [usize])
+        requires { length next.old ≡ length self.now.numbers + 1 }
+        ensures { AreNextPlaces self.now.numbers next.new }
+    {
+        note_places(self.numbers.as_slice(), next);
+    }
+
+    /// The same row, with an exact bound on its numbers.
+    fn with_exact_bound(self) -> WideRow
+        ensures { result ≡ self }
+    {
+        let most = greatest_size(self.numbers.as_slice());
+        WideRow {
+            numbers: self.numbers,
+            bottom: self.bottom,
+            most,
+        }
+    }
+
+    /// The same row over the least denominator.
+    #[inline(never)]
+    fn shorten(&mut self)
+        requires some { 0 < self.old.bottom }
+        requires short { AreShort self.old.numbers }
+        ensures { IsShortened self.old self.new }
+    {
+        let shared = divisor(self.numbers.as_slice(), self.bottom);
+        if shared.is_one() {
+            return;
+        }
+        divide(self.numbers.as_mut_slice(), &shared);
+        self.bottom = shared.size_quotient(self.bottom);
+        self.most = greatest_size(self.numbers.as_slice());
+    }
+
+    /// Takes off as much of the leaving row as makes the entry at the column 0; false where a number would be too large, and then
+    /// nothing is known of the row.
+    fn reduce(&mut self, own: &WideRow, next: &[usize], entry: i64, pivot: i64, limit: u64) -> bool
+        requires row { IsUsable (length own.now.numbers) limit self.old }
+        requires own { IsUsable (length own.now.numbers) limit own.now }
+        requires places { AreNextPlaces own.now.numbers next.now }
+        requires entry { unsigned_abs entry < 2 ^ 63 }
+        requires pivot { pos 1 ≤ℤ pivot }
+        requires limit { limit < 2 ^ 63 }
+        ensures less { OnTrue result (IsWholeRowReduced (length own.now.numbers) limit self.old own.now entry pivot self.new) }
+        ensures usable { OnTrue result (IsUsable (length own.now.numbers) limit self.new) }
+    {
+        let shared = common_divisor(pivot.unsigned_abs(), entry.unsigned_abs());
+        let a = quotient(pivot, shared);
+        let b = quotient(entry, shared);
+        let Some(bottom) = short_product(self.bottom, a.unsigned_abs()) else {
+            return false;
+        };
+        match combine(
+            self.numbers.as_mut_slice(),
+            own.numbers.as_slice(),
+            next,
+            a,
+            b,
+            self.most,
+            own.most,
+            limit,
+        ) {
+            Some(most) => {
+                self.bottom = bottom;
+                self.most = most;
+                true
+            }
+            None => {
+                self.most = greatest_size(self.numbers.as_slice());
+                false
+            }
+        }
+    }
+
+    /// The row, which has this entry at the column, after a step in which another row leaves, whose entry there is the pivot; false
+    /// where a number would be larger than the limit, and then nothing is known of the row. Next has the next places where the
+    /// leaving row isn't 0.
+    #[inline(never)]
+    pub fn update(
+        &mut self,
+        own: &WideRow,
+        next: &[usize],
+        entry: i64,
+        pivot: i64,
+        limit: u64,
+    ) -> bool
+        requires row { IsUsable (length own.now.numbers) limit self.old }
+        requires own { IsUsable (length own.now.numbers) limit own.now }
+        requires places { AreNextPlaces own.now.numbers next.now }
+        requires entry { unsigned_abs entry < 2 ^ 63 }
+        requires some { ¬ (entry ≡ pos 0) }
+        requires pivot { pos 1 ≤ℤ pivot }
+        requires limit { limit < 2 ^ 63 }
+        ensures { OnTrue result (IsUpdated (length own.now.numbers) limit self.old own.now entry pivot self.new) }
+    {
+        if !self.reduce(own, next, entry, pivot, limit) {
+            return false;
+        }
+        if is_large(self.bottom) {
+            self.shorten();
+        }
+        true
+    }
+
+    /// The leaving row after a step: it is divided by its entry at the column, over the least denominator.
+    pub fn divided_by(self, pivot: i64) -> WideRow
+        requires pivot { pos 1 ≤ℤ pivot }
+        requires short { AreShort self.numbers }
+        ensures { IsQuotient self pivot result }
+    {
+        let mut row = WideRow {
+            numbers: self.numbers,
+            bottom: pivot.unsigned_abs(),
+            most: self.most,
+        };
+        row.shorten();
+        row.with_exact_bound()
+    }
+}
+
+/// Whether a denominator is large. A gcd of a whole row is dear, so that a row gets its least one only there.
+fn is_large(bottom: u64) -> bool {
+    bottom > 1 << 16
+}
