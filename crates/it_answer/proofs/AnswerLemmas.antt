@@ -3,14 +3,16 @@ use Rattle.std.proofs.Common.{◌≡◌, inl, inr, ℕ, ◌+◌, ◌≤◌, ℤ,
 use Rattle.std.proofs.lemmas.List.Elements.{All-nil, All-cons, All-head, All-tail}
 use Rattle.it_space.specs.declared.spaces.Space.{Space}
 use Rattle.it_space.specs.Problems.{ProblemView, IsProblem}
-use Rattle.it_space.specs.Answers.{AnswerView, CertificateView}
+use Rattle.it_space.specs.declared.answers.Answer.{Answer}
+use Rattle.it_space.specs.Answers.{AnswerView, CertificateView, answer_view}
 use Rattle.it_space.specs.Answers as answer_views
 use Rattle.it_space.specs.Rows.{Terms, IsUpTo, value, map_of, negated_terms}
 use Rattle.it_space.specs.Spaces.{size_of}
 use Rattle.it_polymatroid.specs.Certificates.{Form}
 use Rattle.it_polymatroid.specs.Polymatroid.{IsPolymatroid}
 use Rattle.it_syntax.specs.Meaning.{RelationView}
-use Rattle.it_question.specs.Questions.{BodyView, VerbView, Prove, Eliminate}
+use Rattle.it_question.specs.declared.types.Question.{Question}
+use Rattle.it_question.specs.Questions.{BodyView, VerbView, Prove, Eliminate, question_body}
 use Rattle.it_demand.specs.Canonical.{IsRowOf}
 use Rattle.it_demand.specs.Demands.{AreStated}
 use Rattle.it_demand.specs.Targets.{negation, targets}
@@ -95,12 +97,13 @@ right_by_verb budgets plans q verb reply is x d = record {
 
 -- where nothing was found, the boxes keep their plans
 
-pub nothing_found : (budgets : Budgets) (plans : List Plan) (q : BodyView) (answer : AnswerView) → IsRightAnswer budgets plans q (record { answer = answer; found = [] }) → IsAnswered budgets plans q answer plans
-nothing_found budgets plans q answer x = record { found = []; right = x; learned = sym (after_none plans) }
+pub nothing_found : (budgets : Budgets) (plans : List Plan) (question : Question) (answer : Answer) → IsRightAnswer budgets plans (question_body question) (record { answer = answer_view answer; found = [] })
+    → IsAnswered budgets plans question answer plans
+nothing_found budgets plans question answer x = record { found = []; right = x; learned = sym (after_none plans) }
 
 pub left_of_rows : (budgets : Budgets) (plans : List Plan) (q : BodyView) (rates : List ℕ) (answer : AnswerView) → q.verb ≡ Eliminate rates → ShowsBy q (Eliminate rates) answer → IsDueElimination budgets q rates answer
-    → IsAnswered budgets plans q answer plans
-left_of_rows budgets plans q rates answer is x d = nothing_found budgets plans q answer (right_by_verb budgets plans q (Eliminate rates) (record { answer = answer; found = [] }) is x (d, refl))
+    → IsRightAnswer budgets plans q (record { answer = answer; found = [] })
+left_of_rows budgets plans q rates answer is x d = right_by_verb budgets plans q (Eliminate rates) (record { answer = answer; found = [] }) is x (d, refl)
 
 -- ---- from rows to the meaning of the text
 
@@ -162,7 +165,7 @@ module _ (q : BodyView) (p : ProblemView) (e : p.space ≡ space_of (problem_nam
   show_targets fs ts (answer_views.Open tried) z c = absurd c
 
   pub answers_relation : (budgets : Budgets) (plans : List Plan) (r : RelationView) (answer : AnswerView) → q.verb ≡ Prove r → AnswersForms p (targets p.space.variables r) answer budgets.pivots
-      → IsAnswered budgets plans q answer plans
+      → IsRightAnswer budgets plans q (record { answer = answer; found = [] })
   answers_relation budgets plans r answer is a =
       let shown = shown_targets q r answer (to_question_space (λ s. ShowsTargets q (targets s.variables r) answer) (show_targets (targets p.space.variables r) a.rows answer a.are a.answered.shows)) in
       let rows : a.rows ≡ map (terms_in q) (targets (variables_of q) r) =
@@ -170,4 +173,4 @@ module _ (q : BodyView) (p : ProblemView) (e : p.space ≡ space_of (problem_nam
       let due : IsDueRelation budgets.pivots q r answer =
       subst (λ (x : ProblemView). IsDueByRuns x budgets.pivots (map (terms_in q) (targets (variables_of q) r)) answer) (one_problem q p (record { space = e; limits = k; constraints = st }))
       (subst (λ (ts : List Terms). IsDueByRuns p budgets.pivots ts answer) rows a.answered.due) in
-      nothing_found budgets plans q answer (right_by_verb budgets plans q (Prove r) (record { answer = answer; found = [] }) is shown (due, refl))
+      right_by_verb budgets plans q (Prove r) (record { answer = answer; found = [] }) is shown (due, refl)

@@ -40,7 +40,7 @@ use Rattle.it_answer.specs.declared.types.Budgets.{Budgets}
 use Rattle.it_answer.specs.Forms.{CertifyAll}
 use Rattle.it_answer.specs.Shows.{ShowsBy, ShowsContained}
 use Rattle.it_answer.specs.DueContainments.{tried_of, IsProofOf, IsDueContainment}
-use Rattle.it_answer.specs.RightAnswers.{IsAnswered, IsRightAnswer}
+use Rattle.it_answer.specs.RightAnswers.{IsRightAnswer}
 use Rattle.it_answer.specs.SearchAnswers.{answer_of_search, found_of}
 use Rattle.it_answer.proofs.AnswerLemmas.{right_by_verb, show_certificate}
 
@@ -150,19 +150,18 @@ module _ (q : BodyView) (a b : RegionView) (tries : List (List ℕ)) (p : Pair) 
     learned_search (Open t) e = e.1 ∙ sym (after_none plans)
 
     pub question_is_answered : (end : Contained) (budget : Option ℕ) (first : List Candidate) (answer : AnswerView) → budget ≡ budgets.pivots → first ≡ tried_of b tries → answer ≡ answer_of_search end
-        → SearchEnds (IsProofBy p budget) budgets.tries (plan_of first plans (shape_of p)) plans end plans_after → IsAnswered budgets plans q answer plans_after
+        → SearchEnds (IsProofBy p budget) budgets.tries (plan_of first plans (shape_of p)) plans end plans_after
+        → IsRightAnswer budgets plans q (record { answer = answer; found = found_of end }) × (plans_after ≡ map (plan_after_all (found_of end)) plans)
     question_is_answered end budget first answer budget_is first_are answer_is e =
         let bounded : SearchEnds (IsProofBy p budgets.pivots) budgets.tries (plan_of first plans (shape_of p)) plans end plans_after =
         subst (λ (n : Option ℕ). SearchEnds (IsProofBy p n) budgets.tries (plan_of first plans (shape_of p)) plans end plans_after) budget_is e in
         let ends : SearchEnds (IsProofBy p budgets.pivots) budgets.tries plan plans end plans_after =
         subst (λ (cs : List Candidate). SearchEnds (IsProofBy p budgets.pivots) budgets.tries cs plans end plans_after) (ap₂ (λ cs s. plan_of cs plans s) first_are shape_is) bounded in
-        let right = right_search end ends in
-        record {
-          found = found_of end;
-          right = subst (λ (x : AnswerView). IsRightAnswer budgets plans q (record { answer = x; found = found_of end })) (sym answer_is)
-              (right_by_verb budgets plans q (Contain a b tries) (record { answer = answer_of_search end; found = found_of end }) is right.0 right.1);
-          learned = learned_search end ends;
-        }
+        let right = right_search end ends in (
+          subst (λ (x : AnswerView). IsRightAnswer budgets plans q (record { answer = x; found = found_of end })) (sym answer_is)
+              (right_by_verb budgets plans q (Contain a b tries) (record { answer = answer_of_search end; found = found_of end }) is right.0 right.1),
+          learned_search end ends,
+        )
 
 pub is_containment : (q : BodyView) (a b : RegionView) (tries : List (List ℕ)) → q.verb ≡ Contain a b tries → IsContainment q.verb
 is_containment q a b tries is = subst IsContainment (sym is) tt

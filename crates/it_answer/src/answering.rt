@@ -38,7 +38,7 @@ pub fn answer(
     requires limits { IsQuestion (question_body question.now) }
     ensures space { IfOk result (λ a. a.problem.space ≡ space_of (problem_names (question_body question.now))) }
     ensures problem { IfOk result (λ a. AreStated a.problem.space (question_demands (question_body question.now)) a.problem.constraints.items) }
-    ensures answered { IfOk result (λ a. IsAnswered budgets (map plan boxes.old.items) (question_body question.now) (answer_view a.answer) (map plan boxes.new.items)) }
+    ensures answered { IfOk result (λ a. IsAnswered budgets (map plan boxes.old.items) question.now a.answer (map plan boxes.new.items)) }
 {
     let problem = problem(alloc, question)?;
     let answer = answer_under(alloc, question, &problem, budgets, boxes)?;
@@ -55,7 +55,7 @@ fn answer_under(
 ) -> Result<Answer, AllocError>
     requires limits { IsQuestion (question_body question.now) }
     requires problem { IsProblemOf (question_body question.now) (problem_view problem.now) }
-    ensures { IfOk result (λ a. IsAnswered budgets (map plan boxes.old.items) (question_body question.now) (answer_view a) (map plan boxes.new.items)) }
+    ensures { IfOk result (λ a. IsAnswered budgets (map plan boxes.old.items) question.now a (map plan boxes.new.items)) }
 {
     match &question.verb {
         Verb::Prove(relation) => relation_answer(

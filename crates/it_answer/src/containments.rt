@@ -67,7 +67,7 @@ pub fn containment(
 ) -> Result<Answer, AllocError>
     requires question { IsQuestion (question_body question.now) }
     requires contains { (question_body question.now).verb ≡ Contain (region_view first.now) (region_view second.now) tries.now }
-    ensures { IfOk result (λ a. IsAnswered budgets (map plan boxes.old.items) (question_body question.now) (answer_view a) (map plan boxes.new.items)) }
+    ensures { IfOk result (λ a. IsAnswered budgets (map plan boxes.old.items) question.now a (map plan boxes.new.items)) }
 {
     let pair = pair(alloc, question)?;
     let tried = tried_of(alloc, second, tries)?;

@@ -31,7 +31,7 @@ pub fn region(
     requires question { IsQuestion (question_body question.now) }
     requires eliminates { (question_body question.now).verb ≡ Eliminate rates.now }
     requires givens { IsProblemOf (question_body question.now) (problem_view givens.now) }
-    ensures { IfOk result (λ a. (plans : List Plan) → IsAnswered budgets plans (question_body question.now) (answer_view a) plans) }
+    ensures { IfOk result (λ a. (plans : List Plan) → IsAnswered budgets plans question.now a plans) }
 {
     let system = system(alloc, question)?;
     let rows = budgets.rows as usize;

@@ -63,10 +63,8 @@ fn push_number(
     ensures wide { IfErr result (λ f. f ≡ RowFault.Wide → ¬ (NumberFits kind (column_weight weights.now) column)) }
 {
     let number = number_of(weights, kind, column)?;
-    match numbers.push(number) {
-        Ok(()) => Ok(()),
-        Err(_) => Err(RowFault::Memory),
-    }
+    numbers.push(number)?;
+    Ok(())
 }
 
 /// The numbers of the unknowns by the weights of their columns. `Wide` where a difference of two passes the limit.
@@ -102,10 +100,8 @@ fn push_multiple(
     ensures wide { IfErr result (λ f. f ≡ RowFault.Wide → ¬ (IsNarrow (times number.now (integer factor)))) }
 {
     let multiple = number.mul(Fraction::whole(factor))?;
-    match multiples.push(multiple) {
-        Ok(()) => Ok(()),
-        Err(_) => Err(RowFault::Memory),
-    }
+    multiples.push(multiple)?;
+    Ok(())
 }
 
 /// Each number so many times. `Wide` where one of them passes the limit in lowest terms.

@@ -2,7 +2,8 @@
 use Rattle.std.proofs.Common.{◌≡◌, ℕ, zero, suc, ◌+◌, ◌<◌, ◌≤◌, List, [], ◌∷◌, ◌++◌, length, map, drop, get_or, All, refl, sym, ap, subst, ◌∙◌, arith}
 use Rattle.std.proofs.lemmas.List.{drop_more, length-map, get_or-map}
 use Rattle.std.proofs.lemmas.List.Elements.{All-head, All-tail}
-use Rattle.it_space.specs.Answers.{AnswerView}
+use Rattle.it_space.specs.declared.answers.Answer.{Answer}
+use Rattle.it_space.specs.Answers.{AnswerView, answer_view}
 use Rattle.it_space.specs.Answers.AnswerView.{Yes, No, Undecided, Region, Contained, Open}
 use Rattle.it_syntax.specs.Meaning.{RelationView}
 use Rattle.it_question.specs.declared.types.Question.{Question}
@@ -43,18 +44,18 @@ total_more c (Region rows) = omega arith
 total_more c (Contained parts proofs) = omega arith
 total_more c (Open tried) = omega arith
 
-pub counting_more : (budgets : Budgets) (plans plans_now plans_next : List Plan) (qs : List Question) (i : ℕ) (r : Question) (counts : Counts) (answer : AnswerView)
-    → IsCounting budgets plans (map question_view qs) i counts plans_now → i < length qs → r ≡ get_or qs i r → IsAnswered budgets plans_now (question_body r) answer plans_next
-    → IsCounting budgets plans (map question_view qs) (i + 1) (with_answer counts answer) plans_next
+pub counting_more : (budgets : Budgets) (plans plans_now plans_next : List Plan) (qs : List Question) (i : ℕ) (r : Question) (counts : Counts) (answer : Answer)
+    → IsCounting budgets plans (map question_view qs) i counts plans_now → i < length qs → r ≡ get_or qs i r → IsAnswered budgets plans_now r answer plans_next
+    → IsCounting budgets plans (map question_view qs) (i + 1) (with_answer counts (answer_view answer)) plans_next
 counting_more budgets plans plans_now plans_next qs i r counts answer c h e a = record {
   found = c.found ++ a.found;
   counted = λ end rest. c.counted end (subst (λ (ys : List QuestionView). AreCounted budgets plans c.found counts ys end) (sym question_is_first) (reply, reply_is_right, rest));
   learned = a.learned ∙ ap (map (plan_after_all a.found)) c.learned ∙ after_more c.found a.found plans;
-  few = total_more counts answer ∙ ap (λ n. n + 1) c.few;
+  few = total_more counts (answer_view answer) ∙ ap (λ n. n + 1) c.few;
 }
   where
     reply : Reply
-    reply = record { answer = answer; found = a.found }
+    reply = record { answer = answer_view answer; found = a.found }
 
     reply_is_right : IsRightAfter budgets plans c.found (question_view r) reply
     reply_is_right = subst (λ (ps : List Plan). IsRightAnswer budgets ps (question_body r) reply) c.learned a.right

@@ -1,5 +1,6 @@
 -- How the calls inside the top call end, by which its end is proved. No public clause cites this module.
 use Rattle.std.specs.Prelude.{◌≡◌, ℕ, List, [], ◌⊎◌, map, Option, Some}
+use Rattle.std.specs.Borrow.{Bor}
 use Rattle.it_outside.specs.Causes.{next_count}
 use Rattle.it_outside.specs.Traffic.{Gains, TookPrefix}
 use Rattle.it_forms.specs.declared.types.Code.{Code}
@@ -122,5 +123,5 @@ EndsWithLineOrMemory taken faults sink after line status s = EndOfLineOrMemory (
 abbrev pub EndsForSettings : {S K : Type 0} → (S → Option (List ℕ)) → (S → ℕ) → (K → Option (List ℕ)) → (K → ℕ) → Settings → List Plan
     → S → S → K → K → Status → Type 0
 EndsForSettings left read_faults taken write_faults settings plans source source_after sink sink_after s =
-    (words : List (List ℕ)) → settings_of words ≡ Some settings
+    (words : List (Bor (List ℕ))) → settings_of (map (λ w. w.now) words) ≡ Some settings
     → Ends (call_of left read_faults taken write_faults words plans source source_after sink sink_after) s

@@ -37,7 +37,7 @@ pub fn itip<S: Source, K: Sink>(
     sink: &mut K,
     proposers: Vec<Box<dyn Proposer>>,
 ) -> Status
-    ensures { Ends (call_of S.left S.faults K.taken K.faults (map (λ w. w.now) words.now) (map plan proposers.items) source.old source.new sink.old sink.new) result }
+    ensures { Ends (call_of S.left S.faults K.taken K.faults words.now (map plan proposers.items) source.old source.new sink.old sink.new) result }
 {
     let mut boxes = proposers;
     call(alloc, words, source, sink, &mut boxes)
@@ -51,7 +51,7 @@ fn call<S: Source, K: Sink>(
     sink: &mut K,
     boxes: &mut Vec<Box<dyn Proposer>>,
 ) -> Status
-    ensures { Ends (call_of S.left S.faults K.taken K.faults (map (λ w. w.now) words.now) (map plan boxes.old.items) source.old source.new sink.old sink.new) result }
+    ensures { Ends (call_of S.left S.faults K.taken K.faults words.now (map plan boxes.old.items) source.old source.new sink.old sink.new) result }
 {
     match settings(alloc, words) {
         Ok(settings) => run(alloc, settings, source, sink, boxes),

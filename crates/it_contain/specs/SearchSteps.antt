@@ -48,10 +48,15 @@ abbrev pub Judges : Goal → Candidate → Option Proofs → Type 0
 Judges goal c None = IsUnproved goal c
 Judges goal c (Some proofs) = IsProof goal c proofs
 
--- one candidate was tried, and the boxes were told
-abbrev pub Tries : Goal → Candidate → Option Proofs → List (List Candidate) → List Plan → List (List Candidate) → List Plan → Type 0
-Tries goal c None lists plans lists_after plans_after = IsUnproved goal c × (lists_after ≡ lists) × (plans_after ≡ plans)
-Tries goal c (Some proofs) lists plans lists_after plans_after = IsProof goal c proofs × (plans_after ≡ map (plan_after c) plans)
+-- where the candidate isn't proved, what is pending stays
+abbrev pub KeepsPending : Option Proofs → List (List Candidate) → List (List Candidate) → Type 0
+KeepsPending None lists lists_after = lists_after ≡ lists
+KeepsPending (Some proofs) lists lists_after = Unit {0}
+
+-- the plans once it was tried: the same, or each once it is proved
+abbrev pub plans_after_try : Candidate → Option Proofs → List Plan → List Plan
+plans_after_try c None plans = plans
+plans_after_try c (Some proofs) plans = map (plan_after c) plans
 
 -- a search by the candidates of a list alone ends so
 abbrev pub ListEnds : searches.Goal → ℕ → List Candidate → List Plan → Contained → List Plan → Type 0

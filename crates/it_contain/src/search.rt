@@ -1,10 +1,10 @@
 //! The search for a candidate that is proved.
-ghost use Rattle.std.specs.Prelude.{◌<◌, ◌+◌, map, drop, vec_len, IfOk, OnOk};
+ghost use Rattle.std.specs.Prelude.{◌≡◌, ◌<◌, ◌+◌, map, drop, vec_len, IfOk, OnOk};
 ghost use Rattle.it_space.specs.Problems.{problem_view};
 ghost use Rattle.it_region.specs.Pairs.{IsPair};
 ghost use Rattle.it_contain.specs.Shapes.{IsShape, shape_of};
 ghost use Rattle.it_contain.specs.Search.{IsProofBy, PairEnds};
-ghost use Rattle.it_contain.specs.SearchSteps.{AreOutcomes, BoxEnds, KeepsLater, ListEnds, Tries};
+ghost use Rattle.it_contain.specs.SearchSteps.{AreOutcomes, BoxEnds, Judges, KeepsLater, KeepsPending, ListEnds, plans_after_try};
 
 use crate::boxes::{begin_all, next_at, teach_all, tell_all};
 use crate::judging::proofs_of_candidate;
@@ -59,7 +59,9 @@ fn try_one(
 ) -> Result<Option<Vec<Certificate>>, AllocError>
     requires pair { IsPair goal.now.pair.now }
     requires outcomes { AreOutcomes (problem_view goal.now.pair.now.first) goal.now.budget outcomes.old }
-    ensures tries { IfOk result (λ o. Tries (IsProofBy goal.now.pair.now goal.now.budget) candidate.now o (map pending boxes.old.items) (map plan boxes.old.items) (map pending boxes.new.items) (map plan boxes.new.items)) }
+    ensures judges { IfOk result (λ o. Judges (IsProofBy goal.now.pair.now goal.now.budget) candidate.now o) }
+    ensures pending { IfOk result (λ o. KeepsPending o (map pending boxes.old.items) (map pending boxes.new.items)) }
+    ensures plans { IfOk result (λ o. map plan boxes.new.items ≡ plans_after_try candidate.now o (map plan boxes.old.items)) }
     ensures outcomes { OnOk result (AreOutcomes (problem_view goal.now.pair.now.first) goal.now.budget outcomes.new) }
 {
     match proofs_of_candidate(alloc, goal.pair, candidate, goal.budget, outcomes)? {

@@ -1,6 +1,7 @@
 -- No public clause cites this module: what the calls inside `tell` give.
 use Rattle.std.specs.Prelude.{◌≡◌, ℕ, ℤ, List, ◌++◌, Bool, [], map, Option, Some}
 use Rattle.std.specs.List.{zip}
+use Rattle.std.specs.Borrow.{Bor}
 use Rattle.it_space.specs.declared.spaces.Space.{Space}
 use Rattle.it_space.specs.Rows.{Terms, value}
 use Rattle.it_region.specs.Obligations.{ArePulledRows}
@@ -68,5 +69,5 @@ AppendsProofs q with_steps rows ws old new =
 -- how a call ends whichever words ask for a telling, by the meanings of a source and a sink and their states before and after
 abbrev pub EndsForTelling : {S K : Type 0} → (S → Option (List ℕ)) → (S → ℕ) → (K → Option (List ℕ)) → (K → ℕ) → Options → S → S → K → K → Status → Type 0
 EndsForTelling left read_faults taken write_faults options source source_after sink sink_after s =
-    (words : List (List ℕ)) → settings_of words ≡ Some (Tell options)
+    (words : List (Bor (List ℕ))) → settings_of (map (λ w. w.now) words) ≡ Some (Tell options)
     → Ends (call_of left read_faults taken write_faults words [] source source_after sink sink_after) s

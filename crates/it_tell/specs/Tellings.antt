@@ -18,7 +18,7 @@ use Rattle.it_certificate.specs.Reports.{ReadsReport}
 use Rattle.it_print.specs.Lines.{certificate_text, contained_line, open_line, row_text, undecided_line, values_text, variable_names}
 use Rattle.it_terms.specs.Tells.{TellsRow}
 use Rattle.it_terms.specs.Proofs.{TellsForm}
-use Rattle.it_terms.specs.Points.{TellsPoint}
+use Rattle.it_facts.specs.Points.{TellsPoint}
 use Rattle.it_terms.specs.ProofSteps.{TellsSteps}
 use Rattle.it_report.specs.Judging.{IsVerdict}
 use Rattle.it_region.specs.AnswerForms.{answer_forms}

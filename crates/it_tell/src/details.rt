@@ -19,12 +19,13 @@ ghost use Rattle.it_tell.specs.Steps.{AppendsDetails, AppendsEach, AppendsPoint,
 
 use crate::settings::Options;
 use it_canon::{problem_names, target_rows};
+use it_facts::told_point;
 use it_print::{row_text, sum_text, values_text, write_signed};
 use it_question::types::{Question, Verb};
 use it_region::{candidate, obligations, pair};
 use it_space::{Answer, Certificate, Constraint, Kind, Mark, Point, Row, VarSet};
 use it_syntax::types::Relation;
-use it_terms::{told_form, told_point, told_row, told_steps};
+use it_terms::{told_form, told_row, told_steps};
 use std::alloc::{AllocError, Global};
 
 /// Appends a text as a line below the first one.

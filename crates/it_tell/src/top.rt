@@ -1,5 +1,5 @@
 //! The top call of the program `tell`.
-ghost use Rattle.std.specs.Prelude.{[], map};
+ghost use Rattle.std.specs.Prelude.{[]};
 ghost use Rattle.it_cli.specs.Ends.{call_of};
 ghost use Rattle.it_cli.specs.InnerEnds.{EndOfLine};
 ghost use Rattle.it_tell.specs.Ends.{Ends};
@@ -33,7 +33,7 @@ pub fn tell<S: Source, K: Sink>(
     source: &mut S,
     sink: &mut K,
 ) -> Status
-    ensures { Ends (call_of S.left S.faults K.taken K.faults (map (λ w. w.now) words.now) [] source.old source.new sink.old sink.new) result }
+    ensures { Ends (call_of S.left S.faults K.taken K.faults words.now [] source.old source.new sink.old sink.new) result }
 {
     match settings_of(words) {
         Some(Settings::Tell(options)) => tell_source(alloc, options, source, sink),

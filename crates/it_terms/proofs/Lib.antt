@@ -6,5 +6,3 @@ pub mod SameProofs
 pub mod NameLemmas
 pub mod ToldProofs
 pub mod StepLemmas
-pub mod PointLemmas
-pub mod FactTexts

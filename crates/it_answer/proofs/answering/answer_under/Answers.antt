@@ -8,7 +8,7 @@ use Rattle.it_run.proofs.AnswerLemmas.{if_ok}
 use Rattle.it_contain.specs.Proposals.{Plan}
 use Rattle.it_answer.specs.RightAnswers.{IsAnswered}
 use Rattle.it_answer.specs.RowAnswers.{AnswersForms}
-use Rattle.it_answer.proofs.AnswerLemmas.{answers_relation}
+use Rattle.it_answer.proofs.AnswerLemmas.{answers_relation, nothing_found}
 use Rattle.it_answer.proofs.answering.answer_under.Goals as goal
 
 pub returns-in-Prove : goal.returns-in-Prove
@@ -16,11 +16,10 @@ returns-in-Prove g c =
     let q = question_body c.args.question.now in
     let p = problem_view c.args.problem.now in
     let r = relation_view c.in-Prove.relation in
-    if_ok c.relation_answer.result (λ a. AnswersForms p (targets p.space.variables r) (answer_view a) c.budget_of.result) (λ a. IsAnswered c.args.budgets _ q (answer_view a) _) c.relation_answer.ensures
-    (λ a answered. answers_relation q p c.requires.problem.space c.requires.problem.constraints c.requires.problem.limits c.args.budgets _ r (answer_view a) (ap verb_view c.in-Prove.is)
-    (subst (λ (b : Option ℕ). AnswersForms p (targets p.space.variables r) (answer_view a) b) c.budget_of.ensures answered))
+    if_ok c.relation_answer.result (λ a. AnswersForms p (targets p.space.variables r) (answer_view a) c.budget_of.result) (λ a. IsAnswered c.args.budgets _ c.args.question.now a _) c.relation_answer.ensures
+    (λ a answered. nothing_found c.args.budgets _ c.args.question.now a (answers_relation q p c.requires.problem.space c.requires.problem.constraints c.requires.problem.limits c.args.budgets _ r (answer_view a) (ap verb_view c.in-Prove.is)
+    (subst (λ (b : Option ℕ). AnswersForms p (targets p.space.variables r) (answer_view a) b) c.budget_of.ensures answered)))
 
 pub returns-in-Eliminate : goal.returns-in-Eliminate
 returns-in-Eliminate g c =
-    let q = question_body c.args.question.now in
-    if_ok c.region.result (λ a. (plans : List Plan) → IsAnswered c.args.budgets plans q (answer_view a) plans) (λ a. IsAnswered c.args.budgets _ q (answer_view a) _) c.region.ensures (λ a x. x _)
+    if_ok c.region.result (λ a. (plans : List Plan) → IsAnswered c.args.budgets plans c.args.question.now a plans) (λ a. IsAnswered c.args.budgets _ c.args.question.now a _) c.region.ensures (λ a x. x _)

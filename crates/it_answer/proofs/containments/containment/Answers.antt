@@ -2,6 +2,7 @@ use Rattle.std.proofs.Common.{◌∙◌}
 use Rattle.it_space.specs.Answers.{answer_view}
 use Rattle.it_question.specs.Questions.{question_body, region_view}
 use Rattle.it_region.proofs.PairLemmas.{pair_of_verb}
+use Rattle.it_answer.specs.SearchAnswers.{found_of}
 use Rattle.it_answer.proofs.ContainmentLemmas.{question_is_answered, is_containment}
 use Rattle.it_answer.proofs.containments.containment.Goals as goal
 
@@ -14,5 +15,7 @@ returns g c =
     let a = region_view c.args.first.now in
     let b = region_view c.args.second.now in
     let p = c.in_ok-pair.pair in
+    let answered =
     question_is_answered q a b c.args.tries.now p c.requires.question c.requires.contains c.in_ok-pair.ensures.limits (pair_of_verb q a b c.args.tries.now p c.requires.contains c.in_ok-pair.ensures.pair) c.args.budgets _ _
-    c.in_ok-end.end c.budget_of-budget.result c.as_slice.result.now (answer_view c.in_ok-answer.answer) c.budget_of-budget.ensures (c.as_slice.ensures.value ∙ c.in_ok-tried.ensures) c.in_ok-answer.ensures c.in_ok-end.ensures
+    c.in_ok-end.end c.budget_of-budget.result c.as_slice.result.now (answer_view c.in_ok-answer.answer) c.budget_of-budget.ensures (c.as_slice.ensures.value ∙ c.in_ok-tried.ensures) c.in_ok-answer.ensures c.in_ok-end.ensures in
+    record { found = found_of c.in_ok-end.end; right = answered.0; learned = answered.1 }

@@ -8,7 +8,7 @@ use Rattle.it_demand.specs.LineDemands.{AreAtLeastZero}
 use Rattle.it_redundant.specs.ReducedElimination.{ReducedEnds, projected_view}
 use Rattle.it_canon.proofs.PosesLemmas.{one_problem}
 use Rattle.it_answer.proofs.GivenLemmas.{space_of_names, met_where_true, few_constraints, constraints_of_sets, rates_of_question}
-use Rattle.it_answer.proofs.AnswerLemmas.{left_of_rows}
+use Rattle.it_answer.proofs.AnswerLemmas.{left_of_rows, nothing_found}
 use Rattle.it_answer.proofs.RegionLemmas.{region_is_due, region_shows, system_rows_are}
 use Rattle.it_answer.proofs.regions.region.Goals as goal
 
@@ -47,4 +47,4 @@ returns c =
     region_is_due c.args.budgets q rates givens rows end (answer_view c.in_ok-answer.answer) (one_problem q givens c.requires.givens)
     (system_rows_are q c.in_ok-system.system.space rows (of_system ∙ c.requires.givens.space) c.in_ok-system.ensures.rows)
     (subst (λ (b : Option ℕ). ReducedEnds givens b c.args.budgets.rows rows [] [] rates end) c.budget_of-budget.ensures c.in_ok-end.ensures.ends) c.in_ok-answer.ensures in
-    λ plans. left_of_rows c.args.budgets plans q rates (answer_view c.in_ok-answer.answer) c.requires.eliminates shown due
+    λ plans. nothing_found c.args.budgets plans c.args.question.now c.in_ok-answer.answer (left_of_rows c.args.budgets plans q rates (answer_view c.in_ok-answer.answer) c.requires.eliminates shown due)

@@ -1,7 +1,0 @@
-use Rattle.std.proofs.Common.{All, take}
-use Rattle.it_space.specs.Rows.{map_of}
-use Rattle.it_terms.specs.Settling.{IsFactOf}
-use Rattle.it_terms.proofs.settling.are_facts_of.Given as goal
-
-abbrev pub invariant-loop-fact : goal.invariant-loop-fact
-invariant-loop-fact l = All (IsFactOf l.space.variables l.space.rates (map_of l.point)) (take l.fact-index l.facts)

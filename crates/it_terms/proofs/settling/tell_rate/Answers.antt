@@ -1,5 +1,0 @@
-use Rattle.it_terms.proofs.PointLemmas.{rate_by_item}
-use Rattle.it_terms.proofs.settling.tell_rate.Goals as goal
-
-pub returns-then-tells_rate : goal.returns-then-tells_rate
-returns-then-tells_rate c = rate_by_item c.args.facts.now c.args.rate c.loop-fact.fact-index c.fact-item.result c.loop-fact-test.true c.fact-item.is c.if-tells_rate.ensures

@@ -1,7 +1,0 @@
-use Rattle.std.proofs.Common.{ℕ, ◌<◌}
-use Rattle.it_space.specs.Rows.{map_of}
-use Rattle.it_terms.specs.Settling.{Follows}
-use Rattle.it_terms.proofs.settling.tell_sets.Given as goal
-
-abbrev pub invariant-loop-number : goal.invariant-loop-number
-invariant-loop-number l = (s : ℕ) → s < l.number → Follows l.space.variables (map_of l.point) l.facts s
