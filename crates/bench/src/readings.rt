@@ -253,7 +253,10 @@ pub fn write(
 {
     match task.way {
         "read" => write_question(out, question),
-        "text" => out.put(str::from_utf8(question.text.as_slice()).unwrap_or("?")),
+        "text" => {
+            let text = question.text(alloc)?;
+            out.put(str::from_utf8(text.as_slice()).unwrap_or("?"));
+        }
         _ => return write_problem(alloc, out, question),
     }
     Ok(())

@@ -22,7 +22,9 @@ use Rattle.it_syntax.proofs.NameLemmas.{nowhere_all, distinct_insert, differs_bo
 use Rattle.it_question.specs.Files.{IsFile}
 use Rattle.it_question.specs.Lines.{LineView, AreLines, split_lines, letters_of_lines}
 use Rattle.it_question.specs.NewNames.{NameSortView, Variable, Rate, with_name, no_names, is_taken, new_flag}
-use Rattle.it_question.specs.Texts.{text_of_lines, question_line_count, with_texts}
+use Rattle.it_question.specs.LineTexts.{text_of_lines}
+use Rattle.it_question.specs.Texts.{question_line_count, with_texts}
+use Rattle.it_question.proofs.LineParts.{texts_of}
 use Rattle.it_question.proofs.NewNameLemmas.{new_of}
 use Rattle.it_certificate.specs.AnswerShapes.{IsFoundIn}
 use Rattle.it_number.specs.Decimals.{value_from}
@@ -168,7 +170,7 @@ file_keeps = always_weaker (more_questions []) IfSoundAll _ (λ p qs h l e m all
 first_good : (q : QuestionView) (lines : List LineView) (bodies : List BodyView) → Every (λ b. AreGood b.names) bodies → with_texts lines bodies ≡ q ∷ [] → AreGood q.body.names
 first_good q lines [] g e = absurd cc
 first_good q lines (b ∷ bodies) g e =
-    let p : QuestionView = record { body = b; text = text_of_lines (take (question_line_count b) lines) } in
+    let p : QuestionView = record { body = b; text = text_of_lines (texts_of (take (question_line_count b) lines)) } in
     let first : p ≡ q = cc in
     subst (λ (y : QuestionView). AreGood y.body.names) first g.0
 

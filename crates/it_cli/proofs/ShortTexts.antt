@@ -6,11 +6,12 @@ use Rattle.it_syntax.specs.declared.types.Misspelling.{Misspelling}
 use Rattle.it_question.proofs.LetterLemmas.{length_with_ends, split_length}
 use Rattle.it_question.specs.Files.{IsFile}
 use Rattle.it_question.specs.Lines.{LineView, AreLines, split_lines, without_return, before_comment, without_tab, plain_text}
-use Rattle.it_question.specs.Texts.{without_leading, unless_blank, without_trailing, text_of_lines, question_line_count, with_texts}
+use Rattle.it_question.specs.LineTexts.{without_leading, unless_blank, without_trailing, text_of_lines}
+use Rattle.it_question.specs.Texts.{question_line_count, with_texts}
 use Rattle.it_question.proofs.FileLineLemmas.{return_shorter, comment_shorter}
 use Rattle.it_question.specs.QuestionForms.{file}
 use Rattle.it_question.specs.Questions.{BodyView, QuestionView}
-use Rattle.it_question.proofs.LineParts.{AreWhole, lines_sound}
+use Rattle.it_question.proofs.LineParts.{AreWhole, lines_sound, texts_of}
 use Rattle.it_question.proofs.QuestionParts.{AreAt, questions_at}
 use Rattle.it_question.proofs.WholeFileLemmas.{said}
 
@@ -72,11 +73,11 @@ lines_short n (bytes ∷ more) lines (inr h) =
     let k = lines_short (n + 1) more h.1 h.5 in
     subst (λ (ls : List LineView). given_all ls ≤ length bytes + 1 + length_with_ends more) (sym h.2) (omega (arith, a, b, c, k))
 
-whole_text : (lines : List LineView) → AreWhole lines → length (text_of_lines lines) ≡ given_all lines
+whole_text : (lines : List LineView) → AreWhole lines → length (text_of_lines (texts_of lines)) ≡ given_all lines
 whole_text [] w = refl
 whole_text (l ∷ lines) w =
     let a = ap (λ (m : Option Misspelling). given_by m (length (without_trailing (without_leading l.text)) + 1)) w.0.misspelling in
-    let b = length-append (without_trailing (without_leading l.text)) (10 ∷ text_of_lines lines) in
+    let b = length-append (without_trailing (without_leading l.text)) (10 ∷ text_of_lines (texts_of lines)) in
     let k = whole_text lines w.1 in
     omega (arith, a, b, k)
 
@@ -95,7 +96,7 @@ all_short : (most : ℕ) (lines : List LineView) (qs : List BodyView) → AreAt 
 all_short most lines [] at h = All-nil (IsShortBy most)
 all_short most lines (x ∷ xs) at h =
     let i = question_line_count x in
-    let q : QuestionView = record { body = x; text = text_of_lines (take i lines) } in
+    let q : QuestionView = record { body = x; text = text_of_lines (texts_of (take i lines)) } in
     let sum = taken_given i lines in
     let text = whole_text (take i lines) at.0.whole in
     let short : IsShortBy most q = omega (arith, sum, text, h) in

@@ -136,11 +136,12 @@ pub fn text_lines(
 
 /// The line of an answer in the format `json`.
 fn json_line(alloc: Global, question: &Question, answer: &Answer) -> Result<Vec<u8>, AllocError>
-    requires ascii { IsAscii question.now.text.items }
+    requires ascii { IsAscii (question_view question.now).text }
     requires writable { IsWritable question.now.names (answer_view answer.now) }
-    ensures { IfOk result (λ line. line.items ≡ answer_text question.now.text.items question.now.names (answer_view answer.now) ++ codes "\n") }
+    ensures { IfOk result (λ line. line.items ≡ answer_text (question_view question.now).text question.now.names (answer_view answer.now) ++ codes "\n") }
 {
-    let mut line = answer_json(alloc, question.text.as_slice(), &question.names, answer)?;
+    let text = question.text(alloc)?;
+    let mut line = answer_json(alloc, text.as_slice(), &question.names, answer)?;
     line.extend_from_slice(b"\n")?;
     Ok(line)
 }

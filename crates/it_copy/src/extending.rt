@@ -36,7 +36,7 @@ fn is_taken(names: &Names, name: &[u8]) -> bool
 fn is_full(names: &Names) -> bool
     ensures { result ≡ nat_le most_variables (length names.now.variables) }
 {
-    MOST_VARIABLES <= names.space().variables as usize
+    MOST_VARIABLES <= usize::from(names.space().variables)
 }
 
 /// The set with one more variable.
@@ -181,7 +181,7 @@ fn copied(
     requires few { length lines.now ≤ 4 }
     ensures body { IfOk result (λ e. question_body e ≡ extended (question_body question.now) (map copy_view lines.now)) }
     ensures placed { IfOk result (λ e. first_unplaced 1 (question_body question.now).names (map copy_view lines.now) ≡ None) }
-    ensures text { IfOk result (λ e. e.text.items ≡ []) }
+    ensures text { IfOk result (λ e. (question_view e).text ≡ []) }
     ensures first { IfErr result (IsUnplaced (question_body question.now).names (map copy_view lines.now)) }
 {
     let mut names = question.names.copy()?;
@@ -194,7 +194,7 @@ fn copied(
     let relation = relation.copy()?;
     Ok(Question {
         names,
-        text: Vec::new(alloc),
+        source: Vec::new(alloc),
         lines: OwnLines { givens, rows },
         verb: Verb::Prove(relation),
     })
@@ -220,7 +220,7 @@ pub fn extend(alloc: Global, question: &Question, lines: &[CopyLine]) -> Result<
     requires few { length lines.now ≤ 4 }
     ensures extension { IfOk result (λ e. IsExtension (question_body question.now) (map copy_view lines.now) (question_body e)) }
     ensures limits { IfOk result (λ e. IsQuestion (question_body e)) }
-    ensures text { IfOk result (λ e. e.text.items ≡ []) }
+    ensures text { IfOk result (λ e. (question_view e).text ≡ []) }
     ensures misfit { IfErr result (IsMisfit (question_body question.now) (map copy_view lines.now)) }
 {
     match &question.verb {

@@ -2,7 +2,7 @@
 ghost use Rattle.std.specs.Prelude.{◌≡◌, ◌≤◌, All, IfOk, IfErr, drop, length, map};
 ghost use Rattle.it_forms.specs.FormReading.{read};
 ghost use Rattle.it_question.specs.Bodies.{body_view};
-ghost use Rattle.it_question.specs.Cursors.{ParsesBy, line_view};
+ghost use Rattle.it_question.specs.Cursors.{ParsesBy};
 ghost use Rattle.it_question.specs.Limits.{IsQuestion};
 ghost use Rattle.it_question.specs.Questions.{question_body, question_view};
 ghost use Rattle.it_copy.specs.CopyForms as forms;
@@ -15,7 +15,7 @@ use crate::types::{CopyFile, CopyLine};
 use it_question::readers::{Body, Cursor, Line, bodies, file_lines, stop_fault, with_texts};
 use it_question::types::FileFault;
 use it_syntax::rest::Stop;
-use std::alloc::Global;
+use std::alloc::{AllocError, Global};
 
 /// What is read of a file with a head: its copies, and its questions without their texts.
 #[derive(Drop)]
@@ -37,11 +37,14 @@ fn whole(alloc: Global, cursor: &mut Cursor<'_>) -> Result<Reading, Stop>
     Ok(Reading { copies, bodies })
 }
 
-/// The lines after the first n.
-pub fn lines_after(lines: &[Line], n: usize) -> &[Line]
-    ensures { map line_view result.now ≡ drop n (map line_view lines.now) }
+/// The lines without the first n.
+#[tactic(auto, using(std::proofs::lemmas::List::drop_min))]
+fn without_first(lines: Vec<Line>, n: usize) -> Result<Vec<Line>, AllocError>
+    ensures { IfOk result (λ after. after.items ≡ drop n lines.items) }
 {
-    lines.split_at(n.min(lines.len())).1
+    let mut lines = lines;
+    let after = lines.split_off(n.min(lines.len()))?;
+    Ok(after)
 }
 
 /// What a file with a head asks: up to four copies, each in a line `copy`, a name, `of`, a name, `over`, and one to four names
@@ -61,7 +64,7 @@ pub fn copy_file(alloc: Global, bytes: &[u8]) -> Result<CopyFile, FileFault>
     let mut cursor = Cursor::at(lines.as_slice());
     match whole(alloc, &mut cursor) {
         Ok(read) => {
-            let after = lines_after(lines.as_slice(), read.copies.len());
+            let after = without_first(lines, read.copies.len())?;
             let questions = with_texts(alloc, after, read.bodies)?;
             Ok(CopyFile {
                 copies: read.copies,

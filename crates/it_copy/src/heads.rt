@@ -9,7 +9,6 @@ ghost use Rattle.it_copy.specs.Heads.{IsFirstHeadFault, IsHead, begins_questions
 ghost use Rattle.it_copy.specs.HeadSteps.{StopsInHead};
 
 use crate::copy_lines::copies;
-use crate::files::lines_after;
 use crate::types::{CopyLine, Head};
 use crate::words::VARS;
 use it_question::first_line;
@@ -48,6 +47,13 @@ fn copies_of_head(alloc: Global, cursor: &mut Cursor<'_>) -> Result<Vec<CopyLine
         }
         Err(stop) => Err(stop),
     }
+}
+
+/// The lines after the first n.
+fn lines_after(lines: &[Line], n: usize) -> &[Line]
+    ensures { map line_view result.now ≡ drop n (map line_view lines.now) }
+{
+    lines.split_at(n.min(lines.len())).1
 }
 
 /// How many lines of the file stand before the first of these.

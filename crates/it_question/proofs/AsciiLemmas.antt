@@ -25,14 +25,15 @@ use Rattle.it_question.specs.NewNames.{NameSortView, Variable, Rate, with_name, 
 use Rattle.it_question.specs.QuestionLimits.{most_variables, most_rates}
 use Rattle.it_question.specs.QuestionForms.{new_name, more_new, new_names, names_line, question, file}
 use Rattle.it_question.specs.Questions.{BodyView, QuestionView}
-use Rattle.it_question.proofs.LineParts.{AreWhole, lines_sound}
+use Rattle.it_question.proofs.LineParts.{AreWhole, lines_sound, texts_of}
 use Rattle.it_question.proofs.QuestionParts.{AreAt, questions_at}
 use Rattle.it_question.proofs.WholeFileLemmas.{the_end, said}
 use Rattle.it_forms.specs.Forms.{WordBut, is_among, AreTurns, Form, Take, Then, Give, Spells}
 use Rattle.it_forms.specs.Words.{text_of, symbol, word}
 use Rattle.it_forms.proofs.FormLanguage.{prefix_moves}
 use Rattle.it_forms.proofs.LetterLemmas.{letters_append, letters_cleaned}
-use Rattle.it_question.specs.Texts.{without_leading, unless_blank, without_trailing, text_of_lines, question_line_count, with_texts}
+use Rattle.it_question.specs.LineTexts.{without_leading, unless_blank, without_trailing, text_of_lines}
+use Rattle.it_question.specs.Texts.{question_line_count, with_texts}
 
 -- ---- bytes of tokens
 
@@ -110,11 +111,11 @@ trailing_ascii : (line : List ℕ) → IsAscii line → IsAscii (without_trailin
 trailing_ascii [] h = h
 trailing_ascii (b ∷ line) h = unless_ascii b (without_trailing line) (h 0) (trailing_ascii line (after_first b line h))
 
-lines_ascii : (lines : List LineView) → AreWhole lines → IsAscii (text_of_lines lines)
+lines_ascii : (lines : List LineView) → AreWhole lines → IsAscii (text_of_lines (texts_of lines))
 lines_ascii [] h = IsAscii-nil
 lines_ascii (l ∷ lines) h =
     let line = trailing_ascii (without_leading l.text) (leading_ascii l.text (spelled_ascii 0 l.text l.tokens h.0.spelled)) in
-    IsAscii-append (without_trailing (without_leading l.text)) (10 ∷ text_of_lines lines) line (IsAscii-cons 10 (text_of_lines lines) (omega arith) (lines_ascii lines h.1))
+    IsAscii-append (without_trailing (without_leading l.text)) (10 ∷ text_of_lines (texts_of lines)) line (IsAscii-cons 10 (text_of_lines (texts_of lines)) (omega arith) (lines_ascii lines h.1))
 
 -- ---- the words of lines
 
@@ -218,7 +219,7 @@ all_questions lines (b ∷ qs) a =
     let words : AsciiWords h.said = (subst AsciiWords h.first (lines_words (take i lines) h.whole)).1 in
     let all : AsciiWords (letters (without_flags h.said ++ the_end)) = subst AsciiWords (sym (letters_append (without_flags h.said) the_end ∙ ap (λ (ls : List Letter). ls ++ file_end ∷ []) (letters_cleaned h.said))) (words_append h.said (file_end ∷ []) words tt) in
     let names = names_ascii b (without_flags h.said ++ the_end) the_end h.says all in
-    let q : QuestionView = record { body = b; text = text_of_lines (take i lines) } in
+    let q : QuestionView = record { body = b; text = text_of_lines (texts_of (take i lines)) } in
     let first : IsAsciiQuestion q = record { text = lines_ascii (take i lines) h.whole; variables = names.variables; rates = names.rates } in
     All-cons IsAsciiQuestion q (with_texts (drop i lines) qs) first (all_questions (drop i lines) qs a.1)
 

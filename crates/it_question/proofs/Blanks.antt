@@ -1,7 +1,7 @@
 -- Blanks at the ends of a line: what is trimmed has none, and nothing else is taken from what is spelled.
 use Rattle.std.proofs.Common.{◌≡◌, ℕ, ◌==◌, Bool, true, false, cond, List, [], ◌∷◌, ◌++◌, refl, sym, ap, ◌∙◌}
 use Rattle.it_syntax.specs.Spelling.{AreAll, Stops, is_space}
-use Rattle.it_question.specs.Texts.{without_leading, unless_blank, without_trailing}
+use Rattle.it_question.specs.LineTexts.{without_leading, unless_blank, without_trailing}
 
 -- ---- in front
 

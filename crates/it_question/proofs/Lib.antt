@@ -14,6 +14,7 @@ pub mod Blanks
 pub mod PlainLines
 pub mod TrimmedLines
 pub mod LineParts
+pub mod MovedTexts
 pub mod TextLines
 pub mod CleanLetters
 pub mod LineCountLemmas

@@ -1,8 +1,8 @@
 -- How many lines a question has.
 use Rattle.std.specs.Prelude.{min}
-use Rattle.std.proofs.Common.{◌≡◌, ℕ, ◌+◌, ◌≤◌, List, [], ◌∷◌, ◌++◌, length, map, take, drop, All, sym, ap, ◌∙◌, subst, arith, append_assoc}
+use Rattle.std.proofs.Common.{◌≡◌, ℕ, ◌+◌, ◌≤◌, List, [], ◌∷◌, ◌++◌, length, map, take, drop, All, sym, ap, ap₂, ◌∙◌, subst, arith, append_assoc}
 use Rattle.std.proofs.lemmas.List.Elements.{All-head, All-tail}
-use Rattle.std.proofs.lemmas.List.{length-map, map-append, take-map, drop-map}
+use Rattle.std.proofs.lemmas.List.{length-map, map-append, drop-map}
 use Rattle.it_syntax.specs.Meaning.{relation_view}
 use Rattle.it_syntax.specs.Givens.{given_view}
 use Rattle.it_question.specs.declared.types.Region.{Region}
@@ -14,7 +14,9 @@ use Rattle.it_question.specs.Cursors.{line_view}
 use Rattle.it_question.specs.Lines.{LineView}
 use Rattle.it_question.specs.Questions.{region_view, BodyView, QuestionView, question_view}
 use Rattle.it_question.specs.ReaderSteps.{FewLines}
-use Rattle.it_question.specs.Texts.{region_line_count, question_line_count, text_of_lines, with_texts}
+use Rattle.it_question.specs.LineTexts.{text_of_lines}
+use Rattle.it_question.specs.Texts.{region_line_count, question_line_count, with_texts}
+use Rattle.it_question.proofs.LineParts.{texts_of}
 
 abbrev question_with : BodyView → List ℕ → QuestionView
 question_with p text = record { body = p; text = text }
@@ -36,18 +38,16 @@ next_is P xs ys x h e = All-head P x ys (subst (All P) e h)
 pub others_are : {X : Type 0} (P : X → Type 0) (xs ys : List X) (x : X) → All P xs → xs ≡ x ∷ ys → All P ys
 others_are P xs ys x h e = All-tail P x ys (subst (All P) e h)
 
-pub texts_step : (old new : List Question) (q : Question) (rest own after : List Line) (xs ys : List Body) (x : Body) (n : ℕ) (whole : List QuestionView)
-    → map question_view old ++ with_texts (map line_view rest) (map body_view xs) ≡ whole → xs ≡ x ∷ ys → new ≡ old ++ q ∷ [] → n ≡ question_line_count (body_view x) → own ≡ take n rest → after ≡ drop n rest
-    → question_view q ≡ record { body = body_view x; text = text_of_lines (map line_view own) } → map question_view new ++ with_texts (map line_view after) (map body_view ys) ≡ whole
-texts_step old new q rest own after xs ys x n whole h e pushed count first last is =
+pub texts_step : (old new : List Question) (q : Question) (rest after : List Line) (texts : List (List ℕ)) (xs ys : List Body) (x : Body) (n : ℕ) (whole : List QuestionView)
+    → map question_view old ++ with_texts (map line_view rest) (map body_view xs) ≡ whole → xs ≡ x ∷ ys → new ≡ old ++ q ∷ [] → n ≡ question_line_count (body_view x) → texts ≡ texts_of (take n (map line_view rest)) → after ≡ drop n rest
+    → question_view q ≡ question_with (body_view x) (text_of_lines texts) → map question_view new ++ with_texts (map line_view after) (map body_view ys) ≡ whole
+texts_step old new q rest after texts xs ys x n whole h e pushed count own left is =
     let m = question_line_count (body_view x) in
     let lines = map line_view rest in
-    let own_lines : map line_view own ≡ take m lines = ap (map line_view) (first ∙ ap (λ (k : ℕ). take k rest) count) ∙ sym (take-map line_view m rest) in
-    let after_lines : map line_view after ≡ drop m lines = ap (map line_view) (last ∙ ap (λ (k : ℕ). drop k rest) count) ∙ sym (drop-map line_view m rest) in
-    let head : question_view q ≡ record { body = body_view x; text = text_of_lines (take m lines) } = is ∙ ap (λ (ls : List LineView). question_with (body_view x) (text_of_lines ls)) own_lines in
+    let head : question_view q ≡ question_with (body_view x) (text_of_lines (texts_of (take m lines))) = is ∙ ap (λ (ts : List (List ℕ)). question_with (body_view x) (text_of_lines ts)) (own ∙ ap (λ (k : ℕ). texts_of (take k lines)) count) in
+    let after_lines : map line_view after ≡ drop m lines = ap (map line_view) (left ∙ ap (λ (k : ℕ). drop k rest) count) ∙ sym (drop-map line_view m rest) in
     ap (λ (qs : List Question). map question_view qs ++ with_texts (map line_view after) (map body_view ys)) pushed
     ∙ ap (λ (prefix : List QuestionView). prefix ++ with_texts (map line_view after) (map body_view ys)) (map-append question_view old (q ∷ []))
     ∙ append_assoc (map question_view old) (question_view q ∷ []) (with_texts (map line_view after) (map body_view ys))
-    ∙ ap (λ (a : QuestionView). map question_view old ++ a ∷ with_texts (map line_view after) (map body_view ys)) head
-    ∙ ap (λ (ls : List LineView). map question_view old ++ question_with (body_view x) (text_of_lines (take m lines)) ∷ with_texts ls (map body_view ys)) after_lines
+    ∙ ap₂ (λ (a : QuestionView) (ls : List LineView). map question_view old ++ a ∷ with_texts ls (map body_view ys)) head after_lines
     ∙ ap (λ (bs : List Body). map question_view old ++ with_texts lines (map body_view bs)) (sym e) ∙ h

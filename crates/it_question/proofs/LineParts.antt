@@ -1,5 +1,5 @@
 -- Letters that are so many lines are those of the first lines.
-use Rattle.std.proofs.Common.{◌≡◌, ℕ, zero, suc, ◌+◌, List, [], ◌∷◌, ◌++◌, length, take, drop, Option, Some, None, refl, sym, ap, ◌∙◌, subst, inl, inr}
+use Rattle.std.proofs.Common.{◌≡◌, ℕ, zero, suc, ◌+◌, List, [], ◌∷◌, ◌++◌, length, map, take, drop, Option, Some, None, refl, sym, ap, ◌∙◌, subst, inl, inr}
 use Rattle.it_syntax.specs.declared.types.Misspelling.{Misspelling}
 use Rattle.it_syntax.specs.declared.types.Token.{Token}
 use Rattle.it_syntax.specs.declared.types.TokenKind.{TokenKind}
@@ -10,6 +10,10 @@ use Rattle.it_syntax.specs.Spans.{letter_of, letters_until, last_letter}
 use Rattle.it_question.specs.Lines.{LineView, AreLines, IsFilled, line_letters, letters_of_lines}
 use Rattle.it_question.proofs.Puts.{HasLines}
 use Rattle.it_question.proofs.TrimmedLines.{IsWhole}
+
+-- the text of each of them
+abbrev pub texts_of : List LineView → List (List ℕ)
+texts_of lines = map (λ (l : LineView). l.text) lines
 
 -- ---- lines without a misspelling
 

@@ -8,16 +8,17 @@ use Rattle.it_question.specs.Files.{IsFile, TextReadsBack}
 use Rattle.it_question.specs.Lines.{LineView, split_lines, file_end, letters_of_lines}
 use Rattle.it_question.specs.QuestionForms.{file}
 use Rattle.it_question.specs.Questions.{BodyView, QuestionView}
-use Rattle.it_question.specs.Texts.{text_of_lines, question_line_count, with_texts}
+use Rattle.it_question.specs.LineTexts.{text_of_lines}
+use Rattle.it_question.specs.Texts.{question_line_count, with_texts}
 use Rattle.it_question.proofs.FileLemmas.{alone}
-use Rattle.it_question.proofs.LineParts.{lines_sound}
+use Rattle.it_question.proofs.LineParts.{lines_sound, texts_of}
 use Rattle.it_question.proofs.QuestionParts.{QuestionAt, AreAt, questions_at}
 use Rattle.it_question.proofs.TextLines.{read_again}
 use Rattle.it_question.proofs.WholeFileLemmas.{the_end, said, says_file}
 
 -- the first of the questions of these lines, with its text
 first_of : BodyView → List LineView → QuestionView
-first_of q lines = record { body = q; text = text_of_lines (take (question_line_count q) lines) }
+first_of q lines = record { body = q; text = text_of_lines (texts_of (take (question_line_count q) lines)) }
 
 first_alone : (q : BodyView) (lines : List LineView) → QuestionAt lines q → IsFile (first_of q lines).text (first_of q lines ∷ [])
 unfolding first_of
@@ -26,7 +27,7 @@ first_alone q lines h =
     let spelled : (Word (codes "vars"), None) ∷ (without_flags h.said ++ the_end) ≡ without_flags (letters_of_lines t.again) =
     sym (cleaned_append (Word (codes "vars") ∷ h.said) (file_end ∷ [])) ∙ ap without_flags (ap (λ (ls : List Letter). ls ++ file_end ∷ []) (sym h.first) ∙ sym t.same) in
     let says = subst (λ (m : FlaggedLetters). Spells file (q ∷ []) m []) spelled (alone q (without_flags h.said) h.says) in
-    subst (λ (text : List ℕ). IsFile (first_of q lines).text (record { body = q; text = text } ∷ [])) (ap (λ (i : ℕ). text_of_lines (take i t.again)) (sym h.long) ∙ t.text) (says_file file with_texts (first_of q lines).text t.again (q ∷ []) t.cut says)
+    subst (λ (text : List ℕ). IsFile (first_of q lines).text (record { body = q; text = text } ∷ [])) (ap (λ (i : ℕ). text_of_lines (texts_of (take i t.again))) (sym h.long) ∙ t.text) (says_file file with_texts (first_of q lines).text t.again (q ∷ []) t.cut says)
 
 one_question_file : (qs : List BodyView) (lines : List LineView) (prefix rs : List QuestionView) (q : QuestionView) → AreAt lines qs → with_texts lines qs ≡ prefix ++ q ∷ rs → IsFile q.text (q ∷ [])
 unfolding first_of

@@ -1,7 +1,7 @@
 -- Blanks at the ends of a line.
 use Rattle.std.proofs.Common.{◌≡◌, ℕ, ◌==◌, Bool, true, false, cond, List, [], ◌∷◌, ◌++◌, sym, ap, ◌∙◌, arith}
 use Rattle.std.proofs.lemmas.Bool.Decides.{nat_tests}
-use Rattle.it_question.specs.Texts.{unless_blank, without_trailing}
+use Rattle.it_question.specs.LineTexts.{unless_blank, without_trailing}
 
 after_blank : (line : List ℕ) (b : ℕ) → (b == 32) ≡ true → without_trailing (line ++ b ∷ []) ≡ without_trailing line
 after_blank [] b e = ap (λ (t : Bool). cond t [] (b ∷ [])) e

@@ -4,18 +4,18 @@ use Rattle.it_syntax.specs.declared.types.Misspelling.{Misspelling}
 use Rattle.it_forms.specs.Letters.{Letter, End}
 use Rattle.it_syntax.specs.Spans.{letters_until, last_letter}
 use Rattle.it_question.specs.Lines.{LineView, AreLines, split_lines, file_end, end_line, line_letters, letters_of_lines}
-use Rattle.it_question.specs.Texts.{text_of_lines, without_trailing, without_leading}
+use Rattle.it_question.specs.LineTexts.{text_of_lines, without_trailing, without_leading}
 use Rattle.it_question.proofs.Blanks.{trimmed_once}
 use Rattle.it_question.proofs.PlainLines.{spelled_plain, plain_first}
 use Rattle.it_question.proofs.TrimmedLines.{IsWhole, reads_again}
-use Rattle.it_question.proofs.LineParts.{AreWhole}
+use Rattle.it_question.proofs.LineParts.{AreWhole, texts_of}
 
 -- what the text of these lines is read as, from line number n on
 pub record ReadAgain (n : ℕ) (lines : List LineView) : Type 0 where
   pub again : List LineView
-  pub cut : AreLines n (split_lines (text_of_lines lines)) again
+  pub cut : AreLines n (split_lines (text_of_lines (texts_of lines))) again
   pub same : letters_of_lines again ≡ letters_of_lines lines ++ file_end ∷ []
-  pub text : text_of_lines (take (length lines) again) ≡ text_of_lines lines
+  pub text : text_of_lines (texts_of (take (length lines) again)) ≡ text_of_lines (texts_of lines)
 
 whole_letters : (l : LineView) → IsWhole l → line_letters l ≡ letters_until l.text l.tokens End
 whole_letters l h = ap (λ (m : Option Misspelling). letters_until l.text l.tokens (last_letter m)) h.misspelling
@@ -30,7 +30,7 @@ read_again n (l ∷ lines) h =
     let letters : line_letters a.line ≡ line_letters l = a.letters ∙ sym (whole_letters l h.0) in
     record {
       again = a.line ∷ more.again;
-      cut = subst (λ (split : List (List ℕ)). AreLines n split (a.line ∷ more.again)) (sym (plain_first (without_trailing (without_leading l.text)) (text_of_lines lines) plain)) (inr (a.line, more.again, refl, a.is, a.filled, more.cut));
+      cut = subst (λ (split : List (List ℕ)). AreLines n split (a.line ∷ more.again)) (sym (plain_first (without_trailing (without_leading l.text)) (text_of_lines (texts_of lines)) plain)) (inr (a.line, more.again, refl, a.is, a.filled, more.cut));
       same = ap (λ (q : List Letter). q ++ letters_of_lines more.again) letters ∙ ap (λ (q : List Letter). line_letters l ++ q) more.same ∙ sym (append_assoc (line_letters l) (letters_of_lines lines) (file_end ∷ []));
-      text = ap (λ (t : List ℕ). without_trailing (without_leading t) ++ 10 ∷ text_of_lines (take (length lines) more.again)) a.text ∙ ap (λ (t : List ℕ). t ++ 10 ∷ text_of_lines (take (length lines) more.again)) (trimmed_once l.text) ∙ ap (λ (t : List ℕ). without_trailing (without_leading l.text) ++ 10 ∷ t) more.text;
+      text = ap (λ (t : List ℕ). without_trailing (without_leading t) ++ 10 ∷ text_of_lines (texts_of (take (length lines) more.again))) a.text ∙ ap (λ (t : List ℕ). t ++ 10 ∷ text_of_lines (texts_of (take (length lines) more.again))) (trimmed_once l.text) ∙ ap (λ (t : List ℕ). without_trailing (without_leading l.text) ++ 10 ∷ t) more.text;
     }

@@ -16,7 +16,7 @@ use Rattle.it_syntax.specs.Spelling.{is_word_byte, is_space, AreAll, Stops, IsTe
 use Rattle.it_syntax.proofs.TokenLemmas.{not_space}
 use Rattle.it_syntax.proofs.RunLemmas.{value_digits}
 use Rattle.it_question.specs.Lines.{LineView, IsFilled, IsLine, line_letters}
-use Rattle.it_question.specs.Texts.{without_leading, without_trailing}
+use Rattle.it_question.specs.LineTexts.{without_leading, without_trailing}
 use Rattle.it_question.proofs.Blanks.{AreSolid, leading_after, trailing_stops, trailing_blank, solid_kept, some_kept}
 use Rattle.it_question.proofs.PlainLines.{spelled_plain, plain_same}
 

@@ -1,4 +1,5 @@
 pub mod Lines
+pub mod LineTexts
 pub mod Cursors
 pub mod Bodies
 pub mod Questions

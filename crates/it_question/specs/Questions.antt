@@ -3,6 +3,7 @@ use Rattle.std.specs.Prelude.{ℕ, List, [], map}
 use Rattle.it_syntax.specs.NamesViews.{NamesView}
 use Rattle.it_syntax.specs.Meaning.{RelationView, relation_view}
 use Rattle.it_syntax.specs.Givens.{GivenView, given_view}
+use Rattle.it_question.specs.LineTexts.{text_of_lines}
 use Rattle.it_question.specs.declared.types.OwnLines.{OwnLines}
 use Rattle.it_question.specs.declared.types.Question.{Question}
 use Rattle.it_question.specs.declared.types.Region.{Region}
@@ -61,4 +62,4 @@ question_body q = record { names = q.names; lines = own_lines_view q.lines; verb
 
 -- what contracts see of a question, with its text
 abbrev pub question_view : Question → QuestionView
-question_view q = record { body = question_body q; text = q.text.items }
+question_view q = record { body = question_body q; text = text_of_lines (map (λ v. v.items) q.source.items) }

@@ -1,6 +1,7 @@
 //! What is read of a question.
-ghost use Rattle.std.specs.Prelude.{◌≡◌};
+ghost use Rattle.std.specs.Prelude.{◌≡◌, map};
 ghost use Rattle.it_question.specs.Bodies.{body_view};
+ghost use Rattle.it_question.specs.LineTexts.{text_of_lines};
 ghost use Rattle.it_question.specs.Questions.{question_view};
 
 use crate::types::{OwnLines, Question, Verb};
@@ -24,14 +25,14 @@ impl Drop for Body {
 }
 
 impl Body {
-    /// The question with this text.
-    pub(crate) fn with_text(self, text: Vec<u8>) -> Question
-        ensures { question_view result ≡ record { body = body_view self; text = text.items } }
+    /// The question with these lines.
+    pub(crate) fn with_source(self, source: Vec<Vec<u8>>) -> Question
+        ensures { question_view result ≡ record { body = body_view self; text = text_of_lines (map (λ v. v.items) source.items) } }
     {
         let Body { names, lines, verb } = self;
         Question {
             names,
-            text,
+            source,
             lines,
             verb,
         }

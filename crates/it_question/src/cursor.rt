@@ -1,5 +1,5 @@
 //! What is left of a file.
-ghost use Rattle.std.specs.Prelude.{◌≤◌, length};
+ghost use Rattle.std.specs.Prelude.{◌≡◌, ◌≤◌, length};
 ghost use Rattle.it_syntax.specs.Spans.{InLine, InLine-prop};
 
 use it_syntax::rest::Rest;
@@ -22,6 +22,20 @@ impl Drop for Line {
             text: _,
             tokens: _,
         } = self;
+    }
+}
+
+impl Line {
+    /// The line's text alone.
+    pub(crate) fn into_text(self) -> Vec<u8>
+        ensures { result.items ≡ self.text.items }
+    {
+        let Line {
+            number: _,
+            text,
+            tokens: _,
+        } = self;
+        text
     }
 }
 

@@ -62,7 +62,7 @@ pub fn questions(alloc: Global, bytes: &[u8]) -> Result<Vec<Question>, FileFault
     match bodies(alloc, &mut cursor) {
         Ok(bodies) => {
             // named before it is answered, so that the contract of the call stands at the answer
-            let questions = with_texts(alloc, lines.as_slice(), bodies)?;
+            let questions = with_texts(alloc, lines, bodies)?;
             Ok(questions)
         }
         Err(stop) => Err(stop_fault(lines.as_slice(), cursor, stop)),

@@ -1,17 +1,20 @@
-//! The text of a question.
+//! The lines of a question, and its text.
 //! The result of `push` is matched where `?` would do: so each case is a goal of its own.
-ghost use Rattle.std.specs.Prelude.{◌≡◌, ◌≤◌, take, drop, map, All, IfOk};
+ghost use Rattle.std.specs.Prelude.{◌≡◌, ◌≤◌, take, drop, map, All, IfOk, OnOk};
+ghost use Rattle.std.specs.Vec.Iter.{into_iter_items};
 ghost use Rattle.it_question.specs.Bodies.{body_view};
 ghost use Rattle.it_question.specs.Cursors.{line_view};
 ghost use Rattle.it_question.specs.Limits.{IsQuestion};
 ghost use Rattle.it_question.specs.ReaderSteps.{FewLines, FewLinesOf};
 ghost use Rattle.it_question.specs.Questions.{verb_view, question_view, region_view};
-ghost use Rattle.it_question.specs.Texts.{without_leading, without_trailing, text_of_lines, region_line_count, verb_line_count, question_line_count, with_texts};
+ghost use Rattle.it_question.specs.LineTexts.{without_leading, without_trailing};
+ghost use Rattle.it_question.specs.Texts.{region_line_count, verb_line_count, question_line_count, with_texts};
 
 use crate::bodies::Body;
 use crate::cursor::Line;
 use crate::types::{Question, Region, Verb};
 use std::alloc::{AllocError, Global};
+use std::vec::IntoIter;
 
 /// What is left without the spaces in front.
 fn without_leading(line: &[u8]) -> &[u8]
@@ -48,19 +51,22 @@ fn trim(line: &[u8]) -> &[u8]
     without_trailing(without_leading(line))
 }
 
-/// The lines, each without blanks at both ends and with a line feed after it.
-pub fn text_of(alloc: Global, lines: &[Line]) -> Result<Vec<u8>, AllocError>
-    ensures { IfOk result (λ text. text.items ≡ text_of_lines (map line_view lines.now)) }
-{
-    let mut text = Vec::new(alloc);
-    for line in lines {
-        text.extend_from_slice(trim(line.text.as_slice()))?;
-        match text.push(b'\n') {
-            Ok(()) => {}
-            Err(_) => return Err(AllocError),
+impl Question {
+    /// The question's text: its lines from `vars` to the verb, each from its first token to its last with tabs as spaces, and
+    /// a line feed after it. It is put together anew at each call, since only a report needs it.
+    pub fn text(&self, alloc: Global) -> Result<Vec<u8>, AllocError>
+        ensures { IfOk result (λ text. text.items ≡ (question_view self.now).text) }
+    {
+        let mut text = Vec::new(alloc);
+        for line in self.source.as_slice() {
+            text.extend_from_slice(trim(line.as_slice()))?;
+            match text.push(b'\n') {
+                Ok(()) => {}
+                Err(_) => return Err(AllocError),
+            }
         }
+        Ok(text)
     }
-    Ok(text)
 }
 
 /// How many lines a region has, its `region` line among them.
@@ -106,45 +112,52 @@ fn question_line_count(question: &Body) -> usize
         + verb_line_count(&question.verb)
 }
 
-/// The first lines, and those after them.
-fn cut(lines: &[Line], n: usize) -> (&[Line], &[Line])
-    ensures first { result.0.now ≡ take n lines.now }
-    ensures after { result.1.now ≡ drop n lines.now }
-{
-    lines.split_at(n.min(lines.len()))
-}
-
-/// The question with the text of these lines.
-fn with_text(alloc: Global, lines: &[Line], body: Body) -> Result<Question, AllocError>
-    ensures { IfOk result (λ q. question_view q ≡ record { body = body_view body; text = text_of_lines (map line_view lines.now) }) }
-{
-    let text = text_of(alloc, lines)?;
-    Ok(body.with_text(text))
-}
-
-/// The questions of these lines, one after the other, with their texts.
-pub fn with_texts(
+/// Moves the texts of the next n lines out.
+fn next_texts(
     alloc: Global,
-    lines: &[Line],
-    bodies: Vec<Body>,
-) -> Result<Vec<Question>, AllocError>
-    requires { All (λ b. IsQuestion (body_view b)) bodies.items }
-    ensures { IfOk result (λ qs. map question_view qs.items ≡ with_texts (map line_view lines.now) (map body_view bodies.items)) }
+    lines: &mut IntoIter<Line>,
+    n: usize,
+) -> Result<Vec<Vec<u8>>, AllocError>
+    ensures texts { IfOk result (λ t. map (λ v. v.items) t.items ≡ map (λ l. l.text) (take n (map line_view (into_iter_items lines.old)))) }
+    ensures after { OnOk result (into_iter_items lines.new ≡ drop n (into_iter_items lines.old)) }
 {
-    let mut rest = lines;
-    let mut left = bodies.into_iter();
-    let mut questions = Vec::new(alloc);
-    while let Some(body) = left.next() {
-        let (own, after) = cut(rest, question_line_count(&body));
-        let question = with_text(alloc, own, body)?;
-        match questions.push(question) {
+    let mut texts = Vec::new(alloc);
+    for _ in 0..n {
+        let Some(line) = lines.next() else {
+            return Ok(texts);
+        };
+        match texts.push(line.into_text()) {
             Ok(()) => {}
             Err(failed) => {
                 drop(failed);
                 return Err(AllocError);
             }
         }
-        rest = after;
+    }
+    Ok(texts)
+}
+
+/// The questions of these lines, one after the other, each with its own.
+pub fn with_texts(
+    alloc: Global,
+    lines: Vec<Line>,
+    bodies: Vec<Body>,
+) -> Result<Vec<Question>, AllocError>
+    requires { All (λ b. IsQuestion (body_view b)) bodies.items }
+    ensures { IfOk result (λ qs. map question_view qs.items ≡ with_texts (map line_view lines.items) (map body_view bodies.items)) }
+{
+    let mut rest = lines.into_iter();
+    let mut left = bodies.into_iter();
+    let mut questions = Vec::new(alloc);
+    while let Some(body) = left.next() {
+        let source = next_texts(alloc, &mut rest, question_line_count(&body))?;
+        match questions.push(body.with_source(source)) {
+            Ok(()) => {}
+            Err(failed) => {
+                drop(failed);
+                return Err(AllocError);
+            }
+        }
     }
     Ok(questions)
 }

@@ -64,11 +64,11 @@ impl Drop for Verb {
     }
 }
 
-/// A question. `text` holds its lines from `vars` to the verb, each from its first token to its last with tabs as spaces,
-/// and a line feed after it; lines without tokens are left out. `lines` are those before the verb or the first region.
+/// A question. `source` holds its lines from `vars` to the verb as they were read, without comment and with tabs as spaces;
+/// lines without tokens are left out. `lines` are those before the verb or the first region.
 pub struct Question {
     pub names: Names,
-    pub text: Vec<u8>,
+    pub source: Vec<Vec<u8>>,
     pub lines: OwnLines,
     pub verb: Verb,
 }
@@ -77,7 +77,7 @@ impl Drop for Question {
     fn drop(self) {
         let Question {
             names: _,
-            text: _,
+            source: _,
             lines: _,
             verb: _,
         } = self;

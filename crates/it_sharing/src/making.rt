@@ -127,7 +127,7 @@ fn question(alloc: Global, from: &Sharing, givens: Vec<Given>) -> Result<Questio
     let relation = from.relation.copy()?;
     Ok(Question {
         names,
-        text: Vec::new(alloc),
+        source: Vec::new(alloc),
         lines: OwnLines {
             givens,
             rows: Vec::new(alloc),

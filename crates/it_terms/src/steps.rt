@@ -237,6 +237,7 @@ pub fn told_steps(
     let Some(equation) = equation(alloc, proof, names)? else {
         return Ok(None);
     };
-    let measures = measures(alloc, question.text.as_slice(), names)?;
+    let text = question.text(alloc)?;
+    let measures = measures(alloc, text.as_slice(), names)?;
     equation_steps(alloc, measures.as_slice(), names, &equation)
 }

@@ -1,5 +1,5 @@
 use Rattle.std.proofs.Common.{◌≡◌, length}
-use Rattle.it_question.specs.Texts.{without_leading}
+use Rattle.it_question.specs.LineTexts.{without_leading}
 use Rattle.it_question.proofs.texts.without_leading.Given as goal
 
 abbrev pub invariant-loop-rest : goal.invariant-loop-rest

@@ -1,5 +1,5 @@
 use Rattle.std.proofs.Common.{◌≡◌, length}
-use Rattle.it_question.specs.Texts.{without_trailing}
+use Rattle.it_question.specs.LineTexts.{without_trailing}
 use Rattle.it_question.proofs.texts.without_trailing.Given as goal
 
 abbrev pub invariant-loop-last : goal.invariant-loop-last
