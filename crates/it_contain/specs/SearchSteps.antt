@@ -53,7 +53,7 @@ abbrev pub KeepsPending : Option Proofs → List (List Candidate) → List (List
 KeepsPending None lists lists_after = lists_after ≡ lists
 KeepsPending (Some proofs) lists lists_after = Unit {0}
 
--- the plans once it was tried: the same, or each once it is proved
+-- the plans after the try: those of boxes that learn of the candidate, if it is proved
 abbrev pub plans_after_try : Candidate → Option Proofs → List Plan → List Plan
 plans_after_try c None plans = plans
 plans_after_try c (Some proofs) plans = map (plan_after c) plans

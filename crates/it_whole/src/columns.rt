@@ -1,7 +1,6 @@
 //! The columns of the start.
-ghost use Rattle.std.specs.Prelude.{◌≡◌, ◌+◌, ◌<◌, ◌^◌, ◌++◌, ◌∷◌, [], length, pos, slice_index_or, OnOk};
+ghost use Rattle.std.specs.Prelude.{◌≡◌, ◌+◌, ◌<◌, ◌^◌, ◌++◌, ◌∷◌, [], length, pos, slice_index_or, OnOk, SomeIff};
 ghost use Rattle.std.specs.Bool.{OnTrue};
-ghost use Rattle.std.specs.Option.{IfSome};
 ghost use Rattle.it_whole.specs.ColumnTerms.{multiple_of_term, multiple_of_terms, Suits};
 ghost use Rattle.it_space.specs.Rows.{value, row_mass};
 ghost use Rattle.it_whole.specs.Combinations.{IsPriced};
@@ -107,7 +106,7 @@ impl Column {
 
     /// The sum of the absolute values of the entries, where it is below 2^63. None where it is larger.
     pub fn weight(&self) -> Option<u64>
-        ensures { IfSome result (λ w. (w ≡ row_mass self.now) × (w < 2 ^ 63)) }
+        ensures { SomeIff result (row_mass self.now < 2 ^ 63) (row_mass self.now) }
     {
         let mut sum: u64 = 0;
         for i in 0..self.size() {
