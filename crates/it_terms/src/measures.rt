@@ -1,4 +1,4 @@
-//! The entropies and mutual informations that a question's text has, each as its author spelled it.
+//! The entropies and mutual informations that a question's lines have, each as its author spelled it.
 ghost use Rattle.std.specs.Prelude.{◌<◌, ◌≤◌, length};
 
 use crate::reading::relation_text;
@@ -128,17 +128,32 @@ fn put_new(measures: &mut Vec<Measure>, found: Option<Measure>) -> Result<(), Al
     Ok(())
 }
 
-/// The measures of a question's text that are read under these names, each once, in order of the text.
-pub fn measures(alloc: Global, text: &[u8], names: &Names) -> Result<Vec<Measure>, AllocError>
+/// Puts the measures of a line that are read under these names after the others, in the order of the line, unless they are there.
+fn put_measures(
+    alloc: Global,
+    measures: &mut Vec<Measure>,
+    line: &[u8],
+    names: &Names,
+) -> Result<(), AllocError>
+    requires { 1 ≤ length names.now.variables }
+{
+    for at in 0..line.len() {
+        if begins_measure(line, at) {
+            let spelling = spelling_at(alloc, line, at)?;
+            let found = measure_of(alloc, spelling, names)?;
+            put_new(measures, found)?;
+        }
+    }
+    Ok(())
+}
+
+/// The measures of a question's lines that are read under these names, each once, in order.
+pub fn measures(alloc: Global, lines: &[Vec<u8>], names: &Names) -> Result<Vec<Measure>, AllocError>
     requires { 1 ≤ length names.now.variables }
 {
     let mut measures = Vec::new(alloc);
-    for at in 0..text.len() {
-        if begins_measure(text, at) {
-            let spelling = spelling_at(alloc, text, at)?;
-            let found = measure_of(alloc, spelling, names)?;
-            put_new(&mut measures, found)?;
-        }
+    for line in lines {
+        put_measures(alloc, &mut measures, line.as_slice(), names)?;
     }
     Ok(measures)
 }

@@ -344,8 +344,7 @@ fn any_proof(
     requires some { 1 ≤ length names.now.variables }
     ensures { IfOk result (MayProve names.now target.now constraints.now) }
 {
-    let text = question.text(alloc)?;
-    let measures = measures(alloc, text.as_slice(), names)?;
+    let measures = measures(alloc, question.source.as_slice(), names)?;
     let goal = goal_of(alloc, question, measures.as_slice(), names, target)?;
     let asked = Asked {
         question,

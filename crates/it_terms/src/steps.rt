@@ -237,7 +237,6 @@ pub fn told_steps(
     let Some(equation) = equation(alloc, proof, names)? else {
         return Ok(None);
     };
-    let text = question.text(alloc)?;
-    let measures = measures(alloc, text.as_slice(), names)?;
+    let measures = measures(alloc, question.source.as_slice(), names)?;
     equation_steps(alloc, measures.as_slice(), names, &equation)
 }

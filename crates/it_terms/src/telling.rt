@@ -103,7 +103,6 @@ pub fn told_row(
     ensures { IfOk result (λ o. IfSome o (λ text. TellsRow (problem_names (question_body question.now)) row.now text.items)) }
 {
     let names = names_of(question);
-    let text = question.text(alloc)?;
-    let measures = measures(alloc, text.as_slice(), names)?;
+    let measures = measures(alloc, question.source.as_slice(), names)?;
     row_text(alloc, measures.as_slice(), names, row)
 }
