@@ -1,6 +1,6 @@
 //! Operations on single whole numbers.
 ghost use Rattle.std.specs.Bool.{OnFalse, OnTrue};
-ghost use Rattle.std.specs.Prelude.{◌≡◌, pos, ◌+◌, ◌*◌, ◌<◌, ◌≤◌, ◌^◌, ◌+ℤ◌, ◌*ℤ◌, neg_ℤ, unsigned_abs, SomeIff};
+ghost use Rattle.std.specs.Prelude.{◌≡◌, pos, ◌+◌, ◌*◌, ◌<◌, ◌≤◌, ◌^◌, ◌≤ℤ◌, ◌+ℤ◌, ◌*ℤ◌, neg_ℤ, unsigned_abs, SomeIff};
 ghost use Rattle.std.specs.Option.{IfNone, IfSome};
 ghost use Rattle.it_number.specs.Division.{int_quotient};
 ghost use Rattle.it_number.specs.Gcd.{gcd};
@@ -111,6 +111,25 @@ pub fn quotient(z: i64, k: u64) -> i64
     }
     let size = (z.unsigned_abs() / k) as i64;
     if z < 0 { -size } else { size }
+}
+
+/// A pivot and an entry without their common divisor. Mostly the pivot is 1 or divides the entry, and a division is dear.
+#[inline]
+pub fn lowest_terms(pivot: i64, entry: i64) -> (i64, i64)
+    requires pivot { pos 1 ≤ℤ pivot }
+    requires entry { unsigned_abs entry < 2 ^ 63 }
+    ensures pivot { result.0 ≡ int_quotient pivot (gcd (unsigned_abs pivot) (unsigned_abs entry)) }
+    ensures entry { result.1 ≡ int_quotient entry (gcd (unsigned_abs pivot) (unsigned_abs entry)) }
+{
+    let size = pivot.unsigned_abs();
+    if size == 1 {
+        return (1, entry);
+    }
+    if entry.unsigned_abs() % size == 0 {
+        return (1, quotient(entry, size));
+    }
+    let shared = common_divisor(size, entry.unsigned_abs());
+    (quotient(pivot, shared), quotient(entry, shared))
 }
 
 /// The sum, where that is below 2^63, so that it fits a number with a sign too. None where it is larger.

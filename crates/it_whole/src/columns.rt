@@ -6,15 +6,12 @@ ghost use Rattle.it_space.specs.Rows.{value, row_mass};
 ghost use Rattle.it_whole.specs.Combinations.{IsPriced};
 ghost use Rattle.it_space.specs.Sums.{number_at};
 
-use crate::arithmetic::{narrow, plus_product, product, short_sum};
+use crate::arithmetic::{plus_product, short_sum};
 use crate::narrow_rows::NarrowRow;
 use crate::rows::{AnyRow, WholeRow};
 use crate::wide_rows::WideRow;
 use std::alloc::{AllocError, Global};
 use std::marker::Model;
-
-/// The largest number of the engine, 2^63 - 1.
-const LARGEST: u64 = i64::MAX as u64;
 
 /// The entries of a column of the start other than 0, each after its row, by ascending row; or a sum of multiples of such columns, in
 /// which rows may repeat.
@@ -61,7 +58,7 @@ impl Column {
         requires { i < length other.now }
         ensures { OnTrue result (self.new ≡ self.old ++ multiple_of_term factor (slice_index_or other.now i (0, pos 0)) ∷ []) }
     {
-        match narrow(product(other.factor(i), factor), LARGEST) {
+        match other.factor(i).checked_mul(factor) {
             Some(number) => self.push_entry(other.place(i), number).is_ok(),
             None => false,
         }

@@ -7,7 +7,7 @@ ghost use Rattle.it_whole.specs.WholeRows.{AreAtMost, IsUsable};
 ghost use Rattle.it_whole.specs.Updates.{AreNextPlaces, IsWholeRowReduced, IsQuotient, IsShortened, IsUpdated};
 ghost use Rattle.it_whole.specs.Combinations.{IsCombined, IsCombinedAndShortened};
 
-use crate::arithmetic::{common_divisor, quotient, short_product};
+use crate::arithmetic::{lowest_terms, short_product};
 use crate::narrow_numbers::{
     combine, combine_in_room, divide, divisor, greatest_size, is_sparse, narrow_number,
     note_places, read,
@@ -99,6 +99,18 @@ impl NarrowRow {
         self.most
     }
 
+    /// No number is greater in absolute value: mostly the least such bound, for which the numbers are gone through where the one that is
+    /// kept is large.
+    pub fn closer_most(&self) -> u64
+        ensures { AreAtMost self.now.numbers result }
+    {
+        if is_large(self.most) {
+            greatest_size(self.numbers.as_slice())
+        } else {
+            self.most
+        }
+    }
+
     /// The same row, with an exact bound on its numbers, and with a note whether few of them are other than 0.
     fn with_notes(self) -> NarrowRow
         ensures { result ≡ self }
@@ -113,9 +125,9 @@ impl NarrowRow {
         }
     }
 
-    /// The same row over the least denominator.
+    /// Puts the row over the least denominator.
     #[inline(never)]
-    fn shorten(&mut self)
+    pub fn shorten(&mut self)
         requires some { 0 < self.old.bottom }
         ensures { IsShortened self.old self.new }
     {
@@ -230,9 +242,7 @@ impl NarrowRow {
         ensures less { OnTrue result (IsWholeRowReduced (length own.now.numbers) limit self.old own.now entry pivot self.new) }
         ensures usable { OnTrue result (IsUsable (length own.now.numbers) limit self.new) }
     {
-        let shared = common_divisor(pivot.unsigned_abs(), entry.unsigned_abs());
-        let a = quotient(pivot, shared);
-        let b = quotient(entry, shared);
+        let (a, b) = lowest_terms(pivot, entry);
         let Some(bottom) = short_product(self.bottom(), a.unsigned_abs()) else {
             return false;
         };
@@ -292,7 +302,7 @@ impl NarrowRow {
     }
 }
 
-/// Whether a denominator is large. A gcd of a whole row is dear, so that a row gets its least one only there.
-fn is_large(bottom: u64) -> bool {
-    bottom > 1 << 12
+/// Whether a denominator or a bound is large. To go through a whole row is dear, so that it gets its least one only there.
+fn is_large(size: u64) -> bool {
+    size > 1 << 12
 }

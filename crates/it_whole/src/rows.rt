@@ -4,7 +4,7 @@ ghost use Rattle.std.specs.Bool.{OnTrue};
 ghost use Rattle.std.specs.Option.{IfSome};
 ghost use Rattle.it_space.specs.Sums.{number_at};
 ghost use Rattle.it_whole.specs.WholeRows.{AreAtMost, AreShort, IsUsable};
-ghost use Rattle.it_whole.specs.Updates.{AreNextPlaces, IsQuotient, IsUpdated};
+ghost use Rattle.it_whole.specs.Updates.{AreNextPlaces, IsQuotient, IsShortened, IsUpdated};
 ghost use Rattle.it_whole.specs.Widths.{row_of};
 
 use crate::arithmetic::is_zero;
@@ -115,7 +115,7 @@ impl WholeRow {
         }
     }
 
-    /// What stands for 1 in the row: its denominator.
+    /// What represents 1 in the row: its denominator.
     pub fn unit(&self) -> i64
         requires { self.now.bottom < 2 ^ 63 }
         ensures { result ≡ pos self.now.bottom }
@@ -144,6 +144,16 @@ impl WholeRow {
     {
         match &self.row {
             AnyRow::Narrow(row) => row.most(),
+            AnyRow::Wide(row) => row.most(),
+        }
+    }
+
+    /// A bound as well, closer than the one that is kept where that is large: for rows in 32 bits the numbers are gone through then.
+    pub fn closer_most(&self) -> u64
+        ensures { AreAtMost self.now.numbers result }
+    {
+        match &self.row {
+            AnyRow::Narrow(row) => row.closer_most(),
             AnyRow::Wide(row) => row.most(),
         }
     }
@@ -221,6 +231,18 @@ impl WholeRow {
                 AnyRow::Narrow(_) => false,
                 AnyRow::Wide(row) => noted && row.update(own, next, entry, pivot, limit),
             },
+        }
+    }
+
+    /// Puts the row over the least denominator.
+    pub fn shorten(&mut self)
+        requires some { 0 < self.old.bottom }
+        requires short { AreShort self.old.numbers }
+        ensures { IsShortened self.old self.new }
+    {
+        match &mut self.row {
+            AnyRow::Narrow(row) => row.shorten(),
+            AnyRow::Wide(row) => row.shorten(),
         }
     }
 

@@ -5,7 +5,7 @@ ghost use Rattle.it_space.specs.Sums.{number_at};
 ghost use Rattle.it_whole.specs.WholeRows.{AreAtMost, AreShort, IsUsable};
 ghost use Rattle.it_whole.specs.Updates.{AreNextPlaces, IsWholeRowReduced, IsQuotient, IsShortened, IsUpdated};
 
-use crate::arithmetic::{common_divisor, quotient, short_product};
+use crate::arithmetic::{lowest_terms, short_product};
 use crate::numbers::{combine, divide, divisor, greatest_size, note_places};
 use std::alloc::Global;
 use std::marker::Model;
@@ -105,9 +105,9 @@ impl WideRow {
         }
     }
 
-    /// The same row over the least denominator.
+    /// Puts the row over the least denominator.
     #[inline(never)]
-    fn shorten(&mut self)
+    pub fn shorten(&mut self)
         requires some { 0 < self.old.bottom }
         requires short { AreShort self.old.numbers }
         ensures { IsShortened self.old self.new }
@@ -133,9 +133,7 @@ impl WideRow {
         ensures less { OnTrue result (IsWholeRowReduced (length own.now.numbers) limit self.old own.now entry pivot self.new) }
         ensures usable { OnTrue result (IsUsable (length own.now.numbers) limit self.new) }
     {
-        let shared = common_divisor(pivot.unsigned_abs(), entry.unsigned_abs());
-        let a = quotient(pivot, shared);
-        let b = quotient(entry, shared);
+        let (a, b) = lowest_terms(pivot, entry);
         let Some(bottom) = short_product(self.bottom, a.unsigned_abs()) else {
             return false;
         };

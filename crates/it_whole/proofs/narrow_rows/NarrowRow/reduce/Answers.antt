@@ -10,59 +10,54 @@ use Rattle.it_whole.proofs.NarrowSteps.{combined_usable, room_usable, shortened_
 use Rattle.it_whole.proofs.narrow_rows.NarrowRow.reduce.Goals as goal
 use Rattle.it_whole.proofs.narrow_rows.NarrowRow.reduce.Goals.{In-Some}
 
--- the common divisor of the pivot and the entry
-divisor_is : (c : In-Some) → c.common_divisor-shared.result ≡ gcd (unsigned_abs c.args.pivot) (unsigned_abs c.args.entry)
-divisor_is c =
-    let fe : FitsSigned w64 c.args.entry = c.ranges.entry in
-    let fp : FitsSigned w64 c.args.pivot = c.ranges.pivot in
-    c.common_divisor-shared.ensures.value ∙ ap₂ gcd (c.unsigned_abs.ensures.value ∙ ap unsigned_abs (to_z-of_z fp)) (c.unsigned_abs-2.ensures.value ∙ ap unsigned_abs (to_z-of_z fe))
-
 -- the factor of the row
-factor_is : (c : In-Some) → c.quotient-a.result ≡ int_quotient c.args.pivot (gcd (unsigned_abs c.args.pivot) (unsigned_abs c.args.entry))
+factor_is : (c : In-Some) → c.lowest_terms-a.result.0 ≡ int_quotient c.args.pivot (gcd (unsigned_abs c.args.pivot) (unsigned_abs c.args.entry))
 factor_is c =
     let fp : FitsSigned w64 c.args.pivot = c.ranges.pivot in
-    let a = simp to_z-of_z at c.quotient-a.ensures in a ∙ ap (int_quotient c.args.pivot) (divisor_is c)
+    let fe : FitsSigned w64 c.args.entry = c.ranges.entry in
+    simp to_z-of_z at c.lowest_terms-a.ensures.pivot
 
 -- the factor of the leaving row
-own_factor_is : (c : In-Some) → c.quotient-b.result ≡ int_quotient c.args.entry (gcd (unsigned_abs c.args.pivot) (unsigned_abs c.args.entry))
+own_factor_is : (c : In-Some) → c.lowest_terms-a.result.1 ≡ int_quotient c.args.entry (gcd (unsigned_abs c.args.pivot) (unsigned_abs c.args.entry))
 own_factor_is c =
+    let fp : FitsSigned w64 c.args.pivot = c.ranges.pivot in
     let fe : FitsSigned w64 c.args.entry = c.ranges.entry in
-    let b = simp to_z-of_z at c.quotient-b.ensures in b ∙ ap (int_quotient c.args.entry) (divisor_is c)
+    simp to_z-of_z at c.lowest_terms-a.ensures.entry
 
--- what stands for the denominator
-product_is : (c : In-Some) → c.bottom.result * c.unsigned_abs-3.result ≡ c.args.self.now.bottom * unsigned_abs c.quotient-a.result
+-- what represents the denominator
+product_is : (c : In-Some) → c.bottom.result * c.unsigned_abs.result ≡ c.args.self.now.bottom * unsigned_abs c.lowest_terms-a.result.0
 product_is c =
-    let fa : FitsSigned w64 c.quotient-a.result = search rules in
-    ap₂ (λ x y. x * y) c.bottom.ensures (c.unsigned_abs-3.ensures.value ∙ ap unsigned_abs (to_z-of_z fa))
+    let fa : FitsSigned w64 c.lowest_terms-a.result.0 = search rules in
+    ap₂ (λ x y. x * y) c.bottom.ensures (c.unsigned_abs.ensures.value ∙ ap unsigned_abs (to_z-of_z fa))
 
-bottom_is : (c : In-Some) → c.in-Some.bottom ≡ c.args.self.now.bottom * unsigned_abs c.quotient-a.result
+bottom_is : (c : In-Some) → c.in-Some.bottom ≡ c.args.self.now.bottom * unsigned_abs c.lowest_terms-a.result.0
 bottom_is c = c.in-Some.ensures.1 ∙ product_is c
 
-bottom_is_low : (c : In-Some) → c.args.self.now.bottom * unsigned_abs c.quotient-a.result < 2 ^ 63
+bottom_is_low : (c : In-Some) → c.args.self.now.bottom * unsigned_abs c.lowest_terms-a.result.0 < 2 ^ 63
 bottom_is_low c = subst (λ (k : ℕ). k < 2 ^ 63) (product_is c) c.in-Some.ensures.0
 
 pub returns-then-combine-clause-less : goal.returns-then-combine-clause-less
 returns-then-combine-clause-less c =
     let d = (goal.at.returns-then-combine-clause-less c).In-Some in
-    let fa : FitsSigned w64 c.quotient-a.result = search rules in
-    let fb : FitsSigned w64 c.quotient-b.result = search rules in
+    let fa : FitsSigned w64 c.lowest_terms-a.result.0 = search rules in
+    let fb : FitsSigned w64 c.lowest_terms-a.result.1 = search rules in
     let combined = simp to_z-of_z at c.if-combine.ensures.combined in
-    less_row (length c.args.own.now.numbers) c.args.limit c.args.self.now c.args.own.now c.combine.new.self c.args.entry c.args.pivot c.quotient-a.result c.quotient-b.result c.requires.pivot
+    less_row (length c.args.own.now.numbers) c.args.limit c.args.self.now c.args.own.now c.combine.new.self c.args.entry c.args.pivot c.lowest_terms-a.result.0 c.lowest_terms-a.result.1 c.requires.pivot
     (factor_is d) (own_factor_is d) combined (c.if-combine.ensures.bottom ∙ bottom_is d) (bottom_is_low d)
 
 pub returns-then-combine-clause-usable : goal.returns-then-combine-clause-usable
 returns-then-combine-clause-usable c =
     let d = (goal.at.returns-then-combine-clause-usable c).In-Some in
-    let fa : FitsSigned w64 c.quotient-a.result = search rules in
-    let fb : FitsSigned w64 c.quotient-b.result = search rules in
+    let fa : FitsSigned w64 c.lowest_terms-a.result.0 = search rules in
+    let fb : FitsSigned w64 c.lowest_terms-a.result.1 = search rules in
     let combined = simp to_z-of_z at c.if-combine.ensures.combined in
-    combined_usable (length c.args.own.now.numbers) c.args.limit c.args.self.now c.args.own.now c.combine.new.self c.args.entry c.args.pivot c.quotient-a.result c.quotient-b.result c.requires.pivot
+    combined_usable (length c.args.own.now.numbers) c.args.limit c.args.self.now c.args.own.now c.combine.new.self c.args.entry c.args.pivot c.lowest_terms-a.result.0 c.lowest_terms-a.result.1 c.requires.pivot
     (factor_is d) c.requires.row combined (c.if-combine.ensures.bottom ∙ bottom_is d)
 
 pub combine_in_room-requires-clause-some : goal.combine_in_room-requires-clause-some
 combine_in_room-requires-clause-some c =
     let d = (goal.at.combine_in_room-requires-clause-some c).In-Some in
-    subst (λ (k : ℕ). 0 < k) (sym (bottom_is d)) (mul-pos c.requires.row.some (factor_some c.args.pivot c.args.entry c.quotient-a.result c.requires.pivot (factor_is d)))
+    subst (λ (k : ℕ). 0 < k) (sym (bottom_is d)) (mul-pos c.requires.row.some (factor_some c.args.pivot c.args.entry c.lowest_terms-a.result.0 c.requires.pivot (factor_is d)))
 
 by_test : (b : Bool) {P Q R : Type 0} → OnTrue b P → OnTrue b Q → (P → Q → R) → OnTrue b R
 by_test true p q f = f p q
@@ -71,23 +66,23 @@ by_test false p q f = tt
 pub returns-clause-less : goal.returns-clause-less
 returns-clause-less c =
     let d = (goal.at.returns-clause-less c).In-Some in
-    let fa : FitsSigned w64 c.quotient-a.result = search rules in
-    let fb : FitsSigned w64 c.quotient-b.result = search rules in
+    let fa : FitsSigned w64 c.lowest_terms-a.result.0 = search rules in
+    let fb : FitsSigned w64 c.lowest_terms-a.result.1 = search rules in
     let combined = simp to_z-of_z at c.combine_in_room.ensures.combined in
     by_test c.combine_in_room.result combined c.combine_in_room.ensures.small
-    (λ k s. shortened_reduced (length c.args.own.now.numbers) c.args.limit c.args.self.now c.args.own.now c.combine_in_room.new.self c.args.entry c.args.pivot c.quotient-a.result c.quotient-b.result c.requires.pivot
+    (λ k s. shortened_reduced (length c.args.own.now.numbers) c.args.limit c.args.self.now c.args.own.now c.combine_in_room.new.self c.args.entry c.args.pivot c.lowest_terms-a.result.0 c.lowest_terms-a.result.1 c.requires.pivot
     (factor_is d) c.in-Some.bottom c.requires.limit (bottom_is d)
-    (subst (λ (row : WholeRowView). IsCombinedAndShortened (length c.args.own.now.numbers) row.numbers c.args.own.now.numbers c.quotient-a.result c.quotient-b.result c.in-Some.bottom c.combine_in_room.new.self) c.if-combine.ensures.kept k)
+    (subst (λ (row : WholeRowView). IsCombinedAndShortened (length c.args.own.now.numbers) row.numbers c.args.own.now.numbers c.lowest_terms-a.result.0 c.lowest_terms-a.result.1 c.in-Some.bottom c.combine_in_room.new.self) c.if-combine.ensures.kept k)
     s (own_factor_is d) (bottom_is_low d))
 
 pub returns-clause-usable : goal.returns-clause-usable
 returns-clause-usable c =
     let d = (goal.at.returns-clause-usable c).In-Some in
-    let fa : FitsSigned w64 c.quotient-a.result = search rules in
-    let fb : FitsSigned w64 c.quotient-b.result = search rules in
+    let fa : FitsSigned w64 c.lowest_terms-a.result.0 = search rules in
+    let fb : FitsSigned w64 c.lowest_terms-a.result.1 = search rules in
     let combined = simp to_z-of_z at c.combine_in_room.ensures.combined in
     by_test c.combine_in_room.result combined c.combine_in_room.ensures.small
-    (λ k s. room_usable (length c.args.own.now.numbers) c.args.limit c.args.self.now c.args.own.now c.combine_in_room.new.self c.args.entry c.args.pivot c.quotient-a.result c.quotient-b.result c.requires.pivot
+    (λ k s. room_usable (length c.args.own.now.numbers) c.args.limit c.args.self.now c.args.own.now c.combine_in_room.new.self c.args.entry c.args.pivot c.lowest_terms-a.result.0 c.lowest_terms-a.result.1 c.requires.pivot
     (factor_is d) c.in-Some.bottom c.requires.limit (bottom_is d)
-    (subst (λ (row : WholeRowView). IsCombinedAndShortened (length c.args.own.now.numbers) row.numbers c.args.own.now.numbers c.quotient-a.result c.quotient-b.result c.in-Some.bottom c.combine_in_room.new.self) c.if-combine.ensures.kept k)
+    (subst (λ (row : WholeRowView). IsCombinedAndShortened (length c.args.own.now.numbers) row.numbers c.args.own.now.numbers c.lowest_terms-a.result.0 c.lowest_terms-a.result.1 c.in-Some.bottom c.combine_in_room.new.self) c.if-combine.ensures.kept k)
     s c.requires.row)
