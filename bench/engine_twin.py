@@ -127,6 +127,7 @@ def plain(text):
     text = re.sub(r"Vec::with_capacity\(alloc, (.*)\)\?", r"Vec::with_capacity(\1)", text)
     text = re.sub(r"Vec::from_elem\(alloc, (.*), (.*)\)\?", r"vec![\1; \2]", text)
     text = re.sub(r"\.push\((.*)\)\?;", r".push(\1);", text)
+    text = re.sub(r"(\w+\.insert\(.*\))\.is_ok\(\)", r"{ \1; true }", text)
     text = re.sub(r"^use it_whole::", "use crate::it_whole::", text, flags=re.M)
     return re.sub(r"\b(Global|AllocError)\b", r"crate::\1", text)
 

@@ -10,7 +10,7 @@ use Rattle.std.proofs.lemmas.Int.{ints}
 use Rattle.it_number.proofs.Ring.{ring, v, plus, minus, times, nil}
 use Rattle.it_number.proofs.IntegerRing.{ring_ℤ}
 use Rattle.it_rational.specs.Rational.{Rational}
-use Rattle.it_space.specs.Rows.{Terms, value, row_mass}
+use Rattle.it_space.specs.Rows.{Terms, value}
 use Rattle.it_space.specs.Sums.{number_at}
 use Rattle.it_space.proofs.TermLemmas.{value-append}
 use Rattle.it_tableau.specs.FieldOperations.{sum_to}
@@ -160,10 +160,3 @@ module _ (columns : List Terms) (rows : List WholeRowView) (basis : List ℕ) (m
     pub leaves_if_some : (o : Option ℕ) → IsFirstToLeave rows basis moved entries combined (length basis) o → IfSome o (LeavesStill columns limit rows basis moved c)
     leaves_if_some None g = tt
     leaves_if_some (Some r) g = leaves_still r g
-
-pub combined_fitting : (columns : List Terms) (rows : List WholeRowView) (basis : List ℕ) (moved : List Bool) (entries : List ℤ) (multiple c w limit k : ℕ) (combined : Terms)
-    → combined ≡ column_less_moved columns rows basis moved entries multiple c k → row_mass combined * limit < 2 ^ 63 → ((j : ℕ) → j < length columns → IsFitting w limit (slice_index_or columns j [])) → IsFitting w limit combined
-combined_fitting columns rows basis moved entries multiple c w limit k combined e f h = record {
-  within = subst (All (λ t. t.0 < w)) (sym e) (combined_within columns rows basis moved entries multiple c w limit h k);
-  fits = f;
-}

@@ -9,7 +9,7 @@ use Rattle.it_tableau.specs.Operations.{rationals}
 use Rattle.it_tableau.specs.SimplexTables.{SimplexTable, FeasibilityProblem}
 use Rattle.it_tableau.proofs.ViewLemmas.{same_functions}
 use Rattle.it_run.specs.Choice.{next}
-use Rattle.it_engine.specs.Behind.{AreMovedEntries, has_moved, IsBehindStep, IsRowBrought, mixed_table, ShowsBehind}
+use Rattle.it_engine.specs.Behind.{AreMovedEntries, AreMovedInOrder, AreNullElsewhere, has_moved, IsBehindStep, IsRowBrought, mixed_table, ShowsBehind}
 use Rattle.it_engine.specs.Choosing.{entry_of}
 use Rattle.it_engine.specs.Engine.{IsSafe}
 use Rattle.it_whole.specs.WholeRows.{AreShort, IsUsable, IsRow, WholeRowView}
@@ -91,6 +91,23 @@ module _ (columns : List Terms) (limit : ℕ) (old : List WholeRowView) (basis :
         by_move true h = fitting_short (length old) limit (slice_index_or columns c []) (whole_row_at now k) (safe.fitting c enters) (w.usable k (omega (arith, h, w.same_length)))
         by_move false h = omega arith
 
+    moved_same : (q : ℕ) → moved_with (has_moved moved) r q ≡ has_moved (slice_set moved r true) q
+    moved_same q = by_cases (cases_eq q r)
+      where
+        by_cases : (q ≡ r) ⊎ (q ≡ r → ⊥) → moved_with (has_moved moved) r q ≡ has_moved (slice_set moved r true) q
+        by_cases (inl x) = ap (λ d. cond d true (has_moved moved q)) (eq-eqb q r x) ∙ sym (get_or-set_same moved r true false (omega (arith, row_here, even))) ∙ ap (has_moved (slice_set moved r true)) (sym x)
+        by_cases (inr d) = ap (λ d. cond d true (has_moved moved q)) (ne_eqb q r d) ∙ sym (get_or-set_other moved r q true false d)
+
+    pub null_elsewhere : (now_moved : List Bool) (order : List ℕ) → now_moved ≡ slice_set moved r true → AreMovedInOrder now_moved (length basis) order
+        → (height : ℕ) → length now ≡ height + 1 → AreNullElsewhere (slice_set entries r z) height order
+    null_elsewhere now_moved order e a height h =
+        let same : length basis ≡ height = omega (arith, h, w.same_length, safe.rows_are) in (
+          slice_set moved r true,
+          subst (λ (m : List Bool). AreMovedInOrder m height order) e (subst (λ (k : ℕ). AreMovedInOrder now_moved k order) same a),
+          λ i l f. entry_at_row i (omega (arith, l, h, w.same_length))
+              ∙ ap (λ d. cond d (value (slice_index_or columns c []) (number_at (whole_row_at now i).numbers)) (pos 0)) (moved_same i ∙ f),
+        )
+
     pub step_behind : (new : List WholeRowView) → AreWholeRowsPivoted (length now) limit now (number_at (slice_set entries r z)) r new → IsBehindStep columns limit old basis moved c r new
     step_behind new a = record {
       engine = engine_kept columns limit now new basis (number_at (slice_set entries r z)) r c row record {
@@ -108,10 +125,3 @@ module _ (columns : List Terms) (limit : ℕ) (old : List WholeRowView) (basis :
           (λ i l f. entry_at_row i (omega (arith, l, safe.rows_are)) ∙ ap (λ d. cond d (value (slice_index_or columns c []) (number_at (whole_row_at now i).numbers)) (pos 0)) f)
           new (subst (λ (x : ℕ). AreWholeRowsPivoted x limit now (number_at (slice_set entries r z)) r new) (w.same_length ∙ safe.rows_are) a));
     }
-      where
-        moved_same : (q : ℕ) → moved_with (has_moved moved) r q ≡ has_moved (slice_set moved r true) q
-        moved_same q = by_cases (cases_eq q r)
-          where
-            by_cases : (q ≡ r) ⊎ (q ≡ r → ⊥) → moved_with (has_moved moved) r q ≡ has_moved (slice_set moved r true) q
-            by_cases (inl x) = ap (λ d. cond d true (has_moved moved q)) (eq-eqb q r x) ∙ sym (get_or-set_same moved r true false (omega (arith, row_here, even))) ∙ ap (has_moved (slice_set moved r true)) (sym x)
-            by_cases (inr d) = ap (λ d. cond d true (has_moved moved q)) (ne_eqb q r d) ∙ sym (get_or-set_other moved r q true false d)

@@ -58,9 +58,6 @@ still_multiple rows moved q multiple f h = record { some = h.some; low = h.low; 
     by_cases k l e (inl g) = absurd (true≢false (sym e ∙ ap (has_moved moved) g ∙ f))
     by_cases k l e (inr d) = h.each k (omega (arith, l, d)) e
 
-pub multiple_past_still : (rows : List WholeRowView) (moved : List Bool) (height multiple from to : ℕ) → IsNextMoved moved height from to → IsCommonMultiple rows moved from multiple → IsCommonMultiple rows moved to multiple
-multiple_past_still rows moved height multiple = past_still moved height (λ q. IsCommonMultiple rows moved q multiple) (λ q f h. still_multiple rows moved q multiple f h)
-
 -- what the first rows add
 pub no_shares : (norm : ℕ) (rows : List WholeRowView) (moved : ℕ → Bool) (share : ℕ → ℕ) → BoundsShares norm rows moved share 0 0
 no_shares norm rows moved share = λ y h. omega arith
@@ -71,10 +68,6 @@ still_shares norm rows moved share q bound f h = λ y k.
     subst (λ (x : ℕ). share_sum moved (λ q. unsigned_abs (y q)) share x ≤ bound) (sym e)
     (subst (λ (d : Bool). cond d (unsigned_abs (y q) * share q) 0 + share_sum moved (λ q. unsigned_abs (y q)) share q ≤ bound) (sym f)
     (let b = h y (λ j l. k j (omega (arith, l))) in omega (arith, b)))
-
-pub shares_past_still : (norm : ℕ) (rows : List WholeRowView) (moved : List Bool) (share : ℕ → ℕ) (height bound from to : ℕ) → IsNextMoved moved height from to
-    → BoundsShares norm rows (has_moved moved) share from bound → BoundsShares norm rows (has_moved moved) share to bound
-shares_past_still norm rows moved share height bound = past_still moved height (λ q. BoundsShares norm rows (has_moved moved) share q bound) (λ q f h. still_shares norm rows (has_moved moved) share q bound f h)
 
 pub moved_shares : (norm : ℕ) (rows : List WholeRowView) (moved : ℕ → Bool) (share : ℕ → ℕ) (q bound most next : ℕ) → moved q ≡ true → AreAtMost (whole_row_at rows q).numbers most
     → next ≡ bound + norm * most * share q → BoundsShares norm rows moved share q bound → BoundsShares norm rows moved share (q + 1) next
@@ -93,13 +86,13 @@ column_more columns rows basis moved entries multiple c q now new more h =
     subst (λ (x : ℕ). new ≡ column_less_moved columns rows basis moved entries multiple c x) e
     (more ∙ ap (λ (ts : Terms). ts ++ cond (has_moved moved q) (taken_terms (number_at entries q) (share_of multiple rows q) (slice_index_or columns (slice_index_or basis q 0) [])) []) h)
 
-pub column_past_still : (columns : List Terms) (rows : List WholeRowView) (basis : List ℕ) (moved : List Bool) (entries : List ℤ) (multiple c height : ℕ) (combined : Terms) (from to : ℕ) → IsNextMoved moved height from to
-    → combined ≡ column_less_moved columns rows basis moved entries multiple c from → combined ≡ column_less_moved columns rows basis moved entries multiple c to
-column_past_still columns rows basis moved entries multiple c height combined = past_still moved height (λ q. combined ≡ column_less_moved columns rows basis moved entries multiple c q) (λ q f h.
+pub still_column : (columns : List Terms) (rows : List WholeRowView) (basis : List ℕ) (moved : List Bool) (entries : List ℤ) (multiple c : ℕ) (combined : Terms) (q : ℕ) → has_moved moved q ≡ false
+    → combined ≡ column_less_moved columns rows basis moved entries multiple c q → combined ≡ column_less_moved columns rows basis moved entries multiple c (q + 1)
+still_column columns rows basis moved entries multiple c combined q f h =
     let e : suc q ≡ q + 1 = omega arith in
     subst (λ (x : ℕ). combined ≡ column_less_moved columns rows basis moved entries multiple c x) e
     (h ∙ sym (append-nil (column_less_moved columns rows basis moved entries multiple c q))
-    ∙ ap (λ d. column_less_moved columns rows basis moved entries multiple c q ++ cond d (taken_terms (number_at entries q) (share_of multiple rows q) (slice_index_or columns (slice_index_or basis q 0) [])) []) (sym f)))
+    ∙ ap (λ d. column_less_moved columns rows basis moved entries multiple c q ++ cond d (taken_terms (number_at entries q) (share_of multiple rows q) (slice_index_or columns (slice_index_or basis q 0) [])) []) (sym f))
 
 pub multiples_more : (factor : ℤ) (terms : Terms) (i : ℕ) (d : ℕ × ℤ) → i < length terms
     → multiple_of_terms factor (take i terms) ++ multiple_of_term factor (slice_index_or terms i d) ∷ [] ≡ multiple_of_terms factor (take (i + 1) terms)

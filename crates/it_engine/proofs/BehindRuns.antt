@@ -1,5 +1,5 @@
 -- Rows that are brought up to date, and blocks of degenerate steps.
-use Rattle.std.proofs.Common.{◌≡◌, ◌⊎◌, inl, inr, ℕ, suc, ◌+◌, ◌<◌, Bool, true, false, ℤ, pos, List, [], length, slice_index_or, slice_set, refl, sym, ap, subst, ◌∙◌, arith}
+use Rattle.std.proofs.Common.{◌≡◌, ◌⊎◌, inl, inr, ℕ, suc, ◌+◌, ◌<◌, Bool, true, false, pos, List, [], length, slice_index_or, slice_set, refl, sym, ap, subst, ◌∙◌, arith}
 use Rattle.std.specs.Bool.{OnTrue}
 use Rattle.std.proofs.lemmas.Bool.{true≢false, cases_eq}
 use Rattle.std.proofs.lemmas.List.{length-set, get_or-set_same, get_or-set_other}
@@ -7,12 +7,11 @@ use Rattle.it_rational.specs.Rational.{Rational}
 use Rattle.it_space.specs.Rows.{Terms, value}
 use Rattle.it_space.specs.Sums.{number_at}
 use Rattle.it_tableau.specs.SimplexTables.{SimplexTable, FeasibilityProblem}
-use Rattle.it_engine.specs.Behind.{AgreeOnMoved, AreBrought, has_moved, IsBrought, IsLessMoved, IsNextMoved, IsRowBrought, IsUpToDate, ShowsBehind}
+use Rattle.it_engine.specs.Behind.{AgreeOnMoved, AreBrought, has_moved, IsBrought, IsLessMoved, IsLessRow, IsRowBrought, IsUpToDate, ShowsBehind}
 use Rattle.it_engine.specs.PivotedRows.{AreUsable}
-use Rattle.it_whole.specs.Updates.{IsUpdated, IsWholeRowReduced}
+use Rattle.it_whole.specs.Updates.{IsWholeRowReduced}
 use Rattle.it_whole.specs.WholeRows.{IsUsable, WholeRowView}
 use Rattle.it_engine.specs.Tables.{whole_row_at}
-use Rattle.it_engine.proofs.BehindNumbers.{past_still}
 use Rattle.it_engine.proofs.BehindRows as R
 
 -- the row with right side r after the first q rows
@@ -34,27 +33,25 @@ module _ (columns : List Terms) (limit : ℕ) (rows : List WholeRowView) (basis 
           (subst (λ (own : WholeRowView). IsWholeRowReduced (length basis + 1) limit now own (value (slice_index_or columns (slice_index_or basis q 0) []) (number_at now.numbers)) (pos own.bottom) new) (sym (a q g)) (m.taken g))
       by_move false g = subst (R.ShowsAfter p b t columns limit whole basis (has_moved moved) s r l e (suc q)) (sym (m.still g)) (R.still_taken p b t columns limit whole basis (has_moved moved) s r l e q now g (h whole r a l e f p b t s))
 
-  -- rows that didn't move take nothing off
-  pub none_moved_off : (old now : WholeRowView) (from to : ℕ) → IsNextMoved moved (length basis) from to → IsTakenOff columns limit rows basis moved old from now → IsTakenOff columns limit rows basis moved old to now
-  none_moved_off old now = past_still moved (length basis) (λ q. IsTakenOff columns limit rows basis moved old q now) (λ q f u whole r a l e w p b t s.
+  -- a row that didn't move takes nothing off
+  pub still_off : (old now : WholeRowView) (q : ℕ) → has_moved moved q ≡ false → IsTakenOff columns limit rows basis moved old q now → IsTakenOff columns limit rows basis moved old (q + 1) now
+  still_off old now q f u whole r a l e w p b t s =
       let j : suc q ≡ q + 1 = omega arith in
       subst (λ (x : ℕ). R.ShowsAfter p b t columns limit whole basis (has_moved moved) s r l e x now) j
-      (R.still_taken p b t columns limit whole basis (has_moved moved) s r l e q now f (u whole r a l e w p b t s)))
+      (R.still_taken p b t columns limit whole basis (has_moved moved) s r l e q now f (u whole r a l e w p b t s))
 
   pub all_off : (old now : WholeRowView) (q : ℕ) → q ≡ length basis → IsTakenOff columns limit rows basis moved old q now → IsBrought columns limit rows basis moved old now
   all_off old now q k h whole r a l e f p b t s = R.all_taken p b t columns limit whole basis (has_moved moved) s r l e now
       (subst (λ (x : ℕ). R.ShowsAfter p b t columns limit whole basis (has_moved moved) s r l e x now) k (h whole r a l e f p b t s))
 
-  pub less_by_update : (d : Bool) (q : ℕ) (old own new : WholeRowView) (terms : Terms) (unit : ℤ) → has_moved moved q ≡ true → own ≡ whole_row_at rows q → terms ≡ slice_index_or columns (slice_index_or basis q 0) []
-      → unit ≡ pos (whole_row_at rows q).bottom → length own.numbers ≡ length basis + 1 → OnTrue d (IsUpdated (length own.numbers) limit old own (value terms (number_at old.numbers)) unit new) → OnTrue d (IsLessMoved columns limit rows basis moved q old new)
-  less_by_update false q old own new terms unit f eo et eu el u = tt
-  less_by_update true q old own new terms unit f eo et eu el u = record {
+  pub less_by_row : (d : Bool) (q : ℕ) (old new : WholeRowView) (terms : Terms) → has_moved moved q ≡ true → terms ≡ slice_index_or columns (slice_index_or basis q 0) []
+      → length (whole_row_at rows q).numbers ≡ length basis + 1 → OnTrue d (IsLessRow terms limit rows q old new) → OnTrue d (IsLessMoved columns limit rows basis moved q old new)
+  less_by_row false q old new terms f et el u = tt
+  less_by_row true q old new terms f et el u = record {
     still = λ g. absurd (true≢false (sym f ∙ g));
     taken = λ _.
         subst (λ (w : ℕ). IsWholeRowReduced w limit old (whole_row_at rows q) (value (slice_index_or columns (slice_index_or basis q 0) []) (number_at old.numbers)) (pos (whole_row_at rows q).bottom) new) el
-        (subst (λ (z : ℤ). IsWholeRowReduced (length own.numbers) limit old (whole_row_at rows q) (value (slice_index_or columns (slice_index_or basis q 0) []) (number_at old.numbers)) z new) eu
-        (subst (λ (ts : Terms). IsWholeRowReduced (length own.numbers) limit old (whole_row_at rows q) (value ts (number_at old.numbers)) unit new) et
-        (subst (λ (o : WholeRowView). IsWholeRowReduced (length own.numbers) limit old o (value terms (number_at old.numbers)) unit new) eo u.less)));
+        (subst (λ (ts : Terms). IsWholeRowReduced (length (whole_row_at rows q).numbers) limit old (whole_row_at rows q) (value ts (number_at old.numbers)) (pos (whole_row_at rows q).bottom) new) et u.less);
   }
 
   pub none_brought : AreUsable (length rows) limit rows → AreBrought columns limit rows basis moved 0 rows

@@ -50,7 +50,7 @@ module _ (p : FeasibilityProblem Rational) (b t : SimplexTable Rational) (column
       by_move true = s.behind.holds.combines i j hi
       by_move false = s.behind.base.combines i j hi
 
-  -- the numbers that the rows stand for at all columns
+  -- the numbers that the rows represent at all columns
   abbrev pub number_now : ℕ → ℕ → ℤ
   number_now = number m n limit s.norm p mixed columns rows basis mixed_combines s.shows s.columns_are s.fit s.some
 

@@ -24,7 +24,11 @@ pub mod BehindTables
 pub mod BehindRows
 pub mod BehindSteps
 pub mod BehindNumbers
+pub mod InOrder
 pub mod BehindRuns
 pub mod BehindChoices
+pub mod BehindWeights
 pub mod BehindMoves
 pub mod ManySteps
+pub mod MovedOrder
+pub mod ShortenedRows

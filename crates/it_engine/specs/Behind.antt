@@ -13,9 +13,9 @@ use Rattle.it_tableau.specs.SimplexTables.{SimplexTable, FeasibilityProblem}
 use Rattle.it_engine.specs.Choosing.{entry_of, first_negative_cost, is_above_zero, right_side_of}
 use Rattle.it_engine.specs.Engine.{IsSafe, Represents}
 use Rattle.it_engine.specs.PivotedRows.{AreUsable}
-use Rattle.it_whole.specs.ColumnTerms.{multiple_of_terms}
+use Rattle.it_whole.specs.ColumnTerms.{multiple_of_terms, Suits}
 use Rattle.it_whole.specs.WholeRows.{IsUsable, AreAtMost, IsRow, WholeRowView}
-use Rattle.it_whole.specs.Updates.{IsWholeRowReduced}
+use Rattle.it_whole.specs.Updates.{IsShortened, IsUpdated, IsWholeRowReduced}
 use Rattle.it_engine.specs.Tables.{AreStartColumns, ShowsTable, whole_row_at}
 
 -- the table that has of t the rows that moved and the basic columns, and of the base b all other rows
@@ -82,6 +82,10 @@ pub record IsCommonMultiple (rows : List WholeRowView) (moved : List Bool) (k mu
   pub low : multiple < 2 ^ 63
   pub each : (q : ℕ) → q < k → has_moved moved q ≡ true → (whole_row_at rows q).bottom ∣ multiple
 
+-- a column suits each row below a height that stays behind
+abbrev pub SuitsBehind : Terms → List WholeRowView → List Bool → ℕ → Type 0
+SuitsBehind terms rows moved height = (i : ℕ) → i < height → has_moved moved i ≡ false → Suits terms (whole_row_at rows i).numbers
+
 -- row i has right side 0, and above 0 its entry, or for a row that stays behind its number at the combined column
 pub record MayLeave (rows : List WholeRowView) (moved : List Bool) (entries : List ℤ) (combined : Terms) (place i : ℕ) : Type 0 where
   pub still : right_side_of place rows i ≡ pos 0
@@ -107,10 +111,29 @@ pub record IsNextMoved (moved : List Bool) (height from to : ℕ) : Type 0 where
   pub within : to ≤ height
   pub still : (q : ℕ) → from ≤ q → q < to → has_moved moved q ≡ false
 
--- next has for each row such a next one, so that all rows that moved are met from each to the next
-pub record AreNextMoved (moved : List Bool) (height : ℕ) (next : List ℕ) : Type 0 where
-  pub room : height < length next
-  pub each : (q : ℕ) → q ≤ height → IsNextMoved moved height q (slice_index_or next q 0)
+-- the first row after those of a list before place k
+abbrev pub after_rows : List ℕ → ℕ → ℕ
+after_rows order zero = 0
+after_rows order (suc k) = slice_index_or order k 0 + 1
+
+-- a list has rows below a height, each once and in their order, and no other row below it moved
+pub record AreMovedInOrder (moved : List Bool) (height : ℕ) (order : List ℕ) : Type 0 where
+  pub within : (k : ℕ) → k < length order → slice_index_or order k 0 < height
+  pub each : (k : ℕ) → k < length order → IsNextMoved moved height (after_rows order k) (slice_index_or order k 0)
+  pub last : IsNextMoved moved height (after_rows order (length order)) height
+
+-- but at the rows of a list and at the last one, the entries are 0
+abbrev pub AreNullElsewhere : List ℤ → ℕ → List ℕ → Type 0
+AreNullElsewhere entries height order = (moved : List Bool) × AreMovedInOrder moved height order × ((i : ℕ) → i < height → has_moved moved i ≡ false → number_at entries i ≡ pos 0)
+
+-- all rows are put over smaller denominators, or stay
+pub record AreShortened (old new : List WholeRowView) : Type 0 where
+  pub same_length : length new ≡ length old
+  pub each : (i : ℕ) → i < length old → IsShortened (whole_row_at old i) (whole_row_at new i)
+
+-- a row less as much of row q as makes its entry at a column 0, where row q represents 1
+abbrev pub IsLessRow : Terms → ℕ → List WholeRowView → ℕ → WholeRowView → WholeRowView → Type 0
+IsLessRow terms limit rows q old new = IsUpdated (length (whole_row_at rows q).numbers) limit old (whole_row_at rows q) (value terms (number_at old.numbers)) (pos (whole_row_at rows q).bottom) new
 
 -- what a row is after row q is taken off it, if that moved: as much as makes its entry at the basic column of row q 0
 pub record IsLessMoved (columns : List Terms) (limit : ℕ) (rows : List WholeRowView) (basis : List ℕ) (moved : List Bool) (q : ℕ) (old new : WholeRowView) : Type 0 where

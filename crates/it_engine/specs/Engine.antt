@@ -1,5 +1,5 @@
 -- No public clause cites this module: what the engine keeps of a table, and a step on it.
--- The engine stands for a table of the run: it keeps no table, and its contracts range over all tables that it may stand for.
+-- The engine represents a table of the run: it keeps no table, and its contracts range over all tables that it may represent.
 use Rattle.std.specs.Prelude.{◌≡◌, ℕ, ◌+◌, ◌*◌, ◌<◌, ◌≤◌, ◌^◌, Bool, true, false, List, length, Option}
 use Rattle.it_rational.specs.Rational.{Rational}
 use Rattle.it_space.specs.Rows.{Terms}

@@ -2,6 +2,7 @@
 use Rattle.std.specs.Prelude.{◌≡◌, ◌≢◌, ℕ, ◌*◌, All, [], slice_index_or, ◌<◌, ◌^◌, ℤ, List, length}
 use Rattle.it_rational.specs.Rational.{Rational, times, inverse, IsRatio}
 use Rattle.it_space.specs.Rows.{Terms, row_mass}
+use Rattle.it_space.specs.Sums.{number_at}
 use Rattle.it_whole.specs.ColumnTerms.{Suits}
 use Rattle.it_whole.specs.Updates.{IsUpdated}
 use Rattle.it_whole.specs.WholeRows.{IsRow, IsUsable, WholeRowView}
@@ -32,6 +33,10 @@ AreUsable width limit rows = (i : ℕ) → i < length rows → IsUsable width li
 abbrev pub IsWholeRowDivided : ℕ → ℕ → WholeRowView → ℤ → WholeRowView → Type 0
 IsWholeRowDivided width limit old p new = (g : ℕ → Rational) (w : Rational) → IsRow width limit g old.numbers old.bottom → IsRatio w p old.bottom
     → IsRow width limit (λ k. times (g k) (inverse w)) new.numbers new.bottom
+
+-- row i after a step in which another row leaves, whose entry is p
+abbrev pub IsRowUpdated : ℕ → List WholeRowView → List ℤ → WholeRowView → ℤ → ℕ → List WholeRowView → Type 0
+IsRowUpdated limit old entries own p i new = IsUpdated (length own.numbers) limit (whole_row_at old i) own (number_at entries i) p (whole_row_at new i)
 
 -- the rows after a pivot on row r and the column at which they have these entries
 pub record AreWholeRowsPivoted (width limit : ℕ) (old : List WholeRowView) (entry : ℕ → ℤ) (r : ℕ) (new : List WholeRowView) : Type 0 where

@@ -8,20 +8,19 @@ ghost use Rattle.std.specs.Prelude.{◌≡◌, ◌≤ℤ◌, ◌+◌, ◌*◌, �
 ghost use Rattle.std.specs.Bool.{OnFalse, OnTrue};
 ghost use Rattle.std.specs.Option.{IfNone, IfSome};
 ghost use Prim.Native.Nat.{◌∣◌};
-ghost use Rattle.it_engine.specs.Behind.{AreBaseBounds, AreBrought, AreEngineSteps, AreMovedEntries, AreMovedUsable, AreNextMoved, AreStillSteps, BoundsMovedShares, column_behind, has_moved, IsBehindStep, IsCommonMultiple, IsBrought, IsFirstAfter, IsFirstToLeave, IsLessMoved, IsRowBrought, IsStillChoice, LeavesStill, MayLeave, share_of, TakesRow};
+ghost use Rattle.it_engine.specs.Behind.{AreBaseBounds, AreBrought, AreEngineSteps, AreMovedEntries, AreMovedInOrder, AreMovedUsable, AreShortened, AreStillSteps, BoundsMovedShares, column_behind, has_moved, IsBehindStep, IsCommonMultiple, IsBrought, IsFirstAfter, IsFirstToLeave, IsLessMoved, IsLessRow, IsRowBrought, IsStillChoice, LeavesStill, MayLeave, share_of, SuitsBehind, TakesRow};
 ghost use Rattle.it_whole.specs.ColumnTerms.{multiple_of_terms, Suits};
 ghost use Rattle.it_engine.specs.Choosing.{entry_of, right_side_of};
 ghost use Rattle.it_engine.specs.PivotedRows.{AreFitting, AreUsable, IsFitting, SuitsAll};
-ghost use Rattle.it_whole.specs.Updates.{IsUpdated};
-ghost use Rattle.it_whole.specs.WholeRows.{IsUsable, AreAtMost};
+ghost use Rattle.it_whole.specs.WholeRows.{IsUsable, AreAtMost, AreShort};
 ghost use Rattle.it_engine.specs.Engine.{IsSafe};
 ghost use Rattle.it_engine.specs.Loading.{IsNorm};
-ghost use Rattle.it_space.specs.Rows.{row_mass, value};
+ghost use Rattle.it_space.specs.Rows.{value};
 ghost use Rattle.it_engine.specs.Tables.{whole_row_at};
 ghost use Rattle.it_space.specs.Sums.{number_at};
 
 use crate::choice::{entering_column, is_above_zero, right_side};
-use crate::pivots::pivot;
+use crate::pivots::pivot_moved;
 use it_whole::{
     Column, WholeRow, common_divisor, is_zero, narrow, product, read, short_product, short_sum,
 };
@@ -33,6 +32,8 @@ const LARGEST: u64 = i64::MAX as u64;
 /// What stays through a run.
 #[derive(Drop)]
 pub struct Run<'a> {
+    /// Where memory is taken.
+    pub alloc: Global,
     /// The columns of the start but the artificial ones.
     pub columns: &'a [Column],
     /// No number of a row is greater in absolute value.
@@ -48,8 +49,8 @@ struct Block<'a> {
     basis: &'a [usize],
     // whether each row moved since the block of steps began
     moved: &'a [bool],
-    // for each row the next one that moved
-    next: &'a [usize],
+    // those that moved, but the cost row, in their order
+    order: &'a [usize],
 }
 
 /// Whether row i moved.
@@ -59,6 +60,15 @@ fn moved_at(moved: &[bool], i: usize) -> bool
     ensures { result ≡ has_moved moved.now i }
 {
     moved[i]
+}
+
+/// The row at place k of a list.
+#[inline]
+fn row_at(order: &[usize], k: usize) -> usize
+    requires { k < length order.now }
+    ensures { result ≡ slice_index_or order.now k 0 }
+{
+    order[k]
 }
 
 /// The denominator of row i.
@@ -77,6 +87,14 @@ fn most_at(rows: &[WholeRow], i: usize) -> u64
     ensures { AreAtMost (whole_row_at rows.now i).numbers result }
 {
     rows[i].most()
+}
+
+/// A closer bound on the numbers of row i.
+fn closer_most_at(rows: &[WholeRow], i: usize) -> u64
+    requires { i < length rows.now }
+    ensures { AreAtMost (whole_row_at rows.now i).numbers result }
+{
+    rows[i].closer_most()
 }
 
 /// The entry of row i at the column.
@@ -119,27 +137,32 @@ fn note_moved_entries(column: &Column, block: &Block<'_>, entries: &mut [i64])
     requires even { length entries.old ≡ length block.now.rows.now }
     requires moved { length block.now.moved.now ≡ length block.now.rows.now }
     requires height { length block.now.rows.now ≡ length block.now.basis.now + 1 }
-    requires next { AreNextMoved block.now.moved.now (length block.now.basis.now) block.now.next.now }
+    requires order { AreMovedInOrder block.now.moved.now (length block.now.basis.now) block.now.order.now }
     requires suits { SuitsAll column.now block.now.rows.now }
     ensures { AreMovedEntries column.now block.now.rows.now block.now.moved.now entries.new }
 {
     clear_entries(entries);
-    let mut q = block.next[0];
-    while q < block.basis.len() {
+    for k in 0..block.order.len() {
+        let q = row_at(block.order, k);
         entries[q] = moved_entry(column, block.rows, block.moved, q);
-        q = block.next[q + 1];
     }
     let last = block.basis.len();
     entries[last] = moved_entry(column, block.rows, block.moved, last);
 }
 
-/// The least common multiple, where it is below 2^63. Mostly b divides a.
+/// The least common multiple, where it is below 2^63. Mostly b is 1 or a, and else it mostly divides a.
 fn multiple_of_both(a: u64, b: u64) -> Option<u64>
     requires a { 0 < a }
     requires low { a < 2 ^ 63 }
     requires b { 0 < b }
     ensures { IfSome result (λ c. (0 < c) × (c < 2 ^ 63) × (a ∣ c) × (b ∣ c)) }
 {
+    if b == 1 {
+        return Some(a);
+    }
+    if a == b {
+        return Some(a);
+    }
     if a % b == 0 {
         return Some(a);
     }
@@ -154,9 +177,11 @@ fn share_at(rows: &[WholeRow], q: usize, multiple: u64) -> u64
     ensures { result ≡ share_of multiple rows.now q }
 {
     let bottom = bottom_at(rows, q);
-    // most denominators are 1, and a division is dear
+    // most denominators are 1 or the multiple, and a division is dear
     if bottom == 1 {
         multiple
+    } else if bottom == multiple {
+        1
     } else {
         multiple / bottom
     }
@@ -181,15 +206,14 @@ fn more_multiple(rows: &[WholeRow], moved: &[bool], q: usize, multiple: u64) -> 
 fn common_multiple(block: &Block<'_>) -> Option<u64>
     requires rows { length block.now.basis.now ≤ length block.now.rows.now }
     requires moved { length block.now.basis.now ≤ length block.now.moved.now }
-    requires next { AreNextMoved block.now.moved.now (length block.now.basis.now) block.now.next.now }
+    requires order { AreMovedInOrder block.now.moved.now (length block.now.basis.now) block.now.order.now }
     requires some { (i : ℕ) → i < length block.now.rows.now → 0 < (whole_row_at block.now.rows.now i).bottom }
     ensures { IfSome result (λ multiple. IsCommonMultiple block.now.rows.now block.now.moved.now (length block.now.basis.now) multiple) }
 {
     let mut multiple: u64 = 1;
-    let mut q = block.next[0];
-    while q < block.basis.len() {
+    for k in 0..block.order.len() {
+        let q = row_at(block.order, k);
         multiple = more_multiple(block.rows, block.moved, q, multiple)?;
-        q = block.next[q + 1];
     }
     Some(multiple)
 }
@@ -221,15 +245,14 @@ fn more_shares(
 fn bound_of_shares(block: &Block<'_>, multiple: u64, norm: u64) -> Option<u64>
     requires rows { length block.now.basis.now ≤ length block.now.rows.now }
     requires moved { length block.now.basis.now ≤ length block.now.moved.now }
-    requires next { AreNextMoved block.now.moved.now (length block.now.basis.now) block.now.next.now }
+    requires order { AreMovedInOrder block.now.moved.now (length block.now.basis.now) block.now.order.now }
     requires some { (i : ℕ) → i < length block.now.rows.now → 0 < (whole_row_at block.now.rows.now i).bottom }
     ensures { IfSome result (λ bound. BoundsMovedShares norm block.now.rows.now block.now.moved.now multiple (length block.now.basis.now) bound) }
 {
     let mut bound: u64 = 0;
-    let mut q = block.next[0];
-    while q < block.basis.len() {
+    for k in 0..block.order.len() {
+        let q = row_at(block.order, k);
         bound = more_shares(block.rows, block.moved, q, multiple, norm, bound)?;
-        q = block.next[q + 1];
     }
     Some(bound)
 }
@@ -317,7 +340,7 @@ fn combine_columns(
     requires column { column < length columns.now }
     requires rows { length block.now.basis.now ≤ length block.now.rows.now }
     requires moved { length block.now.basis.now ≤ length block.now.moved.now }
-    requires next { AreNextMoved block.now.moved.now (length block.now.basis.now) block.now.next.now }
+    requires order { AreMovedInOrder block.now.moved.now (length block.now.basis.now) block.now.order.now }
     requires entries { length block.now.basis.now ≤ length entries.now }
     requires some { (i : ℕ) → i < length block.now.rows.now → 0 < (whole_row_at block.now.rows.now i).bottom }
     requires low { multiple < 2 ^ 63 }
@@ -326,12 +349,11 @@ fn combine_columns(
     if !begin_combined(combined, columns, column, multiple) {
         return false;
     }
-    let mut q = block.next[0];
-    while q < block.basis.len() {
+    for k in 0..block.order.len() {
+        let q = row_at(block.order, k);
         if !less_moved(combined, columns, block, entries, q, multiple) {
             return false;
         }
-        q = block.next[q + 1];
     }
     true
 }
@@ -342,7 +364,7 @@ fn entry_now(rows: &[WholeRow], moved: &[bool], entries: &[i64], combined: &Colu
     requires rows { i < length rows.now }
     requires moved { i < length moved.now }
     requires entries { i < length entries.now }
-    requires suits { Suits combined.now (whole_row_at rows.now i).numbers }
+    requires suits { has_moved moved.now i ≡ false → Suits combined.now (whole_row_at rows.now i).numbers }
     ensures { result ≡ cond (has_moved moved.now i) (number_at entries.now i) (entry_of combined.now rows.now i) }
 {
     if moved_at(moved, i) {
@@ -365,7 +387,7 @@ fn may_leave(
     requires rows { i < length rows.now }
     requires moved { i < length moved.now }
     requires entries { i < length entries.now }
-    requires suits { Suits combined.now (whole_row_at rows.now i).numbers }
+    requires suits { has_moved moved.now i ≡ false → Suits combined.now (whole_row_at rows.now i).numbers }
     requires place { place < length (whole_row_at rows.now i).numbers }
     ensures yes { OnTrue result (MayLeave rows.now moved.now entries.now combined.now place i) }
     ensures no { OnFalse result (¬ (MayLeave rows.now moved.now entries.now combined.now place i)) }
@@ -389,7 +411,7 @@ fn earlier_row(
     requires rows { length block.now.basis.now < length block.now.rows.now }
     requires moved { i < length block.now.moved.now }
     requires entries { i < length entries.now }
-    requires suits { SuitsAll combined.now block.now.rows.now }
+    requires suits { SuitsBehind combined.now block.now.rows.now block.now.moved.now (length block.now.basis.now) }
     requires place { length block.now.basis.now < length (whole_row_at block.now.rows.now i).numbers }
     requires best { IsFirstToLeave block.now.rows.now block.now.basis.now block.now.moved.now entries.now combined.now 0 best }
     ensures one { IsFirstToLeave block.now.rows.now block.now.basis.now block.now.moved.now entries.now combined.now 0 result }
@@ -419,17 +441,16 @@ fn earlier_row(
 fn first_moved_to_leave(block: &Block<'_>, entries: &[i64], combined: &Column) -> Option<usize>
     requires rows { length block.now.basis.now < length block.now.rows.now }
     requires moved { length block.now.basis.now ≤ length block.now.moved.now }
-    requires next { AreNextMoved block.now.moved.now (length block.now.basis.now) block.now.next.now }
+    requires order { AreMovedInOrder block.now.moved.now (length block.now.basis.now) block.now.order.now }
     requires entries { length block.now.basis.now ≤ length entries.now }
-    requires suits { SuitsAll combined.now block.now.rows.now }
+    requires suits { SuitsBehind combined.now block.now.rows.now block.now.moved.now (length block.now.basis.now) }
     requires places { (i : ℕ) → i < length block.now.basis.now → length block.now.basis.now < length (whole_row_at block.now.rows.now i).numbers }
     ensures { IsFirstToLeave block.now.rows.now block.now.basis.now block.now.moved.now entries.now combined.now 0 result }
 {
     let mut best: Option<usize> = None;
-    let mut q = block.next[0];
-    while q < block.basis.len() {
+    for k in 0..block.order.len() {
+        let q = row_at(block.order, k);
         best = earlier_row(best, block, entries, combined, q);
-        q = block.next[q + 1];
     }
     best
 }
@@ -438,9 +459,9 @@ fn first_moved_to_leave(block: &Block<'_>, entries: &[i64], combined: &Column) -
 fn first_to_leave(block: &Block<'_>, entries: &[i64], combined: &Column) -> Option<usize>
     requires rows { length block.now.basis.now < length block.now.rows.now }
     requires moved { length block.now.basis.now ≤ length block.now.moved.now }
-    requires next { AreNextMoved block.now.moved.now (length block.now.basis.now) block.now.next.now }
+    requires order { AreMovedInOrder block.now.moved.now (length block.now.basis.now) block.now.order.now }
     requires entries { length block.now.basis.now ≤ length entries.now }
-    requires suits { SuitsAll combined.now block.now.rows.now }
+    requires suits { SuitsBehind combined.now block.now.rows.now block.now.moved.now (length block.now.basis.now) }
     requires places { (i : ℕ) → i < length block.now.basis.now → length block.now.basis.now < length (whole_row_at block.now.rows.now i).numbers }
     ensures { IsFirstToLeave block.now.rows.now block.now.basis.now block.now.moved.now entries.now combined.now (length block.now.basis.now) result }
 {
@@ -451,7 +472,7 @@ fn first_to_leave(block: &Block<'_>, entries: &[i64], combined: &Column) -> Opti
     best
 }
 
-/// What stands for 1 in row q: its denominator, where that is below 2^63.
+/// What represents 1 in row q: its denominator, where that is below 2^63.
 fn unit_at(rows: &[WholeRow], q: usize) -> Option<i64>
     requires { q < length rows.now }
     ensures { IfSome result (λ unit. unit ≡ pos (whole_row_at rows.now q).bottom) }
@@ -473,31 +494,39 @@ fn basic_column<'a>(columns: &'a [Column], basis: &[usize], q: usize) -> &'a Col
     &columns[basis[q]]
 }
 
-/// The row less as much of row q as makes its entry at the basic column of row q 0.
+/// The row less as much of row q as makes its entry at this column 0, where row q represents 1; false where a number would be too
+/// large, and then nothing is known of the row.
+#[inline]
 fn take_off(
     row: &mut WholeRow,
-    own: &WholeRow,
+    rows: &[WholeRow],
+    q: usize,
     column: &Column,
-    unit: i64,
-    next: &[usize],
     room: &mut [i64],
     limit: u64,
 ) -> bool
-    requires row { IsUsable (length own.now.numbers) limit row.old }
-    requires own { IsUsable (length own.now.numbers) limit own.now }
-    requires column { IsFitting (length own.now.numbers) limit column.now }
-    requires room { length room.old ≡ length own.now.numbers }
-    requires unit { pos 1 ≤ℤ unit }
+    requires q { q < length rows.now }
+    requires row { IsUsable (length (whole_row_at rows.now q).numbers) limit row.old }
+    requires own { IsUsable (length (whole_row_at rows.now q).numbers) limit (whole_row_at rows.now q) }
+    requires column { IsFitting (length (whole_row_at rows.now q).numbers) limit column.now }
+    requires room { length room.old ≡ length (whole_row_at rows.now q).numbers }
     requires limit { limit < 2 ^ 63 }
     ensures room { length room.new ≡ length room.old }
-    ensures updated { OnTrue result (IsUpdated (length own.now.numbers) limit row.old own.now (value column.now (number_at row.old.numbers)) unit row.new) }
+    ensures updated { OnTrue result (IsLessRow column.now limit rows.now q row.old row.new) }
 {
     let entry = column.price(row);
-    row.update(own, next, false, room, entry, unit, limit)
+    if is_zero(entry) {
+        return true;
+    }
+    let Some(unit) = unit_at(rows, q) else {
+        return false;
+    };
+    row.update(&rows[q], &[], false, room, entry, unit, limit)
 }
 
 /// The row less as much of row q, if that moved, as makes its entry at the basic column of row q 0; false where a number would be
 /// too large, and then nothing is known of the row.
+#[inline]
 fn take_off_moved(
     row: &mut WholeRow,
     run: &Run<'_>,
@@ -523,15 +552,11 @@ fn take_off_moved(
     if block.basis[q] >= run.columns.len() {
         return false;
     }
-    let Some(unit) = unit_at(block.rows, q) else {
-        return false;
-    };
     take_off(
         row,
-        &block.rows[q],
+        block.rows,
+        q,
         basic_column(run.columns, block.basis, q),
-        unit,
-        block.next,
         room,
         run.limit,
     )
@@ -541,7 +566,7 @@ fn take_off_moved(
 fn bring_row(row: &mut WholeRow, run: &Run<'_>, block: &Block<'_>, room: &mut [i64]) -> bool
     requires height { length block.now.rows.now ≡ length block.now.basis.now + 1 }
     requires moved { length block.now.moved.now ≡ length block.now.rows.now }
-    requires next { AreNextMoved block.now.moved.now (length block.now.basis.now) block.now.next.now }
+    requires order { AreMovedInOrder block.now.moved.now (length block.now.basis.now) block.now.order.now }
     requires row { IsUsable (length block.now.rows.now) run.now.limit row.old }
     requires rows { AreMovedUsable run.now.limit block.now.rows.now block.now.moved.now }
     requires columns { AreFitting (length block.now.rows.now) run.now.limit run.now.columns.now }
@@ -551,24 +576,22 @@ fn bring_row(row: &mut WholeRow, run: &Run<'_>, block: &Block<'_>, room: &mut [i
     ensures brought { OnTrue result (IsBrought run.now.columns.now run.now.limit block.now.rows.now block.now.basis.now block.now.moved.now row.old row.new) }
     ensures usable { OnTrue result (IsUsable (length block.now.rows.now) run.now.limit row.new) }
 {
-    let mut q = block.next[0];
-    while q < block.basis.len() {
+    for k in 0..block.order.len() {
+        let q = row_at(block.order, k);
         if !take_off_moved(row, run, block, room, q) {
             return false;
         }
-        q = block.next[q + 1];
     }
     true
 }
 
 /// Brings row r, which stayed behind, up to date; false where a number would be too large, and then nothing is known of the rows.
 fn bring(
-    alloc: Global,
     rows: &mut [WholeRow],
     run: &Run<'_>,
     basis: &[usize],
     moved: &[bool],
-    next: &[usize],
+    order: &[usize],
     room: &mut [i64],
     r: usize,
 ) -> bool
@@ -576,7 +599,7 @@ fn bring(
     requires moved { length moved.now ≡ length rows.old }
     requires r { r < length basis.now }
     requires behind { has_moved moved.now r ≡ false }
-    requires next { AreNextMoved moved.now (length basis.now) next.now }
+    requires order { AreMovedInOrder moved.now (length basis.now) order.now }
     requires rows { AreUsable (length rows.old) run.now.limit rows.old }
     requires columns { AreFitting (length rows.old) run.now.limit run.now.columns.now }
     requires room { length room.old ≡ length rows.old }
@@ -584,58 +607,32 @@ fn bring(
     ensures room { length room.new ≡ length room.old }
     ensures brought { OnTrue result (IsRowBrought run.now.columns.now run.now.limit rows.old basis.now moved.now r rows.new) }
 {
-    let mut row = std::mem::replace(&mut rows[r], WholeRow::empty(alloc));
+    let mut row = std::mem::replace(&mut rows[r], WholeRow::empty(run.alloc));
     let block = Block {
         rows,
         basis,
         moved,
-        next,
+        order,
     };
     let done = bring_row(&mut row, run, &block, room);
     rows[r] = row;
     done
 }
 
-/// The row itself where it moved, else the one found after it.
-#[inline]
-fn next_moved(moved: &[bool], q: usize, after: usize) -> usize
-    requires { q < length moved.now }
-    ensures { result ≡ cond (has_moved moved.now q) q after }
-{
-    if moved_at(moved, q) { q } else { after }
-}
-
-/// Notes for each row, up to the cost row, the next one that moved.
-fn note_next_moved(moved: &[bool], next: &mut [usize], height: usize)
-    requires moved { height ≤ length moved.now }
-    requires next { height < length next.old }
-    ensures noted { AreNextMoved moved.now height next.new }
-    ensures length { length next.new ≡ length next.old }
-{
-    let mut k = height;
-    next[k] = k;
-    // a `while`, which counts down: the invariant speaks of the rows from k on
-    while k > 0 {
-        k -= 1;
-        next[k] = next_moved(moved, k, next[k + 1]);
-    }
-}
-
-/// Brings row r up to date, if it stayed behind, where next has the next rows that moved; false where a number would be too large, and then nothing is known of the rows.
-fn bring_noted(
-    alloc: Global,
+/// Brings row r up to date, if it stayed behind; false where a number would be too large, and then nothing is known of the rows.
+fn bring_if_behind(
     rows: &mut [WholeRow],
     run: &Run<'_>,
     basis: &[usize],
     moved: &[bool],
-    next: &[usize],
+    order: &[usize],
     room: &mut [i64],
     r: usize,
 ) -> bool
     requires height { length rows.old ≡ length basis.now + 1 }
     requires moved { length moved.now ≡ length rows.old }
     requires r { r < length basis.now }
-    requires next { AreNextMoved moved.now (length basis.now) next.now }
+    requires order { AreMovedInOrder moved.now (length basis.now) order.now }
     requires rows { AreUsable (length rows.old) run.now.limit rows.old }
     requires columns { AreFitting (length rows.old) run.now.limit run.now.columns.now }
     requires room { length room.old ≡ length rows.old }
@@ -647,47 +644,94 @@ fn bring_noted(
     if moved_at(moved, r) {
         return true;
     }
-    bring(alloc, rows, run, basis, moved, next, room, r)
+    bring(rows, run, basis, moved, order, room, r)
 }
 
 /// Brings all rows up to date; false where a number would be too large, and then nothing is known of the rows.
 fn bring_all(
-    alloc: Global,
     rows: &mut [WholeRow],
     run: &Run<'_>,
     basis: &[usize],
     moved: &[bool],
-    next: &mut [usize],
+    order: &[usize],
     room: &mut [i64],
 ) -> bool
     requires height { length rows.old ≡ length basis.now + 1 }
     requires moved { length moved.now ≡ length rows.old }
+    requires order { AreMovedInOrder moved.now (length basis.now) order.now }
     requires rows { AreUsable (length rows.old) run.now.limit rows.old }
     requires columns { AreFitting (length rows.old) run.now.limit run.now.columns.now }
-    requires next { length next.old ≡ length rows.old + 1 }
     requires room { length room.old ≡ length rows.old }
     requires limit { run.now.limit < 2 ^ 63 }
-    ensures next { length next.new ≡ length next.old }
     ensures room { length room.new ≡ length room.old }
     ensures brought { OnTrue result (AreBrought run.now.columns.now run.now.limit rows.old basis.now moved.now (length basis.now) rows.new) }
 {
-    note_next_moved(moved, next, basis.len());
     for r in 0..basis.len() {
-        if !bring_noted(alloc, rows, run, basis, moved, next, room, r) {
+        if !bring_if_behind(rows, run, basis, moved, order, room, r) {
             return false;
         }
     }
     true
 }
 
-/// Whether the row's numbers times the column's weight stay below 2^63, so that its entries there are short.
-fn is_light(combined: &Column, limit: u64) -> bool
-    ensures { OnTrue result (row_mass combined.now * limit < 2 ^ 63) }
+/// Puts row q over the least denominator.
+#[inline]
+fn shorten_row(rows: &mut [WholeRow], q: usize)
+    requires q { q < length rows.old }
+    requires some { 0 < (whole_row_at rows.old q).bottom }
+    requires short { AreShort (whole_row_at rows.old q).numbers }
+    ensures { AreShortened rows.old rows.new }
 {
-    match combined.weight() {
-        Some(weight) => short_product(weight, limit).is_some(),
-        None => false,
+    rows[q].shorten();
+}
+
+/// Puts the rows that moved over the least denominators, so that taking them off others mostly needs no factor for these.
+fn shorten_moved(rows: &mut [WholeRow], order: &[usize], limit: u64)
+    requires rows { AreUsable (length rows.old) limit rows.old }
+    requires order { (k : ℕ) → k < length order.now → slice_index_or order.now k 0 < length rows.old }
+    requires limit { limit < 2 ^ 63 }
+    ensures { AreShortened rows.old rows.new }
+{
+    for k in 0..order.len() {
+        shorten_row(rows, row_at(order, k));
     }
+}
+
+/// The first place of a list from which on no row comes before r.
+fn place_of(order: &[usize], r: usize) -> usize
+    ensures within { result ≤ length order.now }
+    ensures before { (k : ℕ) → k < result → slice_index_or order.now k 0 < r }
+    ensures after { result < length order.now → r ≤ slice_index_or order.now result 0 }
+{
+    for k in 0..order.len() {
+        if row_at(order, k) >= r {
+            return k;
+        }
+    }
+    order.len()
+}
+
+/// Whether row r stands at a place of a list.
+#[inline]
+fn stands_at(order: &[usize], place: usize, r: usize) -> bool
+    ensures yes { OnTrue result ((place < length order.now) × (slice_index_or order.now place 0 ≡ r)) }
+    ensures no { OnFalse result (place < length order.now → ¬ (slice_index_or order.now place 0 ≡ r)) }
+{
+    place < order.len() && row_at(order, place) == r
+}
+
+/// Notes that row r moved; false for want of memory.
+fn note_moved(moved: &mut [bool], order: &mut Vec<usize>, r: usize) -> bool
+    requires { r < length moved.old }
+    ensures moved { OnTrue result (moved.new ≡ slice_set moved.old r true) }
+    ensures order { OnTrue result ((height : ℕ) → r < height → AreMovedInOrder moved.old height order.old.items → AreMovedInOrder moved.new height order.new.items) }
+{
+    moved[r] = true;
+    let place = place_of(order.as_slice(), r);
+    if stands_at(order.as_slice(), place, r) {
+        return true;
+    }
+    order.insert(place, r).is_ok()
 }
 
 /// The row that leaves at a degenerate step by this column. None where the step isn't degenerate, or where the numbers of the
@@ -702,7 +746,7 @@ fn still_row(
 ) -> Option<usize>
     requires engine { IsSafe run.now.columns.now run.now.limit block.now.rows.now block.now.basis.now }
     requires moved { length block.now.moved.now ≡ length block.now.rows.now }
-    requires next { AreNextMoved block.now.moved.now (length block.now.basis.now) block.now.next.now }
+    requires order { AreMovedInOrder block.now.moved.now (length block.now.basis.now) block.now.order.now }
     requires entries { length entries.old ≡ length block.now.rows.now }
     requires column { column < length run.now.columns.now }
     requires bound { AreBaseBounds bound bound block.now.rows.now block.now.moved.now (length block.now.basis.now) }
@@ -721,9 +765,6 @@ fn still_row(
     if !combine_columns(combined, run.columns, block, entries, column, multiple) {
         return None;
     }
-    if !is_light(combined, run.limit) {
-        return None;
-    }
     first_to_leave(block, entries, combined)
 }
 
@@ -737,7 +778,7 @@ fn more_bound(rows: &[WholeRow], moved: &[bool], i: usize, bound: u64) -> u64
     if moved_at(moved, i) {
         bound
     } else {
-        bound.max(most_at(rows, i)).max(bottom_at(rows, i))
+        bound.max(closer_most_at(rows, i)).max(bottom_at(rows, i))
     }
 }
 
@@ -765,7 +806,7 @@ fn still_choice(
 ) -> Option<(usize, usize)>
     requires engine { IsSafe run.now.columns.now run.now.limit block.now.rows.now block.now.basis.now }
     requires moved { length block.now.moved.now ≡ length block.now.rows.now }
-    requires next { AreNextMoved block.now.moved.now (length block.now.basis.now) block.now.next.now }
+    requires order { AreMovedInOrder block.now.moved.now (length block.now.basis.now) block.now.order.now }
     requires entries { length entries.old ≡ length block.now.rows.now }
     requires bound { AreBaseBounds bound bound block.now.rows.now block.now.moved.now (length block.now.basis.now) }
     requires norm { IsNorm run.now.columns.now run.now.norm }
@@ -783,12 +824,12 @@ fn still_choice(
 }
 
 /// Makes the column basic in the row that leaves at a degenerate step, which is brought up to date first; false where a number would
-/// be too large, and then nothing is known of the rows.
+/// be too large, or for want of memory, and then nothing is known of the rows.
 fn make_step(
-    alloc: Global,
     rows: &mut [WholeRow],
     basis: &mut [usize],
     moved: &mut [bool],
+    order: &mut Vec<usize>,
     entries: &mut [i64],
     next: &mut [usize],
     room: &mut [i64],
@@ -798,52 +839,54 @@ fn make_step(
 ) -> bool
     requires engine { IsSafe run.now.columns.now run.now.limit rows.old basis.old }
     requires moved { length moved.old ≡ length rows.old }
+    requires order { AreMovedInOrder moved.old (length basis.old) order.old.items }
     requires entries { AreMovedEntries (slice_index_or run.now.columns.now column []) rows.old moved.old entries.old }
     requires next { length next.old ≡ length rows.old + 1 }
-    requires noted { AreNextMoved moved.old (length basis.old) next.old }
     requires room { length room.old ≡ length rows.old }
     requires column { column < length run.now.columns.now }
     requires row { row < length basis.old }
     ensures step { OnTrue result (IsBehindStep run.now.columns.now run.now.limit rows.old basis.old moved.old column row rows.new) }
     ensures basis { OnTrue result (basis.new ≡ slice_set basis.old row column) }
     ensures moved { OnTrue result (moved.new ≡ slice_set moved.old row true) }
+    ensures order { OnTrue result (AreMovedInOrder moved.new (length basis.old) order.new.items) }
     ensures entries { length entries.new ≡ length entries.old }
     ensures next { length next.new ≡ length next.old }
     ensures room { length room.new ≡ length room.old }
 {
-    if !bring_noted(alloc, rows, run, basis, moved, next, room, row) {
+    if !bring_if_behind(rows, run, basis, moved, order.as_slice(), room, row) {
         return false;
     }
-    moved[row] = true;
+    if !note_moved(moved, order, row) {
+        return false;
+    }
     entries[row] = entry_at(&run.columns[column], rows, row);
     if !is_above_zero(read(entries, row)) {
         return false;
     }
-    if !pivot(alloc, rows, next, room, entries, row, run.limit) {
+    if !pivot_moved(
+        run.alloc,
+        rows,
+        order.as_slice(),
+        next,
+        room,
+        entries,
+        row,
+        run.limit,
+    ) {
         return false;
     }
     basis[row] = column;
     true
 }
 
-/// Whether more than a sixth of the rows moved. Then a block ends, since each step has to keep these up to date.
-fn many_moved(moved: &[bool]) -> bool {
-    let mut count: usize = 0;
-    for i in 0..moved.len() {
-        if moved[i] {
-            count = count.wrapping_add(1);
-        }
-    }
-    count > moved.len() / 6
-}
-
 /// Makes degenerate steps, at most so many, while they can be made with rows that stay behind, and tells how many were made; None
-/// where a number would be too large, and then nothing is known of the rows.
+/// where a number would be too large, or for want of memory, and then nothing is known of the rows. It ends where a sixth of the
+/// rows moved, since each step has to keep these up to date.
 fn still_steps(
-    alloc: Global,
     rows: &mut [WholeRow],
     basis: &mut [usize],
     moved: &mut [bool],
+    order: &mut Vec<usize>,
     entries: &mut [i64],
     next: &mut [usize],
     room: &mut [i64],
@@ -853,33 +896,34 @@ fn still_steps(
 ) -> Option<u32>
     requires engine { IsSafe run.now.columns.now run.now.limit rows.old basis.old }
     requires moved { length moved.old ≡ length rows.old }
+    requires order { AreMovedInOrder moved.old (length basis.old) order.old.items }
     requires entries { length entries.old ≡ length rows.old }
     requires next { length next.old ≡ length rows.old + 1 }
     requires room { length room.old ≡ length rows.old }
     requires norm { IsNorm run.now.columns.now run.now.norm }
     ensures steps { IfSome result (λ k. AreStillSteps run.now.columns.now run.now.limit rows.old basis.old moved.old k rows.new basis.new moved.new) }
     ensures most { IfSome result (λ k. k ≤ most) }
+    ensures order { IfSome result (λ k. AreMovedInOrder moved.new (length basis.new) order.new.items) }
     ensures entries { length entries.new ≡ length entries.old }
     ensures next { length next.new ≡ length next.old }
     ensures room { length room.new ≡ length room.old }
 {
     let bound = bound_behind(rows, moved, basis.len());
     for k in 0..most {
-        if many_moved(moved) {
+        if order.len() >= basis.len() / 6 {
             return Some(k);
         }
-        note_next_moved(moved, next, basis.len());
         let block = Block {
             rows,
             basis,
             moved,
-            next,
+            order: order.as_slice(),
         };
         let Some((column, row)) = still_choice(&block, run, entries, combined, bound) else {
             return Some(k);
         };
         if !make_step(
-            alloc, rows, basis, moved, entries, next, room, run, column, row,
+            rows, basis, moved, order, entries, next, room, run, column, row,
         ) {
             return None;
         }
@@ -888,25 +932,27 @@ fn still_steps(
 }
 
 /// Notes that no row moved but the cost row, which comes last.
-fn note_none_moved(moved: &mut [bool], height: usize)
+fn note_none_moved(moved: &mut [bool], order: &mut Vec<usize>, height: usize)
     requires { length moved.old ≡ height + 1 }
     ensures length { length moved.new ≡ length moved.old }
     ensures moved { (i : ℕ) → i < height → has_moved moved.new i ≡ false }
     ensures cost { has_moved moved.new height ≡ true }
+    ensures order { AreMovedInOrder moved.new height order.new.items }
 {
     for i in 0..height {
         moved[i] = false;
     }
     moved[height] = true;
+    order.clear();
 }
 
 /// Makes degenerate steps, at most so many, and tells how many, which may be none. In between most rows stay as they are, and at the
-/// end all are up to date. None where a number would be too large, and then nothing is known of the rows.
+/// end all are up to date. None where a number would be too large, or for want of memory, and then nothing is known of the rows.
 pub fn make_steps(
-    alloc: Global,
     rows: &mut [WholeRow],
     basis: &mut [usize],
     moved: &mut [bool],
+    order: &mut Vec<usize>,
     entries: &mut [i64],
     next: &mut [usize],
     room: &mut [i64],
@@ -927,11 +973,12 @@ pub fn make_steps(
     ensures next { length next.new ≡ length next.old }
     ensures room { length room.new ≡ length room.old }
 {
-    note_none_moved(moved, basis.len());
+    note_none_moved(moved, order, basis.len());
     let made = still_steps(
-        alloc, rows, basis, moved, entries, next, room, combined, run, most,
+        rows, basis, moved, order, entries, next, room, combined, run, most,
     )?;
-    if bring_all(alloc, rows, run, basis, moved, next, room) {
+    shorten_moved(rows, order.as_slice(), run.limit);
+    if bring_all(rows, run, basis, moved, order.as_slice(), room) {
         Some(made)
     } else {
         None

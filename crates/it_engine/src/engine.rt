@@ -18,7 +18,7 @@ use std::alloc::{AllocError, Global};
 use std::marker::Model;
 
 /// From so many steps on the rows are full enough that it pays to leave them behind.
-const MANY_STEPS: u32 = 1000;
+const MANY_STEPS: u32 = 500;
 
 /// How a run ended.
 #[derive(Debug, Drop, Clone, Copy)]
@@ -45,6 +45,8 @@ pub struct Engine {
     entries: Vec<i64>,
     // room for a note on each row whether it moved while others stayed behind
     moved: Vec<bool>,
+    // room for a list of those that did
+    order: Vec<usize>,
     // room for a column at which rows that stay behind are looked at
     combined: Column,
 }
@@ -59,6 +61,7 @@ impl Drop for Engine {
             room: _,
             entries: _,
             moved: _,
+            order: _,
             combined: _,
         } = self;
     }
@@ -94,6 +97,7 @@ impl Engine {
             room,
             entries,
             moved,
+            order: Vec::new(alloc),
             combined: Column::empty(alloc),
         })
     }
@@ -187,15 +191,16 @@ impl Engine {
             return Some(0);
         }
         make_steps(
-            self.alloc,
             self.rows.as_mut_slice(),
             self.basis.as_mut_slice(),
             self.moved.as_mut_slice(),
+            &mut self.order,
             self.entries.as_mut_slice(),
             self.next.as_mut_slice(),
             self.room.as_mut_slice(),
             &mut self.combined,
             &Run {
+                alloc: self.alloc,
                 columns,
                 limit,
                 norm,

@@ -1,10 +1,13 @@
 //! The pivot.
-ghost use Rattle.std.specs.Prelude.{◌≡◌, ◌+◌, ◌<◌, ◌^◌, ◌≤ℤ◌, pos, length, Some};
+ghost use Rattle.std.specs.Prelude.{◌≡◌, ◌≢◌, ℕ, ◌+◌, ◌<◌, ◌^◌, ◌≤ℤ◌, pos, length, Some};
 ghost use Rattle.std.specs.Bool.{OnTrue};
 ghost use Rattle.std.specs.Option.{IfSome};
 ghost use Rattle.it_engine.specs.Choosing.{best_row, entry_of};
-ghost use Rattle.it_whole.specs.WholeRows.{AreShort};
-ghost use Rattle.it_engine.specs.PivotedRows.{AreWholeRowsPivoted, AreUsable, IsFitting};
+ghost use Rattle.it_whole.specs.WholeRows.{AreShort, IsShort, IsUsable};
+ghost use Rattle.it_whole.specs.Updates.{AreNextPlaces, IsQuotient};
+ghost use Rattle.it_engine.specs.Behind.{AreNullElsewhere};
+ghost use Rattle.it_engine.specs.Tables.{whole_row_at};
+ghost use Rattle.it_engine.specs.PivotedRows.{AreWholeRowsPivoted, AreUsable, IsFitting, IsRowUpdated};
 ghost use Rattle.it_space.specs.Sums.{number_at};
 
 use crate::choice::{leaving_row, note_entries};
@@ -34,18 +37,102 @@ pub fn pivot(
     ensures next { length next.new ≡ length next.old }
     ensures room { length room.new ≡ length room.old }
 {
-    let taken = std::mem::replace(&mut rows[r], WholeRow::empty(alloc));
-    // Divided first, so that it is in lowest terms: then the factors of most other rows are 1, and their numbers stay small.
-    let own = taken.divided_by(read(entries, r));
+    let own = take_divided(alloc, rows, entries, r);
     let p = own.unit();
     let noted = own.note_places(next);
     // by index, since the invariant speaks of the rows before i and of those from i on
     for i in 0..rows.len() {
-        if i != r {
-            if !rows[i].update(&own, next, noted, room, read(entries, i), p, limit) {
-                return false;
-            }
+        if i != r && !update_row(rows, &own, next, noted, room, entries, i, p, limit) {
+            return false;
         }
+    }
+    rows[r] = own;
+    true
+}
+
+/// Takes out row r, which leaves, and divides it by its entry at the column.
+#[inline(always)]
+fn take_divided(alloc: Global, rows: &mut [WholeRow], entries: &[i64], r: usize) -> WholeRow
+    requires row { r < length rows.old }
+    requires entries { r < length entries.now }
+    requires short { AreShort (whole_row_at rows.old r).numbers }
+    requires positive { pos 1 ≤ℤ number_at entries.now r }
+    ensures length { length rows.new ≡ length rows.old }
+    ensures others { (k : ℕ) → k ≢ r → whole_row_at rows.new k ≡ whole_row_at rows.old k }
+    ensures divided { IsQuotient (whole_row_at rows.old r) (number_at entries.now r) result }
+{
+    let taken = std::mem::replace(&mut rows[r], WholeRow::empty(alloc));
+    // Divided first, so that it is in lowest terms: then the factors of most other rows are 1, and their numbers stay small.
+    taken.divided_by(read(entries, r))
+}
+
+/// Updates row i after a step in which another row leaves, whose entry at the column is the pivot; false where a number would be too
+/// large, and then nothing is known of the row. What is noted of the leaving row is as for `pivot`.
+#[inline(always)]
+fn update_row(
+    rows: &mut [WholeRow],
+    own: &WholeRow,
+    next: &[usize],
+    noted: bool,
+    room: &mut [i64],
+    entries: &[i64],
+    i: usize,
+    pivot: i64,
+    limit: u64,
+) -> bool
+    requires i { i < length rows.old }
+    requires entries { i < length entries.now }
+    requires short { IsShort (number_at entries.now i) }
+    requires row { IsUsable (length own.now.numbers) limit (whole_row_at rows.old i) }
+    requires own { IsUsable (length own.now.numbers) limit own.now }
+    requires places { OnTrue noted (AreNextPlaces own.now.numbers next.now) }
+    requires room { length room.old ≡ length own.now.numbers }
+    requires pivot { pos 1 ≤ℤ pivot }
+    requires limit { limit < 2 ^ 63 }
+    ensures room { length room.new ≡ length room.old }
+    ensures length { length rows.new ≡ length rows.old }
+    ensures updated { OnTrue result (IsRowUpdated limit rows.old entries.now own.now pivot i rows.new) }
+    ensures others { (k : ℕ) → k ≢ i → whole_row_at rows.new k ≡ whole_row_at rows.old k }
+{
+    rows[i].update(own, next, noted, room, read(entries, i), pivot, limit)
+}
+
+/// As `pivot`, where the entries are 0 but at the listed rows, which ascend, and at the last row.
+pub fn pivot_moved(
+    alloc: Global,
+    rows: &mut [WholeRow],
+    order: &[usize],
+    next: &mut [usize],
+    room: &mut [i64],
+    entries: &[i64],
+    r: usize,
+    limit: u64,
+) -> bool
+    requires row { r + 1 < length rows.old }
+    requires elsewhere { (height : ℕ) → length rows.old ≡ height + 1 → AreNullElsewhere entries.now height order.now }
+    requires rows { AreUsable (length rows.old) limit rows.old }
+    requires next { length next.old ≡ length rows.old + 1 }
+    requires room { length room.old ≡ length rows.old }
+    requires entries { length entries.now ≡ length rows.old }
+    requires short { AreShort entries.now }
+    requires positive { pos 1 ≤ℤ number_at entries.now r }
+    requires limit { limit < 2 ^ 63 }
+    ensures pivoted { OnTrue result (AreWholeRowsPivoted (length rows.old) limit rows.old (number_at entries.now) r rows.new) }
+    ensures next { length next.new ≡ length next.old }
+    ensures room { length room.new ≡ length room.old }
+{
+    let own = take_divided(alloc, rows, entries, r);
+    let p = own.unit();
+    let noted = own.note_places(next);
+    for k in 0..order.len() {
+        let i = order[k];
+        if i != r && !update_row(rows, &own, next, noted, room, entries, i, p, limit) {
+            return false;
+        }
+    }
+    let last = rows.len() - 1;
+    if !update_row(rows, &own, next, noted, room, entries, last, p, limit) {
+        return false;
     }
     rows[r] = own;
     true

@@ -1,23 +1,22 @@
-use Rattle.std.proofs.Common.{◌≡◌, ◌+◌, ℕ, slice_index_or, subst, arith, length}
-use Rattle.it_engine.specs.Behind.{IsCommonMultiple, IsNextMoved}
-use Rattle.it_engine.proofs.BehindNumbers.{no_multiple, multiple_past_still}
+use Rattle.std.proofs.Common.{length}
+use Rattle.it_engine.specs.Behind.{IsCommonMultiple}
+use Rattle.it_engine.proofs.BehindNumbers.{no_multiple, still_multiple}
+use Rattle.it_engine.proofs.InOrder.{after_row, up_to_end, up_to_row}
 use Rattle.it_engine.proofs.behind.common_multiple.Goals as goal
 
-pub loop-q-init : goal.loop-q-init
-loop-q-init c =
-    let n : IsNextMoved c.args.block.now.moved.now (length c.args.block.now.basis.now) 0 (slice_index_or c.args.block.now.next.now 0 0) = c.requires.next.each 0 (omega arith) in record {
-      within = n.within;
-      multiple_is = multiple_past_still c.args.block.now.rows.now c.args.block.now.moved.now (length c.args.block.now.basis.now) 1 0 (slice_index_or c.args.block.now.next.now 0 0) n (no_multiple c.args.block.now.rows.now c.args.block.now.moved.now);
-    }
+pub loop-k-init : goal.loop-k-init
+loop-k-init c = no_multiple c.args.block.now.rows.now c.args.block.now.moved.now
 
-pub loop-q-preserved : goal.loop-q-preserved
-loop-q-preserved c =
-    let n : IsNextMoved c.args.block.now.moved.now (length c.args.block.now.basis.now) (c.loop-q.q + 1) (slice_index_or c.args.block.now.next.now (c.loop-q.q + 1) 0) = c.requires.next.each (c.loop-q.q + 1) (omega (arith, c.loop-q-test.true)) in record {
-      within = n.within;
-      multiple_is = multiple_past_still c.args.block.now.rows.now c.args.block.now.moved.now (length c.args.block.now.basis.now) c.in_ok-multiple.multiple (c.loop-q.q + 1) (slice_index_or c.args.block.now.next.now (c.loop-q.q + 1) 0) n c.in_ok-multiple.ensures;
-    }
+pub more_multiple-requires-clause-multiple : goal.more_multiple-requires-clause-multiple
+more_multiple-requires-clause-multiple c = up_to_row c.args.block.now.moved.now (length c.args.block.now.basis.now) c.args.block.now.order.now c.requires.order
+    (λ q. IsCommonMultiple c.args.block.now.rows.now c.args.block.now.moved.now q c.loop-k.multiple) (λ q. still_multiple c.args.block.now.rows.now c.args.block.now.moved.now q c.loop-k.multiple)
+    c.loop-k.k c.row_at-q.result c.loop-k-test.true c.row_at-q.ensures c.loop-k.invariant
+
+pub loop-k-preserved : goal.loop-k-preserved
+loop-k-preserved c = after_row c.args.block.now.order.now (λ q. IsCommonMultiple c.args.block.now.rows.now c.args.block.now.moved.now q c.in_ok-multiple.multiple) c.loop-k.k c.row_at-q.result
+    c.row_at-q.ensures c.in_ok-multiple.ensures
 
 pub returns : goal.returns
-returns c =
-    let e : c.loop-q.q ≡ (length c.args.block.now.basis.now) = omega (arith, c.loop-q-test.false, c.loop-q.invariant.within) in
-    subst (λ (q : ℕ). IsCommonMultiple c.args.block.now.rows.now c.args.block.now.moved.now q c.loop-q.multiple) e c.loop-q.invariant.multiple_is
+returns c = up_to_end c.args.block.now.moved.now (length c.args.block.now.basis.now) c.args.block.now.order.now c.requires.order
+    (λ q. IsCommonMultiple c.args.block.now.rows.now c.args.block.now.moved.now q c.loop-k.multiple) (λ q. still_multiple c.args.block.now.rows.now c.args.block.now.moved.now q c.loop-k.multiple)
+    c.loop-k.k c.loop-k-test.false c.loop-k.auto.k-end c.loop-k.invariant

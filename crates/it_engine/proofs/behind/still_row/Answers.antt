@@ -1,11 +1,10 @@
-use Rattle.std.proofs.Common.{[], length, slice_index_or, subst}
+use Rattle.std.proofs.Common.{[], slice_index_or, subst}
 use Rattle.std.proofs.lemmas.List.{get_or_default}
 use Rattle.it_space.specs.Rows.{Terms}
 use Rattle.it_engine.specs.Behind.{AreMovedEntries}
-use Rattle.it_engine.specs.Tables.{whole_row_at}
-use Rattle.it_engine.proofs.Fitting.{fitting_suits}
 use Rattle.it_engine.proofs.BehindNumbers.{if_some_anyway}
-use Rattle.it_engine.proofs.BehindChoices.{combined_fitting, leaves_if_some}
+use Rattle.it_engine.proofs.BehindChoices.{leaves_if_some}
+use Rattle.it_engine.proofs.BehindWeights.{combined_suits}
 use Rattle.it_engine.proofs.behind.still_row.Goals as goal
 use Rattle.it_engine.proofs.behind.still_row.Goals.{In_ok-multiple}
 
@@ -15,10 +14,9 @@ entries_are c = subst (λ (ts : Terms). AreMovedEntries ts c.args.block.now.rows
     (get_or_default c.args.run.now.columns.now c.args.column c.index-run-column.result [] c.requires.column) c.note_moved_entries.ensures
 
 pub first_to_leave-requires-clause-suits : goal.first_to_leave-requires-clause-suits
-first_to_leave-requires-clause-suits c = λ i l. fitting_suits (length c.args.block.now.rows.now) c.args.run.now.limit c.combine_columns.new.combined (whole_row_at c.args.block.now.rows.now i)
-    (combined_fitting c.args.run.now.columns.now c.args.block.now.rows.now c.args.block.now.basis.now c.args.block.now.moved.now c.note_moved_entries.new.entries c.in_ok-multiple.multiple c.args.column (length c.args.block.now.rows.now) c.args.run.now.limit (length c.args.block.now.basis.now)
-    c.combine_columns.new.combined c.if-not-combine_columns.ensures c.if-not-is_light.ensures c.requires.engine.fitting)
-    (c.requires.engine.usable i l)
+first_to_leave-requires-clause-suits c = combined_suits c.args.run.now.columns.now c.args.block.now.rows.now c.args.block.now.basis.now c.args.block.now.moved.now c.note_moved_entries.new.entries c.in_ok-multiple.multiple c.args.column
+    c.args.run.now.norm c.requires.norm c.args.run.now.limit c.args.bound c.args.bound c.in_ok-shares.shares c.requires.column c.requires.engine.usable c.requires.engine.fitting
+    (entries_are (goal.at.first_to_leave-requires-clause-suits c).In_ok-multiple) c.requires.engine.rows_are c.in_ok-shares.ensures c.if-not-are_short.ensures.numbers c.requires.bound c.combine_columns.new.combined c.if-not-combine_columns.ensures
 
 pub returns-clause-leaves : goal.returns-clause-leaves
 returns-clause-leaves c = leaves_if_some c.args.run.now.columns.now c.args.block.now.rows.now c.args.block.now.basis.now c.args.block.now.moved.now c.note_moved_entries.new.entries c.in_ok-multiple.multiple c.args.column

@@ -1,11 +1,11 @@
 use Rattle.std.proofs.Common.{◌+◌, ◌∙◌, List, Bool, ℕ, length, slice_set, refl, sym, ap, subst, arith}
 use Rattle.std.proofs.lemmas.List.{length-set}
-use Rattle.it_engine.specs.Behind.{AreBaseBounds, AreStillSteps}
+use Rattle.it_engine.specs.Behind.{AreBaseBounds, AreMovedInOrder, AreStillSteps}
 use Rattle.it_engine.proofs.ManySteps.{bounds_kept, no_steps, more_steps}
 use Rattle.it_engine.proofs.behind.still_steps.Goals as goal
 
 pub loop-k-init : goal.loop-k-init
-loop-k-init c = record { steps = no_steps c.args.run.now.columns.now c.args.run.now.limit c.args.rows.now c.args.basis.now c.args.moved.now c.requires.engine; bound_is = c.bound_behind-bound.ensures; rows = refl; entries = refl; next = refl; room = refl }
+loop-k-init c = record { steps = no_steps c.args.run.now.columns.now c.args.run.now.limit c.args.rows.now c.args.basis.now c.args.moved.now c.requires.engine; bound_is = c.bound_behind-bound.ensures; order_is = c.requires.order; rows = refl; entries = refl; next = refl; room = refl }
 
 pub loop-k-preserved : goal.loop-k-preserved
 loop-k-preserved c =
@@ -20,8 +20,9 @@ loop-k-preserved c =
           (subst (λ (ms : List Bool). AreBaseBounds c.bound_behind-bound.result c.bound_behind-bound.result c.make_step.new.rows ms (length c.loop-k.basis)) (sym made.moved)
           (bounds_kept c.args.run.now.columns.now c.args.run.now.limit c.loop-k.rows c.loop-k.basis c.loop-k.moved c.in-Some.column c.in-Some.row c.bound_behind-bound.result c.bound_behind-bound.result (length c.loop-k.basis) c.make_step.new.rows
           made.step (omega (arith, c.in-Some.ensures.choice.row, steps.engine.rows_are, steps.even, c.requires.moved, c.loop-k.invariant.rows)) (omega (arith, steps.engine.rows_are)) c.loop-k.invariant.bound_is));
+      order_is = subst (λ (m : ℕ). AreMovedInOrder c.make_step.new.moved m c.make_step.new.order.items) (sym (ap length made.basis ∙ length-set c.loop-k.basis c.in-Some.row c.in-Some.column)) made.order;
       rows = made.step.engine.rows_are ∙ omega (arith, length-set c.loop-k.basis c.in-Some.row c.in-Some.column, steps.engine.rows_are, c.loop-k.invariant.rows);
       entries = c.make_step.ensures.entries ∙ c.still_choice.ensures.entries ∙ c.loop-k.invariant.entries;
-      next = c.make_step.ensures.next ∙ c.note_next_moved.ensures.length ∙ c.loop-k.invariant.next;
+      next = c.make_step.ensures.next ∙ c.loop-k.invariant.next;
       room = c.make_step.ensures.room ∙ c.loop-k.invariant.room;
     }

@@ -1,11 +1,12 @@
 use Rattle.std.proofs.Common.{◌≡◌, length}
-use Rattle.it_engine.specs.Behind.{AreBaseBounds, AreStillSteps}
+use Rattle.it_engine.specs.Behind.{AreBaseBounds, AreMovedInOrder, AreStillSteps}
 use Rattle.it_engine.proofs.behind.still_steps.Given as goal
 
 abbrev pub invariant-loop-k : goal.invariant-loop-k
 invariant-loop-k l = record {
   steps : AreStillSteps l.run.columns.now l.run.limit l.fn.rows l.fn.basis l.fn.moved l.k l.rows l.basis l.moved;
   bound_is : AreBaseBounds l.bound l.bound l.rows l.moved (length l.basis);
+  order_is : AreMovedInOrder l.moved (length l.basis) l.order.items;
   rows : length l.rows ≡ length l.fn.rows;
   entries : length l.entries ≡ length l.fn.entries;
   next : length l.next ≡ length l.fn.next;
