@@ -5,11 +5,18 @@
 in, and compiles what is left to FOLDER/twin. `engine_twin.py system FAMILY N` prints a system over N variables, by the elemental inequalities in their order:
 FAMILY is parts, chain or ingleton, as in bench/simplex.txt. `FOLDER/twin BUDGET TURNS < SYSTEM` makes the run so often, and prints how it
 ends, in which width, and sums over the last basis and the last rows: two versions of the sources have to print the same. Unlike the
-product the twin tests indexes, so times are to be compared with those of another twin only."""
+product the twin tests indexes, so times are to be compared with those of another twin only.
+
+`engine_twin.py count FOLDER FILE..` builds it, asks it the systems of all `prove` questions of the files, as examples/independent makes
+them, at most 20,000 steps each, and prints by their rows how many each engine answers alone: rows in 32 bits, in 64 bits, or none of
+these, so that the table of fractions has to. It ends with 1 where one of 64 rows or more isn't answered in 32 bits, or one of fewer
+in 64, though its start is within the limit of these rows."""
 import os
 import re
 import subprocess
 import sys
+from collections import Counter
+from pathlib import Path
 
 MODULES = {
     "it_whole": "arithmetic columns divisors narrow_numbers narrow_rows numbers rows wide_rows".split(),
@@ -184,8 +191,56 @@ def system(family, n):
         print(" ".join(f"{s} {x}" for s, x in sorted(sums.items()) if s and x))
 
 
+def asked(files):
+    """The places, the columns and the target of each target of each `prove` question of files."""
+    sys.path.insert(0, str(Path(__file__).parent.parent / "examples/independent"))
+    from defined import Run
+    from questions import Fault, read
+    for file in files:
+        with open(file, encoding="latin-1", newline="") as text:
+            try:
+                questions = read(text.read())
+            except Fault:
+                print("no file of questions:", file, file=sys.stderr)
+                continue
+        for question in questions:
+            for target in question.targets if question.verb == "prove" else []:
+                yield Run(question, target, None).system()
+
+
+def fits(columns, target):
+    """Whether the rows of the start are within the limit of whole numbers."""
+    norm = max([1, *(sum(map(abs, column.values())) for column in columns)])
+    return sum(map(abs, target.values())) <= (2**63 - 1) // norm
+
+
+def width(folder, places, columns, target):
+    """In which width the twin answers: narrow, wide or lost."""
+    if not fits(columns, target):
+        return "lost"
+    at = {place: row for row, place in enumerate(places, 1)}
+    lines = [" ".join(f"{at[place]} {row[place]}" for place in sorted(row)) for row in [target, *columns]]
+    told = subprocess.run([f"{folder}/twin", "20000", "1"], input="\n".join([str(len(places)), *lines]), text=True, check=True, stdout=subprocess.PIPE).stdout
+    return told.split()[1] if told.strip() != "lost" else "lost"
+
+
+def count(folder, files):
+    build(folder)
+    counts, missed = Counter(), 0
+    for places, columns, target in asked(files):
+        rows = "64 rows or more" if len(places) >= 64 else "fewer"
+        found = width(folder, places, columns, target)
+        counts[rows, found] += 1
+        missed += fits(columns, target) and found != ("narrow" if len(places) >= 64 else "wide")
+    for rows in "fewer", "64 rows or more":
+        print(rows, *(f"{name} {counts[rows, found]}" for name, found in (("32 bits", "narrow"), ("64 bits", "wide"), ("fractions", "lost"))), sep=", ")
+    return 1 if missed else 0
+
+
 if __name__ == "__main__":
     match sys.argv[1:]:
+        case ["count", folder, *files]:
+            sys.exit(count(folder, files))
         case ["build", folder]:
             build(folder)
         case ["system", ("parts" | "chain" | "ingleton") as family, n]:

@@ -221,7 +221,8 @@ class Run:
                 new[self.place(at)] = fit(new.get(self.place(at), 0) + row[at])
         return {at: c for at, c in new.items() if c}
 
-    def table(self):
+    def system(self):
+        """The places of the rows, the columns and the target."""
         rates = range(2**self.n, self.question.size() + 1)
         self.places = [a for a in range(1, 2**self.n) if self.closures[a] == a and a != self.closures[0]] + list(rates)
         columns, self.column_of = [], []
@@ -232,7 +233,10 @@ class Run:
             if generator.equation:
                 columns.append(negated(row))
                 self.column_of.append((number, -1))
-        return Table(self.places, columns, self.collapse(self.target))
+        return self.places, columns, self.collapse(self.target)
+
+    def table(self):
+        return Table(*self.system())
 
     def end(self):
         """("weights", by column), ("point", by place), ("pivots", steps) or ("width", step)."""
