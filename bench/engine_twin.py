@@ -133,8 +133,8 @@ def plain(text):
     text = text.replace("#[derive(Drop)]", "").replace("Drop, ", "").replace("Vec::new(alloc)", "Vec::new()").replace(".clone()?", ".clone()")
     text = re.sub(r"Vec::with_capacity\(alloc, (.*)\)\?", r"Vec::with_capacity(\1)", text)
     text = re.sub(r"Vec::from_elem\(alloc, (.*), (.*)\)\?", r"vec![\1; \2]", text)
-    text = re.sub(r"\.push\((.*)\)\?;", r".push(\1);", text)
-    text = re.sub(r"(\w+\.insert\(.*\))\.is_ok\(\)", r"{ \1; true }", text)
+    text = re.sub(r"\.push\((.*?)\)(?:\.ok\(\))?\?;", r".push(\1);", text)
+    text = re.sub(r"((?:self\.)?\w+\.(?:insert|push)\(.*\))\.is_ok\(\)", r"{ \1; true }", text)
     text = re.sub(r"^use it_whole::", "use crate::it_whole::", text, flags=re.M)
     return re.sub(r"\b(Global|AllocError)\b", r"crate::\1", text)
 

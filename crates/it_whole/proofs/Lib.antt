@@ -1,6 +1,7 @@
 pub mod Items
 pub mod Names
 pub mod Places
+pub mod Stretches
 pub mod RowSteps
 pub mod Pricing
 pub mod Quotients

@@ -33,6 +33,20 @@ module _ (width limit : ℕ) (old own new : WholeRowView) (z p a b : ℤ) (above
     small = c.small;
   }
 
+  -- where the factor of the row is 1 the denominator stays
+  module _ (one : a ≡ pos 1) (c : IsCombined width limit old.numbers own.numbers (pos 1) b new.numbers) (e : new.bottom ≡ old.bottom) where
+    times_factor : old.bottom ≡ old.bottom * unsigned_abs a
+    times_factor = subst (λ (a : ℤ). old.bottom ≡ old.bottom * unsigned_abs a) (sym one) (omega arith)
+
+    with_factor : IsCombined width limit old.numbers own.numbers a b new.numbers
+    with_factor = subst (λ (a : ℤ). IsCombined width limit old.numbers own.numbers a b new.numbers) (sym one) c
+
+    pub multiple_reduced : b ≡ int_quotient z (gcd (unsigned_abs p) (unsigned_abs z)) → IsWholeRowReduced width limit old own z p new
+    multiple_reduced b_is = λ f g x w rf rg ex ew. less_row width limit old own new z p a b above a_is b_is with_factor (e ∙ times_factor) (subst (λ (k : ℕ). k < 2 ^ 63) times_factor rf.low) f g x w rf rg ex ew
+
+    pub multiple_usable : IsUsable width limit old → IsUsable width limit new
+    multiple_usable u = combined_usable u with_factor (e ∙ times_factor)
+
   module _ (bottom : ℕ) (short : limit < 2 ^ 31) (bottom_is : bottom ≡ old.bottom * unsigned_abs a) (c : IsCombinedAndShortened width old.numbers own.numbers a b bottom new) (small : AreAtMost new.numbers limit) where
     pub shortened_reduced : b ≡ int_quotient z (gcd (unsigned_abs p) (unsigned_abs z)) → old.bottom * unsigned_abs a < 2 ^ 63 → IsWholeRowReduced width limit old own z p new
     shortened_reduced b_is low = reduced_within width limit 9223372036854775807 old own new z p (omega (arith, short)) small

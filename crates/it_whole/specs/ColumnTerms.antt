@@ -1,5 +1,5 @@
--- Columns as lists of terms: multiples of them, and the rows at which they are priced.
-use Rattle.std.specs.Prelude.{ℕ, ◌*◌, ◌<◌, ◌≤◌, ◌^◌, ℤ, ◌*ℤ◌, unsigned_abs, List, length, map, All}
+-- Columns as lists of terms: multiples of them, submodularity, and the rows at which they are priced.
+use Rattle.std.specs.Prelude.{◌≡◌, ℕ, ◌*◌, ◌<◌, ◌≤◌, ◌^◌, ℤ, pos, negsuc, ◌*ℤ◌, unsigned_abs, List, length, map, slice_index_or, All}
 use Rattle.it_space.specs.Rows.{Terms, row_mass}
 use Rattle.it_space.specs.Sums.{number_at}
 
@@ -10,6 +10,14 @@ multiple_of_term factor t = (t.0, t.1 *ℤ factor)
 -- a column times a factor
 abbrev pub multiple_of_terms : ℤ → Terms → Terms
 multiple_of_terms factor terms = map (multiple_of_term factor) terms
+
+-- four terms with the factors of submodularity by ascending set: H(X,Z) + H(Y,Z) - H(X,Y,Z) - H(Z) has -1, 1, 1 and -1 at Z, XZ, YZ and XYZ
+pub record IsSubmodular (terms : Terms) : Type 0 where
+  pub four : length terms ≡ 4
+  pub first : (slice_index_or terms 0 (0, pos 0)).1 ≡ negsuc 0
+  pub second : (slice_index_or terms 1 (0, pos 0)).1 ≡ pos 1
+  pub third : (slice_index_or terms 2 (0, pos 0)).1 ≡ pos 1
+  pub fourth : (slice_index_or terms 3 (0, pos 0)).1 ≡ negsuc 0
 
 -- no sum of the column's terms at the row's numbers passes 2 ^ 63 - 1
 abbrev pub IsPriceable : Terms → List ℤ → Type 0

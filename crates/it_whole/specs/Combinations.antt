@@ -1,9 +1,9 @@
 -- No public clause cites this module: the numbers of a row on the way through a step, and the terms of a column on the way to a sum.
-use Rattle.std.specs.Prelude.{◌≡◌, ℕ, ◌+◌, ◌*◌, ◌+ℤ◌, ◌*ℤ◌, neg_ℤ, drop, ◌<◌, ◌≤◌, ℤ, unsigned_abs, List, length}
+use Rattle.std.specs.Prelude.{◌≡◌, ℕ, zero, suc, ◌+◌, ◌*◌, ◌+ℤ◌, ◌*ℤ◌, neg_ℤ, drop, ◌<◌, ◌≤◌, ℤ, unsigned_abs, List, length, slice_index_or}
 use Prim.Native.Nat.{◌∣◌}
 use Rattle.it_space.specs.Rows.{Terms, value, row_mass}
 use Rattle.it_space.specs.Sums.{number_at}
-use Rattle.it_whole.specs.Updates.{IsShortened}
+use Rattle.it_whole.specs.Updates.{IsNextPlace, IsShortened}
 use Rattle.it_whole.specs.WholeRows.{AreAtMost, WholeRowView}
 
 -- the number at place k of a row times a, less that of another times b
@@ -39,3 +39,18 @@ pub record IsBound (row : List ℤ) (a y b limit bound : ℕ) : Type 0 where
 pub record IsPriced (terms : Terms) (numbers : List ℤ) (i : ℕ) (sum : ℤ) : Type 0 where
   pub value_is : sum +ℤ value (drop i terms) (number_at numbers) ≡ value terms (number_at numbers)
   pub small : (limit : ℕ) → ((k : ℕ) → k < length numbers → unsigned_abs (number_at numbers k) ≤ limit) → unsigned_abs sum + row_mass (drop i terms) * limit ≤ row_mass terms * limit
+
+-- where the first j stretches end, of the stretches of 8 places that begin at these places
+abbrev pub end_of_stretches : List ℕ → ℕ → ℕ
+end_of_stretches starts zero = 0
+end_of_stretches starts (suc j) = slice_index_or starts j 0 + 8
+
+-- up to a place the row is 0 outside of the stretches of 8 places that begin at these places
+pub record AreStretchesUpTo (row : List ℤ) (starts : List ℕ) (to : ℕ) : Type 0 where
+  pub each : (j : ℕ) → j < length starts → IsNextPlace row (end_of_stretches starts j) (slice_index_or starts j 0)
+  pub last : IsNextPlace row (end_of_stretches starts (length starts)) to
+
+-- the row is 0 before the last of these places, outside of the stretches of 8 places that begin at the others
+pub record AreStretches (row : List ℤ) (starts : List ℕ) : Type 0 where
+  pub some : 0 < length starts
+  pub each : (j : ℕ) → j < length starts → IsNextPlace row (end_of_stretches starts j) (slice_index_or starts j 0)

@@ -36,6 +36,15 @@ pub fn plus_product(sum: i64, factor: i64, x: i64) -> i64
     sum + factor * x
 }
 
+/// The sum of two numbers, less that of two others.
+#[inline]
+pub fn difference_of_sums(a: i64, b: i64, c: i64, d: i64) -> i64
+    requires { unsigned_abs a + unsigned_abs b + (unsigned_abs c + unsigned_abs d) < 2 ^ 63 }
+    ensures { result ≡ (a +ℤ b) +ℤ neg_ℤ (c +ℤ d) }
+{
+    (a + b) - (c + d)
+}
+
 /// The product, in 128 bits, which hold every one.
 #[inline]
 pub fn product(x: i64, y: i64) -> i128

@@ -1,12 +1,12 @@
 //! The columns of the start.
 ghost use Rattle.std.specs.Prelude.{◌≡◌, ◌+◌, ◌<◌, ◌^◌, ◌++◌, ◌∷◌, [], length, pos, slice_index_or, OnOk, SomeIff};
 ghost use Rattle.std.specs.Bool.{OnTrue};
-ghost use Rattle.it_whole.specs.ColumnTerms.{multiple_of_term, multiple_of_terms, Suits};
+ghost use Rattle.it_whole.specs.ColumnTerms.{multiple_of_term, multiple_of_terms, IsSubmodular, Suits};
 ghost use Rattle.it_space.specs.Rows.{value, row_mass};
 ghost use Rattle.it_whole.specs.Combinations.{IsPriced};
 ghost use Rattle.it_space.specs.Sums.{number_at};
 
-use crate::arithmetic::{plus_product, short_sum};
+use crate::arithmetic::{difference_of_sums, plus_product, short_sum};
 use crate::narrow_rows::NarrowRow;
 use crate::rows::{AnyRow, WholeRow};
 use crate::wide_rows::WideRow;
@@ -18,6 +18,8 @@ use std::marker::Model;
 #[derive(Drop)]
 pub struct Column {
     terms: Vec<(usize, i64)>,
+    // whether it has four terms with the factors -1, 1, 1 and -1, as the submodularity of entropy has, so that an entry needs no product
+    submodular: bool,
 }
 
 impl Model for Column {
@@ -26,6 +28,18 @@ impl Model for Column {
     ghost Value = { Terms };
 
     ghost view = { λ c. c.terms.items };
+
+    ghost use Rattle.std.specs.Bool.{OnTrue};
+    ghost use Rattle.it_whole.specs.ColumnTerms.{IsSubmodular};
+
+    ghost invariant = { λ c. OnTrue c.submodular (IsSubmodular c.terms.items) };
+}
+
+/// Whether these are four terms with the factors -1, 1, 1 and -1.
+fn is_submodular(terms: &[(usize, i64)]) -> bool
+    ensures { OnTrue result (IsSubmodular terms.now) }
+{
+    terms.len() == 4 && terms[0].1 == -1 && terms[1].1 == 1 && terms[2].1 == 1 && terms[3].1 == -1
 }
 
 impl Column {
@@ -35,6 +49,7 @@ impl Column {
     {
         Column {
             terms: Vec::new(alloc),
+            submodular: false,
         }
     }
 
@@ -43,6 +58,7 @@ impl Column {
         ensures { OnOk result (self.new ≡ self.old ++ (row, number) ∷ []) }
     {
         self.terms.push((row, number))?;
+        self.submodular = is_submodular(self.terms.as_slice());
         Ok(())
     }
 
@@ -51,17 +67,21 @@ impl Column {
         ensures { self.new ≡ [] }
     {
         self.terms.clear();
+        self.submodular = false;
     }
 
     /// Puts entry i of another column times a factor after the entries; false where it is too large, or for want of memory.
+    #[inline]
     fn push_multiple(&mut self, other: &Column, i: usize, factor: i64) -> bool
         requires { i < length other.now }
         ensures { OnTrue result (self.new ≡ self.old ++ multiple_of_term factor (slice_index_or other.now i (0, pos 0)) ∷ []) }
     {
-        match other.factor(i).checked_mul(factor) {
-            Some(number) => self.push_entry(other.place(i), number).is_ok(),
-            None => false,
-        }
+        let Some(number) = other.factor(i).checked_mul(factor) else {
+            return false;
+        };
+        // not looked at: a sum of multiples of columns is seldom such a column
+        self.submodular = false;
+        self.terms.push((other.place(i), number)).is_ok()
     }
 
     /// Puts the entries of another column times a factor after the entries; false where one is too large, or for want of memory.
@@ -123,18 +143,19 @@ impl Column {
         plus_product(sum, self.factor(i), row.number(self.place(i)))
     }
 
-    /// The entry of a row in 32 bits at a column of four terms, as most columns are.
-    #[inline]
-    #[tactic(auto, using(crate::proofs::Pricing::priced_none, crate::proofs::Pricing::priced_all))]
-    fn price_narrow_four(&self, row: &NarrowRow) -> i64
+    /// The entry of a row in 32 bits at a column of four terms with the factors -1, 1, 1 and -1, as most columns are.
+    #[inline(always)]
+    fn price_submodular(&self, row: &NarrowRow) -> i64
         requires suits { Suits self.now row.now.numbers }
-        requires four { length self.now ≡ 4 }
+        requires four { IsSubmodular self.now }
         ensures { result ≡ value self.now (number_at row.now.numbers) }
     {
-        let one = self.add_narrow_term(row, 0, 0);
-        let two = self.add_narrow_term(row, 1, one);
-        let three = self.add_narrow_term(row, 2, two);
-        self.add_narrow_term(row, 3, three)
+        difference_of_sums(
+            row.number(self.place(1)),
+            row.number(self.place(2)),
+            row.number(self.place(0)),
+            row.number(self.place(3)),
+        )
     }
 
     /// The entry of a row in 32 bits at this column, over the row's denominator.
@@ -144,8 +165,8 @@ impl Column {
         requires suits { Suits self.now row.now.numbers }
         ensures { result ≡ value self.now (number_at row.now.numbers) }
     {
-        if self.size() == 4 {
-            return self.price_narrow_four(row);
+        if self.submodular {
+            return self.price_submodular(row);
         }
         let mut sum: i64 = 0;
         for i in 0..self.size() {

@@ -1,13 +1,13 @@
 //! What a step makes of the numbers of a row in 32 bits.
 //! The loops go by index, since their invariants speak of the numbers at the first k places, and over slices, since only these
 //! are run several numbers at once.
-ghost use Rattle.std.specs.Prelude.{◌≡◌, ℕ, ◌+◌, ◌*◌, ◌<◌, ◌^◌, ◌+ℤ◌, ◌*ℤ◌, neg_ℤ, pos, length, unsigned_abs, ◌≤◌, ◌≤ℤ◌, SomeIff};
+ghost use Rattle.std.specs.Prelude.{◌≡◌, ◌++◌, ◌∷◌, [], ℕ, ◌+◌, ◌*◌, ◌<◌, ◌^◌, ◌+ℤ◌, ◌*ℤ◌, neg_ℤ, pos, length, unsigned_abs, ◌≤◌, ◌≤ℤ◌, SomeIff};
 ghost use Prim.Native.Nat.{◌∣◌};
 ghost use Rattle.std.specs.Bool.{OnFalse, OnTrue};
 ghost use Rattle.std.specs.Option.{IfNone, IfSome};
 ghost use Rattle.it_whole.specs.Quotients.{IsSharedPart, likely_quotient_of};
-ghost use Rattle.it_whole.specs.Updates.{AreNextPlaces, IsNextPlace};
-ghost use Rattle.it_whole.specs.Combinations.{DividesAll, IsBound, IsCombined, IsCombinedAndShortened};
+ghost use Rattle.it_whole.specs.Updates.{IsNextPlace};
+ghost use Rattle.it_whole.specs.Combinations.{AreStretches, AreStretchesUpTo, DividesAll, IsBound, IsCombined, IsCombinedAndShortened};
 ghost use Rattle.it_space.specs.Sums.{number_at};
 ghost use Rattle.it_whole.specs.WholeRows.{AreAtMost};
 
@@ -93,28 +93,76 @@ fn less_product(row: &[i32], by: &[i32], k: usize, b: i32) -> i32
     minus(read(row, k), times(read(by, k), b))
 }
 
-/// The place itself where the row isn't 0 there, else the one found after it.
-#[tactic(auto, using(crate::proofs::Places::next_here, crate::proofs::Places::next_null))]
-fn next_place(row: &[i32], k: usize, after: usize) -> usize
-    requires k { k < length row.now }
-    requires after { IsNextPlace row.now (k + 1) after }
-    ensures { IsNextPlace row.now k result }
+/// So many places make a stretch: two operations on four numbers each.
+pub const STRETCH: usize = 8;
+
+/// Whether the number at place k is 0.
+#[inline]
+fn is_null(row: &[i32], k: usize) -> bool
+    requires { k < length row.now }
+    ensures { OnTrue result (number_at row.now k ≡ pos 0) }
 {
-    if read(row, k) == 0 { after } else { k }
+    read(row, k) == 0
 }
 
-/// Notes for each place of the row the next one where the row isn't 0.
-pub fn note_places(row: &[i32], next: &mut [usize])
-    requires { length next.old ≡ length row.now + 1 }
-    ensures { AreNextPlaces row.now next.new }
+/// Whether the numbers of the stretch that begins at a place are all 0. All of them are looked at, so that several are at once.
+#[inline]
+fn is_null_stretch(row: &[i32], from: usize) -> bool
+    requires { from + 8 ≤ length row.now }
+    ensures { OnTrue result ((k : ℕ) → from ≤ k → k < from + 8 → number_at row.now k ≡ pos 0) }
 {
-    let mut k = row.len();
-    next[k] = k;
-    // a `while`, which counts down: the invariant speaks of the places from k on
-    while k > 0 {
-        k -= 1;
-        next[k] = next_place(row, k, next[k + 1]);
+    let mut all = true;
+    for k in from..from + STRETCH {
+        all &= is_null(row, k);
     }
+    all
+}
+
+/// From where on the rest of the row isn't 0.
+fn past_nulls(row: &[i32], from: usize) -> usize
+    requires { from ≤ length row.now }
+    ensures { IsNextPlace row.now from result }
+{
+    for k in from..row.len() {
+        if !is_null(row, k) {
+            return k;
+        }
+    }
+    row.len()
+}
+
+/// Notes one more place; false for want of memory.
+#[inline]
+fn note_place(starts: &mut Vec<usize>, k: usize) -> bool
+    ensures { OnTrue result (starts.new.items ≡ starts.old.items ++ k ∷ []) }
+{
+    starts.push(k).is_ok()
+}
+
+/// Notes that a stretch begins at a place, unless the row is 0 in it; false for want of memory.
+#[inline]
+fn note_stretch(row: &[i32], k: usize, starts: &mut Vec<usize>) -> bool
+    requires stretch { k + 8 ≤ length row.now }
+    requires noted { AreStretchesUpTo row.now starts.old.items k }
+    ensures { OnTrue result (AreStretchesUpTo row.now starts.new.items (k + 8)) }
+{
+    is_null_stretch(row, k) || note_place(starts, k)
+}
+
+/// Notes where the stretches begin in which the row isn't 0, and last from where on the rest isn't, which has fewer places than a stretch;
+/// false for want of memory.
+pub fn note_stretches(row: &[i32], starts: &mut Vec<usize>) -> bool
+    ensures { OnTrue result (AreStretches row.now starts.new.items) }
+{
+    starts.clear();
+    let mut k = 0;
+    while row.len() - k >= STRETCH {
+        if !note_stretch(row, k, starts) {
+            return false;
+        }
+        k += STRETCH;
+    }
+    note_place(starts, past_nulls(row, k))
 }
 
 /// As combine, where no number needs a test.
@@ -129,58 +177,112 @@ fn multiply_and_subtract(row: &mut [i32], by: &[i32], a: i32, b: i32)
     }
 }
 
-/// As combine with the factor 1, where no number needs a test.
-fn subtract(row: &mut [i32], by: &[i32], b: i32)
+/// The numbers from one place on up to another, less those of another row times b, where no number needs a test.
+#[inline(always)]
+fn subtract_part(row: &mut [i32], by: &[i32], from: usize, to: usize, b: i32)
     requires even { length row.old ≡ length by.now }
-    requires bound { (k : ℕ) → k < length by.now → unsigned_abs (number_at row.old k) + unsigned_abs (number_at by.now k *ℤ b) < 2 ^ 31 }
+    requires from { from ≤ to }
+    requires to { to ≤ length by.now }
+    requires bound { (k : ℕ) → from ≤ k → k < to → unsigned_abs (number_at row.old k) + unsigned_abs (number_at by.now k *ℤ b) < 2 ^ 31 }
     ensures length { length row.new ≡ length row.old }
-    ensures entries { (k : ℕ) → k < length by.now → number_at row.new k ≡ number_at row.old k +ℤ neg_ℤ (number_at by.now k *ℤ b) }
+    ensures before { (k : ℕ) → k < from → number_at row.new k ≡ number_at row.old k }
+    ensures part { (k : ℕ) → from ≤ k → k < to → number_at row.new k ≡ number_at row.old k +ℤ neg_ℤ (number_at by.now k *ℤ b) }
+    ensures after { (k : ℕ) → to ≤ k → number_at row.new k ≡ number_at row.old k }
 {
-    for k in 0..row.len() {
+    for k in from..to {
         row[k] = less_product(row, by, k, b);
     }
 }
 
-/// The same: only the places where the other row isn't 0 change.
-fn subtract_at_places(row: &mut [i32], by: &[i32], next: &[usize], b: i32)
-    requires even { length row.old ≡ length by.now }
-    requires bound { (k : ℕ) → k < length by.now → unsigned_abs (number_at row.old k) + unsigned_abs (number_at by.now k *ℤ b) < 2 ^ 31 }
-    requires places { AreNextPlaces by.now next.now }
-    ensures length { length row.new ≡ length row.old }
-    ensures entries { (k : ℕ) → k < length by.now → number_at row.new k ≡ number_at row.old k +ℤ neg_ℤ (number_at by.now k *ℤ b) }
+/// The numbers of the stretch that begins at a place, less those of another row times b, where no number needs a test.
+#[inline(always)]
+fn stretch_less_product(row: &[i32], by: &[i32], from: usize, b: i32) -> [i32; STRETCH]
+    requires row { from + 8 ≤ length row.now }
+    requires by { from + 8 ≤ length by.now }
+    requires bound { (k : ℕ) → from ≤ k → k < from + 8 → unsigned_abs (number_at row.now k) + unsigned_abs (number_at by.now k *ℤ b) < 2 ^ 31 }
+    ensures { (k : ℕ) → k < 8 → number_at result k ≡ number_at row.now (from + k) +ℤ neg_ℤ (number_at by.now (from + k) *ℤ b) }
 {
-    let mut k = next[0];
-    while k < row.len() {
-        row[k] = less_product(row, by, k, b);
-        k = next[k + 1];
+    let mut numbers = [0; STRETCH];
+    for k in 0..STRETCH {
+        numbers[k] = less_product(row, by, from + k, b);
+    }
+    numbers
+}
+
+/// Puts numbers in the place of those of the stretch that begins at a place.
+#[inline(always)]
+fn write_stretch(row: &mut [i32], from: usize, numbers: &[i32; STRETCH])
+    requires { from + 8 ≤ length row.old }
+    ensures length { length row.new ≡ length row.old }
+    ensures before { (k : ℕ) → k < from → number_at row.new k ≡ number_at row.old k }
+    ensures stretch { (k : ℕ) → k < 8 → number_at row.new (from + k) ≡ number_at numbers.now k }
+    ensures after { (k : ℕ) → from + 8 ≤ k → number_at row.new k ≡ number_at row.old k }
+{
+    for k in 0..STRETCH {
+        row[from + k] = numbers[k];
     }
 }
 
-/// Whether so few numbers of the row are other than 0 that it is sooner to go from each of these to the next.
-pub(crate) fn is_sparse(row: &[i32]) -> bool {
-    let mut some: u32 = 0;
-    for k in 0..row.len() {
-        if row[k] != 0 {
-            some = some.wrapping_add(1);
-        }
+/// As `subtract_part` for the stretch that begins at a place. All its numbers are read before the first is written: only so are four
+/// formed at once.
+#[inline(always)]
+fn subtract_stretch(row: &mut [i32], by: &[i32], from: usize, b: i32)
+    requires even { length row.old ≡ length by.now }
+    requires stretch { from + 8 ≤ length by.now }
+    requires bound { (k : ℕ) → from ≤ k → k < from + 8 → unsigned_abs (number_at row.old k) + unsigned_abs (number_at by.now k *ℤ b) < 2 ^ 31 }
+    ensures length { length row.new ≡ length row.old }
+    ensures before { (k : ℕ) → k < from → number_at row.new k ≡ number_at row.old k }
+    ensures part { (k : ℕ) → from ≤ k → k < from + 8 → number_at row.new k ≡ number_at row.old k +ℤ neg_ℤ (number_at by.now k *ℤ b) }
+    ensures after { (k : ℕ) → from + 8 ≤ k → number_at row.new k ≡ number_at row.old k }
+{
+    let numbers = stretch_less_product(row, by, from, b);
+    write_stretch(row, from, &numbers);
+}
+
+/// As combine with the factor 1, where no number needs a test: only the stretches change in which the other row isn't 0.
+fn subtract_stretches(row: &mut [i32], by: &[i32], starts: &[usize], b: i32)
+    requires even { length row.old ≡ length by.now }
+    requires bound { (k : ℕ) → k < length by.now → unsigned_abs (number_at row.old k) + unsigned_abs (number_at by.now k *ℤ b) < 2 ^ 31 }
+    requires stretches { AreStretches by.now starts.now }
+    ensures length { length row.new ≡ length row.old }
+    ensures entries { (k : ℕ) → k < length by.now → number_at row.new k ≡ number_at row.old k +ℤ neg_ℤ (number_at by.now k *ℤ b) }
+{
+    let last = starts.len() - 1;
+    for j in 0..last {
+        let from = starts[j];
+        subtract_stretch(row, by, from, b);
     }
-    (some as usize) < row.len() / 5
+    subtract_part(row, by, starts[last], row.len(), b);
+}
+
+/// The same. Where no stretches are noted, all places are gone through.
+#[inline]
+fn subtract_noted(row: &mut [i32], by: &[i32], starts: &[usize], noted: bool, b: i32)
+    requires even { length row.old ≡ length by.now }
+    requires bound { (k : ℕ) → k < length by.now → unsigned_abs (number_at row.old k) + unsigned_abs (number_at by.now k *ℤ b) < 2 ^ 31 }
+    requires stretches { OnTrue noted (AreStretches by.now starts.now) }
+    ensures length { length row.new ≡ length row.old }
+    ensures entries { (k : ℕ) → k < length by.now → number_at row.new k ≡ number_at row.old k +ℤ neg_ℤ (number_at by.now k *ℤ b) }
+{
+    if noted {
+        subtract_stretches(row, by, starts, b);
+    } else {
+        subtract_part(row, by, 0, row.len(), b);
+    }
 }
 
 /// As combine, where no number needs a test.
-fn combine_plain(row: &mut [i32], by: &[i32], next: &[usize], noted: bool, a: i32, b: i32)
+fn combine_plain(row: &mut [i32], by: &[i32], starts: &[usize], noted: bool, a: i32, b: i32)
     requires even { length row.old ≡ length by.now }
     requires bound { (k : ℕ) → k < length by.now → unsigned_abs (number_at row.old k *ℤ a) + unsigned_abs (number_at by.now k *ℤ b) < 2 ^ 31 }
-    requires places { OnTrue noted (AreNextPlaces by.now next.now) }
+    requires stretches { OnTrue noted (AreStretches by.now starts.now) }
     ensures length { length row.new ≡ length row.old }
     ensures entries { (k : ℕ) → k < length by.now → number_at row.new k ≡ number_at row.old k *ℤ a +ℤ neg_ℤ (number_at by.now k *ℤ b) }
 {
     if a != 1 {
         multiply_and_subtract(row, by, a, b);
-    } else if noted {
-        subtract_at_places(row, by, next, b);
     } else {
-        subtract(row, by, b);
+        subtract_noted(row, by, starts, noted, b);
     }
 }
 
@@ -208,12 +310,12 @@ fn narrow_factor(z: i64) -> Option<i32>
 }
 
 /// The numbers times a, less those of another row times b, with a bound on them, where most and most_by are bounds on the
-/// numbers of the two, and next has the next places where the other row isn't 0, if they are noted. None where the bounds don't
+/// numbers of the two, and stretches in which the other row isn't 0 begin at the starts, if they are noted. None where the bounds don't
 /// show that all stay within the limit: then the row stays.
 pub fn combine(
     row: &mut [i32],
     by: &[i32],
-    next: &[usize],
+    starts: &[usize],
     noted: bool,
     a: i64,
     b: i64,
@@ -222,7 +324,7 @@ pub fn combine(
     limit: u64,
 ) -> Option<u64>
     requires even { length row.old ≡ length by.now }
-    requires places { OnTrue noted (AreNextPlaces by.now next.now) }
+    requires stretches { OnTrue noted (AreStretches by.now starts.now) }
     requires most { AreAtMost row.old most }
     requires most_by { AreAtMost by.now most_by }
     requires limit { limit < 2 ^ 31 }
@@ -240,7 +342,40 @@ pub fn combine(
         u64::from(y.unsigned_abs()),
         limit,
     )?;
-    combine_plain(row, by, next, noted, x, y);
+    combine_plain(row, by, starts, noted, x, y);
+    Some(sum)
+}
+
+/// As combine, for the usual case that the row's own factor is 1 and that the bounds that are kept show that all stay within the
+/// limit. None where they don't: then the row stays.
+#[inline]
+pub fn subtract_multiple(
+    row: &mut [i32],
+    by: &[i32],
+    starts: &[usize],
+    noted: bool,
+    a: i64,
+    b: i64,
+    most: u64,
+    most_by: u64,
+    limit: u64,
+) -> Option<u64>
+    requires even { length row.old ≡ length by.now }
+    requires stretches { OnTrue noted (AreStretches by.now starts.now) }
+    requires most { AreAtMost row.old most }
+    requires most_by { AreAtMost by.now most_by }
+    requires limit { limit < 2 ^ 31 }
+    ensures one { IfSome result (λ m. a ≡ pos 1) }
+    ensures combined { IfSome result (λ m. IsCombined (length by.now) limit row.old by.now (pos 1) b row.new) }
+    ensures most { IfSome result (λ m. AreAtMost row.new m) }
+    ensures kept { IfNone result (row.new ≡ row.old) }
+{
+    if a != 1 {
+        return None;
+    }
+    let y = narrow_factor(b)?;
+    let sum = sum_within(most, 1, most_by, u64::from(y.unsigned_abs()), limit)?;
+    subtract_noted(row, by, starts, noted, y);
     Some(sum)
 }
 
@@ -488,6 +623,23 @@ pub fn divisor(row: &[i32], bottom: u64) -> Divisor
     shared
 }
 
+/// Whether the likely quotients by k of all numbers are their quotients. The test ends with the first part in which one isn't.
+fn are_all_told(row: &[i32], k: i32, shift: u32, inverse: i32, most: u32) -> bool
+    requires shift { shift < 32 }
+    requires most { most * unsigned_abs k < 2 ^ 31 }
+    ensures { OnTrue result ((j : ℕ) → j < length row.now → likely_quotient_of shift inverse (number_at row.now j) *ℤ k ≡ number_at row.now j) }
+{
+    let mut from = 0;
+    while from < row.len() {
+        let to = end_of_part(from, row.len());
+        if !are_told(row, from, to, k, shift, inverse, most) {
+            return false;
+        }
+        from = to;
+    }
+    true
+}
+
 /// Puts the likely quotients in the place of the numbers.
 fn divide_as_told(row: &mut [i32], k: i32, shift: u32, inverse: i32)
     requires shift { shift < 32 }
@@ -502,7 +654,7 @@ fn divide_as_told(row: &mut [i32], k: i32, shift: u32, inverse: i32)
 
 /// Divides the numbers by k without a division, several at once; false where that doesn't give all quotients, and then the row
 /// stays.
-fn divide_at_once(row: &mut [i32], k: i32) -> bool
+pub fn divide_at_once(row: &mut [i32], k: i32) -> bool
     requires { pos 1 ≤ℤ k }
     ensures length { length row.new ≡ length row.old }
     ensures entries { OnTrue result ((j : ℕ) → j < length row.old → number_at row.new j *ℤ k ≡ number_at row.old j) }
@@ -514,7 +666,7 @@ fn divide_at_once(row: &mut [i32], k: i32) -> bool
     }
     let inverse = inverse_of(k >> shift);
     let most = LARGEST_NARROW / k.unsigned_abs();
-    if !are_told(row, 0, row.len(), k, shift, inverse, most) {
+    if !are_all_told(row, k, shift, inverse, most) {
         return false;
     }
     divide_as_told(row, k, shift, inverse);

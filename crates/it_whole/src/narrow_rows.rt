@@ -4,13 +4,13 @@ ghost use Rattle.std.specs.Bool.{OnFalse, OnTrue};
 ghost use Rattle.std.specs.Option.{IfSome};
 ghost use Rattle.it_space.specs.Sums.{number_at};
 ghost use Rattle.it_whole.specs.WholeRows.{AreAtMost, IsUsable};
-ghost use Rattle.it_whole.specs.Updates.{AreNextPlaces, IsWholeRowReduced, IsQuotient, IsShortened, IsUpdated};
+ghost use Rattle.it_whole.specs.Updates.{IsWholeRowReduced, IsQuotient, IsShortened, IsUpdated};
 ghost use Rattle.it_whole.specs.Combinations.{IsCombined, IsCombinedAndShortened};
 
 use crate::arithmetic::{lowest_terms, short_product};
 use crate::narrow_numbers::{
-    combine, combine_in_room, divide, divisor, greatest_size, is_sparse, narrow_number,
-    note_places, read,
+    STRETCH, combine, combine_in_room, divide, divide_at_once, divisor, greatest_size,
+    narrow_number, note_stretches, read, subtract_multiple,
 };
 use std::alloc::{AllocError, Global};
 use std::marker::Model;
@@ -22,18 +22,21 @@ pub struct NarrowRow {
     bottom: u64,
     // no number is greater in absolute value; kept, so that a step mostly needs no pass over the numbers for it
     most: u64,
-    // whether few numbers are other than 0; noted of a row that leaves, and nothing that is proved rests on it
-    sparse: bool,
+    // where the stretches begin outside of which the row is 0, and whether that is noted: of a row that leaves, and of one that is shortened
+    starts: Vec<usize>,
+    noted: bool,
 }
 
 impl Model for NarrowRow {
+    ghost use Rattle.std.specs.Bool.{OnTrue};
+    ghost use Rattle.it_whole.specs.Combinations.{AreStretches};
     ghost use Rattle.it_whole.specs.WholeRows.{AreAtMost, WholeRowView};
 
     ghost Value = { WholeRowView };
 
     ghost view = { λ r. record { numbers = r.numbers.items; bottom = r.bottom } };
 
-    ghost invariant = { λ r. AreAtMost r.numbers.items r.most };
+    ghost invariant = { λ r. (AreAtMost r.numbers.items r.most) × (OnTrue r.noted (AreStretches r.numbers.items r.starts.items)) };
 }
 
 impl NarrowRow {
@@ -56,11 +59,14 @@ impl NarrowRow {
             short.push(number)?;
         }
         let most = greatest_size(short.as_slice());
+        // room for all that is noted later
+        let starts = Vec::with_capacity(alloc, numbers.len() / STRETCH + 1)?;
         Ok(Some(NarrowRow {
             numbers: short,
             bottom,
             most,
-            sparse: false,
+            starts,
+            noted: false,
         }))
     }
 
@@ -78,18 +84,6 @@ impl NarrowRow {
         ensures { result ≡ self.now.bottom }
     {
         self.bottom
-    }
-
-    /// Notes for each place the next one where the row isn't 0, if few numbers are other than 0; tells whether it did.
-    pub fn note_places(&self, next: &mut [usize]) -> bool
-        requires { length next.old ≡ length self.now.numbers + 1 }
-        ensures places { OnTrue result (AreNextPlaces self.now.numbers next.new) }
-        ensures room { length next.new ≡ length next.old }
-    {
-        if self.sparse {
-            note_places(self.numbers.as_slice(), next);
-        }
-        self.sparse
     }
 
     /// No number is greater in absolute value.
@@ -111,59 +105,82 @@ impl NarrowRow {
         }
     }
 
-    /// The same row, with an exact bound on its numbers, and with a note whether few of them are other than 0.
-    fn with_notes(self) -> NarrowRow
-        ensures { result ≡ self }
+    /// Notes the stretches outside of which the row is 0.
+    fn note_stretches(&mut self)
+        ensures { self.new ≡ self.old }
     {
-        let most = greatest_size(self.numbers.as_slice());
-        let sparse = is_sparse(self.numbers.as_slice());
-        NarrowRow {
-            numbers: self.numbers,
-            bottom: self.bottom,
-            most,
-            sparse,
+        self.noted = note_stretches(self.numbers.as_slice(), &mut self.starts);
+    }
+
+    /// Notes an exact bound on the numbers, and the stretches.
+    fn note(&mut self)
+        ensures { self.new ≡ self.old }
+    {
+        self.most = greatest_size(self.numbers.as_slice());
+        self.note_stretches();
+    }
+
+    /// Puts the row over the denominator 1, where the denominator is seen to divide all numbers; false otherwise, and then the row stays.
+    fn divide_out(&mut self) -> bool
+        requires some { 0 < self.old.bottom }
+        ensures shortened { OnTrue result (IsShortened self.old self.new) }
+        ensures kept { OnFalse result (self.new ≡ self.old) }
+    {
+        if self.bottom >= 1 << 31 {
+            return false;
         }
+        self.noted = false;
+        if !divide_at_once(self.numbers.as_mut_slice(), self.bottom as i32) {
+            return false;
+        }
+        self.bottom = 1;
+        self.most = greatest_size(self.numbers.as_slice());
+        true
     }
 
     /// Puts the row over the least denominator.
     #[inline(never)]
-    pub fn shorten(&mut self)
+    fn put_in_lowest_terms(&mut self)
         requires some { 0 < self.old.bottom }
         ensures { IsShortened self.old self.new }
     {
+        if self.bottom == 1 || self.divide_out() {
+            return;
+        }
         let shared = divisor(self.numbers.as_slice(), self.bottom);
         if shared.is_one() {
             return;
         }
+        self.noted = false;
         divide(self.numbers.as_mut_slice(), &shared);
         self.bottom = shared.size_quotient(self.bottom);
         self.most = greatest_size(self.numbers.as_slice());
     }
 
+    /// The same, and notes the stretches outside of which the row is 0.
+    pub fn shorten(&mut self)
+        requires some { 0 < self.old.bottom }
+        ensures { IsShortened self.old self.new }
+    {
+        self.put_in_lowest_terms();
+        self.note_stretches();
+    }
+
     /// The numbers times a, less those of the leaving row times b, over another denominator, where the bounds of both rows show that
     /// all stay within the limit. False where they don't: then the row stays.
-    fn combine(
-        &mut self,
-        own: &NarrowRow,
-        next: &[usize],
-        noted: bool,
-        a: i64,
-        b: i64,
-        bottom: u64,
-        limit: u64,
-    ) -> bool
+    fn combine(&mut self, own: &NarrowRow, a: i64, b: i64, bottom: u64, limit: u64) -> bool
         requires even { length self.old.numbers ≡ length own.now.numbers }
-        requires places { OnTrue noted (AreNextPlaces own.now.numbers next.now) }
         requires limit { limit < 2 ^ 31 }
         ensures combined { OnTrue result (IsCombined (length own.now.numbers) limit self.old.numbers own.now.numbers a b self.new.numbers) }
         ensures bottom { OnTrue result (self.new.bottom ≡ bottom) }
         ensures kept { OnFalse result (self.new ≡ self.old) }
     {
+        self.noted = false;
         match combine(
             self.numbers.as_mut_slice(),
             own.numbers.as_slice(),
-            next,
-            noted,
+            own.starts.as_slice(),
+            own.noted,
             a,
             b,
             self.most,
@@ -179,7 +196,38 @@ impl NarrowRow {
         }
     }
 
-    /// The same, where numbers may pass the limit on the way and not over the least denominator. False where one is still above it:
+    /// The same over the same denominator, in the usual case that the factor a is 1 and the bounds that are kept show that all stay within
+    /// the limit.
+    #[inline]
+    fn subtract_multiple(&mut self, own: &NarrowRow, a: i64, b: i64, limit: u64) -> bool
+        requires even { length self.old.numbers ≡ length own.now.numbers }
+        requires limit { limit < 2 ^ 31 }
+        ensures one { OnTrue result (a ≡ pos 1) }
+        ensures combined { OnTrue result (IsCombined (length own.now.numbers) limit self.old.numbers own.now.numbers (pos 1) b self.new.numbers) }
+        ensures bottom { OnTrue result (self.new.bottom ≡ self.old.bottom) }
+        ensures kept { OnFalse result (self.new ≡ self.old) }
+    {
+        self.noted = false;
+        match subtract_multiple(
+            self.numbers.as_mut_slice(),
+            own.numbers.as_slice(),
+            own.starts.as_slice(),
+            own.noted,
+            a,
+            b,
+            self.most,
+            own.most,
+            limit,
+        ) {
+            Some(most) => {
+                self.most = most;
+                true
+            }
+            None => false,
+        }
+    }
+
+    /// As combine, where numbers may pass the limit on the way and not over the least denominator. False where one is still above it:
     /// then nothing is known of the row.
     #[inline(never)]
     fn combine_in_room(
@@ -199,6 +247,7 @@ impl NarrowRow {
         ensures combined { OnTrue result (IsCombinedAndShortened (length own.now.numbers) self.old.numbers own.now.numbers a b bottom self.new) }
         ensures small { OnTrue result (AreAtMost self.new.numbers limit) }
     {
+        self.noted = false;
         let left = combine_in_room(
             self.numbers.as_mut_slice(),
             own.numbers.as_slice(),
@@ -224,8 +273,6 @@ impl NarrowRow {
     fn reduce(
         &mut self,
         own: &NarrowRow,
-        next: &[usize],
-        noted: bool,
         room: &mut [i64],
         entry: i64,
         pivot: i64,
@@ -233,7 +280,6 @@ impl NarrowRow {
     ) -> bool
         requires row { IsUsable (length own.now.numbers) limit self.old }
         requires own { IsUsable (length own.now.numbers) limit own.now }
-        requires places { OnTrue noted (AreNextPlaces own.now.numbers next.now) }
         requires room { length room.old ≡ length own.now.numbers }
         requires entry { unsigned_abs entry < 2 ^ 63 }
         requires pivot { pos 1 ≤ℤ pivot }
@@ -243,24 +289,24 @@ impl NarrowRow {
         ensures usable { OnTrue result (IsUsable (length own.now.numbers) limit self.new) }
     {
         let (a, b) = lowest_terms(pivot, entry);
+        if self.subtract_multiple(own, a, b, limit) {
+            return true;
+        }
         let Some(bottom) = short_product(self.bottom(), a.unsigned_abs()) else {
             return false;
         };
-        if self.combine(own, next, noted, a, b, bottom, limit) {
+        if self.combine(own, a, b, bottom, limit) {
             return true;
         }
         self.combine_in_room(own, room, a, b, bottom, limit)
     }
 
     /// The row, which has this entry at the column, after a step in which another row leaves, whose entry there is the pivot; false
-    /// where a number would be larger than the limit, and then nothing is known of the row. Next has the next places where the
-    /// leaving row isn't 0, if they are noted, and room is room for a row.
+    /// where a number would be larger than the limit, and then nothing is known of the row. Room is room for a row.
     #[inline(never)]
     pub fn update(
         &mut self,
         own: &NarrowRow,
-        next: &[usize],
-        noted: bool,
         room: &mut [i64],
         entry: i64,
         pivot: i64,
@@ -268,7 +314,6 @@ impl NarrowRow {
     ) -> bool
         requires row { IsUsable (length own.now.numbers) limit self.old }
         requires own { IsUsable (length own.now.numbers) limit own.now }
-        requires places { OnTrue noted (AreNextPlaces own.now.numbers next.now) }
         requires room { length room.old ≡ length own.now.numbers }
         requires entry { unsigned_abs entry < 2 ^ 63 }
         requires some { ¬ (entry ≡ pos 0) }
@@ -277,11 +322,11 @@ impl NarrowRow {
         ensures room { length room.new ≡ length room.old }
         ensures updated { OnTrue result (IsUpdated (length own.now.numbers) limit self.old own.now entry pivot self.new) }
     {
-        if !self.reduce(own, next, noted, room, entry, pivot, limit) {
+        if !self.reduce(own, room, entry, pivot, limit) {
             return false;
         }
         if is_large(self.bottom()) {
-            self.shorten();
+            self.put_in_lowest_terms();
         }
         true
     }
@@ -295,10 +340,12 @@ impl NarrowRow {
             numbers: self.numbers,
             bottom: pivot.unsigned_abs(),
             most: self.most,
-            sparse: false,
+            starts: self.starts,
+            noted: false,
         };
-        row.shorten();
-        row.with_notes()
+        row.put_in_lowest_terms();
+        row.note();
+        row
     }
 }
 

@@ -123,14 +123,15 @@ impl WholeRow {
         self.bottom() as i64
     }
 
-    /// Notes for each place the next one where the row isn't 0, unless it is in 32 bits and few numbers are 0; tells whether it did.
+    /// Notes for each place the next one where the row isn't 0, unless it is in 32 bits, where it notes its stretches itself; tells whether it
+    /// did.
     pub fn note_places(&self, next: &mut [usize]) -> bool
         requires { length next.old ≡ length self.now.numbers + 1 }
         ensures places { OnTrue result (AreNextPlaces self.now.numbers next.new) }
         ensures room { length next.new ≡ length next.old }
     {
         match &self.row {
-            AnyRow::Narrow(row) => row.note_places(next),
+            AnyRow::Narrow(_) => false,
             AnyRow::Wide(row) => {
                 row.note_places(next);
                 true
@@ -223,7 +224,7 @@ impl WholeRow {
         match &own.row {
             AnyRow::Narrow(own) => match &mut self.row {
                 AnyRow::Narrow(row) => {
-                    limit < 1 << 31 && row.update(own, next, noted, room, entry, pivot, limit)
+                    limit < 1 << 31 && row.update(own, room, entry, pivot, limit)
                 }
                 AnyRow::Wide(_) => false,
             },

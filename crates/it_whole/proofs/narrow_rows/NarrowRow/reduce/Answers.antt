@@ -2,11 +2,11 @@ use Rattle.std.proofs.Common.{rules, Bool, true, false, mul-pos, ℕ, ◌*◌, �
 use Rattle.std.specs.Bool.{OnTrue}
 use Rattle.it_number.specs.Gcd.{gcd}
 use Rattle.it_number.specs.Division.{int_quotient}
-use Rattle.it_whole.specs.Combinations.{IsCombinedAndShortened}
+use Rattle.it_whole.specs.Combinations.{IsCombined, IsCombinedAndShortened}
 use Rattle.it_whole.specs.WholeRows.{WholeRowView}
 use Rattle.it_whole.proofs.RowSteps.{less_row}
 use Rattle.it_whole.proofs.Usable.{factor_some}
-use Rattle.it_whole.proofs.NarrowSteps.{combined_usable, room_usable, shortened_reduced}
+use Rattle.it_whole.proofs.NarrowSteps.{combined_usable, multiple_reduced, multiple_usable, room_usable, shortened_reduced}
 use Rattle.it_whole.proofs.narrow_rows.NarrowRow.reduce.Goals as goal
 use Rattle.it_whole.proofs.narrow_rows.NarrowRow.reduce.Goals.{In-Some}
 
@@ -28,7 +28,7 @@ own_factor_is c =
 product_is : (c : In-Some) → c.bottom.result * c.unsigned_abs.result ≡ c.args.self.now.bottom * unsigned_abs c.lowest_terms-a.result.0
 product_is c =
     let fa : FitsSigned w64 c.lowest_terms-a.result.0 = search rules in
-    ap₂ (λ x y. x * y) c.bottom.ensures (c.unsigned_abs.ensures.value ∙ ap unsigned_abs (to_z-of_z fa))
+    ap₂ (λ x y. x * y) (c.bottom.ensures ∙ ap (λ (r : WholeRowView). r.bottom) c.if-subtract_multiple.ensures.kept) (c.unsigned_abs.ensures.value ∙ ap unsigned_abs (to_z-of_z fa))
 
 bottom_is : (c : In-Some) → c.in-Some.bottom ≡ c.args.self.now.bottom * unsigned_abs c.lowest_terms-a.result.0
 bottom_is c = c.in-Some.ensures.1 ∙ product_is c
@@ -36,12 +36,38 @@ bottom_is c = c.in-Some.ensures.1 ∙ product_is c
 bottom_is_low : (c : In-Some) → c.args.self.now.bottom * unsigned_abs c.lowest_terms-a.result.0 < 2 ^ 63
 bottom_is_low c = subst (λ (k : ℕ). k < 2 ^ 63) (product_is c) c.in-Some.ensures.0
 
+pub returns-then-subtract_multiple-clause-less : goal.returns-then-subtract_multiple-clause-less
+returns-then-subtract_multiple-clause-less c =
+    let fp : FitsSigned w64 c.args.pivot = c.ranges.pivot in
+    let fe : FitsSigned w64 c.args.entry = c.ranges.entry in
+    let a = simp to_z-of_z at c.lowest_terms-a.ensures.pivot in
+    let b = simp to_z-of_z at c.lowest_terms-a.ensures.entry in
+    let fa : FitsSigned w64 c.lowest_terms-a.result.0 = search rules in
+    let fb : FitsSigned w64 c.lowest_terms-a.result.1 = search rules in
+    let combined = simp to_z-of_z at c.if-subtract_multiple.ensures.combined in
+    let one = simp to_z-of_z at c.if-subtract_multiple.ensures.one in
+    multiple_reduced (length c.args.own.now.numbers) c.args.limit c.args.self.now c.args.own.now c.subtract_multiple.new.self c.args.entry c.args.pivot c.lowest_terms-a.result.0 c.lowest_terms-a.result.1 c.requires.pivot
+    a one combined c.if-subtract_multiple.ensures.bottom b
+
+pub returns-then-subtract_multiple-clause-usable : goal.returns-then-subtract_multiple-clause-usable
+returns-then-subtract_multiple-clause-usable c =
+    let fp : FitsSigned w64 c.args.pivot = c.ranges.pivot in
+    let fe : FitsSigned w64 c.args.entry = c.ranges.entry in
+    let a = simp to_z-of_z at c.lowest_terms-a.ensures.pivot in
+    let fa : FitsSigned w64 c.lowest_terms-a.result.0 = search rules in
+    let fb : FitsSigned w64 c.lowest_terms-a.result.1 = search rules in
+    let combined = simp to_z-of_z at c.if-subtract_multiple.ensures.combined in
+    let one = simp to_z-of_z at c.if-subtract_multiple.ensures.one in
+    multiple_usable (length c.args.own.now.numbers) c.args.limit c.args.self.now c.args.own.now c.subtract_multiple.new.self c.args.entry c.args.pivot c.lowest_terms-a.result.0 c.lowest_terms-a.result.1 c.requires.pivot
+    a one combined c.if-subtract_multiple.ensures.bottom c.requires.row
+
 pub returns-then-combine-clause-less : goal.returns-then-combine-clause-less
 returns-then-combine-clause-less c =
     let d = (goal.at.returns-then-combine-clause-less c).In-Some in
     let fa : FitsSigned w64 c.lowest_terms-a.result.0 = search rules in
     let fb : FitsSigned w64 c.lowest_terms-a.result.1 = search rules in
-    let combined = simp to_z-of_z at c.if-combine.ensures.combined in
+    let combined = subst (λ (row : WholeRowView). IsCombined (length c.args.own.now.numbers) c.args.limit row.numbers c.args.own.now.numbers c.lowest_terms-a.result.0 c.lowest_terms-a.result.1 c.combine.new.self.numbers)
+    c.if-subtract_multiple.ensures.kept (simp to_z-of_z at c.if-combine.ensures.combined) in
     less_row (length c.args.own.now.numbers) c.args.limit c.args.self.now c.args.own.now c.combine.new.self c.args.entry c.args.pivot c.lowest_terms-a.result.0 c.lowest_terms-a.result.1 c.requires.pivot
     (factor_is d) (own_factor_is d) combined (c.if-combine.ensures.bottom ∙ bottom_is d) (bottom_is_low d)
 
@@ -50,7 +76,8 @@ returns-then-combine-clause-usable c =
     let d = (goal.at.returns-then-combine-clause-usable c).In-Some in
     let fa : FitsSigned w64 c.lowest_terms-a.result.0 = search rules in
     let fb : FitsSigned w64 c.lowest_terms-a.result.1 = search rules in
-    let combined = simp to_z-of_z at c.if-combine.ensures.combined in
+    let combined = subst (λ (row : WholeRowView). IsCombined (length c.args.own.now.numbers) c.args.limit row.numbers c.args.own.now.numbers c.lowest_terms-a.result.0 c.lowest_terms-a.result.1 c.combine.new.self.numbers)
+    c.if-subtract_multiple.ensures.kept (simp to_z-of_z at c.if-combine.ensures.combined) in
     combined_usable (length c.args.own.now.numbers) c.args.limit c.args.self.now c.args.own.now c.combine.new.self c.args.entry c.args.pivot c.lowest_terms-a.result.0 c.lowest_terms-a.result.1 c.requires.pivot
     (factor_is d) c.requires.row combined (c.if-combine.ensures.bottom ∙ bottom_is d)
 
@@ -72,7 +99,7 @@ returns-clause-less c =
     by_test c.combine_in_room.result combined c.combine_in_room.ensures.small
     (λ k s. shortened_reduced (length c.args.own.now.numbers) c.args.limit c.args.self.now c.args.own.now c.combine_in_room.new.self c.args.entry c.args.pivot c.lowest_terms-a.result.0 c.lowest_terms-a.result.1 c.requires.pivot
     (factor_is d) c.in-Some.bottom c.requires.limit (bottom_is d)
-    (subst (λ (row : WholeRowView). IsCombinedAndShortened (length c.args.own.now.numbers) row.numbers c.args.own.now.numbers c.lowest_terms-a.result.0 c.lowest_terms-a.result.1 c.in-Some.bottom c.combine_in_room.new.self) c.if-combine.ensures.kept k)
+    (subst (λ (row : WholeRowView). IsCombinedAndShortened (length c.args.own.now.numbers) row.numbers c.args.own.now.numbers c.lowest_terms-a.result.0 c.lowest_terms-a.result.1 c.in-Some.bottom c.combine_in_room.new.self) (c.if-combine.ensures.kept ∙ c.if-subtract_multiple.ensures.kept) k)
     s (own_factor_is d) (bottom_is_low d))
 
 pub returns-clause-usable : goal.returns-clause-usable
@@ -84,5 +111,5 @@ returns-clause-usable c =
     by_test c.combine_in_room.result combined c.combine_in_room.ensures.small
     (λ k s. room_usable (length c.args.own.now.numbers) c.args.limit c.args.self.now c.args.own.now c.combine_in_room.new.self c.args.entry c.args.pivot c.lowest_terms-a.result.0 c.lowest_terms-a.result.1 c.requires.pivot
     (factor_is d) c.in-Some.bottom c.requires.limit (bottom_is d)
-    (subst (λ (row : WholeRowView). IsCombinedAndShortened (length c.args.own.now.numbers) row.numbers c.args.own.now.numbers c.lowest_terms-a.result.0 c.lowest_terms-a.result.1 c.in-Some.bottom c.combine_in_room.new.self) c.if-combine.ensures.kept k)
+    (subst (λ (row : WholeRowView). IsCombinedAndShortened (length c.args.own.now.numbers) row.numbers c.args.own.now.numbers c.lowest_terms-a.result.0 c.lowest_terms-a.result.1 c.in-Some.bottom c.combine_in_room.new.self) (c.if-combine.ensures.kept ∙ c.if-subtract_multiple.ensures.kept) k)
     s c.requires.row)

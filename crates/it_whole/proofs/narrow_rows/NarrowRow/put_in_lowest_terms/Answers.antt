@@ -5,19 +5,19 @@ use native.Mathlib.Nat.{div-mul_cancel}
 use Rattle.it_whole.specs.Updates.{IsShortened}
 use Rattle.it_whole.specs.WholeRows.{WholeRowView}
 use Rattle.it_whole.proofs.RowSteps.{same_shortened}
-use Rattle.it_whole.proofs.narrow_rows.NarrowRow.shorten.Goals as goal
+use Rattle.it_whole.proofs.narrow_rows.NarrowRow.put_in_lowest_terms.Goals as goal
 
 pub returns-then-is_one : goal.returns-then-is_one
-returns-then-is_one c = same_shortened c.args.self.now
+returns-then-is_one c = subst (IsShortened c.args.self.now) (sym c.if-divide_out.ensures.kept) (same_shortened c.args.self.now)
 
 pub returns : goal.returns
 returns c =
     let lent = c.as_mut_slice.ensures.value in
-    let written : (with_items c.self.inside.numbers c.divide.new.row).items ≡ c.divide.new.row =
-    with_items_is c.self.inside.numbers c.divide.new.row (c.divide.ensures.length ∙ ap length lent ∙ sym c.self.inside.numbers.ok.0) in
+    let written : (with_items c.self-2.inside.numbers c.divide.new.row).items ≡ c.divide.new.row =
+    with_items_is c.self-2.inside.numbers c.divide.new.row (c.divide.ensures.length ∙ ap length lent ∙ sym c.self-2.inside.numbers.ok.0) in
     subst (λ (new : List ℤ). IsShortened c.args.self.now record { numbers = new; bottom = c.size_quotient-self-inside.result }) (sym written)
-    (subst (λ (v : WholeRowView). IsShortened v record { numbers = c.divide.new.row; bottom = c.size_quotient-self-inside.result }) c.self.view_is
-    (subst (λ (old : List ℤ). IsShortened record { numbers = old; bottom = c.self.inside.bottom } record { numbers = c.divide.new.row; bottom = c.size_quotient-self-inside.result }) lent record {
+    (subst (λ (v : WholeRowView). IsShortened v record { numbers = c.divide.new.row; bottom = c.size_quotient-self-inside.result }) (c.self-2.view_is ∙ c.if-divide_out.ensures.kept)
+    (subst (λ (old : List ℤ). IsShortened record { numbers = old; bottom = c.self-2.inside.bottom } record { numbers = c.divide.new.row; bottom = c.size_quotient-self-inside.result }) lent record {
       shared = c.divisor-shared.result.value;
       some = c.divisor-shared.ensures.numbers.some;
       length_is = c.divide.ensures.length;
