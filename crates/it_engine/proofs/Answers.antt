@@ -1,6 +1,7 @@
 -- The answer of a run of the engine.
-use Rattle.std.proofs.Common.{◌≡◌, ℕ, List, Option, Some, None, length, sym, ap, subst, ◌∙◌}
+use Rattle.std.proofs.Common.{◌≡◌, ℕ, List, Option, Some, None, Result, length, sym, ap, subst, ◌∙◌}
 use Rattle.std.specs.Option.{IfSome}
+use Rattle.std.specs.Result.{IfOk}
 use Rattle.it_rational.specs.Rational.{Rational}
 use Rattle.it_space.specs.Rows.{Terms}
 use Rattle.it_tableau.specs.TableauViews.{start_of}
@@ -12,12 +13,12 @@ use Rattle.it_run.specs.Readings.{weights, point}
 use Rattle.it_run.specs.Runs.RunEndView.{Weights, Point, Pivots}
 use Rattle.it_run.specs.Solving.{RunsTo}
 use Rattle.it_run.specs.declared.answering.Solved.{Solved}
-use Rattle.it_run.proofs.AnswerLemmas.{read_run}
-use Rattle.it_engine.specs.Ends.{AnswersQuestion, AreWeightsOf, IsPointOf}
-use Rattle.it_engine.specs.Engine.{Represents, IsFinished}
+use Rattle.it_run.proofs.AnswerLemmas.{if_ok, read_run}
+use Rattle.it_engine.specs.Answers.{RunsFromStart}
+use Rattle.it_engine.specs.Ends.{AnswersFrom, AreWeightsOf, IsPointOf, IsStart}
+use Rattle.it_engine.specs.Engine.{EngineView, Represents, IsFinished}
 use Rattle.it_whole.specs.WholeRows.{WholeRowView}
 use Rattle.it_engine.specs.declared.engine.EngineEnd.TheVariants as engine_ends
-use Rattle.it_engine.proofs.Starts.{stands_start, IsLoaded}
 
 pub if_some_more : {X : Type 0} (o : Option X) (P Q : X → Type 0) → IfSome o P → ((x : X) → P x → Q x) → IfSome o Q
 if_some_more None P Q h f = tt
@@ -47,11 +48,14 @@ module _ (coordinates : List ℕ) (target : Terms) (columns : List Terms) (limit
   by_budget k f generators t s = let p = feasibility_problem coordinates generators target in let r = f.runs p t s in read_run (length basis) (length columns) p budget t (Pivots k) r.2
 
 -- from the start
-pub answer_from_start : (cs : List ℕ) (generators : List Terms) (target : Terms) (columns : List Terms) (norm limit : ℕ) (rows : List WholeRowView) (basis : List ℕ)
-    → IsLoaded cs generators target columns norm limit rows basis → (budget : Option ℕ) (solved : Solved) → AnswersQuestion cs target columns limit rows basis budget solved
-    → RunsTo (length cs) (length generators) (feasibility_problem cs generators target) budget (start_of cs generators target) (end_of_answer solved)
-answer_from_start cs generators target columns norm limit rows basis s budget solved a =
-    let p = feasibility_problem cs generators target in let t = start_of cs generators target in
-    subst (λ (m : ℕ). RunsTo m (length generators) p budget t (end_of_answer solved)) s.height
-    (subst (λ (n : ℕ). RunsTo (length basis) n p budget t (end_of_answer solved)) s.columns_are.0
-    (a generators t (stands_start cs generators target columns norm limit rows basis s)))
+module _ (cs : List ℕ) (generators : List Terms) (target : Terms) (columns : List Terms) (limit : ℕ) (engine : EngineView) (s : IsStart cs generators target columns limit engine) (budget : Option ℕ) where
+  answer_from_start : (solved : Solved) → AnswersFrom cs target columns limit engine budget solved → RunsFromStart cs generators target budget solved
+  answer_from_start solved a = let p = feasibility_problem cs generators target in let t = start_of cs generators target in record {
+    fits = s.fits;
+    ends = subst (λ (m : ℕ). RunsTo m (length generators) p budget t (end_of_answer solved)) s.height
+        (subst (λ (n : ℕ). RunsTo (length engine.basis) n p budget t (end_of_answer solved)) s.count (a generators t s.stands));
+  }
+
+  pub answers_from_start : {E : Type 0} (result : Result (Option Solved) E) → IfOk result (λ o. IfSome o (AnswersFrom cs target columns limit engine budget)) → IfOk result (λ o. IfSome o (RunsFromStart cs generators target budget))
+  answers_from_start result h = if_ok result (λ o. IfSome o (AnswersFrom cs target columns limit engine budget)) (λ o. IfSome o (RunsFromStart cs generators target budget)) h
+      (λ o h. if_some_more o (AnswersFrom cs target columns limit engine budget) (RunsFromStart cs generators target budget) h answer_from_start)

@@ -15,7 +15,7 @@ use Rattle.it_space.specs.Sums.{number_at}
 use Rattle.it_space.proofs.TermLemmas.{value-append}
 use Rattle.it_tableau.specs.FieldOperations.{sum_to}
 use Rattle.it_tableau.specs.SimplexTables.{SimplexTable, FeasibilityProblem}
-use Rattle.it_engine.specs.Behind.{AreBaseBounds, AreMovedEntries, BoundsShares, column_less_moved, has_moved, IsCommonMultiple, IsFirstToLeave, LeavesStill, share_of, ShowsBehind, taken_terms}
+use Rattle.it_engine.specs.Behind.{AreBaseBounds, AreMovedEntries, BoundsShares, column_less_moved, has_moved, IsCommonMultiple, IsFirstOf, LeavesStill, MayLeave, share_of, ShowsBehind, taken_terms}
 use Rattle.it_whole.specs.ColumnTerms.{multiple_of_terms}
 use Rattle.it_engine.specs.Choosing.{entry_of, is_above_zero}
 use Rattle.it_engine.specs.Loading.{IsNorm}
@@ -139,24 +139,25 @@ module _ (columns : List Terms) (rows : List WholeRowView) (basis : List ℕ) (m
               (λ q. cond (has_moved moved q) ((T.number_now p b t columns limit rows basis (has_moved moved) s i (t.basis q) *ℤ T.number_now p b t columns limit rows basis (has_moved moved) s q c) *ℤ pos (share_of multiple rows q)) (pos 0))
               (λ q h. term_is q h (has_moved moved q) refl))
 
-    pub leaves_still : (r : ℕ) → IsFirstToLeave rows basis moved entries combined (length basis) (Some r) → LeavesStill columns limit rows basis moved c r
+    pub leaves_still : (r : ℕ) → IsFirstOf basis (MayLeave rows moved entries combined (length basis)) (length basis) (Some r) → LeavesStill columns limit rows basis moved c r
     leaves_still r g p b t s e =
-        let still : number_at (whole_row_at rows r).numbers (length basis) ≡ pos 0 = g.1.still in
+        let row : r < length basis = g.within in
+        let still : number_at (whole_row_at rows r).numbers (length basis) ≡ pos 0 = g.own.still in
         let above : is_above_zero (T.true_number p b t columns limit rows basis (has_moved moved) s multiple (share_of multiple rows) multiple_is.some shares_whole r c) ≡ true =
-        ap is_above_zero (sym (true_number_is p b t s r g.0)) ∙ g.1.above in
+        ap is_above_zero (sym (true_number_is p b t s r row)) ∙ g.own.above in
         let first : (i : ℕ) → i < length basis → number_at (whole_row_at rows i).numbers (length basis) ≡ pos 0
         → is_above_zero (T.true_number p b t columns limit rows basis (has_moved moved) s multiple (share_of multiple rows) multiple_is.some shares_whole i c) ≡ true → slice_index_or basis r 0 ≤ slice_index_or basis i 0 =
-        λ i l z a. g.2 i l record { still = z; above = ap is_above_zero (true_number_is p b t s i l) ∙ a } in
+        λ i l z a. g.before i l record { still = z; above = ap is_above_zero (true_number_is p b t s i l) ∙ a } in
         record {
-          leaves = T.row_leaves p b t columns limit rows basis (has_moved moved) s multiple (share_of multiple rows) multiple_is.some shares_whole c r enters e g.0 still above first;
-          still = T.right_is_null p b t columns limit rows basis (has_moved moved) s multiple (share_of multiple rows) multiple_is.some shares_whole c r enters e g.0 still above first;
-          fits = T.step_fits_behind p b t columns limit rows basis (has_moved moved) s multiple (share_of multiple rows) multiple_is.some shares_whole c r enters e g.0 still above first
+          leaves = T.row_leaves p b t columns limit rows basis (has_moved moved) s multiple (share_of multiple rows) multiple_is.some shares_whole c r enters e row still above first;
+          still = T.right_is_null p b t columns limit rows basis (has_moved moved) s multiple (share_of multiple rows) multiple_is.some shares_whole c r enters e row still above first;
+          fits = T.step_fits_behind p b t columns limit rows basis (has_moved moved) s multiple (share_of multiple rows) multiple_is.some shares_whole c r enters e row still above first
               (T.table_is_short p b t columns limit rows basis (has_moved moved) s multiple (share_of multiple rows) multiple_is.some shares_whole norm most shares is_norm
               (λ i l f. (base i l f).0) bounds
               (λ i l f. let w = (base i l f).1 in let k = mul-le (whole_row_at rows i).bottom multiple low multiple w (omega arith) in omega (arith, k, bottoms_fit))
               numbers_fit);
         }
 
-    pub leaves_if_some : (o : Option ℕ) → IsFirstToLeave rows basis moved entries combined (length basis) o → IfSome o (LeavesStill columns limit rows basis moved c)
+    pub leaves_if_some : (o : Option ℕ) → IsFirstOf basis (MayLeave rows moved entries combined (length basis)) (length basis) o → IfSome o (LeavesStill columns limit rows basis moved c)
     leaves_if_some None g = tt
     leaves_if_some (Some r) g = leaves_still r g

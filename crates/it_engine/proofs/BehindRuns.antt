@@ -23,15 +23,12 @@ module _ (columns : List Terms) (limit : ℕ) (rows : List WholeRowView) (basis 
   pub nothing_off : (old : WholeRowView) → IsTakenOff columns limit rows basis moved old 0 old
   nothing_off old whole r a l e f p b t s = subst (R.ShowsAfter p b t columns limit whole basis (has_moved moved) s r l e 0) f (R.none_taken p b t columns limit whole basis (has_moved moved) s r l e)
 
-  pub more_off : (old : WholeRowView) (q : ℕ) (now new : WholeRowView) → q < length basis → IsTakenOff columns limit rows basis moved old q now → IsLessMoved columns limit rows basis moved q now new → IsTakenOff columns limit rows basis moved old (q + 1) new
-  more_off old q now new k h m whole r a l e f p b t s =
+  pub more_off : (old : WholeRowView) (q : ℕ) (now new : WholeRowView) → q < length basis → has_moved moved q ≡ true → IsTakenOff columns limit rows basis moved old q now → IsLessMoved columns limit rows basis q now new → IsTakenOff columns limit rows basis moved old (q + 1) new
+  more_off old q now new k g h m whole r a l e f p b t s =
       let next : suc q ≡ q + 1 = omega arith in
-      subst (λ (x : ℕ). R.ShowsAfter p b t columns limit whole basis (has_moved moved) s r l e x new) next (by_move (has_moved moved q) refl)
-    where
-      by_move : (d : Bool) → has_moved moved q ≡ d → R.ShowsAfter p b t columns limit whole basis (has_moved moved) s r l e (suc q) new
-      by_move true g = R.moved_taken p b t columns limit whole basis (has_moved moved) s r l e q now new k g (h whole r a l e f p b t s)
-          (subst (λ (own : WholeRowView). IsWholeRowReduced (length basis + 1) limit now own (value (slice_index_or columns (slice_index_or basis q 0) []) (number_at now.numbers)) (pos own.bottom) new) (sym (a q g)) (m.taken g))
-      by_move false g = subst (R.ShowsAfter p b t columns limit whole basis (has_moved moved) s r l e (suc q)) (sym (m.still g)) (R.still_taken p b t columns limit whole basis (has_moved moved) s r l e q now g (h whole r a l e f p b t s))
+      subst (λ (x : ℕ). R.ShowsAfter p b t columns limit whole basis (has_moved moved) s r l e x new) next
+      (R.moved_taken p b t columns limit whole basis (has_moved moved) s r l e q now new k g (h whole r a l e f p b t s)
+      (subst (λ (own : WholeRowView). IsWholeRowReduced (length basis + 1) limit now own (value (slice_index_or columns (slice_index_or basis q 0) []) (number_at now.numbers)) (pos own.bottom) new) (sym (a q g)) m))
 
   -- a row that didn't move takes nothing off
   pub still_off : (old now : WholeRowView) (q : ℕ) → has_moved moved q ≡ false → IsTakenOff columns limit rows basis moved old q now → IsTakenOff columns limit rows basis moved old (q + 1) now
@@ -44,15 +41,12 @@ module _ (columns : List Terms) (limit : ℕ) (rows : List WholeRowView) (basis 
   all_off old now q k h whole r a l e f p b t s = R.all_taken p b t columns limit whole basis (has_moved moved) s r l e now
       (subst (λ (x : ℕ). R.ShowsAfter p b t columns limit whole basis (has_moved moved) s r l e x now) k (h whole r a l e f p b t s))
 
-  pub less_by_row : (d : Bool) (q : ℕ) (old new : WholeRowView) (terms : Terms) → has_moved moved q ≡ true → terms ≡ slice_index_or columns (slice_index_or basis q 0) []
-      → length (whole_row_at rows q).numbers ≡ length basis + 1 → OnTrue d (IsLessRow terms limit rows q old new) → OnTrue d (IsLessMoved columns limit rows basis moved q old new)
-  less_by_row false q old new terms f et el u = tt
-  less_by_row true q old new terms f et el u = record {
-    still = λ g. absurd (true≢false (sym f ∙ g));
-    taken = λ _.
-        subst (λ (w : ℕ). IsWholeRowReduced w limit old (whole_row_at rows q) (value (slice_index_or columns (slice_index_or basis q 0) []) (number_at old.numbers)) (pos (whole_row_at rows q).bottom) new) el
-        (subst (λ (ts : Terms). IsWholeRowReduced (length (whole_row_at rows q).numbers) limit old (whole_row_at rows q) (value ts (number_at old.numbers)) (pos (whole_row_at rows q).bottom) new) et u.less);
-  }
+  pub less_by_row : (d : Bool) (q : ℕ) (old new : WholeRowView) (terms : Terms) → terms ≡ slice_index_or columns (slice_index_or basis q 0) []
+      → length (whole_row_at rows q).numbers ≡ length basis + 1 → OnTrue d (IsLessRow terms limit rows q old new) → OnTrue d (IsLessMoved columns limit rows basis q old new)
+  less_by_row false q old new terms et el u = tt
+  less_by_row true q old new terms et el u =
+      subst (λ (w : ℕ). IsWholeRowReduced w limit old (whole_row_at rows q) (value (slice_index_or columns (slice_index_or basis q 0) []) (number_at old.numbers)) (pos (whole_row_at rows q).bottom) new) el
+      (subst (λ (ts : Terms). IsWholeRowReduced (length (whole_row_at rows q).numbers) limit old (whole_row_at rows q) (value ts (number_at old.numbers)) (pos (whole_row_at rows q).bottom) new) et u.less)
 
   pub none_brought : AreUsable (length rows) limit rows → AreBrought columns limit rows basis moved 0 rows
   none_brought u = record { same_length = refl; kept = λ q e. refl; rest = λ i l. refl; done = λ i l e. absurd (omega (arith, l)); usable = u }

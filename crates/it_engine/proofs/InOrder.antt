@@ -1,5 +1,5 @@
 -- Loops over the rows that moved, in their order.
-use Rattle.std.proofs.Common.{◌≡◌, ◌⊎◌, inl, inr, ℕ, suc, ◌+◌, ◌<◌, ◌≤◌, Bool, false, cond, ℤ, pos, List, length, slice_index_or, slice_set, sym, ap, subst, ◌∙◌, arith}
+use Rattle.std.proofs.Common.{◌≡◌, ◌⊎◌, inl, inr, ℕ, suc, ◌+◌, ◌<◌, ◌≤◌, Bool, false, true, cond, ℤ, pos, List, length, slice_index_or, slice_set, sym, ap, subst, ◌∙◌, arith}
 use Rattle.std.proofs.lemmas.Bool.{cases_eq}
 use Rattle.std.proofs.lemmas.List.{length-set, get_or-set_same, get_or-set_other}
 use Rattle.it_space.specs.Rows.{Terms}
@@ -39,13 +39,17 @@ module _ (terms : Terms) (rows : List WholeRowView) (moved : List Bool) where
       by_cases j l (inl e) = h.rest j (omega (arith, e)) ∙ ap (λ d. cond d (entry_of terms rows j) (pos 0)) (sym f ∙ ap (has_moved moved) (sym e))
       by_cases j l (inr d) = h.done j (omega (arith, l, d))
 
-  pub one_noted : (entries : List ℤ) (q : ℕ) (z : ℤ) → q < length entries → z ≡ cond (has_moved moved q) (entry_of terms rows q) (pos 0)
+  one_noted : (entries : List ℤ) (q : ℕ) (z : ℤ) → q < length entries → z ≡ cond (has_moved moved q) (entry_of terms rows q) (pos 0)
       → AreNotedBelow terms rows moved entries q → AreNotedBelow terms rows moved (slice_set entries q z) (q + 1)
   one_noted entries q z l e h = record { done = λ j m. by_cases j m (cases_eq j q); rest = λ j m. get_or-set_other entries q j z (pos 0) (λ w. omega (arith, w, m)) ∙ h.rest j (omega (arith, m)) }
     where
       by_cases : (j : ℕ) → j < q + 1 → (j ≡ q) ⊎ (j ≡ q → ⊥) → number_at (slice_set entries q z) j ≡ cond (has_moved moved j) (entry_of terms rows j) (pos 0)
       by_cases j m (inl w) = ap (number_at (slice_set entries q z)) w ∙ get_or-set_same entries q z (pos 0) l ∙ e ∙ ap (λ k. cond (has_moved moved k) (entry_of terms rows k) (pos 0)) (sym w)
       by_cases j m (inr d) = get_or-set_other entries q j z (pos 0) d ∙ h.done j (omega (arith, m, d))
+
+  -- the entry of a row that moved
+  pub moved_noted : (entries : List ℤ) (q : ℕ) (z : ℤ) → q < length entries → has_moved moved q ≡ true → z ≡ entry_of terms rows q → AreNotedBelow terms rows moved entries q → AreNotedBelow terms rows moved (slice_set entries q z) (q + 1)
+  moved_noted entries q z l f e h = one_noted entries q z l (e ∙ ap (λ d. cond d (entry_of terms rows q) (pos 0)) (sym f)) h
 
   -- and last that of the cost row
   pub all_noted : (entries : List ℤ) (height : ℕ) (z : ℤ) → length entries ≡ length rows → length rows ≡ height + 1 → z ≡ cond (has_moved moved height) (entry_of terms rows height) (pos 0)

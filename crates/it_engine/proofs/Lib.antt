@@ -31,4 +31,5 @@ pub mod BehindWeights
 pub mod BehindMoves
 pub mod ManySteps
 pub mod MovedOrder
+pub mod RankedRows
 pub mod ShortenedRows

@@ -1,11 +1,41 @@
--- The list of the rows that moved.
+-- The list of the rows that moved, and their basic columns.
 use Rattle.std.proofs.Common.{◌≡◌, ◌≢◌, ◌⊎◌, inl, inr, ℕ, zero, suc, ◌+◌, ◌<◌, ◌≤◌, Bool, true, false, if◌then◌else◌, List, length, slice_index_or, slice_set, refl, sym, ap, subst, ◌∙◌, arith}
 use Rattle.std.specs.Bool.{OnTrue}
 use Rattle.std.specs.List.{insert}
 use Rattle.std.proofs.lemmas.Bool.{cases_lt, cases_eq}
-use Rattle.std.proofs.lemmas.List.{get_or_default, get_or_past, get_or-set_other}
+use Rattle.std.proofs.lemmas.List.{get_or_default, get_or_past, length-set, get_or-set_same, get_or-set_other}
 use Rattle.std.proofs.lemmas.List.Edits.{get_or-insert_above, get_or-insert_at, get_or-insert_below, length-insert}
-use Rattle.it_engine.specs.Behind.{after_rows, AreMovedInOrder, IsNextMoved}
+use Rattle.it_space.specs.Rows.{Terms}
+use Rattle.it_engine.specs.Behind.{after_rows, AreMovedInOrder, has_moved, HaveEntered, IsNextMoved}
+
+-- where element k of a list with one more comes from: from before the place, the place itself, or from after it
+abbrev pub IsFrom : List ℕ → ℕ → ℕ → ℕ → Type 0
+IsFrom xs place x k = ((k < place) × (slice_index_or (insert xs place x) k 0 ≡ slice_index_or xs k 0))
+    ⊎ (((k ≡ place) × (slice_index_or (insert xs place x) k 0 ≡ x))
+    ⊎ ((j : ℕ) × (suc j ≡ k) × (place ≤ j) × (j < length xs) × (slice_index_or (insert xs place x) k 0 ≡ slice_index_or xs j 0)))
+
+pub comes_from : (xs : List ℕ) (place x : ℕ) → place ≤ length xs → (k : ℕ) → k < length (insert xs place x) → IsFrom xs place x k
+comes_from xs place x here k l = by_order k (let n = length-insert xs place x here in omega (arith, l, n)) (cases_lt k place)
+  where
+    by_equality : (k : ℕ) → place ≤ k → k ≤ length xs → (k ≡ place) ⊎ (k ≡ place → ⊥) → IsFrom xs place x k
+    by_equality k m w (inl e) = inr (inl (e, ap (λ i. slice_index_or (insert xs place x) i 0) e ∙ get_or-insert_at xs place x 0 here))
+    by_equality zero m w (inr d) = absurd (omega (arith, m, d))
+    by_equality (suc k) m w (inr d) =
+        let on : suc k ≡ k + 1 = omega arith in
+        inr (inr (k, refl, omega (arith, m, d), omega (arith, w), ap (λ i. slice_index_or (insert xs place x) i 0) on ∙ get_or-insert_above xs place x 0 k (omega (arith, m, d)) here))
+
+    by_order : (k : ℕ) → k ≤ length xs → (k < place) ⊎ (place ≤ k) → IsFrom xs place x k
+    by_order k w (inl m) = inl (m, get_or-insert_below xs place x 0 k m here)
+    by_order k w (inr m) = by_equality k m w (cases_eq k place)
+
+-- what holds of each element and of one more
+pub each_inserted : (xs : List ℕ) (place x : ℕ) → place ≤ length xs → (P : ℕ → Type 0) → P x → ((k : ℕ) → k < length xs → P (slice_index_or xs k 0)) → (k : ℕ) → k < length (insert xs place x) → P (slice_index_or (insert xs place x) k 0)
+each_inserted xs place x here P own each k l = by_origin (comes_from xs place x here k l)
+  where
+    by_origin : IsFrom xs place x k → P (slice_index_or (insert xs place x) k 0)
+    by_origin (inl a) = subst P (sym a.1) (each k (omega (arith, a.0, here)))
+    by_origin (inr (inl a)) = subst P (sym a.1) own
+    by_origin (inr (inr a)) = subst P (sym a.4) (each a.0 a.3)
 
 -- the gap before each row of a list and the one after them all, from the first row of it up to the first one after it
 abbrev pub AreGaps : List Bool → ℕ → List ℕ → Type 0
@@ -22,9 +52,11 @@ gaps_of_order moved height order h k l = by_order (cases_lt k (length order))
         subst (IsNextMoved moved height (after_rows order k)) (sym (get_or_past order k height j)) (subst (λ (x : ℕ). IsNextMoved moved height (after_rows order x) height) e h.last)
 
 -- and one with gaps is a list of the rows that moved
-pub order_of_gaps : (moved : List Bool) (height : ℕ) (order : List ℕ) → ((k : ℕ) → k < length order → slice_index_or order k 0 < height) → AreGaps moved height order → AreMovedInOrder moved height order
-order_of_gaps moved height order w g = record {
+pub order_of_gaps : (moved : List Bool) (height : ℕ) (order : List ℕ) → ((k : ℕ) → k < length order → slice_index_or order k 0 < height) → ((k : ℕ) → k < length order → has_moved moved (slice_index_or order k 0) ≡ true)
+    → AreGaps moved height order → AreMovedInOrder moved height order
+order_of_gaps moved height order w m g = record {
   within = w;
+  own = m;
   each = λ k l. subst (IsNextMoved moved height (after_rows order k)) (get_or_default order k height 0 l) (g k (omega (arith, l)));
   last =
       let l : length order ≤ length order = omega arith in
@@ -44,6 +76,22 @@ gaps_ascend moved height order h k (suc j) l w = by_order (cases_lt j k) (λ m. 
         let next = (h.each j here).after in
         omega (arith, below, next)
 
+-- where row r moves as well, each row that moved still has
+still_moved : (moved : List Bool) (r : ℕ) → r < length moved → (q : ℕ) → has_moved moved q ≡ true → has_moved (slice_set moved r true) q ≡ true
+still_moved moved r here q h = by_equality (cases_eq q r)
+  where
+    by_equality : (q ≡ r) ⊎ (q ≡ r → ⊥) → has_moved (slice_set moved r true) q ≡ true
+    by_equality (inl e) = ap (has_moved (slice_set moved r true)) e ∙ get_or-set_same moved r true false here
+    by_equality (inr d) = get_or-set_other moved r q true false d ∙ h
+
+-- where column c enters in row r, the basic columns of the rows that moved still entered
+pub still_entered : (columns : List Terms) (basis : List ℕ) (moved : List Bool) (r c : ℕ) → r < length basis → c < length columns → HaveEntered columns basis moved → HaveEntered columns (slice_set basis r c) (slice_set moved r true)
+still_entered columns basis moved r c row enters h q l m = by_equality (cases_eq q r)
+  where
+    by_equality : (q ≡ r) ⊎ (q ≡ r → ⊥) → slice_index_or (slice_set basis r c) q 0 < length columns
+    by_equality (inl e) = subst (λ (x : ℕ). x < length columns) (sym (ap (λ i. slice_index_or (slice_set basis r c) i 0) e ∙ get_or-set_same basis r c 0 row)) enters
+    by_equality (inr d) = subst (λ (x : ℕ). x < length columns) (sym (get_or-set_other basis r q c 0 d)) (h q (omega (arith, l, length-set basis r c)) (sym (get_or-set_other moved r q true false d) ∙ m))
+
 -- where row r moves as well, a gap that doesn't hold it stays one
 pub gap_stays : (moved : List Bool) (height r from to : ℕ) → IsNextMoved moved height from to → ((q : ℕ) → from ≤ q → q < to → q ≢ r) → IsNextMoved (slice_set moved r true) height from to
 gap_stays moved height r from to g d = record {
@@ -61,7 +109,7 @@ part_stays moved height r from to start end g a b c d = gap_stays moved height r
   still = λ q f l. g.still q (omega (arith, a, f)) (omega (arith, l, c));
 } d
 
-module _ (moved : List Bool) (height r place : ℕ) (order : List ℕ) (here : place ≤ length order) (before : (k : ℕ) → k < place → slice_index_or order k 0 < r) (h : AreMovedInOrder moved height order) where
+module _ (moved : List Bool) (height r place : ℕ) (order : List ℕ) (row : r < length moved) (here : place ≤ length order) (before : (k : ℕ) → k < place → slice_index_or order k 0 < r) (h : AreMovedInOrder moved height order) where
   -- before the place gaps begin at r or before it
   begins_before : (k : ℕ) → k ≤ place → after_rows order k ≤ r
   begins_before zero l = omega arith
@@ -69,7 +117,7 @@ module _ (moved : List Bool) (height r place : ℕ) (order : List ℕ) (here : p
 
   -- a list with row r in it
   pub stands_in_order : place < length order → slice_index_or order place 0 ≡ r → AreMovedInOrder (slice_set moved r true) height order
-  stands_in_order l e = order_of_gaps (slice_set moved r true) height order h.within (λ k w. gap_stays moved height r (after_rows order k) (slice_index_or order k height) (gaps_of_order moved height order h k w) (row_is_outside k w (cases_lt place k)))
+  stands_in_order l e = order_of_gaps (slice_set moved r true) height order h.within (λ k w. still_moved moved r row (slice_index_or order k 0) (h.own k w)) (λ k w. gap_stays moved height r (after_rows order k) (slice_index_or order k height) (gaps_of_order moved height order h k w) (row_is_outside k w (cases_lt place k)))
     where
       row_is_outside : (k : ℕ) → k ≤ length order → (place < k) ⊎ (k ≤ place) → (q : ℕ) → after_rows order k ≤ q → q < slice_index_or order k height → q ≢ r
       row_is_outside k w (inl m) q f g = λ x. let up = gaps_ascend moved height order h (suc place) k (omega (arith, m)) w in omega (arith, up, e, f, x)
@@ -136,23 +184,10 @@ module _ (moved : List Bool) (height r place : ℕ) (order : List ℕ) (here : p
             (sym (get_or-insert_above order place r 0 k (omega (arith, m)) here) ∙ ap (λ x. slice_index_or (insert order place r) x 0) on)
             (gap_stays moved height r (after_rows order (suc k)) (slice_index_or order (suc k) height) (gap_there (suc k) w) (λ q f g x. omega (arith, up, b, f, x)))
 
-    within_inserted : (k : ℕ) → k < length (insert order place r) → slice_index_or (insert order place r) k 0 < height
-    within_inserted k l = by_order k (let n = length-insert order place r here in omega (arith, l, n)) (cases_lt k place)
-      where
-        by_equality : (k : ℕ) → place ≤ k → k ≤ length order → (k ≡ place) ⊎ (k ≡ place → ⊥) → slice_index_or (insert order place r) k 0 < height
-        by_equality k m w (inl e) = subst (λ (x : ℕ). slice_index_or (insert order place r) x 0 < height) (sym e) (subst (λ (x : ℕ). x < height) (sym (get_or-insert_at order place r 0 here)) low)
-        by_equality zero m w (inr d) = absurd (omega (arith, m, d))
-        by_equality (suc k) m w (inr d) =
-            let on : k + 1 ≡ suc k = omega arith in
-            subst (λ (x : ℕ). x < height) (sym (get_or-insert_above order place r 0 k (omega (arith, m, d)) here) ∙ ap (λ x. slice_index_or (insert order place r) x 0) on) (h.within k (omega (arith, w)))
-
-        by_order : (k : ℕ) → k ≤ length order → (k < place) ⊎ (place ≤ k) → slice_index_or (insert order place r) k 0 < height
-        by_order k w (inl m) = subst (λ (x : ℕ). x < height) (sym (get_or-insert_below order place r 0 k m here)) (h.within k (omega (arith, m, here)))
-        by_order k w (inr m) = by_equality k m w (cases_eq k place)
-
     -- row r is inserted into the list
     pub inserted_in_order : AreMovedInOrder (slice_set moved r true) height (insert order place r)
-    inserted_in_order = order_of_gaps (slice_set moved r true) height (insert order place r) within_inserted (λ k w. by_order k (let n = length-insert order place r here in omega (arith, w, n)) (cases_lt k place))
+    inserted_in_order = order_of_gaps (slice_set moved r true) height (insert order place r) (each_inserted order place r here (λ x. x < height) low h.within)
+        (each_inserted order place r here (λ x. has_moved (slice_set moved r true) x ≡ true) (get_or-set_same moved r true false row) (λ k w. still_moved moved r row (slice_index_or order k 0) (h.own k w))) (λ k w. by_order k (let n = length-insert order place r here in omega (arith, w, n)) (cases_lt k place))
       where
         by_equality : (k : ℕ) → place ≤ k → k ≤ length order + 1 → (k ≡ place) ⊎ (k ≡ place → ⊥)
             → IsNextMoved (slice_set moved r true) height (after_rows (insert order place r) k) (slice_index_or (insert order place r) k height)
@@ -165,10 +200,10 @@ module _ (moved : List Bool) (height r place : ℕ) (order : List ℕ) (here : p
         by_order k w (inr m) = by_equality k m w (cases_eq k place)
 
 -- row r is noted, where there was room for it
-pub noted_in_order : (moved : List Bool) (r place : ℕ) (order new : List ℕ) (done room : Bool) → place ≤ length order → ((k : ℕ) → k < place → slice_index_or order k 0 < r) → (place < length order → r ≤ slice_index_or order place 0)
+pub noted_in_order : (moved : List Bool) (r place : ℕ) (order new : List ℕ) (done room : Bool) → r < length moved → place ≤ length order → ((k : ℕ) → k < place → slice_index_or order k 0 < r) → (place < length order → r ≤ slice_index_or order place 0)
     → (place < length order → ¬ (slice_index_or order place 0 ≡ r)) → done ≡ room → new ≡ (if room then insert order place r else order)
     → OnTrue done ((height : ℕ) → r < height → AreMovedInOrder moved height order → AreMovedInOrder (slice_set moved r true) height new)
-noted_in_order moved r place order new false room here before after other e f = tt
-noted_in_order moved r place order new true room here before after other e f = λ height low h.
+noted_in_order moved r place order new false room row here before after other e f = tt
+noted_in_order moved r place order new true room row here before after other e f = λ height low h.
     subst (AreMovedInOrder (slice_set moved r true) height) (sym (f ∙ ap (λ b. if b then insert order place r else order) (sym e)))
-    (inserted_in_order moved height r place order here before h low (λ l. let a = after l in let d = other l in omega (arith, a, d)))
+    (inserted_in_order moved height r place order row here before h low (λ l. let a = after l in let d = other l in omega (arith, a, d)))

@@ -1,5 +1,7 @@
 -- No public clause cites this module: rows that stay as they were in an earlier table of the run, the base, until they are brought up to date.
 use Rattle.std.specs.Prelude.{◌≡◌, ℕ, zero, suc, ◌+◌, ◌*◌, ◌/◌, ◌<◌, ◌≤◌, ◌^◌, ◌++◌, Bool, true, false, cond, ◌≢◌, ℤ, pos, negsuc, ◌*ℤ◌, neg_ℤ, unsigned_abs, List, [], length, slice_index_or, slice_set, Option, Some, None}
+use Rattle.std.specs.List.{All, Contains}
+use Rattle.std.specs.Option.{IfSome}
 use Prim.Native.Nat.{◌∣◌}
 use Rattle.it_rational.specs.Rational.{Rational, integer}
 use Rattle.it_rational.proofs.Field.{field_ℚ}
@@ -59,9 +61,9 @@ column_less_moved columns rows basis moved entries multiple c zero = multiple_of
 column_less_moved columns rows basis moved entries multiple c (suc k) = column_less_moved columns rows basis moved entries multiple c k
     ++ terms_of_moved columns rows basis moved entries multiple k
 
--- the combined column less so much of the basic column of row q as its entry says, if it moved
-abbrev pub TakesRow : List Terms → List WholeRowView → List ℕ → List Bool → List ℤ → ℕ → ℕ → Terms → Terms → Type 0
-TakesRow columns rows basis moved entries multiple q old new = new ≡ old ++ terms_of_moved columns rows basis moved entries multiple q
+-- the combined column less so much of the basic column of row q as its entry says
+abbrev pub TakesRow : List Terms → List WholeRowView → List ℕ → List ℤ → ℕ → ℕ → Terms → Terms → Type 0
+TakesRow columns rows basis entries multiple q old new = new ≡ old ++ taken_terms (number_at entries q) (share_of multiple rows q) (slice_index_or columns (slice_index_or basis q 0) [])
 
 -- the column less that for all rows
 abbrev pub column_behind : List Terms → List WholeRowView → List ℕ → List Bool → List ℤ → ℕ → ℕ → Terms
@@ -91,15 +93,34 @@ pub record MayLeave (rows : List WholeRowView) (moved : List Bool) (entries : Li
   pub still : right_side_of place rows i ≡ pos 0
   pub above : is_above_zero (cond (has_moved moved i) (number_at entries i) (entry_of combined rows i)) ≡ true
 
--- it may leave, and none of the rows below k that may has a lower basic column
-abbrev pub IsFirstToLeave : List WholeRowView → List ℕ → List Bool → List ℤ → Terms → ℕ → Option ℕ → Type 0
-IsFirstToLeave rows basis moved entries combined k None = (i : ℕ) → i < k → ¬ (MayLeave rows moved entries combined (length basis) i)
-IsFirstToLeave rows basis moved entries combined k (Some r) = (r < length basis) × MayLeave rows moved entries combined (length basis) r
-    × ((i : ℕ) → i < k → MayLeave rows moved entries combined (length basis) i → slice_index_or basis r 0 ≤ slice_index_or basis i 0)
+-- row i has right side 0, and its entry is above 0
+pub record HasZeroRatio (rows : List WholeRowView) (entries : List ℤ) (place i : ℕ) : Type 0 where
+  pub still : right_side_of place rows i ≡ pos 0
+  pub above : is_above_zero (number_at entries i) ≡ true
 
--- the first of the rows before k is known, and then of these and row k
-abbrev pub IsFirstAfter : List WholeRowView → List ℕ → List Bool → List ℤ → Terms → ℕ → Option ℕ → Option ℕ → Type 0
-IsFirstAfter rows basis moved entries combined k best next = IsFirstToLeave rows basis moved entries combined k best → IsFirstToLeave rows basis moved entries combined (k + 1) next
+-- there is a best row so far, and its basic column isn't above that of row i
+abbrev pub ComesBefore : List ℕ → Option ℕ → ℕ → Type 0
+ComesBefore basis None i = ⊥
+ComesBefore basis (Some r) i = slice_index_or basis r 0 ≤ slice_index_or basis i 0
+
+-- of the rows with a property the one with the least basic column, as far as the rows below k go; None only where none of these has it
+pub record IsFirstOf (basis : List ℕ) (has : ℕ → Type 0) (k : ℕ) (best : Option ℕ) : Type 0 where
+  pub within : IfSome best (λ r. r < length basis)
+  pub own : IfSome best has
+  pub before : (i : ℕ) → i < k → has i → ComesBefore basis best i
+
+-- a list has the rows below k with right side 0, and no other
+pub record AreStillRows (rows : List WholeRowView) (place k : ℕ) (list : List ℕ) : Type 0 where
+  pub own : All (λ i. (i < k) × (right_side_of place rows i ≡ pos 0)) list
+  pub all : (i : ℕ) → i < k → right_side_of place rows i ≡ pos 0 → Contains list i
+
+-- the rows below a height with right side 0, by ascending basic column; rows that moved may stand anywhere among them
+pub record AreRanked (rows : List WholeRowView) (basis : List ℕ) (moved : List Bool) (height : ℕ) (ranked : List ℕ) : Type 0 where
+  pub within : (k : ℕ) → k < length ranked → slice_index_or ranked k 0 < length basis
+  pub still : (k : ℕ) → k < length ranked → has_moved moved (slice_index_or ranked k 0) ≡ false → right_side_of (length basis) rows (slice_index_or ranked k 0) ≡ pos 0
+  pub ascend : (j k : ℕ) → j < k → k < length ranked → has_moved moved (slice_index_or ranked j 0) ≡ false → has_moved moved (slice_index_or ranked k 0) ≡ false
+      → slice_index_or basis (slice_index_or ranked j 0) 0 ≤ slice_index_or basis (slice_index_or ranked k 0) 0
+  pub all : (i : ℕ) → i < height → has_moved moved i ≡ false → right_side_of (length basis) rows i ≡ pos 0 → (k : ℕ) × (k < length ranked) × (slice_index_or ranked k 0 ≡ i)
 
 -- bounds on the numbers and the denominators of the rows that stay behind
 abbrev pub AreBaseBounds : ℕ → ℕ → List WholeRowView → List Bool → ℕ → Type 0
@@ -111,14 +132,19 @@ pub record IsNextMoved (moved : List Bool) (height from to : ℕ) : Type 0 where
   pub within : to ≤ height
   pub still : (q : ℕ) → from ≤ q → q < to → has_moved moved q ≡ false
 
+-- the basic columns of the rows that moved entered: none is artificial
+abbrev pub HaveEntered : List Terms → List ℕ → List Bool → Type 0
+HaveEntered columns basis moved = (q : ℕ) → q < length basis → has_moved moved q ≡ true → slice_index_or basis q 0 < length columns
+
 -- the first row after those of a list before place k
 abbrev pub after_rows : List ℕ → ℕ → ℕ
 after_rows order zero = 0
 after_rows order (suc k) = slice_index_or order k 0 + 1
 
--- a list has rows below a height, each once and in their order, and no other row below it moved
+-- a list has the rows below a height that moved, each once and in their order
 pub record AreMovedInOrder (moved : List Bool) (height : ℕ) (order : List ℕ) : Type 0 where
   pub within : (k : ℕ) → k < length order → slice_index_or order k 0 < height
+  pub own : (k : ℕ) → k < length order → has_moved moved (slice_index_or order k 0) ≡ true
   pub each : (k : ℕ) → k < length order → IsNextMoved moved height (after_rows order k) (slice_index_or order k 0)
   pub last : IsNextMoved moved height (after_rows order (length order)) height
 
@@ -135,11 +161,9 @@ pub record AreShortened (old new : List WholeRowView) : Type 0 where
 abbrev pub IsLessRow : Terms → ℕ → List WholeRowView → ℕ → WholeRowView → WholeRowView → Type 0
 IsLessRow terms limit rows q old new = IsUpdated (length (whole_row_at rows q).numbers) limit old (whole_row_at rows q) (value terms (number_at old.numbers)) (pos (whole_row_at rows q).bottom) new
 
--- what a row is after row q is taken off it, if that moved: as much as makes its entry at the basic column of row q 0
-pub record IsLessMoved (columns : List Terms) (limit : ℕ) (rows : List WholeRowView) (basis : List ℕ) (moved : List Bool) (q : ℕ) (old new : WholeRowView) : Type 0 where
-  pub still : has_moved moved q ≡ false → new ≡ old
-  pub taken : has_moved moved q ≡ true
-      → IsWholeRowReduced (length basis + 1) limit old (whole_row_at rows q) (value (slice_index_or columns (slice_index_or basis q 0) []) (number_at old.numbers)) (pos (whole_row_at rows q).bottom) new
+-- a row less as much of row q, which moved, as makes its entry at the basic column of row q 0
+abbrev pub IsLessMoved : List Terms → ℕ → List WholeRowView → List ℕ → ℕ → WholeRowView → WholeRowView → Type 0
+IsLessMoved columns limit rows basis q old new = IsWholeRowReduced (length basis + 1) limit old (whole_row_at rows q) (value (slice_index_or columns (slice_index_or basis q 0) []) (number_at old.numbers)) (pos (whole_row_at rows q).bottom) new
 
 -- a row is row r brought up to date, whichever tables the rows show
 abbrev pub IsUpToDate : List Terms → ℕ → List WholeRowView → List ℕ → List Bool → ℕ → WholeRowView → Type 0
@@ -230,3 +254,16 @@ BoundsShares norm rows moved share k bound = (y : ℕ → ℤ) → ((q : ℕ) �
 -- no entries of the first k rows that moved, each times its share of a multiple, sum to more
 abbrev pub BoundsMovedShares : ℕ → List WholeRowView → List Bool → ℕ → ℕ → ℕ → Type 0
 BoundsMovedShares norm rows moved multiple k bound = BoundsShares norm rows (has_moved moved) (share_of multiple rows) k bound
+
+-- a common multiple of the denominators of the first k rows that moved, and a bound on what their entries, each times its share of it, sum to
+pub record AreShares (norm : ℕ) (rows : List WholeRowView) (moved : List Bool) (k multiple bound : ℕ) : Type 0 where
+  pub common : IsCommonMultiple rows moved k multiple
+  pub bounds : BoundsMovedShares norm rows moved multiple k bound
+
+-- a multiple of both a multiple and a denominator, and the sum of a bound and an entry, each times its share of it
+pub record AddsShare (multiple bound bottom entry new_multiple new_bound : ℕ) : Type 0 where
+  pub some : 0 < new_multiple
+  pub low : new_multiple < 2 ^ 63
+  pub old : multiple ∣ new_multiple
+  pub own : bottom ∣ new_multiple
+  pub bound_is : new_bound ≡ bound * (new_multiple / multiple) + entry * (new_multiple / bottom)

@@ -2,6 +2,8 @@
 use Rattle.std.specs.Prelude.{◌≡◌, ℕ, ◌<◌, ◌≤◌, List, length, slice_index_or, Option, None, Some}
 use Rattle.it_rational.specs.Rational.{Rational, quotient}
 use Rattle.it_space.specs.Rows.{Terms}
+use Rattle.it_tableau.specs.TableauViews.{start_of}
+use Rattle.it_tableau.specs.Fits.{StartFits}
 use Rattle.it_tableau.specs.Operations.{rationals}
 use Rattle.it_tableau.specs.Problems.{feasibility_problem}
 use Rattle.it_tableau.specs.SimplexTables.{SimplexTable, FeasibilityProblem}
@@ -10,7 +12,7 @@ use Rattle.it_run.specs.Answers.{end_of_answer}
 use Rattle.it_run.specs.Solving.{RunsTo}
 use Rattle.it_run.specs.declared.answering.Solved.{Solved}
 use Rattle.it_engine.specs.Choosing.{right_side_of}
-use Rattle.it_engine.specs.Engine.{EngineView, Represents}
+use Rattle.it_engine.specs.Engine.{EngineView, IsSafe, Represents}
 use Rattle.it_engine.specs.Tables.{whole_row_at}
 use Rattle.it_whole.specs.WholeRows.{WholeRowView}
 
@@ -45,3 +47,11 @@ AnswersQuestion coordinates target columns limit rows basis budget answer = (gen
 -- the answer to the question whose start this engine shows
 abbrev pub AnswersFrom : List ℕ → Terms → List Terms → ℕ → EngineView → Option ℕ → Solved → Type 0
 AnswersFrom coordinates target columns limit engine = AnswersQuestion coordinates target columns limit engine.rows engine.basis
+
+-- the engine shows the start of a question, which isn't wide
+pub record IsStart (coordinates : List ℕ) (generators : List Terms) (target : Terms) (columns : List Terms) (limit : ℕ) (engine : EngineView) : Type 0 where
+  pub height : length engine.basis ≡ length coordinates
+  pub count : length columns ≡ length generators
+  pub safe : IsSafe columns limit engine.rows engine.basis
+  pub stands : Represents (feasibility_problem coordinates generators target) (start_of coordinates generators target) columns limit engine.rows engine.basis
+  pub fits : StartFits (length coordinates) (length generators) (feasibility_problem coordinates generators target)

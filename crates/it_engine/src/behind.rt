@@ -3,14 +3,15 @@
 //! Nearly every step of a run is degenerate: the least ratio is 0, and right sides stay. Such a step looks at few rows. So a block of
 //! degenerate steps keeps up to date only the rows that left in it, and the cost row; all others stay as they were when it began,
 //! and are brought up to date where they leave, or when the block ends. The row of a table of the run is that of any other table
-//! less, for each row whose basic column changed, its entry there times that row.
-ghost use Rattle.std.specs.Prelude.{◌≡◌, ◌≤ℤ◌, ◌+◌, ◌*◌, ◌<◌, ◌≤◌, ◌^◌, ◌*ℤ◌, neg_ℤ, ℕ, pos, [], length, cond, false, true, slice_index_or, slice_set};
+//! less, for each row whose basic column changed, its entry there times that row. Since right sides stay, the rows with right side 0
+//! are put in the order of their basic columns once, when a block begins: of those that stay behind the first that may leave is the
+//! next to leave.
+ghost use Rattle.std.specs.Prelude.{◌≡◌, ◌≤ℤ◌, ◌+◌, ◌*◌, ◌<◌, ◌≤◌, ◌^◌, ◌*ℤ◌, neg_ℤ, ℕ, pos, Bool, List, [], length, cond, false, true, slice_index_or, slice_set};
 ghost use Rattle.std.specs.Bool.{OnFalse, OnTrue};
 ghost use Rattle.std.specs.Option.{IfNone, IfSome};
-ghost use Prim.Native.Nat.{◌∣◌};
-ghost use Rattle.it_engine.specs.Behind.{AreBaseBounds, AreBrought, AreEngineSteps, AreMovedEntries, AreMovedInOrder, AreMovedUsable, AreShortened, AreStillSteps, BoundsMovedShares, column_behind, has_moved, IsBehindStep, IsCommonMultiple, IsBrought, IsFirstAfter, IsFirstToLeave, IsLessMoved, IsLessRow, IsRowBrought, IsStillChoice, LeavesStill, MayLeave, share_of, SuitsBehind, TakesRow};
+ghost use Rattle.it_engine.specs.Behind.{AddsShare, AreBaseBounds, AreBrought, AreEngineSteps, AreMovedEntries, AreMovedInOrder, AreMovedUsable, AreRanked, AreShares, AreShortened, AreStillRows, AreStillSteps, column_behind, ComesBefore, has_moved, HasZeroRatio, HaveEntered, IsBehindStep, IsBrought, IsFirstOf, IsLessMoved, IsLessRow, IsRowBrought, IsStillChoice, LeavesStill, MayLeave, share_of, SuitsBehind, TakesRow};
 ghost use Rattle.it_whole.specs.ColumnTerms.{multiple_of_terms, Suits};
-ghost use Rattle.it_engine.specs.Choosing.{entry_of, right_side_of};
+ghost use Rattle.it_engine.specs.Choosing.{entry_of, is_above_zero as is_above_zero_of, right_side_of};
 ghost use Rattle.it_engine.specs.PivotedRows.{AreFitting, AreUsable, IsFitting, SuitsAll};
 ghost use Rattle.it_whole.specs.WholeRows.{IsUsable, AreAtMost, AreShort};
 ghost use Rattle.it_engine.specs.Engine.{IsSafe};
@@ -51,6 +52,15 @@ struct Block<'a> {
     moved: &'a [bool],
     // those that moved, but the cost row, in their order
     order: &'a [usize],
+}
+
+/// What is noted of the rows when a block of steps begins.
+#[derive(Drop)]
+struct Base {
+    /// No number and no denominator of a row that stays behind is greater.
+    bound: u64,
+    /// The rows with right side 0, by ascending basic column.
+    ranked: Vec<usize>,
 }
 
 /// Whether row i moved.
@@ -107,6 +117,16 @@ fn entry_at(column: &Column, rows: &[WholeRow], i: usize) -> i64
     column.price(&rows[i])
 }
 
+/// Whether the entry of row i at the column is above 0.
+#[inline]
+fn is_above_at(column: &Column, rows: &[WholeRow], i: usize) -> bool
+    requires row { i < length rows.now }
+    requires suits { Suits column.now (whole_row_at rows.now i).numbers }
+    ensures { result ≡ is_above_zero_of (entry_of column.now rows.now i) }
+{
+    is_above_zero(entry_at(column, rows, i))
+}
+
 /// The entry of row i at the column if it moved, else 0.
 #[inline]
 fn moved_entry(column: &Column, rows: &[WholeRow], moved: &[bool], i: usize) -> i64
@@ -144,29 +164,10 @@ fn note_moved_entries(column: &Column, block: &Block<'_>, entries: &mut [i64])
     clear_entries(entries);
     for k in 0..block.order.len() {
         let q = row_at(block.order, k);
-        entries[q] = moved_entry(column, block.rows, block.moved, q);
+        entries[q] = entry_at(column, block.rows, q);
     }
     let last = block.basis.len();
     entries[last] = moved_entry(column, block.rows, block.moved, last);
-}
-
-/// The least common multiple, where it is below 2^63. Mostly b is 1 or a, and else it mostly divides a.
-fn multiple_of_both(a: u64, b: u64) -> Option<u64>
-    requires a { 0 < a }
-    requires low { a < 2 ^ 63 }
-    requires b { 0 < b }
-    ensures { IfSome result (λ c. (0 < c) × (c < 2 ^ 63) × (a ∣ c) × (b ∣ c)) }
-{
-    if b == 1 {
-        return Some(a);
-    }
-    if a == b {
-        return Some(a);
-    }
-    if a % b == 0 {
-        return Some(a);
-    }
-    short_product(a, b / common_divisor(a, b))
 }
 
 /// The share of row q in a multiple of its denominator.
@@ -187,74 +188,96 @@ fn share_at(rows: &[WholeRow], q: usize, multiple: u64) -> u64
     }
 }
 
-/// The multiple, or where row q moved a common one of it and the row's denominator.
-fn more_multiple(rows: &[WholeRow], moved: &[bool], q: usize, multiple: u64) -> Option<u64>
-    requires rows { q < length rows.now }
-    requires moved { q < length moved.now }
-    requires some { 0 < (whole_row_at rows.now q).bottom }
-    requires multiple { IsCommonMultiple rows.now moved.now q multiple }
-    ensures { IfSome result (λ multiple. IsCommonMultiple rows.now moved.now (q + 1) multiple) }
-{
-    if moved_at(moved, q) {
-        multiple_of_both(multiple, bottom_at(rows, q))
-    } else {
-        Some(multiple)
-    }
-}
-
-/// A common multiple of the denominators of the rows that moved, but the cost row, where it is below 2^63.
-fn common_multiple(block: &Block<'_>) -> Option<u64>
-    requires rows { length block.now.basis.now ≤ length block.now.rows.now }
-    requires moved { length block.now.basis.now ≤ length block.now.moved.now }
-    requires order { AreMovedInOrder block.now.moved.now (length block.now.basis.now) block.now.order.now }
-    requires some { (i : ℕ) → i < length block.now.rows.now → 0 < (whole_row_at block.now.rows.now i).bottom }
-    ensures { IfSome result (λ multiple. IsCommonMultiple block.now.rows.now block.now.moved.now (length block.now.basis.now) multiple) }
-{
-    let mut multiple: u64 = 1;
-    for k in 0..block.order.len() {
-        let q = row_at(block.order, k);
-        multiple = more_multiple(block.rows, block.moved, q, multiple)?;
-    }
-    Some(multiple)
-}
-
-/// The bound with what row q adds to it.
-fn more_shares(
-    rows: &[WholeRow],
-    moved: &[bool],
-    q: usize,
+/// A common multiple of denominators, and a bound on what the entries of their rows, each times its share of it, sum to.
+#[derive(Drop, Clone, Copy)]
+struct Shares {
     multiple: u64,
-    norm: u64,
     bound: u64,
-) -> Option<u64>
-    requires rows { q < length rows.now }
-    requires moved { q < length moved.now }
-    requires some { 0 < (whole_row_at rows.now q).bottom }
-    requires bound { BoundsMovedShares norm rows.now moved.now multiple q bound }
-    ensures { IfSome result (λ bound. BoundsMovedShares norm rows.now moved.now multiple (q + 1) bound) }
-{
-    if !moved_at(moved, q) {
-        return Some(bound);
-    }
-    let entry = short_product(norm, most_at(rows, q))?;
-    let part = short_product(entry, share_at(rows, q, multiple))?;
-    short_sum(bound, part)
 }
 
-/// A bound on what the entries at any column of the rows that moved, each times its share of the multiple, sum to.
-fn bound_of_shares(block: &Block<'_>, multiple: u64, norm: u64) -> Option<u64>
+/// The bound with an entry more, times its share of the multiple.
+#[inline(always)]
+fn with_share(shares: Shares, entry: u64, share: u64) -> Option<Shares>
+    ensures { IfSome result (λ s. (s.multiple ≡ shares.multiple) × (s.bound ≡ shares.bound + entry * share)) }
+{
+    let part = short_product(entry, share)?;
+    let bound = short_sum(shares.bound, part)?;
+    Some(Shares {
+        multiple: shares.multiple,
+        bound,
+    })
+}
+
+/// The multiple and the bound, both times a factor.
+fn times_factor(shares: Shares, factor: u64) -> Option<Shares>
+    ensures { IfSome result (λ s. (s.multiple < 2 ^ 63) × (s.multiple ≡ shares.multiple * factor) × (s.bound ≡ shares.bound * factor)) }
+{
+    let multiple = short_product(shares.multiple, factor)?;
+    let bound = short_product(shares.bound, factor)?;
+    Some(Shares { multiple, bound })
+}
+
+/// The multiple and the bound with a row more, whichever its denominator is. Mostly it divides the multiple, which then stays.
+fn with_other_row(shares: Shares, bottom: u64, entry: u64) -> Option<Shares>
+    requires some { 0 < shares.multiple }
+    requires low { shares.multiple < 2 ^ 63 }
+    requires bottom { 0 < bottom }
+    ensures { IfSome result (λ s. AddsShare shares.multiple shares.bound bottom entry s.multiple s.bound) }
+{
+    if shares.multiple % bottom == 0 {
+        return with_share(shares, entry, shares.multiple / bottom);
+    }
+    let factor = bottom / common_divisor(shares.multiple, bottom);
+    let wider = times_factor(shares, factor)?;
+    with_share(wider, entry, wider.multiple / bottom)
+}
+
+/// The multiple and the bound with a row more. Most denominators are 1 or the multiple, and a division is dear.
+#[inline]
+fn with_row(shares: Shares, bottom: u64, entry: u64) -> Option<Shares>
+    requires some { 0 < shares.multiple }
+    requires low { shares.multiple < 2 ^ 63 }
+    requires bottom { 0 < bottom }
+    ensures { IfSome result (λ s. AddsShare shares.multiple shares.bound bottom entry s.multiple s.bound) }
+{
+    if bottom == 1 {
+        return with_share(shares, entry, shares.multiple);
+    }
+    if bottom == shares.multiple {
+        return with_share(shares, entry, 1);
+    }
+    with_other_row(shares, bottom, entry)
+}
+
+/// The multiple and the bound of the rows that moved before, and of row q, which moved.
+#[inline]
+fn more_shares(block: &Block<'_>, q: usize, shares: Shares, norm: u64) -> Option<Shares>
+    requires rows { q < length block.now.rows.now }
+    requires moves { has_moved block.now.moved.now q ≡ true }
+    requires some { 0 < (whole_row_at block.now.rows.now q).bottom }
+    requires shares { AreShares norm block.now.rows.now block.now.moved.now q shares.multiple shares.bound }
+    ensures { IfSome result (λ s. AreShares norm block.now.rows.now block.now.moved.now (q + 1) s.multiple s.bound) }
+{
+    let entry = short_product(norm, most_at(block.rows, q))?;
+    with_row(shares, bottom_at(block.rows, q), entry)
+}
+
+/// Those of all rows that moved, but the cost row, where both are below 2^63.
+fn shares_of_moved(block: &Block<'_>, norm: u64) -> Option<Shares>
     requires rows { length block.now.basis.now ≤ length block.now.rows.now }
-    requires moved { length block.now.basis.now ≤ length block.now.moved.now }
     requires order { AreMovedInOrder block.now.moved.now (length block.now.basis.now) block.now.order.now }
     requires some { (i : ℕ) → i < length block.now.rows.now → 0 < (whole_row_at block.now.rows.now i).bottom }
-    ensures { IfSome result (λ bound. BoundsMovedShares norm block.now.rows.now block.now.moved.now multiple (length block.now.basis.now) bound) }
+    ensures { IfSome result (λ s. AreShares norm block.now.rows.now block.now.moved.now (length block.now.basis.now) s.multiple s.bound) }
 {
-    let mut bound: u64 = 0;
+    let mut shares = Shares {
+        multiple: 1,
+        bound: 0,
+    };
     for k in 0..block.order.len() {
         let q = row_at(block.order, k);
-        bound = more_shares(block.rows, block.moved, q, multiple, norm, bound)?;
+        shares = more_shares(block, q, shares, norm)?;
     }
-    Some(bound)
+    Some(shares)
 }
 
 /// Whether the numbers of the rows that stay behind are below 2^63 at every column, though they aren't formed.
@@ -274,7 +297,8 @@ fn are_short(most: u64, low: u64, multiple: u64, norm: u64, shares: u64) -> bool
     short_sum(own, others).is_some() && short_product(low, multiple).is_some()
 }
 
-/// Takes so much of a row that moved off the column that enters as its entry says.
+/// Takes so much of the basic column of row q, which moved, off the combined column as its entry says; false where a number is too
+/// large, or for want of memory.
 fn less_moved(
     combined: &mut Column,
     columns: &[Column],
@@ -285,26 +309,20 @@ fn less_moved(
 ) -> bool
     requires rows { q < length block.now.rows.now }
     requires basis { q < length block.now.basis.now }
-    requires moved { q < length block.now.moved.now }
+    requires entered { slice_index_or block.now.basis.now q 0 < length columns.now }
     requires entries { q < length entries.now }
     requires some { 0 < (whole_row_at block.now.rows.now q).bottom }
     requires low { multiple < 2 ^ 63 }
-    ensures { OnTrue result (TakesRow columns.now block.now.rows.now block.now.basis.now block.now.moved.now entries.now multiple q combined.old combined.new) }
+    ensures { OnTrue result (TakesRow columns.now block.now.rows.now block.now.basis.now entries.now multiple q combined.old combined.new) }
 {
-    if !moved_at(block.moved, q) {
-        return true;
-    }
     let entry = read(entries, q);
     if is_zero(entry) {
         return true;
     }
-    if block.basis[q] >= columns.len() {
-        return false;
-    }
     let Some(taken) = taken_times(entry, share_at(block.rows, q, multiple)) else {
         return false;
     };
-    combined.add_multiple(&columns[block.basis[q]], taken)
+    combined.add_multiple(basic_column(columns, block.basis, q), taken)
 }
 
 /// The negated product, where that is below 2^63.
@@ -339,8 +357,8 @@ fn combine_columns(
 ) -> bool
     requires column { column < length columns.now }
     requires rows { length block.now.basis.now ≤ length block.now.rows.now }
-    requires moved { length block.now.basis.now ≤ length block.now.moved.now }
     requires order { AreMovedInOrder block.now.moved.now (length block.now.basis.now) block.now.order.now }
+    requires entered { HaveEntered columns.now block.now.basis.now block.now.moved.now }
     requires entries { length block.now.basis.now ≤ length entries.now }
     requires some { (i : ℕ) → i < length block.now.rows.now → 0 < (whole_row_at block.now.rows.now i).bottom }
     requires low { multiple < 2 ^ 63 }
@@ -358,116 +376,113 @@ fn combine_columns(
     true
 }
 
-/// The entry of row i if it moved, else its number at the combined column.
+/// Whether the right side of row i is 0.
 #[inline]
-fn entry_now(rows: &[WholeRow], moved: &[bool], entries: &[i64], combined: &Column, i: usize) -> i64
+fn is_still(rows: &[WholeRow], place: usize, i: usize) -> bool
     requires rows { i < length rows.now }
-    requires moved { i < length moved.now }
-    requires entries { i < length entries.now }
-    requires suits { has_moved moved.now i ≡ false → Suits combined.now (whole_row_at rows.now i).numbers }
-    ensures { result ≡ cond (has_moved moved.now i) (number_at entries.now i) (entry_of combined.now rows.now i) }
+    requires place { place < length (whole_row_at rows.now i).numbers }
+    ensures yes { OnTrue result (right_side_of place rows.now i ≡ pos 0) }
+    ensures no { OnFalse result (¬ (right_side_of place rows.now i ≡ pos 0)) }
 {
-    if moved_at(moved, i) {
-        read(entries, i)
-    } else {
-        entry_at(combined, rows, i)
+    is_zero(right_side(rows, i, place))
+}
+
+/// Whether there is a best row so far, and its basic column isn't above that of row i.
+#[inline(always)]
+fn comes_before(best: Option<usize>, basis: &[usize], i: usize) -> bool
+    requires best { IfSome best (λ r. r < length basis.now) }
+    requires row { i < length basis.now }
+    ensures yes { OnTrue result (ComesBefore basis.now best i) }
+    ensures no { OnFalse result (¬ (ComesBefore basis.now best i)) }
+{
+    match best {
+        Some(r) => basis[r] <= basis[i],
+        None => false,
     }
 }
 
-/// Whether row i may leave with ratio 0.
-#[inline(never)]
-fn may_leave(
-    rows: &[WholeRow],
-    moved: &[bool],
-    entries: &[i64],
-    combined: &Column,
-    place: usize,
-    i: usize,
-) -> bool
-    requires rows { i < length rows.now }
-    requires moved { i < length moved.now }
-    requires entries { i < length entries.now }
-    requires suits { has_moved moved.now i ≡ false → Suits combined.now (whole_row_at rows.now i).numbers }
-    requires place { place < length (whole_row_at rows.now i).numbers }
-    ensures yes { OnTrue result (MayLeave rows.now moved.now entries.now combined.now place i) }
-    ensures no { OnFalse result (¬ (MayLeave rows.now moved.now entries.now combined.now place i)) }
+/// Whether row q, whose entry is noted, may leave with ratio 0.
+#[inline]
+fn has_zero_ratio(rows: &[WholeRow], entries: &[i64], place: usize, q: usize) -> bool
+    requires rows { q < length rows.now }
+    requires entries { q < length entries.now }
+    requires place { place < length (whole_row_at rows.now q).numbers }
+    ensures yes { OnTrue result (HasZeroRatio rows.now entries.now place q) }
+    ensures no { OnFalse result (¬ (HasZeroRatio rows.now entries.now place q)) }
 {
-    if !is_zero(right_side(rows, i, place)) {
+    if !is_above_zero(read(entries, q)) {
         return false;
     }
-    is_above_zero(entry_now(rows, moved, entries, combined, i))
+    is_still(rows, place, q)
 }
 
-/// The row with the least basic column of the best one so far and row i, if it may leave.
+/// The row with the least basic column of the best one so far and row q, whose entry is noted, if it may leave.
 #[inline(always)]
-fn earlier_row(
-    best: Option<usize>,
-    block: &Block<'_>,
-    entries: &[i64],
-    combined: &Column,
-    i: usize,
-) -> Option<usize>
-    requires row { i < length block.now.basis.now }
+fn earlier_row(best: Option<usize>, block: &Block<'_>, entries: &[i64], q: usize) -> Option<usize>
+    requires best { IfSome best (λ r. r < length block.now.basis.now) }
+    requires row { q < length block.now.basis.now }
     requires rows { length block.now.basis.now < length block.now.rows.now }
-    requires moved { i < length block.now.moved.now }
-    requires entries { i < length entries.now }
-    requires suits { SuitsBehind combined.now block.now.rows.now block.now.moved.now (length block.now.basis.now) }
-    requires place { length block.now.basis.now < length (whole_row_at block.now.rows.now i).numbers }
-    requires best { IsFirstToLeave block.now.rows.now block.now.basis.now block.now.moved.now entries.now combined.now 0 best }
-    ensures one { IsFirstToLeave block.now.rows.now block.now.basis.now block.now.moved.now entries.now combined.now 0 result }
-    ensures next { IsFirstAfter block.now.rows.now block.now.basis.now block.now.moved.now entries.now combined.now i best result }
+    requires entries { q < length entries.now }
+    requires place { length block.now.basis.now < length (whole_row_at block.now.rows.now q).numbers }
+    ensures { IsFirstOf block.now.basis.now (HasZeroRatio block.now.rows.now entries.now (length block.now.basis.now)) q best → IsFirstOf block.now.basis.now (HasZeroRatio block.now.rows.now entries.now (length block.now.basis.now)) (q + 1) result }
 {
-    if let Some(k) = best {
-        if block.basis[k] <= block.basis[i] {
-            return Some(k);
-        }
+    if comes_before(best, block.basis, q) {
+        return best;
     }
-    if may_leave(
-        block.rows,
-        block.moved,
-        entries,
-        combined,
-        block.basis.len(),
-        i,
-    ) {
-        Some(i)
+    if has_zero_ratio(block.rows, entries, block.basis.len(), q) {
+        Some(q)
     } else {
         best
     }
 }
 
-/// Of the rows that moved and may leave with ratio 0 the one with the least basic column. It is looked for first, since then few
-/// of the other rows come before it.
-fn first_moved_to_leave(block: &Block<'_>, entries: &[i64], combined: &Column) -> Option<usize>
+/// Of the rows that moved and may leave with ratio 0 the one with the least basic column.
+fn first_moved_to_leave(block: &Block<'_>, entries: &[i64]) -> Option<usize>
     requires rows { length block.now.basis.now < length block.now.rows.now }
-    requires moved { length block.now.basis.now ≤ length block.now.moved.now }
     requires order { AreMovedInOrder block.now.moved.now (length block.now.basis.now) block.now.order.now }
     requires entries { length block.now.basis.now ≤ length entries.now }
-    requires suits { SuitsBehind combined.now block.now.rows.now block.now.moved.now (length block.now.basis.now) }
+    requires others { (i : ℕ) → has_moved block.now.moved.now i ≡ false → number_at entries.now i ≡ pos 0 }
     requires places { (i : ℕ) → i < length block.now.basis.now → length block.now.basis.now < length (whole_row_at block.now.rows.now i).numbers }
-    ensures { IsFirstToLeave block.now.rows.now block.now.basis.now block.now.moved.now entries.now combined.now 0 result }
+    ensures { IsFirstOf block.now.basis.now (HasZeroRatio block.now.rows.now entries.now (length block.now.basis.now)) (length block.now.basis.now) result }
 {
     let mut best: Option<usize> = None;
     for k in 0..block.order.len() {
         let q = row_at(block.order, k);
-        best = earlier_row(best, block, entries, combined, q);
+        best = earlier_row(best, block, entries, q);
     }
     best
 }
 
-/// Of the rows that may leave with ratio 0 the one with the least basic column.
-fn first_to_leave(block: &Block<'_>, entries: &[i64], combined: &Column) -> Option<usize>
+/// Of the rows that may leave with ratio 0 the one with the least basic column. Those that stay behind are looked at in the order
+/// of their basic columns, and only as far as these are below that of the best row that moved.
+fn first_to_leave(
+    block: &Block<'_>,
+    ranked: &[usize],
+    entries: &[i64],
+    combined: &Column,
+) -> Option<usize>
     requires rows { length block.now.basis.now < length block.now.rows.now }
     requires moved { length block.now.basis.now ≤ length block.now.moved.now }
     requires order { AreMovedInOrder block.now.moved.now (length block.now.basis.now) block.now.order.now }
+    requires ranked { AreRanked block.now.rows.now block.now.basis.now block.now.moved.now (length block.now.basis.now) ranked.now }
     requires entries { length block.now.basis.now ≤ length entries.now }
+    requires others { (i : ℕ) → has_moved block.now.moved.now i ≡ false → number_at entries.now i ≡ pos 0 }
     requires suits { SuitsBehind combined.now block.now.rows.now block.now.moved.now (length block.now.basis.now) }
     requires places { (i : ℕ) → i < length block.now.basis.now → length block.now.basis.now < length (whole_row_at block.now.rows.now i).numbers }
-    ensures { IsFirstToLeave block.now.rows.now block.now.basis.now block.now.moved.now entries.now combined.now (length block.now.basis.now) result }
+    ensures { IsFirstOf block.now.basis.now (MayLeave block.now.rows.now block.now.moved.now entries.now combined.now (length block.now.basis.now)) (length block.now.basis.now) result }
 {
-    let mut best = first_moved_to_leave(block, entries, combined);
-    for i in 0..block.basis.len() {
-        best = earlier_row(best, block, entries, combined, i);
+    let best = first_moved_to_leave(block, entries);
+    for k in 0..ranked.len() {
+        let i = row_at(ranked, k);
+        if moved_at(block.moved, i) {
+            continue;
+        }
+        if comes_before(best, block.basis, i) {
+            return best;
+        }
+        if is_above_at(combined, block.rows, i) {
+            return Some(i);
+        }
     }
     best
 }
@@ -524,7 +539,7 @@ fn take_off(
     row.update(&rows[q], &[], false, room, entry, unit, limit)
 }
 
-/// The row less as much of row q, if that moved, as makes its entry at the basic column of row q 0; false where a number would be
+/// The row less as much of row q, which moved, as makes its entry at the basic column of row q 0; false where a number would be
 /// too large, and then nothing is known of the row.
 #[inline]
 fn take_off_moved(
@@ -535,23 +550,18 @@ fn take_off_moved(
     q: usize,
 ) -> bool
     requires height { length block.now.rows.now ≡ length block.now.basis.now + 1 }
-    requires moved { length block.now.moved.now ≡ length block.now.rows.now }
     requires q { q < length block.now.basis.now }
+    requires moves { has_moved block.now.moved.now q ≡ true }
+    requires entered { slice_index_or block.now.basis.now q 0 < length run.now.columns.now }
     requires row { IsUsable (length block.now.rows.now) run.now.limit row.old }
     requires rows { AreMovedUsable run.now.limit block.now.rows.now block.now.moved.now }
     requires columns { AreFitting (length block.now.rows.now) run.now.limit run.now.columns.now }
     requires room { length room.old ≡ length block.now.rows.now }
     requires limit { run.now.limit < 2 ^ 63 }
     ensures room { length room.new ≡ length room.old }
-    ensures less { OnTrue result (IsLessMoved run.now.columns.now run.now.limit block.now.rows.now block.now.basis.now block.now.moved.now q row.old row.new) }
+    ensures less { OnTrue result (IsLessMoved run.now.columns.now run.now.limit block.now.rows.now block.now.basis.now q row.old row.new) }
     ensures usable { OnTrue result (IsUsable (length block.now.rows.now) run.now.limit row.new) }
 {
-    if !moved_at(block.moved, q) {
-        return true;
-    }
-    if block.basis[q] >= run.columns.len() {
-        return false;
-    }
     take_off(
         row,
         block.rows,
@@ -565,8 +575,8 @@ fn take_off_moved(
 /// Brings a row that stayed behind up to date; false where a number would be too large, and then nothing is known of the row.
 fn bring_row(row: &mut WholeRow, run: &Run<'_>, block: &Block<'_>, room: &mut [i64]) -> bool
     requires height { length block.now.rows.now ≡ length block.now.basis.now + 1 }
-    requires moved { length block.now.moved.now ≡ length block.now.rows.now }
     requires order { AreMovedInOrder block.now.moved.now (length block.now.basis.now) block.now.order.now }
+    requires entered { HaveEntered run.now.columns.now block.now.basis.now block.now.moved.now }
     requires row { IsUsable (length block.now.rows.now) run.now.limit row.old }
     requires rows { AreMovedUsable run.now.limit block.now.rows.now block.now.moved.now }
     requires columns { AreFitting (length block.now.rows.now) run.now.limit run.now.columns.now }
@@ -596,10 +606,10 @@ fn bring(
     r: usize,
 ) -> bool
     requires height { length rows.old ≡ length basis.now + 1 }
-    requires moved { length moved.now ≡ length rows.old }
     requires r { r < length basis.now }
     requires behind { has_moved moved.now r ≡ false }
     requires order { AreMovedInOrder moved.now (length basis.now) order.now }
+    requires entered { HaveEntered run.now.columns.now basis.now moved.now }
     requires rows { AreUsable (length rows.old) run.now.limit rows.old }
     requires columns { AreFitting (length rows.old) run.now.limit run.now.columns.now }
     requires room { length room.old ≡ length rows.old }
@@ -633,6 +643,7 @@ fn bring_if_behind(
     requires moved { length moved.now ≡ length rows.old }
     requires r { r < length basis.now }
     requires order { AreMovedInOrder moved.now (length basis.now) order.now }
+    requires entered { HaveEntered run.now.columns.now basis.now moved.now }
     requires rows { AreUsable (length rows.old) run.now.limit rows.old }
     requires columns { AreFitting (length rows.old) run.now.limit run.now.columns.now }
     requires room { length room.old ≡ length rows.old }
@@ -659,6 +670,7 @@ fn bring_all(
     requires height { length rows.old ≡ length basis.now + 1 }
     requires moved { length moved.now ≡ length rows.old }
     requires order { AreMovedInOrder moved.now (length basis.now) order.now }
+    requires entered { HaveEntered run.now.columns.now basis.now moved.now }
     requires rows { AreUsable (length rows.old) run.now.limit rows.old }
     requires columns { AreFitting (length rows.old) run.now.limit run.now.columns.now }
     requires room { length room.old ≡ length rows.old }
@@ -742,14 +754,16 @@ fn still_row(
     entries: &mut [i64],
     combined: &mut Column,
     column: usize,
-    bound: u64,
+    base: &Base,
 ) -> Option<usize>
     requires engine { IsSafe run.now.columns.now run.now.limit block.now.rows.now block.now.basis.now }
     requires moved { length block.now.moved.now ≡ length block.now.rows.now }
     requires order { AreMovedInOrder block.now.moved.now (length block.now.basis.now) block.now.order.now }
+    requires entered { HaveEntered run.now.columns.now block.now.basis.now block.now.moved.now }
     requires entries { length entries.old ≡ length block.now.rows.now }
     requires column { column < length run.now.columns.now }
-    requires bound { AreBaseBounds bound bound block.now.rows.now block.now.moved.now (length block.now.basis.now) }
+    requires bound { AreBaseBounds base.now.bound base.now.bound block.now.rows.now block.now.moved.now (length block.now.basis.now) }
+    requires ranked { AreRanked block.now.rows.now block.now.basis.now block.now.moved.now (length block.now.basis.now) base.now.ranked.items }
     requires norm { IsNorm run.now.columns.now run.now.norm }
     ensures entries { length entries.new ≡ length entries.old }
     ensures within { IfSome result (λ r. r < length block.now.basis.now) }
@@ -757,15 +771,27 @@ fn still_row(
     ensures noted { IfSome result (λ r. AreMovedEntries (slice_index_or run.now.columns.now column []) block.now.rows.now block.now.moved.now entries.new) }
 {
     note_moved_entries(&run.columns[column], block, entries);
-    let multiple = common_multiple(block)?;
-    let shares = bound_of_shares(block, multiple, run.norm)?;
-    if !are_short(bound, bound, multiple, run.norm, shares) {
+    let shares = shares_of_moved(block, run.norm)?;
+    if !are_short(
+        base.bound,
+        base.bound,
+        shares.multiple,
+        run.norm,
+        shares.bound,
+    ) {
         return None;
     }
-    if !combine_columns(combined, run.columns, block, entries, column, multiple) {
+    if !combine_columns(
+        combined,
+        run.columns,
+        block,
+        entries,
+        column,
+        shares.multiple,
+    ) {
         return None;
     }
-    first_to_leave(block, entries, combined)
+    first_to_leave(block, base.ranked.as_slice(), entries, combined)
 }
 
 /// The bound with the numbers and the denominator of row i, if it stays behind.
@@ -795,6 +821,53 @@ fn bound_behind(rows: &[WholeRow], moved: &[bool], height: usize) -> u64
     bound
 }
 
+/// The basic column of row i, 0 past the last row.
+#[inline]
+fn column_of(basis: &[usize], i: usize) -> usize
+    ensures { result ≡ slice_index_or basis.now i 0 }
+{
+    basis.get(i).copied().unwrap_or(0)
+}
+
+/// The rows below a height with right side 0, in their order. None for want of memory.
+fn still_rows(alloc: Global, rows: &[WholeRow], height: usize) -> Option<Vec<usize>>
+    requires rows { height ≤ length rows.now }
+    requires places { (i : ℕ) → i < height → height < length (whole_row_at rows.now i).numbers }
+    ensures { IfSome result (λ still. AreStillRows rows.now height height still.items) }
+{
+    let mut still = Vec::new(alloc);
+    for i in 0..height {
+        if is_still(rows, height, i) {
+            still.push(i).ok()?;
+        }
+    }
+    Some(still)
+}
+
+/// The rows with right side 0, by ascending basic column. None for want of memory.
+fn ranked_rows(alloc: Global, rows: &[WholeRow], basis: &[usize]) -> Option<Vec<usize>>
+    requires rows { length basis.now ≤ length rows.now }
+    requires places { (i : ℕ) → i < length basis.now → length basis.now < length (whole_row_at rows.now i).numbers }
+    ensures { IfSome result (λ ranked. (moved : List Bool) → AreRanked rows.now basis.now moved (length basis.now) ranked.items) }
+{
+    let mut ranked = still_rows(alloc, rows, basis.len())?;
+    ranked.sort_unstable_by_key(|i| column_of(basis, *i));
+    Some(ranked)
+}
+
+/// What is noted of the rows when a block of steps begins. None for want of memory.
+fn begin_base(alloc: Global, rows: &[WholeRow], basis: &[usize], moved: &[bool]) -> Option<Base>
+    requires rows { length basis.now ≤ length rows.now }
+    requires moved { length basis.now ≤ length moved.now }
+    requires places { (i : ℕ) → i < length basis.now → length basis.now < length (whole_row_at rows.now i).numbers }
+    ensures bound { IfSome result (λ base. AreBaseBounds base.bound base.bound rows.now moved.now (length basis.now)) }
+    ensures ranked { IfSome result (λ base. AreRanked rows.now basis.now moved.now (length basis.now) base.ranked.items) }
+{
+    let ranked = ranked_rows(alloc, rows, basis)?;
+    let bound = bound_behind(rows, moved, basis.len());
+    Some(Base { bound, ranked })
+}
+
 /// The column that enters and the row that leaves, if the next step is degenerate. None otherwise, or where no step is left, or
 /// where the numbers of the rows that stay behind may be too large, or for want of memory.
 fn still_choice(
@@ -802,13 +875,15 @@ fn still_choice(
     run: &Run<'_>,
     entries: &mut [i64],
     combined: &mut Column,
-    bound: u64,
+    base: &Base,
 ) -> Option<(usize, usize)>
     requires engine { IsSafe run.now.columns.now run.now.limit block.now.rows.now block.now.basis.now }
     requires moved { length block.now.moved.now ≡ length block.now.rows.now }
     requires order { AreMovedInOrder block.now.moved.now (length block.now.basis.now) block.now.order.now }
+    requires entered { HaveEntered run.now.columns.now block.now.basis.now block.now.moved.now }
     requires entries { length entries.old ≡ length block.now.rows.now }
-    requires bound { AreBaseBounds bound bound block.now.rows.now block.now.moved.now (length block.now.basis.now) }
+    requires bound { AreBaseBounds base.now.bound base.now.bound block.now.rows.now block.now.moved.now (length block.now.basis.now) }
+    requires ranked { AreRanked block.now.rows.now block.now.basis.now block.now.moved.now (length block.now.basis.now) base.now.ranked.items }
     requires norm { IsNorm run.now.columns.now run.now.norm }
     ensures entries { length entries.new ≡ length entries.old }
     ensures choice { IfSome result (λ x. IsStillChoice run.now.columns.now run.now.limit block.now.rows.now block.now.basis.now block.now.moved.now x.0 x.1) }
@@ -819,7 +894,7 @@ fn still_choice(
         return None;
     }
     let column = entering_column(run.columns, &block.rows[last])?;
-    let row = still_row(block, run, entries, combined, column, bound)?;
+    let row = still_row(block, run, entries, combined, column, base)?;
     Some((column, row))
 }
 
@@ -840,6 +915,7 @@ fn make_step(
     requires engine { IsSafe run.now.columns.now run.now.limit rows.old basis.old }
     requires moved { length moved.old ≡ length rows.old }
     requires order { AreMovedInOrder moved.old (length basis.old) order.old.items }
+    requires entered { HaveEntered run.now.columns.now basis.old moved.old }
     requires entries { AreMovedEntries (slice_index_or run.now.columns.now column []) rows.old moved.old entries.old }
     requires next { length next.old ≡ length rows.old + 1 }
     requires room { length room.old ≡ length rows.old }
@@ -849,6 +925,7 @@ fn make_step(
     ensures basis { OnTrue result (basis.new ≡ slice_set basis.old row column) }
     ensures moved { OnTrue result (moved.new ≡ slice_set moved.old row true) }
     ensures order { OnTrue result (AreMovedInOrder moved.new (length basis.old) order.new.items) }
+    ensures entered { OnTrue result (HaveEntered run.now.columns.now basis.new moved.new) }
     ensures entries { length entries.new ≡ length entries.old }
     ensures next { length next.new ≡ length next.old }
     ensures room { length room.new ≡ length room.old }
@@ -897,6 +974,7 @@ fn still_steps(
     requires engine { IsSafe run.now.columns.now run.now.limit rows.old basis.old }
     requires moved { length moved.old ≡ length rows.old }
     requires order { AreMovedInOrder moved.old (length basis.old) order.old.items }
+    requires entered { HaveEntered run.now.columns.now basis.old moved.old }
     requires entries { length entries.old ≡ length rows.old }
     requires next { length next.old ≡ length rows.old + 1 }
     requires room { length room.old ≡ length rows.old }
@@ -904,11 +982,12 @@ fn still_steps(
     ensures steps { IfSome result (λ k. AreStillSteps run.now.columns.now run.now.limit rows.old basis.old moved.old k rows.new basis.new moved.new) }
     ensures most { IfSome result (λ k. k ≤ most) }
     ensures order { IfSome result (λ k. AreMovedInOrder moved.new (length basis.new) order.new.items) }
+    ensures entered { IfSome result (λ k. HaveEntered run.now.columns.now basis.new moved.new) }
     ensures entries { length entries.new ≡ length entries.old }
     ensures next { length next.new ≡ length next.old }
     ensures room { length room.new ≡ length room.old }
 {
-    let bound = bound_behind(rows, moved, basis.len());
+    let base = begin_base(run.alloc, rows, basis, moved)?;
     for k in 0..most {
         if order.len() >= basis.len() / 6 {
             return Some(k);
@@ -919,7 +998,7 @@ fn still_steps(
             moved,
             order: order.as_slice(),
         };
-        let Some((column, row)) = still_choice(&block, run, entries, combined, bound) else {
+        let Some((column, row)) = still_choice(&block, run, entries, combined, &base) else {
             return Some(k);
         };
         if !make_step(

@@ -15,4 +15,4 @@ mod pivots;
 mod reading;
 mod whole;
 
-pub use whole::whole_run;
+pub use whole::{narrow_run, whole_run};

@@ -3,7 +3,7 @@ ghost use Rattle.std.specs.Prelude.{◌≡◌, ◌<◌, ◌≤◌, ◌^◌, leng
 ghost use Rattle.std.specs.Option.{IfSome};
 ghost use Rattle.it_engine.specs.Answers.{RunsFromStart};
 ghost use Rattle.it_engine.specs.Engine.{IsSafe, RepresentsSome};
-ghost use Rattle.it_engine.specs.Ends.{AnswersFrom};
+ghost use Rattle.it_engine.specs.Ends.{AnswersFrom, IsStart};
 
 use crate::engine::{Engine, EngineEnd};
 use crate::loading::{columns, norm, rows};
@@ -121,17 +121,24 @@ fn answer_by_width(
     }
 }
 
-/// The run from the start of a question, with a budget of steps or without one, and what is read off its last table. None where
-/// it can't be made on whole numbers below 2^63: where the start has others, or a step would form one, or the table has too many
-/// rows, or the coordinates don't ascend.
-pub fn whole_run(
+/// The start of a question: its columns but the artificial ones, the limit that the greatest of them leaves for the numbers of rows,
+/// and the engine.
+#[derive(Drop)]
+struct Start {
+    columns: Vec<Column>,
+    limit: u64,
+    engine: Engine,
+}
+
+/// Reads the start off a question. None where it has numbers that aren't whole or are too large, or the table has too many rows, or
+/// the coordinates don't ascend.
+fn read_start(
     alloc: Global,
     coordinates: &[u32],
     generators: &[Row],
     target: &Row,
-    budget: Option<u32>,
-) -> Result<Option<Solved>, AllocError>
-    ensures { IfOk result (λ o. IfSome o (RunsFromStart coordinates.now generators.now target.now budget)) }
+) -> Result<Option<Start>, AllocError>
+    ensures { IfOk result (λ o. IfSome o (λ start. IsStart coordinates.now generators.now target.now start.columns.items start.limit start.engine)) }
 {
     if coordinates.len() >= MOST_ROWS || !ascends(coordinates) {
         return Ok(None);
@@ -148,6 +155,33 @@ pub fn whole_run(
     };
     let basis = artificials(alloc, generators.len(), coordinates.len())?;
     let engine = Engine::new(alloc, rows, basis)?;
+    Ok(Some(Start {
+        columns,
+        limit,
+        engine,
+    }))
+}
+
+/// The run from the start of a question, with a budget of steps or without one, and what is read off its last table. None where
+/// it can't be made on whole numbers below 2^63: where the start has others, or a step would form one, or the table has too many
+/// rows, or the coordinates don't ascend.
+pub fn whole_run(
+    alloc: Global,
+    coordinates: &[u32],
+    generators: &[Row],
+    target: &Row,
+    budget: Option<u32>,
+) -> Result<Option<Solved>, AllocError>
+    ensures { IfOk result (λ o. IfSome o (RunsFromStart coordinates.now generators.now target.now budget)) }
+{
+    let Some(start) = read_start(alloc, coordinates, generators, target)? else {
+        return Ok(None);
+    };
+    let Start {
+        columns,
+        limit,
+        engine,
+    } = start;
     answer_by_width(
         alloc,
         coordinates,
@@ -155,6 +189,36 @@ pub fn whole_run(
         columns.as_slice(),
         limit,
         engine,
+        budget,
+    )
+}
+
+/// As `whole_run`, with rows in 32 bits alone: None also where a number doesn't fit these, or where the rows are so few that rows
+/// in 64 bits are as fast.
+pub fn narrow_run(
+    alloc: Global,
+    coordinates: &[u32],
+    generators: &[Row],
+    target: &Row,
+    budget: Option<u32>,
+) -> Result<Option<Solved>, AllocError>
+    ensures { IfOk result (λ o. IfSome o (RunsFromStart coordinates.now generators.now target.now budget)) }
+{
+    let Some(start) = read_start(alloc, coordinates, generators, target)? else {
+        return Ok(None);
+    };
+    let Start {
+        columns,
+        limit,
+        engine,
+    } = start;
+    narrow_answer(
+        alloc,
+        coordinates,
+        target,
+        columns.as_slice(),
+        limit,
+        &engine,
         budget,
     )
 }

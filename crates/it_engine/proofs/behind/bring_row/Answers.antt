@@ -17,7 +17,7 @@ loop-k-preserved c = record {
   taken = after_row c.args.block.now.order.now (λ q. IsTakenOff c.args.run.now.columns.now c.args.run.now.limit c.args.block.now.rows.now c.args.block.now.basis.now c.args.block.now.moved.now c.args.row.now q c.take_off_moved.new.row)
       c.loop-k.k c.row_at-q.result c.row_at-q.ensures
       (more_off c.args.run.now.columns.now c.args.run.now.limit c.args.block.now.rows.now c.args.block.now.basis.now c.args.block.now.moved.now c.args.row.now c.row_at-q.result c.loop-k.row c.take_off_moved.new.row
-      (rw c.row_at-q.ensures (c.requires.order.within c.loop-k.k c.loop-k-test.true))
+      (rw c.row_at-q.ensures (c.requires.order.within c.loop-k.k c.loop-k-test.true)) (rw c.row_at-q.ensures (c.requires.order.own c.loop-k.k c.loop-k-test.true))
       (up_to_row c.args.block.now.moved.now (length c.args.block.now.basis.now) c.args.block.now.order.now c.requires.order
       (λ q. IsTakenOff c.args.run.now.columns.now c.args.run.now.limit c.args.block.now.rows.now c.args.block.now.basis.now c.args.block.now.moved.now c.args.row.now q c.loop-k.row)
       (still_off c.args.run.now.columns.now c.args.run.now.limit c.args.block.now.rows.now c.args.block.now.basis.now c.args.block.now.moved.now c.args.row.now c.loop-k.row)

@@ -1,9 +1,10 @@
-use Rattle.std.proofs.Common.{rules, length, List, ℕ, sym, subst, ◌≡◌, ◌∙◌, [], slice_index_or, FitsSigned, to_z-of_z, w64, ap}
+use Rattle.std.proofs.Common.{rules, Bool, length, List, slice_set, ℕ, sym, subst, ◌≡◌, ◌∙◌, [], slice_index_or, FitsSigned, to_z-of_z, w64, ap}
 use Rattle.std.proofs.lemmas.List.{get_or_default}
 use Rattle.it_space.specs.Rows.{Terms}
-use Rattle.it_engine.specs.Behind.{AreMovedInOrder}
+use Rattle.it_engine.specs.Behind.{AreMovedInOrder, HaveEntered}
 use Rattle.it_engine.specs.Choosing.{entry_of}
 use Rattle.it_engine.proofs.BehindMoves.{AreReady, ready, entries_short, null_elsewhere, step_behind}
+use Rattle.it_engine.proofs.MovedOrder.{still_entered}
 use Rattle.it_engine.proofs.behind.make_step.Goals as goal
 use Rattle.it_engine.proofs.behind.make_step.Goals.{After-entry_at}
 
@@ -30,6 +31,11 @@ pivot_moved-requires-clause-elsewhere c =
 
 pub returns-clause-order : goal.returns-clause-order
 returns-clause-order c = c.if-not-note_moved.ensures.order (length c.args.basis.now) c.requires.row c.requires.order
+
+pub returns-clause-entered : goal.returns-clause-entered
+returns-clause-entered c =
+    subst (λ (moved : List Bool). HaveEntered c.args.run.now.columns.now (slice_set c.args.basis.now c.args.row c.args.column) moved) (sym c.if-not-note_moved.ensures.moved)
+    (still_entered c.args.run.now.columns.now c.args.basis.now c.args.moved.now c.args.row c.args.column c.requires.row c.requires.column c.requires.entered)
 
 pub returns-clause-step : goal.returns-clause-step
 returns-clause-step c =
