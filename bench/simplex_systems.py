@@ -6,7 +6,10 @@ has it (first phase of the simplex method, Bland's rule), over dense rows of `fr
 a number passes 2^127 - 1: the ratios of the entering column, then for each other row its quotient, its products and differences,
 and the quotients of the row that leaves. `python3 bench/simplex_systems.py systems` prints a line for each system with its budget,
 with the steps that its run makes and one less, and without a budget, as they stand in examples/vectors/systems.txt (the form of a
-line: crates/bench/src/systems.rt); `ends` prints whether each run ends on whole numbers alone, and how it ends, as in systems.out.
+line: crates/bench/src/systems.rt); `ends` prints which engine answers each run, and how it ends, as in systems.out.
+
+The engine is `narrow` where there are 64 rows or more and all whole numbers that are kept of the run fit rows in 32 bits, `wide`
+where they fit rows in 64 bits, and else `exact`, by fractions.
 """
 import random
 import sys
@@ -14,6 +17,10 @@ from fractions import Fraction
 from math import gcd
 
 LARGEST = 2**127 - 1
+IN_32_BITS = 2**31 - 1
+IN_64_BITS = 2**63 - 1
+# with fewer rows no run is tried in 32 bits
+FEW_ROWS = 64
 
 
 class Wide(Exception):
@@ -145,15 +152,15 @@ def reduced(row, bottom):
     return [x // shared for x in row], bottom // shared
 
 
-def whole_steps(columns, target, budget):
-    """The steps that the run on whole numbers makes before a number is too large; None where it comes to its end."""
+def whole_steps(columns, target, budget, largest):
+    """The steps that the run on whole numbers up to the largest makes before one is too large; None where it comes to its end."""
     m, n = len(target), len(columns)
     signs = [1 if t >= 0 else -1 for t in target]
     terms = [[(k, signs[k] * c[k]) for k in range(m) if c[k] != 0] for c in columns]
     norm = max([1] + [sum(abs(x) for _, x in column) for column in terms])
-    if norm >= 2**63:
+    if norm > IN_64_BITS:
         return 0
-    limit = (2**63 - 1) // norm
+    limit = min(largest, IN_64_BITS // norm)
     rows = [[1 if i == k else 0 for i in range(m)] + [signs[k] * target[k]] for k in range(m)]
     rows.append([-sum(row[j] for row in rows) for j in range(m + 1)])
     bottoms = [1] * (m + 1)
@@ -179,7 +186,10 @@ def whole_steps(columns, target, budget):
                 a, b = pivot // shared, entries[i] // shared
                 rows[i] = [x * a - y * b for x, y in zip(rows[i], own)]
                 bottoms[i] *= a
-                if bottoms[i] >= 2**63 or any(abs(x) > limit for x in rows[i]):
+                # a row that doesn't fit 32 bits is tried over its least denominator
+                if largest == IN_32_BITS and bottoms[i] <= IN_64_BITS:
+                    rows[i], bottoms[i] = reduced(rows[i], bottoms[i])
+                if bottoms[i] > IN_64_BITS or any(abs(x) > limit for x in rows[i]):
                     return k
                 if bottoms[i] > 2**16:
                     rows[i], bottoms[i] = reduced(rows[i], bottoms[i])
@@ -197,7 +207,7 @@ def takeovers():
         matrix = [[draw.randint(-(2**bits), 2**bits) for _ in range(rows)] for _ in range(columns)]
         target = [draw.randint(-(2**bits), 2**bits) for _ in range(rows)]
         budget = 1000
-        lost = whole_steps(matrix, target, budget)
+        lost = whole_steps(matrix, target, budget, IN_64_BITS)
         kind, value, steps = solve(matrix, target, budget)
         if lost is None or lost == 0:
             continue
@@ -209,6 +219,34 @@ def takeovers():
             wanted.pop(0)
 
 
+def tall():
+    """Systems of 64 rows whose columns have few entries, with the budgets that are tried: two that rows in 32 bits hold, one of these
+    with a row less, one whose start only rows in 64 bits hold, and one that rows in 32 bits hold for some steps and rows in 64 for
+    some more."""
+    draw = random.Random(1957)
+
+    def column(entries, size):
+        places = draw.sample(range(FEW_ROWS), entries)
+        return [draw.randint(-size, size) if k in places else 0 for k in range(FEW_ROWS)]
+
+    def inside(columns):
+        weights = [draw.choice((0, 1, 2)) for _ in columns]
+        return [sum(w * x for w, x in zip(weights, row)) for row in zip(*columns)]
+
+    columns = [column(6, 3) for _ in range(16)]
+    target = inside(columns)
+    for one in target, column(6, 3):
+        yield columns, one, [solve(columns, one, UNBOUNDED)[2] - 1, None]
+    yield [c[:-1] for c in columns], target[:-1], [None]
+    yield columns, [2**40 * x for x in target], [None]
+    lost = [None]
+    while None in lost:
+        columns = [column(8, 2**10) for _ in range(8)]
+        target = inside(columns)
+        lost = [whole_steps(columns, target, UNBOUNDED, largest) for largest in (IN_32_BITS, IN_64_BITS)]
+    yield columns, target, lost + [None]
+
+
 def lines():
     """The systems, each with the budgets that are tried: None is none."""
     for columns, target, budget in systems():
@@ -216,6 +254,7 @@ def lines():
         yield columns, target, sorted({budget, max(steps - 1, 0), min(steps, budget)}) + [None]
     for columns, target, budget, lost in takeovers():
         yield columns, target, [lost, budget, None]
+    yield from tall()
 
 
 # no run here makes more steps
@@ -226,24 +265,32 @@ def row(numbers):
     return ",".join(f"{k + 1}:{x}" for k, x in enumerate(numbers) if x != 0) or "-"
 
 
+def engine(columns, target, steps):
+    """The engine that answers."""
+    if len(target) >= FEW_ROWS and whole_steps(columns, target, steps, IN_32_BITS) is None:
+        return "narrow"
+    if whole_steps(columns, target, steps, IN_64_BITS) is None:
+        return "wide"
+    return "exact"
+
+
 def told(columns, target, budget):
     steps = UNBOUNDED if budget is None else budget
     kind, value, made = solve(columns, target, steps)
     checked(columns, target, (kind, value, made))
     assert budget is not None or kind != "Pivots"
-    is_whole = whole_steps(columns, target, steps) is None and (kind, value) != ("Width", 0)
-    engine = "whole" if is_whole else "exact"
+    by = engine(columns, target, steps)
     if kind == "Weights":
-        return " ".join([engine, "weights"] + [f"{j}:{w.numerator}/{w.denominator}" for j, w in value])
+        return " ".join([by, "weights"] + [f"{j}:{w.numerator}/{w.denominator}" for j, w in value])
     if kind == "Point":
-        return " ".join([engine, "point"] + [f"{x.numerator}/{x.denominator}" for x in value])
-    return f"{engine} {kind.lower()} {value}"
+        return " ".join([by, "point"] + [f"{x.numerator}/{x.denominator}" for x in value])
+    return f"{by} {kind.lower()} {value}"
 
 
 def units(count, budget):
     """Each of so many columns has one coordinate, and the target has all: one step for each."""
     if sys.argv[1] == "ends":
-        return f"whole pivots {budget}" if budget < count else " ".join(["whole weights"] + [f"{j}:1/1" for j in range(count)])
+        return f"narrow pivots {budget}" if budget < count else " ".join(["narrow weights"] + [f"{j}:1/1" for j in range(count)])
     return " ".join([str(budget), str(count), row([1] * count)] + [f"{k}:1" for k in range(1, count + 1)])
 
 

@@ -3,7 +3,8 @@
 //! fractions add, mul or compare: the operation on each pair of fractions, a pair on a line as four numbers; a sum over the results.
 //! WAY each writes the results of all operations, a line for each pair.
 //! questions read, text or rows: each question as it is read, its text, or the rows of its constraints and targets.
-//! systems ends: systems of columns and a target, a line each; whether the run ends on whole numbers alone, and how it ends.
+//! systems ends: systems of columns and a target, a line each; which engine answers each (`narrow` by rows in 32 bits, `wide` in 64,
+//! `exact` by fractions), and how its run ends.
 //! simplex solve or exact: whether the target of the first question is a sum of the elemental inequalities, with a budget of LIMIT
 //! steps, as the product asks or by the table of fractions alone; how the run ends. WAY system writes the columns in place of it.
 //! reading file: the reading of the input as a question file; its bytes and its questions.

@@ -1,4 +1,4 @@
-//! Systems of the simplex method, a line each, and how the run of each ends.
+//! Systems of the simplex method, a line each, with which engine answers each and how its run ends.
 //!
 //! A line has the most steps, or `none`, then the number of coordinates, the target and the columns. A row is its terms with commas
 //! between them, each a coordinate, `:` and a coefficient, or `-` where it has none.
@@ -7,7 +7,7 @@ ghost use Rattle.std.specs.Bool.{OnTrue};
 ghost use Rattle.it_number.specs.Limit.{IsWithin};
 
 use crate::output::Output;
-use it_engine::whole_run;
+use it_engine::{narrow_run, whole_run};
 use it_fraction::Fraction;
 use it_simplex::{Budget, Solved, solve};
 use it_space::Row;
@@ -138,16 +138,34 @@ pub fn end(alloc: Global, system: &System) -> Result<Solved, AllocError> {
     )
 }
 
-/// Whether the run on whole numbers ends without fractions.
-fn is_whole(alloc: Global, system: &System) -> Result<bool, AllocError> {
-    let end = whole_run(
-        alloc,
-        system.coordinates.as_slice(),
-        system.columns.as_slice(),
-        &system.target,
-        system.steps,
-    )?;
-    Ok(end.is_some())
+/// The engines that may answer: by rows in 32 bits, by rows in 64 bits, or by fractions.
+#[derive(Drop, Clone, Copy)]
+enum Engine {
+    Narrow,
+    Wide,
+    Exact,
+}
+
+/// The engine that answers a system: the first that doesn't give up.
+fn engine_of(alloc: Global, system: &System) -> Result<Engine, AllocError> {
+    let coordinates = system.coordinates.as_slice();
+    let columns = system.columns.as_slice();
+    if narrow_run(alloc, coordinates, columns, &system.target, system.steps)?.is_some() {
+        return Ok(Engine::Narrow);
+    }
+    if whole_run(alloc, coordinates, columns, &system.target, system.steps)?.is_some() {
+        return Ok(Engine::Wide);
+    }
+    Ok(Engine::Exact)
+}
+
+/// The word for an engine.
+fn word(engine: Engine) -> &'static str {
+    match engine {
+        Engine::Narrow => "narrow",
+        Engine::Wide => "wide",
+        Engine::Exact => "exact",
+    }
 }
 
 /// Writes weights by their columns.
@@ -187,19 +205,14 @@ fn write_end(out: &mut Output, solved: &Solved) {
     out.put('\n');
 }
 
-/// Writes how the run of a system ends, after whether it ends on whole numbers alone.
+/// Writes how the run of a system ends, after which engine answers.
 fn write_run(alloc: Global, out: &mut Output, system: &System) -> Result<(), AllocError> {
-    let word = if is_whole(alloc, system)? {
-        "whole"
-    } else {
-        "exact"
-    };
-    out.put(word);
+    out.put(word(engine_of(alloc, system)?));
     write_end(out, &end(alloc, system)?);
     Ok(())
 }
 
-/// Writes for each line how its run ends.
+/// Writes for each line which engine answers, and how its run ends.
 pub fn write_ends(alloc: Global, out: &mut Output, text: &str) -> Result<(), AllocError> {
     for line in text.lines() {
         match system_of(alloc, line)? {
