@@ -1,8 +1,8 @@
 #!/usr/bin/env python3
 """A twin of the engine in plain Rust, made of its own sources, so that an idea is measured before it is proved.
 
-`engine_twin.py build FOLDER` takes the contracts out of crates/it_whole/src and crates/it_engine/src of the checkout that it is called
-in, and compiles what is left to FOLDER/twin. `engine_twin.py system FAMILY N` prints a system over N variables, by the elemental inequalities in their order:
+`engine_twin.py build FOLDER` takes the contracts out of the sources of it_vectors, it_whole and it_engine in the checkout that it is
+called in, and compiles what is left to FOLDER/twin. `engine_twin.py system FAMILY N` prints a system over N variables, by the elemental inequalities in their order:
 FAMILY is parts, chain or ingleton, as in bench/simplex.txt. `FOLDER/twin BUDGET TURNS < SYSTEM` makes the run so often, and prints how it
 ends, in which width, and sums over the last basis and the last rows: two versions of the sources have to print the same. Unlike the
 product the twin tests indexes, so times are to be compared with those of another twin only.
@@ -19,7 +19,8 @@ from collections import Counter
 from pathlib import Path
 
 MODULES = {
-    "it_whole": "arithmetic columns divisors narrow_numbers narrow_rows numbers rows wide_rows".split(),
+    "it_vectors": "arithmetic divisors narrow_numbers numbers".split(),
+    "it_whole": "columns narrow_rows room rows wide_rows".split(),
     "it_engine": "behind choice engine pivots".split(),
 }
 
@@ -135,8 +136,16 @@ def plain(text):
     text = re.sub(r"Vec::from_elem\(alloc, (.*), (.*)\)\?", r"vec![\1; \2]", text)
     text = re.sub(r"\.push\((.*?)\)(?:\.ok\(\))?\?;", r".push(\1);", text)
     text = re.sub(r"((?:self\.)?\w+\.(?:insert|push)\(.*\))\.is_ok\(\)", r"{ \1; true }", text)
-    text = re.sub(r"^use it_whole::", "use crate::it_whole::", text, flags=re.M)
+    text = re.sub(r"^use (it_vectors|it_whole)::", r"use crate::\1::", text, flags=re.M)
     return re.sub(r"\b(Global|AllocError)\b", r"crate::\1", text)
+
+
+def exports(crate):
+    """A module that exports what the crate does."""
+    with open(f"crates/{crate}/src/lib.rt", encoding="utf-8") as source:
+        text = re.sub(r"^pub mod (\w+);", r"pub use \1;", source.read(), flags=re.M)
+    exported = re.sub(r"^pub use ", "pub use crate::", "\n".join(re.findall(r"^pub use [^;]*;", text, re.M)), flags=re.M)
+    return f"mod {crate} {{\n{exported}\n}}\n"
 
 
 def build(folder):
@@ -145,11 +154,9 @@ def build(folder):
         for name in names:
             with open(f"crates/{crate}/src/{name}.rt", encoding="utf-8") as source, open(f"{folder}/{name}.rs", "w", encoding="utf-8") as target:
                 target.write(plain(source.read()))
-    with open("crates/it_whole/src/lib.rt", encoding="utf-8") as source:
-        exported = re.sub(r"^pub use ", "pub use crate::", "\n".join(re.findall(r"^pub use .*;", source.read(), re.M)), flags=re.M)
     with open(f"{folder}/main.rs", "w", encoding="utf-8") as target:
-        modules = "".join(f"mod {name};\n" for names in MODULES.values() for name in names)
-        target.write(f"{modules}mod it_whole {{\n{exported}\n}}\n{MAIN}")
+        modules = "".join(f"pub mod {name};\n" for names in MODULES.values() for name in names)
+        target.write(f"{modules}{exports('it_vectors')}{exports('it_whole')}{MAIN}")
     flags = "--edition 2021 -A warnings -C opt-level=3 -C target-cpu=x86-64-v2 -C codegen-units=1".split()
     subprocess.run(["rustc", *flags, f"{folder}/main.rs", "-o", f"{folder}/twin"], check=True)
 

@@ -12,7 +12,8 @@ use Rattle.it_run.specs.Choice.{next}
 use Rattle.it_engine.specs.Behind.{AreMovedEntries, AreMovedInOrder, AreNullElsewhere, has_moved, IsBehindStep, IsRowBrought, mixed_table, ShowsBehind}
 use Rattle.it_engine.specs.Choosing.{entry_of}
 use Rattle.it_engine.specs.Engine.{IsSafe}
-use Rattle.it_whole.specs.WholeRows.{AreShort, IsUsable, IsRow, WholeRowView}
+use Rattle.it_vectors.specs.Sizes.{AreShort}
+use Rattle.it_whole.specs.WholeRows.{IsUsable, IsRow, WholeRowView}
 use Rattle.it_engine.specs.PivotedRows.{AreUsable, AreWholeRowsPivoted, IsFitting}
 use Rattle.it_engine.specs.Tables.{ShowsTable, whole_row_at}
 use Rattle.it_engine.proofs.BehindSteps.{moved_with, shows_next}

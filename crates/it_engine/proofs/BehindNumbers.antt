@@ -11,7 +11,8 @@ use Rattle.it_space.specs.Rows.{Terms}
 use Rattle.it_engine.specs.Behind.{AddsShare, AreShares, BoundsMovedShares, BoundsShares, column_less_moved, has_moved, IsCommonMultiple, IsNextMoved, share_of, share_sum, taken_terms, TakesRow}
 use Rattle.it_whole.specs.ColumnTerms.{multiple_of_term, multiple_of_terms}
 use Rattle.it_space.specs.Sums.{number_at}
-use Rattle.it_whole.specs.WholeRows.{AreAtMost, WholeRowView}
+use Rattle.it_vectors.specs.Sizes.{AreAtMost}
+use Rattle.it_whole.specs.WholeRows.{WholeRowView}
 use Rattle.it_engine.specs.Tables.{whole_row_at}
 use Prim.Native.Nat.{◌∣◌}
 

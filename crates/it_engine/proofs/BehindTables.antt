@@ -25,7 +25,8 @@ use Rattle.it_run.proofs.RunSteps.{stuck_without_entering, not_stuck_with_enteri
 use Rattle.it_engine.specs.Behind.{mixed_table, share_sum, BoundsShares, ShowsBehind}
 use Rattle.it_engine.specs.Choosing.{first_negative_cost, is_above_zero}
 use Rattle.it_engine.specs.Loading.{IsNorm}
-use Rattle.it_whole.specs.WholeRows.{AreAtMost, IsShort, WholeRowView}
+use Rattle.it_vectors.specs.Sizes.{AreAtMost, IsShort}
+use Rattle.it_whole.specs.WholeRows.{WholeRowView}
 use Rattle.it_engine.specs.Tables.{IsOver, whole_row_at}
 use Rattle.it_engine.proofs.Generators.{table_is_over, number, bottom, price_named, value_bounded}
 use Rattle.it_engine.proofs.NoWide as W

@@ -7,8 +7,9 @@ use Rattle.std.proofs.lemmas.Nat.{mul-le}
 use Rattle.it_number.proofs.SignLemmas.{size_negated}
 use Rattle.it_space.specs.Rows.{Terms, row_mass}
 use Rattle.it_space.specs.Sums.{number_at}
+use Rattle.it_vectors.specs.Sizes.{AreAtMost}
 use Rattle.it_whole.specs.ColumnTerms.{multiple_of_terms, Suits}
-use Rattle.it_whole.specs.WholeRows.{AreAtMost, WholeRowView}
+use Rattle.it_whole.specs.WholeRows.{WholeRowView}
 use Rattle.it_engine.specs.Behind.{AreBaseBounds, AreMovedEntries, BoundsShares, column_less_moved, has_moved, share_of, share_sum, SuitsBehind, taken_terms}
 use Rattle.it_engine.specs.Choosing.{entry_of}
 use Rattle.it_engine.specs.Loading.{IsNorm}

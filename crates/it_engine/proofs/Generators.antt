@@ -12,7 +12,8 @@ use Rattle.it_tableau.specs.Invariants.{CombinesStart}
 use Rattle.it_tableau.specs.SimplexTables.{SimplexTable, FeasibilityProblem}
 use Rattle.it_run.specs.RowValues.{rational_value}
 use Rattle.it_space.specs.Sums.{number_at}
-use Rattle.it_whole.specs.WholeRows.{WholeRowView, IsShort}
+use Rattle.it_vectors.specs.Sizes.{IsShort}
+use Rattle.it_whole.specs.WholeRows.{WholeRowView}
 use Rattle.it_engine.specs.Tables.{whole_row_at, IsOver, AreStartColumns, ShowsTable}
 use Rattle.it_whole.proofs.Names.{sum_named}
 

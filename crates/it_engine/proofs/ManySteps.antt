@@ -21,7 +21,8 @@ use Rattle.it_engine.specs.Behind.{AreBaseBounds, AreBrought, AreEngineSteps, Ar
 use Rattle.it_engine.specs.Choosing.{right_side_of}
 use Rattle.it_engine.specs.Engine.{IsSafe, Represents}
 use Rattle.it_engine.specs.PivotedRows.{IsFitting}
-use Rattle.it_whole.specs.WholeRows.{IsUsable, AreAtMost, IsRow, WholeRowView}
+use Rattle.it_vectors.specs.Sizes.{AreAtMost}
+use Rattle.it_whole.specs.WholeRows.{IsUsable, IsRow, WholeRowView}
 use Rattle.it_engine.specs.Tables.{whole_row_at}
 use Rattle.it_engine.proofs.BehindTables as T
 use Rattle.it_whole.proofs.Names.{number_null}

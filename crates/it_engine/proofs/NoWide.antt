@@ -12,10 +12,10 @@ use Rattle.it_tableau.specs.SimplexTables.{SimplexTable, ratio}
 use Rattle.it_tableau.specs.Fits.{EntryFits, PivotFits}
 use Rattle.it_run.specs.Choice.{entering_column, leaving_row, is_candidate}
 use Rattle.it_run.specs.Solving.{StepFits}
-use Rattle.it_whole.specs.WholeRows.{IsShort}
+use Rattle.it_vectors.specs.Sizes.{IsShort}
 use Rattle.it_engine.specs.Tables.{IsOver}
 use Rattle.it_engine.proofs.Narrowness.{narrow_by, difference_fits}
-use Rattle.it_whole.proofs.Bounds.{half_product}
+use Rattle.it_vectors.proofs.Bounds.{half_product}
 use Rattle.it_whole.proofs.Names.{minus_names, sign_named, scaled_name, quotient_in_row, quotient_of_names, product_in_row}
 
 pub half_within : (z : ℤ) → unsigned_abs z < 2 ^ 126 → IsWithin z

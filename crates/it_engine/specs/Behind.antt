@@ -15,8 +15,9 @@ use Rattle.it_tableau.specs.SimplexTables.{SimplexTable, FeasibilityProblem}
 use Rattle.it_engine.specs.Choosing.{entry_of, first_negative_cost, is_above_zero, right_side_of}
 use Rattle.it_engine.specs.Engine.{IsSafe, Represents}
 use Rattle.it_engine.specs.PivotedRows.{AreUsable}
+use Rattle.it_vectors.specs.Sizes.{AreAtMost}
 use Rattle.it_whole.specs.ColumnTerms.{multiple_of_terms, Suits}
-use Rattle.it_whole.specs.WholeRows.{IsUsable, AreAtMost, IsRow, WholeRowView}
+use Rattle.it_whole.specs.WholeRows.{IsUsable, IsRow, WholeRowView}
 use Rattle.it_whole.specs.Updates.{IsShortened, IsUpdated, IsWholeRowReduced}
 use Rattle.it_engine.specs.Tables.{AreStartColumns, ShowsTable, whole_row_at}
 

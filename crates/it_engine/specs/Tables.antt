@@ -7,7 +7,8 @@ use Rattle.it_tableau.specs.Operations.{rationals}
 use Rattle.it_tableau.specs.FieldOperations.{sum_to}
 use Rattle.it_tableau.specs.SimplexTables.{SimplexTable, FeasibilityProblem, start_row}
 use Rattle.it_run.specs.RowValues.{rational_value}
-use Rattle.it_whole.specs.WholeRows.{AreAtMost, IsRow, IsShort, WholeRowView}
+use Rattle.it_vectors.specs.Sizes.{AreAtMost, IsShort}
+use Rattle.it_whole.specs.WholeRows.{IsRow, WholeRowView}
 
 -- each number of the table, its right sides and its cost row too, is a whole number over the denominator of its row, and all
 -- of these are short

@@ -13,7 +13,8 @@ ghost use Rattle.it_engine.specs.Behind.{AddsShare, AreBaseBounds, AreBrought, A
 ghost use Rattle.it_whole.specs.ColumnTerms.{multiple_of_terms, Suits};
 ghost use Rattle.it_engine.specs.Choosing.{entry_of, is_above_zero as is_above_zero_of, right_side_of};
 ghost use Rattle.it_engine.specs.PivotedRows.{AreFitting, AreUsable, IsFitting, SuitsAll};
-ghost use Rattle.it_whole.specs.WholeRows.{IsUsable, AreAtMost, AreShort};
+ghost use Rattle.it_vectors.specs.Sizes.{AreAtMost, AreShort};
+ghost use Rattle.it_whole.specs.WholeRows.{IsUsable};
 ghost use Rattle.it_engine.specs.Engine.{IsSafe};
 ghost use Rattle.it_engine.specs.Loading.{IsNorm};
 ghost use Rattle.it_space.specs.Rows.{value};
@@ -22,9 +23,8 @@ ghost use Rattle.it_space.specs.Sums.{number_at};
 
 use crate::choice::{entering_column, is_above_zero, right_side};
 use crate::pivots::pivot_moved;
-use it_whole::{
-    Column, WholeRow, common_divisor, is_zero, narrow, product, read, short_product, short_sum,
-};
+use it_vectors::{common_divisor, is_zero, narrow, product, read, short_product, short_sum};
+use it_whole::{Column, WholeRow};
 use std::alloc::Global;
 
 /// The largest number of the engine, 2^63 - 1.

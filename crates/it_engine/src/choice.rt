@@ -7,7 +7,8 @@ ghost use Rattle.it_engine.specs.Tables.{whole_row_at};
 ghost use Rattle.it_rational.specs.Rational.{sign_least};
 ghost use Rattle.it_space.specs.Sums.{number_at};
 
-use it_whole::{Column, WholeRow, product, read};
+use it_vectors::{product, read};
+use it_whole::{Column, WholeRow};
 
 /// Whether z is above 0.
 pub fn is_above_zero(z: i64) -> bool

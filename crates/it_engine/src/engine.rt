@@ -7,13 +7,14 @@ ghost use Rattle.it_engine.specs.Loading.{IsNorm};
 ghost use Rattle.it_engine.specs.Choosing.{first_negative_cost, right_side_of};
 ghost use Rattle.it_engine.specs.Engine.{IsFinished, IsSafe, IsEngineStepOrStuck, RepresentsSome};
 ghost use Rattle.it_engine.specs.Tables.{AreAllAtMost, whole_row_at};
-ghost use Rattle.it_whole.specs.WholeRows.{AreAtMost};
+ghost use Rattle.it_vectors.specs.Sizes.{AreAtMost};
 
 use crate::behind::{Run, make_steps};
 use crate::choice::entering_column;
 use crate::loading::norm;
 use crate::pivots::enter;
-use it_whole::{Column, WholeRow, is_zero};
+use it_vectors::is_zero;
+use it_whole::{Column, WholeRow};
 use std::alloc::{AllocError, Global};
 use std::marker::Model;
 
@@ -323,7 +324,7 @@ fn narrowed_row(
 }
 
 /// The row of this number, which is the last one.
-#[tactic(auto, using(it_whole::proofs::Items::item_by_default))]
+#[tactic(auto, using(it_vectors::proofs::Items::item_by_default))]
 fn last_row(rows: &[WholeRow], last: usize) -> &WholeRow
     requires { last < length rows.now }
     ensures { result.now ≡ whole_row_at rows.now last }

@@ -9,7 +9,8 @@ ghost use Rattle.it_engine.specs.Loading.{right_size, right_sum, AreReadColumns,
 
 use it_space::Row;
 use it_tableau::{keeps_sign, place_of};
-use it_whole::{Column, WholeRow, narrow, short_sum};
+use it_vectors::{narrow, short_sum};
+use it_whole::{Column, WholeRow};
 use std::alloc::{AllocError, Global};
 
 /// The largest number of the engine, 2^63 - 1.

@@ -3,15 +3,18 @@ ghost use Rattle.std.specs.Prelude.{◌≡◌, ◌≢◌, ℕ, ◌+◌, ◌<◌,
 ghost use Rattle.std.specs.Bool.{OnTrue};
 ghost use Rattle.std.specs.Option.{IfSome};
 ghost use Rattle.it_engine.specs.Choosing.{best_row, entry_of};
-ghost use Rattle.it_whole.specs.WholeRows.{AreShort, IsShort, IsUsable};
-ghost use Rattle.it_whole.specs.Updates.{AreNextPlaces, IsQuotient};
+ghost use Rattle.it_vectors.specs.Sizes.{AreShort, IsShort};
+ghost use Rattle.it_vectors.specs.Places.{AreNextPlaces};
+ghost use Rattle.it_whole.specs.WholeRows.{IsUsable};
+ghost use Rattle.it_whole.specs.Updates.{IsQuotient};
 ghost use Rattle.it_engine.specs.Behind.{AreNullElsewhere};
 ghost use Rattle.it_engine.specs.Tables.{whole_row_at};
 ghost use Rattle.it_engine.specs.PivotedRows.{AreWholeRowsPivoted, AreUsable, IsFitting, IsRowUpdated};
 ghost use Rattle.it_space.specs.Sums.{number_at};
 
 use crate::choice::{leaving_row, note_entries};
-use it_whole::{Column, WholeRow, read};
+use it_vectors::read;
+use it_whole::{Column, WholeRow};
 use std::alloc::Global;
 
 /// Makes the column at which the rows have these entries basic in row r; false where a number would be too large, and then nothing

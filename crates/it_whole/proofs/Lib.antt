@@ -1,11 +1,5 @@
-pub mod Items
 pub mod Names
-pub mod Places
-pub mod Stretches
 pub mod RowSteps
 pub mod Pricing
-pub mod Quotients
-pub mod Divisions
 pub mod Usable
 pub mod NarrowSteps
-pub mod Bounds

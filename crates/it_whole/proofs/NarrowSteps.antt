@@ -4,8 +4,10 @@ use Rattle.it_number.specs.Gcd.{gcd}
 use Rattle.it_number.specs.Division.{int_quotient}
 use Rattle.it_number.proofs.Divisors.{quotient_some}
 use Rattle.it_rational.specs.Rational.{Rational}
-use Rattle.it_whole.specs.Combinations.{IsCombined, IsCombinedAndShortened}
-use Rattle.it_whole.specs.WholeRows.{IsUsable, AreAtMost, IsRow, WholeRowView}
+use Rattle.it_vectors.specs.Combinations.{IsCombined}
+use Rattle.it_vectors.specs.Sizes.{AreAtMost}
+use Rattle.it_whole.specs.Combinations.{IsCombinedAndShortened}
+use Rattle.it_whole.specs.WholeRows.{IsUsable, IsRow, WholeRowView}
 use Rattle.it_whole.specs.Updates.{IsWholeRowReduced}
 use Rattle.it_whole.proofs.RowSteps.{less_row}
 use Rattle.it_whole.proofs.Usable.{factor_some, shortened_less}

@@ -13,7 +13,7 @@ use Rattle.it_number.proofs.SignedDivisors.{over_back}
 use Rattle.it_rational.specs.Rational.{Rational, IsRatio}
 use Rattle.it_rational.specs.Rational as Q
 use Rattle.it_rational.proofs.RationalLaws.{ring_ℚ}
-use Rattle.it_whole.specs.Combinations.{IsCombined}
+use Rattle.it_vectors.specs.Combinations.{IsCombined}
 use Rattle.it_whole.specs.Updates.{IsWholeRowReduced, IsShortened}
 use Rattle.it_space.specs.Sums.{number_at}
 use Rattle.it_whole.specs.WholeRows.{WholeRowView, IsRow}

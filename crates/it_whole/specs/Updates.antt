@@ -1,5 +1,5 @@
 -- What a step of the simplex method makes of a row, said of the rational numbers that it shows.
-use Rattle.std.specs.Prelude.{◌≡◌, ℕ, ◌+◌, ◌*◌, ◌<◌, ◌≤◌, ℤ, pos, ◌*ℤ◌, unsigned_abs, List, length, slice_index_or}
+use Rattle.std.specs.Prelude.{◌≡◌, ℕ, ◌*◌, ◌<◌, ℤ, pos, ◌*ℤ◌, unsigned_abs, length}
 use Rattle.it_rational.specs.Rational.{Rational, plus, times, minus, inverse, IsRatio}
 use Rattle.it_space.specs.Sums.{number_at}
 use Rattle.it_whole.specs.WholeRows.{IsRow, IsUsable, WholeRowView}
@@ -27,14 +27,3 @@ pub record IsShortened (old new : WholeRowView) : Type 0 where
 -- the row over its entry p, without a common divisor of its numbers and p
 abbrev pub IsQuotient : WholeRowView → ℤ → WholeRowView → Type 0
 IsQuotient old p new = IsShortened record { numbers = old.numbers; bottom = unsigned_abs p } new
-
--- a row is 0 at each place from one on up to another
-pub record IsNextPlace (row : List ℤ) (from to : ℕ) : Type 0 where
-  pub after : from ≤ to
-  pub within : to ≤ length row
-  pub nulls : (k : ℕ) → from ≤ k → k < to → number_at row k ≡ pos 0
-
--- next has for each place such a next one, so that all places where the row isn't 0 are met from each to the next
-pub record AreNextPlaces (row : List ℤ) (next : List ℕ) : Type 0 where
-  pub length_is : length next ≡ length row + 1
-  pub each : (k : ℕ) → k ≤ length row → IsNextPlace row k (slice_index_or next k 0)

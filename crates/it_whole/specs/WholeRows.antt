@@ -8,18 +8,6 @@ pub record WholeRowView : Type 0 where
   pub numbers : List ℤ
   pub bottom : ℕ
 
--- no number is greater in absolute value
-abbrev pub AreAtMost : List ℤ → ℕ → Type 0
-AreAtMost numbers most = (k : ℕ) → k < length numbers → unsigned_abs (number_at numbers k) ≤ most
-
--- at most 2 ^ 63 - 1 in absolute value
-abbrev pub IsShort : ℤ → Type 0
-IsShort z = unsigned_abs z < 2 ^ 63
-
--- all numbers are below 2 ^ 63 in absolute value
-abbrev pub AreShort : List ℤ → Type 0
-AreShort numbers = (k : ℕ) → k < length numbers → IsShort (number_at numbers k)
-
 -- a row shows the first numbers of f: each is a whole number within a bound over one denominator, which is below 2 ^ 63
 pub record IsRow (width limit : ℕ) (f : ℕ → Rational) (row : List ℤ) (bottom : ℕ) : Type 0 where
   pub length_is : length row ≡ width

@@ -6,10 +6,10 @@ ghost use Rattle.it_space.specs.Rows.{value, row_mass};
 ghost use Rattle.it_whole.specs.Combinations.{IsPriced};
 ghost use Rattle.it_space.specs.Sums.{number_at};
 
-use crate::arithmetic::{difference_of_sums, plus_product, short_sum};
 use crate::narrow_rows::NarrowRow;
 use crate::rows::{AnyRow, WholeRow};
 use crate::wide_rows::WideRow;
+use it_vectors::{difference_of_sums, plus_product, short_sum};
 use std::alloc::{AllocError, Global};
 use std::marker::Model;
 

@@ -5,16 +5,11 @@
 //! this is done without a fraction and mostly without a division; where they don't, the row gives up.
 #![tactic(auto)]
 
-mod arithmetic;
 mod columns;
-mod divisors;
-mod narrow_numbers;
 mod narrow_rows;
-mod numbers;
+mod room;
 mod rows;
 mod wide_rows;
 
-pub use arithmetic::{common_divisor, is_zero, narrow, product, short_product, short_sum};
 pub use columns::Column;
-pub use numbers::read;
 pub use rows::WholeRow;

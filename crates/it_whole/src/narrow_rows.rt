@@ -3,15 +3,18 @@ ghost use Rattle.std.specs.Prelude.{◌≡◌, ◌+◌, ◌*◌, ◌<◌, ◌^�
 ghost use Rattle.std.specs.Bool.{OnFalse, OnTrue};
 ghost use Rattle.std.specs.Option.{IfSome};
 ghost use Rattle.it_space.specs.Sums.{number_at};
-ghost use Rattle.it_whole.specs.WholeRows.{AreAtMost, IsUsable};
+ghost use Rattle.it_vectors.specs.Sizes.{AreAtMost};
+ghost use Rattle.it_vectors.specs.Combinations.{IsCombined};
+ghost use Rattle.it_whole.specs.WholeRows.{IsUsable};
 ghost use Rattle.it_whole.specs.Updates.{IsWholeRowReduced, IsQuotient, IsShortened, IsUpdated};
-ghost use Rattle.it_whole.specs.Combinations.{IsCombined, IsCombinedAndShortened};
+ghost use Rattle.it_whole.specs.Combinations.{IsCombinedAndShortened};
 
-use crate::arithmetic::{lowest_terms, short_product};
-use crate::narrow_numbers::{
-    STRETCH, combine, combine_in_room, divide, divide_at_once, divisor, greatest_size,
-    narrow_number, note_stretches, read, subtract_multiple,
+use crate::room::combine_in_room;
+use it_vectors::narrow_numbers::{
+    STRETCH, combine, divide, divide_at_once, divisor, greatest_size, narrow_number,
+    note_stretches, read, subtract_multiple,
 };
+use it_vectors::{lowest_terms, short_product};
 use std::alloc::{AllocError, Global};
 use std::marker::Model;
 
@@ -29,8 +32,9 @@ pub struct NarrowRow {
 
 impl Model for NarrowRow {
     ghost use Rattle.std.specs.Bool.{OnTrue};
-    ghost use Rattle.it_whole.specs.Combinations.{AreStretches};
-    ghost use Rattle.it_whole.specs.WholeRows.{AreAtMost, WholeRowView};
+    ghost use Rattle.it_vectors.specs.Stretches.{AreStretches};
+    ghost use Rattle.it_vectors.specs.Sizes.{AreAtMost};
+    ghost use Rattle.it_whole.specs.WholeRows.{WholeRowView};
 
     ghost Value = { WholeRowView };
 

@@ -3,13 +3,15 @@ ghost use Rattle.std.specs.Prelude.{◌≡◌, ◌+◌, ◌<◌, ◌^◌, ◌≤
 ghost use Rattle.std.specs.Bool.{OnTrue};
 ghost use Rattle.std.specs.Option.{IfSome};
 ghost use Rattle.it_space.specs.Sums.{number_at};
-ghost use Rattle.it_whole.specs.WholeRows.{AreAtMost, AreShort, IsUsable};
-ghost use Rattle.it_whole.specs.Updates.{AreNextPlaces, IsQuotient, IsShortened, IsUpdated};
+ghost use Rattle.it_vectors.specs.Sizes.{AreAtMost, AreShort};
+ghost use Rattle.it_vectors.specs.Places.{AreNextPlaces};
+ghost use Rattle.it_whole.specs.WholeRows.{IsUsable};
+ghost use Rattle.it_whole.specs.Updates.{IsQuotient, IsShortened, IsUpdated};
 ghost use Rattle.it_whole.specs.Widths.{row_of};
 
-use crate::arithmetic::is_zero;
 use crate::narrow_rows::NarrowRow;
 use crate::wide_rows::WideRow;
+use it_vectors::is_zero;
 use std::alloc::{AllocError, Global};
 use std::marker::Model;
 

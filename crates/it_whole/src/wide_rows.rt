@@ -2,11 +2,13 @@
 ghost use Rattle.std.specs.Prelude.{◌≡◌, ◌+◌, ◌<◌, ◌^◌, ◌≤ℤ◌, [], unsigned_abs, length, pos};
 ghost use Rattle.std.specs.Bool.{OnTrue};
 ghost use Rattle.it_space.specs.Sums.{number_at};
-ghost use Rattle.it_whole.specs.WholeRows.{AreAtMost, AreShort, IsUsable};
-ghost use Rattle.it_whole.specs.Updates.{AreNextPlaces, IsWholeRowReduced, IsQuotient, IsShortened, IsUpdated};
+ghost use Rattle.it_vectors.specs.Sizes.{AreAtMost, AreShort};
+ghost use Rattle.it_vectors.specs.Places.{AreNextPlaces};
+ghost use Rattle.it_whole.specs.WholeRows.{IsUsable};
+ghost use Rattle.it_whole.specs.Updates.{IsWholeRowReduced, IsQuotient, IsShortened, IsUpdated};
 
-use crate::arithmetic::{lowest_terms, short_product};
-use crate::numbers::{combine, divide, divisor, greatest_size, note_places};
+use it_vectors::numbers::{combine, divide, divisor, greatest_size, note_places};
+use it_vectors::{lowest_terms, short_product};
 use std::alloc::Global;
 use std::marker::Model;
 
@@ -20,7 +22,8 @@ pub struct WideRow {
 }
 
 impl Model for WideRow {
-    ghost use Rattle.it_whole.specs.WholeRows.{AreAtMost, WholeRowView};
+    ghost use Rattle.it_vectors.specs.Sizes.{AreAtMost};
+    ghost use Rattle.it_whole.specs.WholeRows.{WholeRowView};
 
     ghost Value = { WholeRowView };
 

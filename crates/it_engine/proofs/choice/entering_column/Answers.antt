@@ -3,7 +3,7 @@ use Rattle.it_rational.specs.Rational.{sign_least}
 use Rattle.it_space.specs.Rows.{Terms, value}
 use Rattle.it_whole.specs.ColumnTerms.{Suits}
 use Rattle.it_space.specs.Sums.{number_at}
-use Rattle.it_whole.proofs.Items.{item_by_default}
+use Rattle.it_vectors.proofs.Items.{item_by_default}
 use Rattle.it_run.proofs.SearchLemmas.{first_is}
 use Rattle.it_engine.proofs.choice.entering_column.Goals as goal
 

@@ -1,7 +1,7 @@
 use Rattle.std.proofs.Common.{subst, sym, []}
 use Rattle.it_whole.specs.ColumnTerms.{Suits}
 use Rattle.it_whole.specs.WholeRows.{WholeRowView}
-use Rattle.it_whole.proofs.Items.{item_by_default}
+use Rattle.it_vectors.proofs.Items.{item_by_default}
 use Rattle.it_engine.proofs.choice.entry.Goals as goal
 
 pub price-requires : goal.price-requires

@@ -1,7 +1,7 @@
 use Rattle.std.proofs.Common.{rules, ◌≡◌, ◌<◌, ◌∙◌, length, FitsSigned, to_z-of_z, w64, arith}
 use Rattle.std.proofs.lemmas.List.{length-set}
 use Rattle.it_engine.specs.Choosing.{entry_of}
-use Rattle.it_whole.proofs.Items.{set_done}
+use Rattle.it_vectors.proofs.Items.{set_done}
 use Rattle.it_engine.proofs.choice.note_entries.Goals as goal
 
 pub loop-i-preserved : goal.loop-i-preserved

@@ -1,8 +1,9 @@
 use Rattle.std.proofs.Common.{◌≡◌, [], subst, IfOk}
 use Rattle.std.specs.Option.{IfSome}
-use Rattle.it_whole.specs.WholeRows.{AreAtMost, WholeRowView}
+use Rattle.it_vectors.specs.Sizes.{AreAtMost}
+use Rattle.it_whole.specs.WholeRows.{WholeRowView}
 use Rattle.it_engine.specs.Tables.{whole_row_at}
-use Rattle.it_whole.proofs.Items.{item_by_default}
+use Rattle.it_vectors.proofs.Items.{item_by_default}
 use Rattle.it_engine.proofs.engine.narrowed_row.Goals as goal
 use Rattle.it_engine.proofs.engine.narrowed_row.Goals.{After-index-rows-k}
 

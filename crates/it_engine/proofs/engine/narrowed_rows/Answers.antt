@@ -1,9 +1,10 @@
 use Rattle.std.proofs.Common.{rules, ◌≡◌, ◌<◌, ◌++◌, ◌∷◌, [], ◌∙◌, List, Option, ap, sym, subst, length, arith}
 use Rattle.std.proofs.lemmas.List.{take_all, take_more}
 use Rattle.std.specs.Option.{IfSome}
-use Rattle.it_whole.specs.WholeRows.{AreAtMost, WholeRowView}
+use Rattle.it_vectors.specs.Sizes.{AreAtMost}
+use Rattle.it_whole.specs.WholeRows.{WholeRowView}
 use Rattle.it_engine.specs.Tables.{whole_row_at}
-use Rattle.it_whole.proofs.Items.{below_more}
+use Rattle.it_vectors.proofs.Items.{below_more}
 use Rattle.it_engine.proofs.engine.narrowed_rows.Goals as goal
 
 pub loop-k-preserved : goal.loop-k-preserved

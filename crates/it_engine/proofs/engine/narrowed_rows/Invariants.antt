@@ -1,5 +1,5 @@
 use Rattle.std.proofs.Common.{◌≡◌, ℕ, ◌<◌, take}
-use Rattle.it_whole.specs.WholeRows.{AreAtMost}
+use Rattle.it_vectors.specs.Sizes.{AreAtMost}
 use Rattle.it_engine.specs.Tables.{whole_row_at}
 use Rattle.it_engine.proofs.engine.narrowed_rows.Given as goal
 

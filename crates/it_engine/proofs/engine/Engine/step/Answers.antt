@@ -6,7 +6,7 @@ use Rattle.it_engine.specs.Choosing.{best_row, entry_of}
 use Rattle.it_engine.specs.Engine.{EngineView, IsEngineStep}
 use Rattle.it_engine.specs.PivotedRows.{AreUsable, AreWholeRowsPivoted, IsFitting}
 use Rattle.it_whole.specs.WholeRows.{WholeRowView}
-use Rattle.it_whole.proofs.Items.{item_by_default}
+use Rattle.it_vectors.proofs.Items.{item_by_default}
 use Rattle.it_engine.proofs.Steps.{engine_kept, step_is_made, stuck_here}
 use Rattle.it_engine.proofs.engine.Engine.step.Goals as goal
 use Rattle.it_engine.proofs.engine.Engine.step.Goals.{After-index-columns-column}

@@ -2,7 +2,7 @@ use Rattle.std.proofs.Common.{rules, ◌≡◌, ◌<◌, ◌≤◌, ◌^◌, ◌
 use Rattle.std.proofs.lemmas.List.{take_all, take_more}
 use Rattle.it_space.specs.Sums.{number_at}
 use Rattle.it_whole.specs.WholeRows.{WholeRowView}
-use Rattle.it_whole.proofs.Items.{below_more}
+use Rattle.it_vectors.proofs.Items.{below_more}
 use Rattle.it_whole.proofs.narrow_rows.NarrowRow.from_numbers.Goals as goal
 
 pub loop-k-preserved : goal.loop-k-preserved

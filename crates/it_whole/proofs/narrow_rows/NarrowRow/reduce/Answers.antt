@@ -2,7 +2,8 @@ use Rattle.std.proofs.Common.{rules, Bool, true, false, mul-pos, ℕ, ◌*◌, �
 use Rattle.std.specs.Bool.{OnTrue}
 use Rattle.it_number.specs.Gcd.{gcd}
 use Rattle.it_number.specs.Division.{int_quotient}
-use Rattle.it_whole.specs.Combinations.{IsCombined, IsCombinedAndShortened}
+use Rattle.it_vectors.specs.Combinations.{IsCombined}
+use Rattle.it_whole.specs.Combinations.{IsCombinedAndShortened}
 use Rattle.it_whole.specs.WholeRows.{WholeRowView}
 use Rattle.it_whole.proofs.RowSteps.{less_row}
 use Rattle.it_whole.proofs.Usable.{factor_some}

@@ -1,7 +1,7 @@
 use Rattle.std.proofs.Common.{◌≡◌, ◌∙◌, ap, sym, subst, FitsSigned, to_z-of_z, w64, length, List, ℤ, pos}
 use Rattle.std.proofs.lemmas.List.{with_items_is}
 use Rattle.std.specs.Vec.{with_items}
-use Rattle.it_whole.specs.Combinations.{IsCombined}
+use Rattle.it_vectors.specs.Combinations.{IsCombined}
 use Rattle.it_whole.specs.WholeRows.{WholeRowView}
 use Rattle.it_whole.proofs.narrow_rows.NarrowRow.subtract_multiple.Goals as goal
 

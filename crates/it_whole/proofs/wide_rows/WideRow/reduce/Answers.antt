@@ -3,7 +3,7 @@ use Rattle.std.proofs.lemmas.List.{with_items_is}
 use Rattle.std.specs.Vec.{with_items}
 use Rattle.it_number.specs.Gcd.{gcd}
 use Rattle.it_number.specs.Division.{int_quotient}
-use Rattle.it_whole.specs.Combinations.{IsCombined}
+use Rattle.it_vectors.specs.Combinations.{IsCombined}
 use Rattle.it_whole.specs.WholeRows.{IsUsable, WholeRowView}
 use Rattle.it_whole.specs.Updates.{IsWholeRowReduced}
 use Rattle.it_whole.proofs.RowSteps.{less_row}

@@ -1,0 +1,274 @@
+//! What a step makes of the numbers of a row.
+//! The loops go by index, since their invariants speak of the numbers at the first k places.
+ghost use Rattle.std.specs.Prelude.{◌≡◌, ℕ, ◌+◌, ◌*◌, ◌<◌, ◌≤◌, ◌^◌, ◌+ℤ◌, ◌*ℤ◌, neg_ℤ, pos, length, unsigned_abs, SomeIff};
+ghost use Prim.Native.Nat.{◌∣◌};
+ghost use Rattle.std.specs.Bool.{OnTrue};
+ghost use Rattle.std.specs.Option.{IfNone, IfSome};
+ghost use Rattle.it_vectors.specs.Sizes.{AreShort, AreAtMost};
+ghost use Rattle.it_vectors.specs.Places.{AreNextPlaces, IsNextPlace};
+ghost use Rattle.it_vectors.specs.Combinations.{combined_number, IsBound, IsCombined};
+ghost use Rattle.it_vectors.specs.Divisors.{DividesAll};
+ghost use Rattle.it_space.specs.Sums.{number_at};
+
+use crate::arithmetic::{narrow_difference, sum_within};
+use crate::divisors::Divisor;
+
+/// The number at place k of a list.
+#[inline]
+pub fn read(row: &[i64], k: usize) -> i64
+    requires { k < length row.now }
+    ensures { result ≡ number_at row.now k }
+{
+    row[k]
+}
+
+/// The next number at place k.
+#[inline]
+fn next_number(row: &[i64], by: &[i64], k: usize, a: i64, b: i64, limit: u64) -> Option<i64>
+    requires k_row { k < length row.now }
+    requires k_by { k < length by.now }
+    requires row { AreShort row.now }
+    requires by { AreShort by.now }
+    requires a { unsigned_abs a < 2 ^ 63 }
+    requires b { unsigned_abs b < 2 ^ 63 }
+    requires limit { limit < 2 ^ 63 }
+    ensures { SomeIff result (unsigned_abs (combined_number row.now by.now a b k) ≤ limit) (combined_number row.now by.now a b k) }
+{
+    narrow_difference(read(row, k), a, read(by, k), b, limit)
+}
+
+/// As combine, with a test at each number; false where one would be too large, and then nothing is known of them.
+#[inline(never)]
+fn combine_tested(row: &mut [i64], by: &[i64], a: i64, b: i64, limit: u64) -> bool
+    requires even { length row.old ≡ length by.now }
+    requires row { AreShort row.old }
+    requires by { AreShort by.now }
+    requires a { unsigned_abs a < 2 ^ 63 }
+    requires b { unsigned_abs b < 2 ^ 63 }
+    requires limit { limit < 2 ^ 63 }
+    ensures { OnTrue result (IsCombined (length by.now) limit row.old by.now a b row.new) }
+{
+    for k in 0..row.len() {
+        let Some(number) = next_number(row, by, k, a, b, limit) else {
+            return false;
+        };
+        row[k] = number;
+    }
+    true
+}
+
+/// The greatest absolute value.
+pub fn greatest_size(row: &[i64]) -> u64
+    ensures { AreAtMost row.now result }
+{
+    let mut most: u64 = 0;
+    for k in 0..row.len() {
+        let size = read(row, k).unsigned_abs();
+        if most < size {
+            most = size;
+        }
+    }
+    most
+}
+
+/// A bound on each number times a less another, which is at most y, times b: with most for the numbers, and where that is
+/// above the limit, with the greatest of them. None where that is above it too.
+fn bound(row: &[i64], most: u64, a: u64, y: u64, b: u64, limit: u64) -> Option<u64>
+    requires most { AreAtMost row.now most }
+    ensures { IfSome result (λ s. IsBound row.now a y b limit s) }
+{
+    match sum_within(most, a, y, b, limit) {
+        Some(sum) => Some(sum),
+        None => sum_within(greatest_size(row), a, y, b, limit),
+    }
+}
+
+/// A product that is short.
+#[inline]
+fn times(x: i64, a: i64) -> i64
+    requires { unsigned_abs (x *ℤ a) < 2 ^ 63 }
+    ensures { result ≡ x *ℤ a }
+{
+    x * a
+}
+
+/// A difference that is short.
+#[inline]
+fn minus(x: i64, y: i64) -> i64
+    requires { unsigned_abs x + unsigned_abs y < 2 ^ 63 }
+    ensures { result ≡ x +ℤ neg_ℤ y }
+{
+    x - y
+}
+
+/// x a - y b, where no part needs a test.
+#[inline]
+pub fn plain_difference(x: i64, a: i64, y: i64, b: i64) -> i64
+    requires { unsigned_abs (x *ℤ a) + unsigned_abs (y *ℤ b) < 2 ^ 63 }
+    ensures { result ≡ x *ℤ a +ℤ neg_ℤ (y *ℤ b) }
+{
+    minus(times(x, a), times(y, b))
+}
+
+/// The next number at place k, where no part needs a test.
+#[inline]
+fn plain_number(row: &[i64], by: &[i64], k: usize, a: i64, b: i64) -> i64
+    requires k_row { k < length row.now }
+    requires k_by { k < length by.now }
+    requires bound { unsigned_abs (number_at row.now k *ℤ a) + unsigned_abs (number_at by.now k *ℤ b) < 2 ^ 63 }
+    ensures { result ≡ number_at row.now k *ℤ a +ℤ neg_ℤ (number_at by.now k *ℤ b) }
+{
+    plain_difference(read(row, k), a, read(by, k), b)
+}
+
+/// The next number at place k where the row's own factor is 1 and no part needs a test.
+#[inline]
+fn less_product(row: &[i64], by: &[i64], k: usize, b: i64) -> i64
+    requires k_row { k < length row.now }
+    requires k_by { k < length by.now }
+    requires bound { unsigned_abs (number_at row.now k) + unsigned_abs (number_at by.now k *ℤ b) < 2 ^ 63 }
+    ensures { result ≡ number_at row.now k +ℤ neg_ℤ (number_at by.now k *ℤ b) }
+{
+    minus(read(row, k), times(read(by, k), b))
+}
+
+/// The place itself where the row isn't 0 there, else the one found after it.
+#[tactic(auto, using(crate::proofs::Places::next_here, crate::proofs::Places::next_null))]
+fn next_place(row: &[i64], k: usize, after: usize) -> usize
+    requires k { k < length row.now }
+    requires after { IsNextPlace row.now (k + 1) after }
+    ensures { IsNextPlace row.now k result }
+{
+    if read(row, k) == 0 { after } else { k }
+}
+
+/// Notes for each place of the row the next one where the row isn't 0.
+pub fn note_places(row: &[i64], next: &mut [usize])
+    requires { length next.old ≡ length row.now + 1 }
+    ensures { AreNextPlaces row.now next.new }
+{
+    let mut k = row.len();
+    next[k] = k;
+    // a `while`, which counts down: the invariant speaks of the places from k on
+    while k > 0 {
+        k -= 1;
+        next[k] = next_place(row, k, next[k + 1]);
+    }
+}
+
+/// As combine, where no number needs a test.
+fn multiply_and_subtract(row: &mut [i64], by: &[i64], a: i64, b: i64)
+    requires even { length row.old ≡ length by.now }
+    requires bound { (k : ℕ) → k < length by.now → unsigned_abs (number_at row.old k *ℤ a) + unsigned_abs (number_at by.now k *ℤ b) < 2 ^ 63 }
+    ensures length { length row.new ≡ length row.old }
+    ensures entries { (k : ℕ) → k < length by.now → number_at row.new k ≡ number_at row.old k *ℤ a +ℤ neg_ℤ (number_at by.now k *ℤ b) }
+{
+    for k in 0..row.len() {
+        row[k] = plain_number(row, by, k, a, b);
+    }
+}
+
+/// As combine with the factor 1, where no number needs a test: only the places where the other row isn't 0 change.
+fn subtract_times(row: &mut [i64], by: &[i64], next: &[usize], b: i64)
+    requires even { length row.old ≡ length by.now }
+    requires bound { (k : ℕ) → k < length by.now → unsigned_abs (number_at row.old k) + unsigned_abs (number_at by.now k *ℤ b) < 2 ^ 63 }
+    requires places { AreNextPlaces by.now next.now }
+    ensures length { length row.new ≡ length row.old }
+    ensures entries { (k : ℕ) → k < length by.now → number_at row.new k ≡ number_at row.old k +ℤ neg_ℤ (number_at by.now k *ℤ b) }
+{
+    let mut k = next[0];
+    while k < row.len() {
+        row[k] = less_product(row, by, k, b);
+        k = next[k + 1];
+    }
+}
+
+/// As combine, where no number needs a test.
+fn combine_plain(row: &mut [i64], by: &[i64], next: &[usize], a: i64, b: i64)
+    requires even { length row.old ≡ length by.now }
+    requires bound { (k : ℕ) → k < length by.now → unsigned_abs (number_at row.old k *ℤ a) + unsigned_abs (number_at by.now k *ℤ b) < 2 ^ 63 }
+    requires places { AreNextPlaces by.now next.now }
+    ensures length { length row.new ≡ length row.old }
+    ensures entries { (k : ℕ) → k < length by.now → number_at row.new k ≡ number_at row.old k *ℤ a +ℤ neg_ℤ (number_at by.now k *ℤ b) }
+{
+    if a == 1 {
+        subtract_times(row, by, next, b);
+    } else {
+        multiply_and_subtract(row, by, a, b);
+    }
+}
+
+/// The numbers times a, less those of another row times b, with a bound on them, where most and most_by are bounds on the
+/// numbers of the two, and next has the next places where the other row isn't 0. None where one would be larger than the
+/// limit: then nothing is known of them.
+pub fn combine(
+    row: &mut [i64],
+    by: &[i64],
+    next: &[usize],
+    a: i64,
+    b: i64,
+    most: u64,
+    most_by: u64,
+    limit: u64,
+) -> Option<u64>
+    requires even { length row.old ≡ length by.now }
+    requires row { AreShort row.old }
+    requires by { AreShort by.now }
+    requires places { AreNextPlaces by.now next.now }
+    requires most { AreAtMost row.old most }
+    requires most_by { AreAtMost by.now most_by }
+    requires a { unsigned_abs a < 2 ^ 63 }
+    requires b { unsigned_abs b < 2 ^ 63 }
+    requires limit { limit < 2 ^ 63 }
+    ensures combined { IfSome result (λ m. IsCombined (length by.now) limit row.old by.now a b row.new) }
+    ensures most { IfSome result (λ m. AreAtMost row.new m) }
+{
+    match bound(
+        row,
+        most,
+        a.unsigned_abs(),
+        most_by,
+        b.unsigned_abs(),
+        limit,
+    ) {
+        Some(sum) => {
+            combine_plain(row, by, next, a, b);
+            Some(sum)
+        }
+        None => {
+            if combine_tested(row, by, a, b, limit) {
+                Some(limit)
+            } else {
+                None
+            }
+        }
+    }
+}
+
+/// The greatest common divisor of the numbers and the denominator.
+pub fn divisor(row: &[i64], bottom: u64) -> Divisor
+    requires { 0 < bottom }
+    ensures numbers { DividesAll result.value row.now }
+    ensures bottom { result.value ∣ bottom }
+{
+    let mut shared = Divisor::new(bottom);
+    for k in 0..row.len() {
+        if shared.is_one() {
+            return shared;
+        }
+        shared = shared.shared_with(read(row, k).unsigned_abs());
+    }
+    shared
+}
+
+/// Divides the numbers by a common divisor.
+pub fn divide(row: &mut [i64], shared: &Divisor)
+    requires row { AreShort row.old }
+    requires divides { DividesAll shared.now.value row.old }
+    ensures length { length row.new ≡ length row.old }
+    ensures entries { (k : ℕ) → k < length row.old → number_at row.new k *ℤ pos shared.now.value ≡ number_at row.old k }
+{
+    for k in 0..row.len() {
+        row[k] = shared.quotient(read(row, k));
+    }
+}

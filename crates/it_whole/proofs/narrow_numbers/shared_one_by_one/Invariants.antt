@@ -1,5 +1,0 @@
-use Rattle.it_whole.specs.Quotients.{IsSharedPart}
-use Rattle.it_whole.proofs.narrow_numbers.shared_one_by_one.Given as goal
-
-abbrev pub invariant-loop-k : goal.invariant-loop-k
-invariant-loop-k l = IsSharedPart l.row l.from l.k l.fn.earlier.value l.shared.value

@@ -1,5 +1,0 @@
-use Rattle.it_whole.proofs.Divisions.{DividesUpTo}
-use Rattle.it_whole.proofs.numbers.divisor.Given as goal
-
-abbrev pub invariant-loop-k : goal.invariant-loop-k
-invariant-loop-k l = DividesUpTo l.shared.value l.bottom l.row l.k

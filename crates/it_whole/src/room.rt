@@ -1,0 +1,97 @@
+//! What a step makes of the numbers of a row in 32 bits that may pass the limit on the way, with room for them in 64 bits.
+//! The loops go by index, since their invariants speak of the numbers at the first k places, and over slices, since only these
+//! are run several numbers at once.
+ghost use Rattle.std.specs.Prelude.{◌≡◌, ℕ, ◌+◌, ◌<◌, ◌≤◌, ◌^◌, ◌+ℤ◌, ◌*ℤ◌, neg_ℤ, length, unsigned_abs};
+ghost use Rattle.std.specs.Bool.{OnTrue};
+ghost use Rattle.std.specs.Option.{IfSome};
+ghost use Rattle.it_space.specs.Sums.{number_at};
+ghost use Rattle.it_vectors.specs.Sizes.{AreAtMost};
+ghost use Rattle.it_whole.specs.Combinations.{IsCombinedAndShortened};
+
+use it_vectors::narrow_numbers::{bound, greatest_size, narrow_number, read};
+use it_vectors::numbers::{divide, divisor, plain_difference};
+
+/// The largest number of 64 bits, 2^63 - 1.
+const LARGEST: u64 = i64::MAX as u64;
+
+/// The next number at place k in 64 bits.
+#[inline]
+fn wide_number(row: &[i32], by: &[i32], k: usize, a: i64, b: i64) -> i64
+    requires k_row { k < length row.now }
+    requires k_by { k < length by.now }
+    requires bound { unsigned_abs (number_at row.now k *ℤ a) + unsigned_abs (number_at by.now k *ℤ b) < 2 ^ 63 }
+    ensures { result ≡ number_at row.now k *ℤ a +ℤ neg_ℤ (number_at by.now k *ℤ b) }
+{
+    plain_difference(i64::from(read(row, k)), a, i64::from(read(by, k)), b)
+}
+
+/// Writes the numbers times a, less those of another row times b, to a row of 64 bits.
+fn fill(room: &mut [i64], row: &[i32], by: &[i32], a: i64, b: i64)
+    requires even { length row.now ≡ length by.now }
+    requires room { length room.old ≡ length by.now }
+    requires bound { (k : ℕ) → k < length by.now → unsigned_abs (number_at row.now k *ℤ a) + unsigned_abs (number_at by.now k *ℤ b) < 2 ^ 63 }
+    ensures length { length room.new ≡ length room.old }
+    ensures entries { (k : ℕ) → k < length by.now → number_at room.new k ≡ number_at row.now k *ℤ a +ℤ neg_ℤ (number_at by.now k *ℤ b) }
+{
+    for k in 0..row.len() {
+        room[k] = wide_number(row, by, k, a, b);
+    }
+}
+
+/// Writes a row of 64 bits to one of 32; false where a number is above the limit.
+fn write_back(row: &mut [i32], room: &[i64], limit: u64) -> bool
+    requires even { length row.old ≡ length room.now }
+    requires limit { limit < 2 ^ 31 }
+    ensures length { length row.new ≡ length row.old }
+    ensures entries { OnTrue result ((k : ℕ) → k < length room.now → number_at row.new k ≡ number_at room.now k) }
+    ensures small { OnTrue result (AreAtMost row.new limit) }
+{
+    for k in 0..row.len() {
+        let Some(number) = narrow_number(room, k, limit) else {
+            return false;
+        };
+        row[k] = number;
+    }
+    true
+}
+
+/// As combine, over a denominator, where the numbers may pass the limit on the way: they are formed in 64 bits, in room, and a
+/// common divisor of them and the denominator is divided away. The denominator that is left; None where a number is still above
+/// the limit, and then nothing is known of the row.
+pub fn combine_in_room(
+    row: &mut [i32],
+    by: &[i32],
+    room: &mut [i64],
+    a: i64,
+    b: i64,
+    most_by: u64,
+    bottom: u64,
+    limit: u64,
+) -> Option<u64>
+    requires even { length row.old ≡ length by.now }
+    requires room { length room.old ≡ length by.now }
+    requires most_by { AreAtMost by.now most_by }
+    requires some { 0 < bottom }
+    requires limit { limit < 2 ^ 31 }
+    ensures row { length row.new ≡ length row.old }
+    ensures room { length room.new ≡ length room.old }
+    ensures combined { IfSome result (λ left. IsCombinedAndShortened (length by.now) row.old by.now a b bottom record { numbers = row.new; bottom = left }) }
+    ensures small { IfSome result (λ left. AreAtMost row.new limit) }
+{
+    bound(
+        row,
+        greatest_size(row),
+        a.unsigned_abs(),
+        most_by,
+        b.unsigned_abs(),
+        LARGEST,
+    )?;
+    fill(room, row, by, a, b);
+    let shared = divisor(room, bottom);
+    divide(room, &shared);
+    if write_back(row, room, limit) {
+        Some(shared.size_quotient(bottom))
+    } else {
+        None
+    }
+}
