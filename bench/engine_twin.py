@@ -21,7 +21,7 @@ from pathlib import Path
 MODULES = {
     "it_vectors": "arithmetic divisors narrow_numbers numbers".split(),
     "it_whole": "columns narrow_rows room rows wide_rows".split(),
-    "it_engine": "behind choice engine pivots".split(),
+    "it_engine": "behind blocks bringing choice engine leaving pivots shares".split(),
 }
 
 # what the modules take from others, and a main function

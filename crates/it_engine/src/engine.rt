@@ -9,7 +9,8 @@ ghost use Rattle.it_engine.specs.Engine.{IsFinished, IsSafe, IsEngineStepOrStuck
 ghost use Rattle.it_engine.specs.Tables.{AreAllAtMost, whole_row_at};
 ghost use Rattle.it_vectors.specs.Sizes.{AreAtMost};
 
-use crate::behind::{Run, make_steps};
+use crate::behind::make_steps;
+use crate::blocks::Run;
 use crate::choice::entering_column;
 use crate::loading::norm;
 use crate::pivots::enter;

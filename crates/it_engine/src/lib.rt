@@ -8,11 +8,15 @@
 #![tactic(auto)]
 
 mod behind;
+mod blocks;
+mod bringing;
 mod choice;
 mod engine;
+mod leaving;
 mod loading;
 mod pivots;
 mod reading;
+mod shares;
 mod whole;
 
 pub use whole::{narrow_run, whole_run};

@@ -1,9 +1,0 @@
-use Rattle.std.proofs.Common.{◌≡◌, length}
-use Rattle.it_engine.specs.Behind.{AreBrought}
-use Rattle.it_engine.proofs.behind.bring_all.Given as goal
-
-abbrev pub invariant-loop-r : goal.invariant-loop-r
-invariant-loop-r l = record {
-  room : length l.room ≡ length l.fn.rows;
-  brought : AreBrought l.run.columns.now l.run.limit l.fn.rows l.basis l.moved l.r l.rows;
-}

@@ -1,0 +1,139 @@
+//! A common multiple of the denominators of the rows that moved, and a bound on what their entries sum to over it.
+ghost use Rattle.std.specs.Prelude.{◌≡◌, ◌+◌, ◌*◌, ◌<◌, ◌≤◌, ◌^◌, ℕ, length, true};
+ghost use Rattle.std.specs.Bool.{OnTrue};
+ghost use Rattle.std.specs.Option.{IfSome};
+ghost use Rattle.it_engine.specs.Behind.{AddsShare, AreMovedInOrder, AreShares, has_moved, share_of};
+ghost use Rattle.it_engine.specs.Tables.{whole_row_at};
+
+use crate::blocks::{Block, bottom_at, most_at, row_at};
+use it_vectors::{common_divisor, short_product, short_sum};
+use it_whole::WholeRow;
+
+/// The share of row q in a multiple of its denominator.
+#[inline(always)]
+pub fn share_at(rows: &[WholeRow], q: usize, multiple: u64) -> u64
+    requires q { q < length rows.now }
+    requires some { 0 < (whole_row_at rows.now q).bottom }
+    ensures { result ≡ share_of multiple rows.now q }
+{
+    let bottom = bottom_at(rows, q);
+    // most denominators are 1 or the multiple, and a division is dear
+    if bottom == 1 {
+        multiple
+    } else if bottom == multiple {
+        1
+    } else {
+        multiple / bottom
+    }
+}
+
+/// A common multiple of denominators, and a bound on what the entries of their rows, each times its share of it, sum to.
+#[derive(Drop, Clone, Copy)]
+pub struct Shares {
+    /// A common multiple of the denominators.
+    pub multiple: u64,
+    /// A bound on the sum of the entries, each times its row's share of the multiple.
+    pub bound: u64,
+}
+
+/// The bound with an entry more, times its share of the multiple.
+#[inline(always)]
+fn with_share(shares: Shares, entry: u64, share: u64) -> Option<Shares>
+    ensures { IfSome result (λ s. (s.multiple ≡ shares.multiple) × (s.bound ≡ shares.bound + entry * share)) }
+{
+    let part = short_product(entry, share)?;
+    let bound = short_sum(shares.bound, part)?;
+    Some(Shares {
+        multiple: shares.multiple,
+        bound,
+    })
+}
+
+/// The multiple and the bound, both times a factor.
+fn times_factor(shares: Shares, factor: u64) -> Option<Shares>
+    ensures { IfSome result (λ s. (s.multiple < 2 ^ 63) × (s.multiple ≡ shares.multiple * factor) × (s.bound ≡ shares.bound * factor)) }
+{
+    let multiple = short_product(shares.multiple, factor)?;
+    let bound = short_product(shares.bound, factor)?;
+    Some(Shares { multiple, bound })
+}
+
+/// The multiple and the bound with a row more, whichever its denominator is. Mostly it divides the multiple, which then stays.
+fn with_other_row(shares: Shares, bottom: u64, entry: u64) -> Option<Shares>
+    requires some { 0 < shares.multiple }
+    requires low { shares.multiple < 2 ^ 63 }
+    requires bottom { 0 < bottom }
+    ensures { IfSome result (λ s. AddsShare shares.multiple shares.bound bottom entry s.multiple s.bound) }
+{
+    if shares.multiple % bottom == 0 {
+        return with_share(shares, entry, shares.multiple / bottom);
+    }
+    let factor = bottom / common_divisor(shares.multiple, bottom);
+    let wider = times_factor(shares, factor)?;
+    with_share(wider, entry, wider.multiple / bottom)
+}
+
+/// The multiple and the bound with a row more. Most denominators are 1 or the multiple, and a division is dear.
+#[inline]
+fn with_row(shares: Shares, bottom: u64, entry: u64) -> Option<Shares>
+    requires some { 0 < shares.multiple }
+    requires low { shares.multiple < 2 ^ 63 }
+    requires bottom { 0 < bottom }
+    ensures { IfSome result (λ s. AddsShare shares.multiple shares.bound bottom entry s.multiple s.bound) }
+{
+    if bottom == 1 {
+        return with_share(shares, entry, shares.multiple);
+    }
+    if bottom == shares.multiple {
+        return with_share(shares, entry, 1);
+    }
+    with_other_row(shares, bottom, entry)
+}
+
+/// The multiple and the bound of the rows that moved before, and of row q, which moved.
+#[inline]
+fn more_shares(block: &Block<'_>, q: usize, shares: Shares, norm: u64) -> Option<Shares>
+    requires rows { q < length block.now.rows.now }
+    requires moves { has_moved block.now.moved.now q ≡ true }
+    requires some { 0 < (whole_row_at block.now.rows.now q).bottom }
+    requires shares { AreShares norm block.now.rows.now block.now.moved.now q shares.multiple shares.bound }
+    ensures { IfSome result (λ s. AreShares norm block.now.rows.now block.now.moved.now (q + 1) s.multiple s.bound) }
+{
+    let entry = short_product(norm, most_at(block.rows, q))?;
+    with_row(shares, bottom_at(block.rows, q), entry)
+}
+
+/// Those of all rows that moved, but the cost row, where both are below 2^63.
+pub fn shares_of_moved(block: &Block<'_>, norm: u64) -> Option<Shares>
+    requires rows { length block.now.basis.now ≤ length block.now.rows.now }
+    requires order { AreMovedInOrder block.now.moved.now (length block.now.basis.now) block.now.order.now }
+    requires some { (i : ℕ) → i < length block.now.rows.now → 0 < (whole_row_at block.now.rows.now i).bottom }
+    ensures { IfSome result (λ s. AreShares norm block.now.rows.now block.now.moved.now (length block.now.basis.now) s.multiple s.bound) }
+{
+    let mut shares = Shares {
+        multiple: 1,
+        bound: 0,
+    };
+    for k in 0..block.order.len() {
+        let q = row_at(block.order, k);
+        shares = more_shares(block, q, shares, norm)?;
+    }
+    Some(shares)
+}
+
+/// Whether the numbers of the rows that stay behind are below 2^63 at every column, though they aren't formed.
+pub fn are_short(most: u64, low: u64, multiple: u64, norm: u64, shares: u64) -> bool
+    ensures numbers { OnTrue result (norm * most * multiple + norm * most * shares < 2 ^ 63) }
+    ensures bottoms { OnTrue result (low * multiple < 2 ^ 63) }
+{
+    let Some(all) = short_product(norm, most) else {
+        return false;
+    };
+    let Some(own) = short_product(all, multiple) else {
+        return false;
+    };
+    let Some(others) = short_product(all, shares) else {
+        return false;
+    };
+    short_sum(own, others).is_some() && short_product(low, multiple).is_some()
+}
