@@ -11,6 +11,7 @@ use Rattle.it_run.specs.Solving.{StepFits}
 use Rattle.it_run.specs.Runs.{RunEndView}
 use Rattle.it_run.specs.Runs.RunEndView.{Weights, Point, Pivots}
 use Rattle.it_run.specs.Steps.{ReachesBy}
+use Rattle.it_engine.specs.declared.blocks.Notes.{Notes}
 use Rattle.it_engine.specs.declared.engine.EngineEnd.{EngineEnd}
 use Rattle.it_engine.specs.declared.engine.EngineEnd.TheVariants as engine_ends
 use Rattle.it_engine.specs.PivotedRows.{AreFitting, AreUsable}
@@ -23,8 +24,11 @@ pub record EngineView : Type 0 where
   pub basis : List ℕ
 
 -- beside so many basic columns there is room for a pivot's notes on the leaving row, for a row, and for an entry and a note of each row
-abbrev pub HasRoom : (height next room entries moved : ℕ) → Type 0
-HasRoom height next room entries moved = (next ≡ height + 2) × (room ≡ height + 1) × (entries ≡ height + 1) × (moved ≡ height + 1)
+pub record HasRoom (height : ℕ) (notes : Notes) : Type 0 where
+  pub next_is : length notes.next.items ≡ height + 2
+  pub room_is : length notes.room.items ≡ height + 1
+  pub entries_are : length notes.entries.items ≡ height + 1
+  pub moved_is : length notes.moved.items ≡ height + 1
 
 -- the parts agree, and all numbers that are formed are short
 pub record IsSafe (columns : List Terms) (limit : ℕ) (rows : List WholeRowView) (basis : List ℕ) : Type 0 where

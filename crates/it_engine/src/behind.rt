@@ -10,10 +10,10 @@ ghost use Rattle.std.specs.Prelude.{◌≡◌, ◌+◌, ◌<◌, ◌≤◌, [], 
 ghost use Rattle.std.specs.Bool.{OnTrue};
 ghost use Rattle.std.specs.Option.{IfSome};
 ghost use Rattle.it_engine.specs.Behind.{AreBaseBounds, AreEngineSteps, AreMovedEntries, AreMovedInOrder, AreRanked, AreStillSteps, HaveEntered, IsBehindStep, IsStillChoice, LeavesStill};
-ghost use Rattle.it_engine.specs.Engine.{IsSafe};
+ghost use Rattle.it_engine.specs.Engine.{HasRoom, IsSafe};
 ghost use Rattle.it_engine.specs.Loading.{IsNorm};
 
-use crate::blocks::{Block, Run, entry_at, note_moved, note_moved_entries, note_none_moved};
+use crate::blocks::{Block, Notes, Run, entry_at, note_moved, note_moved_entries, note_none_moved};
 use crate::bringing::{bring_all, bring_if_behind, shorten_moved};
 use crate::choice::{entering_column, is_above_zero, right_side};
 use crate::leaving::{Base, begin_base, combine_columns, first_to_leave};
@@ -105,50 +105,45 @@ fn still_choice(
 fn make_step(
     rows: &mut [WholeRow],
     basis: &mut [usize],
-    moved: &mut [bool],
-    order: &mut Vec<usize>,
-    entries: &mut [i64],
-    next: &mut [usize],
-    room: &mut [i64],
+    notes: &mut Notes,
     run: &Run<'_>,
     column: usize,
     row: usize,
 ) -> bool
     requires engine { IsSafe run.now.columns.now run.now.limit rows.old basis.old }
-    requires moved { length moved.old ≡ length rows.old }
-    requires order { AreMovedInOrder moved.old (length basis.old) order.old.items }
-    requires entered { HaveEntered run.now.columns.now basis.old moved.old }
-    requires entries { AreMovedEntries (slice_index_or run.now.columns.now column []) rows.old moved.old entries.old }
-    requires next { length next.old ≡ length rows.old + 1 }
-    requires room { length room.old ≡ length rows.old }
+    requires notes { HasRoom (length basis.old) notes.old }
+    requires order { AreMovedInOrder notes.old.moved.items (length basis.old) notes.old.order.items }
+    requires entered { HaveEntered run.now.columns.now basis.old notes.old.moved.items }
+    requires entries { AreMovedEntries (slice_index_or run.now.columns.now column []) rows.old notes.old.moved.items notes.old.entries.items }
     requires column { column < length run.now.columns.now }
     requires row { row < length basis.old }
-    ensures step { OnTrue result (IsBehindStep run.now.columns.now run.now.limit rows.old basis.old moved.old column row rows.new) }
+    ensures step { OnTrue result (IsBehindStep run.now.columns.now run.now.limit rows.old basis.old notes.old.moved.items column row rows.new) }
     ensures basis { OnTrue result (basis.new ≡ slice_set basis.old row column) }
-    ensures moved { OnTrue result (moved.new ≡ slice_set moved.old row true) }
-    ensures order { OnTrue result (AreMovedInOrder moved.new (length basis.old) order.new.items) }
-    ensures entered { OnTrue result (HaveEntered run.now.columns.now basis.new moved.new) }
-    ensures entries { length entries.new ≡ length entries.old }
-    ensures next { length next.new ≡ length next.old }
-    ensures room { length room.new ≡ length room.old }
+    ensures moved { OnTrue result (notes.new.moved.items ≡ slice_set notes.old.moved.items row true) }
+    ensures order { OnTrue result (AreMovedInOrder notes.new.moved.items (length basis.old) notes.new.order.items) }
+    ensures entered { OnTrue result (HaveEntered run.now.columns.now basis.new notes.new.moved.items) }
+    ensures notes { HasRoom (length basis.old) notes.new }
 {
-    if !bring_if_behind(rows, run, basis, moved, order.as_slice(), room, row) {
+    let moved = notes.moved.as_slice();
+    let order = notes.order.as_slice();
+    let room = notes.room.as_mut_slice();
+    if !bring_if_behind(rows, run, basis, moved, order, room, row) {
         return false;
     }
-    if !note_moved(moved, order, row) {
+    if !note_moved(notes.moved.as_mut_slice(), &mut notes.order, row) {
         return false;
     }
-    entries[row] = entry_at(&run.columns[column], rows, row);
-    if !is_above_zero(read(entries, row)) {
+    notes.entries[row] = entry_at(&run.columns[column], rows, row);
+    if !is_above_zero(read(notes.entries.as_slice(), row)) {
         return false;
     }
     if !pivot_moved(
         run.alloc,
         rows,
-        order.as_slice(),
-        next,
-        room,
-        entries,
+        notes.order.as_slice(),
+        notes.next.as_mut_slice(),
+        notes.room.as_mut_slice(),
+        notes.entries.as_slice(),
         row,
         run.limit,
     ) {
@@ -164,48 +159,42 @@ fn make_step(
 fn still_steps(
     rows: &mut [WholeRow],
     basis: &mut [usize],
-    moved: &mut [bool],
-    order: &mut Vec<usize>,
-    entries: &mut [i64],
-    next: &mut [usize],
-    room: &mut [i64],
-    combined: &mut Column,
+    notes: &mut Notes,
     run: &Run<'_>,
     most: u32,
 ) -> Option<u32>
     requires engine { IsSafe run.now.columns.now run.now.limit rows.old basis.old }
-    requires moved { length moved.old ≡ length rows.old }
-    requires order { AreMovedInOrder moved.old (length basis.old) order.old.items }
-    requires entered { HaveEntered run.now.columns.now basis.old moved.old }
-    requires entries { length entries.old ≡ length rows.old }
-    requires next { length next.old ≡ length rows.old + 1 }
-    requires room { length room.old ≡ length rows.old }
+    requires notes { HasRoom (length basis.old) notes.old }
+    requires order { AreMovedInOrder notes.old.moved.items (length basis.old) notes.old.order.items }
+    requires entered { HaveEntered run.now.columns.now basis.old notes.old.moved.items }
     requires norm { IsNorm run.now.columns.now run.now.norm }
-    ensures steps { IfSome result (λ k. AreStillSteps run.now.columns.now run.now.limit rows.old basis.old moved.old k rows.new basis.new moved.new) }
+    ensures steps { IfSome result (λ k. AreStillSteps run.now.columns.now run.now.limit rows.old basis.old notes.old.moved.items k rows.new basis.new notes.new.moved.items) }
     ensures most { IfSome result (λ k. k ≤ most) }
-    ensures order { IfSome result (λ k. AreMovedInOrder moved.new (length basis.new) order.new.items) }
-    ensures entered { IfSome result (λ k. HaveEntered run.now.columns.now basis.new moved.new) }
-    ensures entries { length entries.new ≡ length entries.old }
-    ensures next { length next.new ≡ length next.old }
-    ensures room { length room.new ≡ length room.old }
+    ensures order { IfSome result (λ k. AreMovedInOrder notes.new.moved.items (length basis.new) notes.new.order.items) }
+    ensures entered { IfSome result (λ k. HaveEntered run.now.columns.now basis.new notes.new.moved.items) }
+    ensures notes { HasRoom (length basis.old) notes.new }
 {
-    let base = begin_base(run.alloc, rows, basis, moved)?;
+    let base = begin_base(run.alloc, rows, basis, notes.moved.as_slice())?;
     for k in 0..most {
-        if order.len() >= basis.len() / 6 {
+        if notes.order.len() >= basis.len() / 6 {
             return Some(k);
         }
         let block = Block {
             rows,
             basis,
-            moved,
-            order: order.as_slice(),
+            moved: notes.moved.as_slice(),
+            order: notes.order.as_slice(),
         };
-        let Some((column, row)) = still_choice(&block, run, entries, combined, &base) else {
+        let Some((column, row)) = still_choice(
+            &block,
+            run,
+            notes.entries.as_mut_slice(),
+            &mut notes.combined,
+            &base,
+        ) else {
             return Some(k);
         };
-        if !make_step(
-            rows, basis, moved, order, entries, next, room, run, column, row,
-        ) {
+        if !make_step(rows, basis, notes, run, column, row) {
             return None;
         }
     }
@@ -217,34 +206,24 @@ fn still_steps(
 pub fn make_steps(
     rows: &mut [WholeRow],
     basis: &mut [usize],
-    moved: &mut [bool],
-    order: &mut Vec<usize>,
-    entries: &mut [i64],
-    next: &mut [usize],
-    room: &mut [i64],
-    combined: &mut Column,
+    notes: &mut Notes,
     run: &Run<'_>,
     most: u32,
 ) -> Option<u32>
     requires engine { IsSafe run.now.columns.now run.now.limit rows.old basis.old }
-    requires moved { length moved.old ≡ length rows.old }
-    requires entries { length entries.old ≡ length rows.old }
-    requires next { length next.old ≡ length rows.old + 1 }
-    requires room { length room.old ≡ length rows.old }
+    requires notes { HasRoom (length basis.old) notes.old }
     requires norm { IsNorm run.now.columns.now run.now.norm }
     ensures steps { IfSome result (λ k. AreEngineSteps run.now.columns.now run.now.limit rows.old basis.old k rows.new basis.new) }
     ensures most { IfSome result (λ k. k ≤ most) }
-    ensures moved { length moved.new ≡ length moved.old }
-    ensures entries { length entries.new ≡ length entries.old }
-    ensures next { length next.new ≡ length next.old }
-    ensures room { length room.new ≡ length room.old }
+    ensures notes { HasRoom (length basis.old) notes.new }
 {
-    note_none_moved(moved, order, basis.len());
-    let made = still_steps(
-        rows, basis, moved, order, entries, next, room, combined, run, most,
-    )?;
-    shorten_moved(rows, order.as_slice(), run.limit);
-    if bring_all(rows, run, basis, moved, order.as_slice(), room) {
+    note_none_moved(notes.moved.as_mut_slice(), &mut notes.order, basis.len());
+    let made = still_steps(rows, basis, notes, run, most)?;
+    let moved = notes.moved.as_slice();
+    let order = notes.order.as_slice();
+    let room = notes.room.as_mut_slice();
+    shorten_moved(rows, order, run.limit);
+    if bring_all(rows, run, basis, moved, order, room) {
         Some(made)
     } else {
         None

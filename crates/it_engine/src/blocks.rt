@@ -1,9 +1,10 @@
-//! Blocks of degenerate steps: their rows, and which of these moved since the block began.
-ghost use Rattle.std.specs.Prelude.{◌≡◌, ◌+◌, ◌<◌, ◌≤◌, ℕ, pos, [], length, cond, false, true, slice_index_or, slice_set};
+//! Blocks of degenerate steps: their rows, which of these moved since the block began, and room for what is noted meanwhile.
+ghost use Rattle.std.specs.Prelude.{◌≡◌, ◌+◌, ◌<◌, ◌≤◌, ◌^◌, ℕ, pos, [], length, cond, false, true, slice_index_or, slice_set, IfOk};
 ghost use Rattle.std.specs.Bool.{OnFalse, OnTrue};
 ghost use Rattle.it_engine.specs.Behind.{AreMovedEntries, AreMovedInOrder, has_moved};
 ghost use Rattle.it_whole.specs.ColumnTerms.{Suits};
 ghost use Rattle.it_engine.specs.Choosing.{entry_of, is_above_zero as is_above_zero_of};
+ghost use Rattle.it_engine.specs.Engine.{HasRoom};
 ghost use Rattle.it_engine.specs.PivotedRows.{SuitsAll};
 ghost use Rattle.it_vectors.specs.Sizes.{AreAtMost};
 ghost use Rattle.it_engine.specs.Tables.{whole_row_at};
@@ -11,7 +12,7 @@ ghost use Rattle.it_space.specs.Sums.{number_at};
 
 use crate::choice::is_above_zero;
 use it_whole::{Column, WholeRow};
-use std::alloc::Global;
+use std::alloc::{AllocError, Global};
 
 /// What stays through a run.
 #[derive(Drop)]
@@ -37,6 +38,44 @@ pub struct Block<'a> {
     pub moved: &'a [bool],
     /// Those that moved, but the cost row, in their order.
     pub order: &'a [usize],
+}
+
+/// Room for what is noted while steps are made. Between two calls nothing in it is known but its size.
+#[derive(Drop)]
+pub struct Notes {
+    /// For each place of the leaving row the next one where it isn't 0, with rows in 64 bits.
+    pub next: Vec<usize>,
+    /// A row of 64 bits.
+    pub room: Vec<i64>,
+    /// The entries of the rows at the column that enters.
+    pub entries: Vec<i64>,
+    /// Whether each row moved since a block began.
+    pub moved: Vec<bool>,
+    /// Those that did, in their order.
+    pub order: Vec<usize>,
+    /// The column at which rows that stay behind are looked at.
+    pub combined: Column,
+}
+
+impl Notes {
+    /// Room beside so many basic columns.
+    pub fn new(alloc: Global, height: usize) -> Result<Notes, AllocError>
+        requires { height < 2 ^ 63 }
+        ensures { IfOk result (HasRoom height) }
+    {
+        let next = Vec::from_elem(alloc, 0, height + 2)?;
+        let room = Vec::from_elem(alloc, 0, height + 1)?;
+        let entries = Vec::from_elem(alloc, 0, height + 1)?;
+        let moved = Vec::from_elem(alloc, false, height + 1)?;
+        Ok(Notes {
+            next,
+            room,
+            entries,
+            moved,
+            order: Vec::new(alloc),
+            combined: Column::empty(alloc),
+        })
+    }
 }
 
 /// Whether row i moved.

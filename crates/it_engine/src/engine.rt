@@ -10,7 +10,7 @@ ghost use Rattle.it_engine.specs.Tables.{AreAllAtMost, whole_row_at};
 ghost use Rattle.it_vectors.specs.Sizes.{AreAtMost};
 
 use crate::behind::make_steps;
-use crate::blocks::Run;
+use crate::blocks::{Notes, Run};
 use crate::choice::entering_column;
 use crate::loading::norm;
 use crate::pivots::enter;
@@ -39,18 +39,7 @@ pub struct Engine {
     alloc: Global,
     rows: Vec<WholeRow>,
     basis: Vec<usize>,
-    // room for a pivot's notes on the leaving row
-    next: Vec<usize>,
-    // room for a row of 64 bits
-    room: Vec<i64>,
-    // room for the entries of the rows at the column that enters
-    entries: Vec<i64>,
-    // room for a note on each row whether it moved while others stayed behind
-    moved: Vec<bool>,
-    // room for a list of those that did
-    order: Vec<usize>,
-    // room for a column at which rows that stay behind are looked at
-    combined: Column,
+    notes: Notes,
 }
 
 impl Drop for Engine {
@@ -59,12 +48,7 @@ impl Drop for Engine {
             alloc: _,
             rows: _,
             basis: _,
-            next: _,
-            room: _,
-            entries: _,
-            moved: _,
-            order: _,
-            combined: _,
+            notes: _,
         } = self;
     }
 }
@@ -77,7 +61,7 @@ impl Model for Engine {
 
     ghost view = { λ e. record { rows = e.rows.items; basis = e.basis.items } };
 
-    ghost invariant = { λ e. HasRoom (length e.basis.items) (length e.next.items) (length e.room.items) (length e.entries.items) (length e.moved.items) };
+    ghost invariant = { λ e. HasRoom (length e.basis.items) e.notes };
 }
 
 impl Engine {
@@ -86,21 +70,12 @@ impl Engine {
         ensures rows { IfOk result (λ engine. engine.rows ≡ rows.items) }
         ensures basis { IfOk result (λ engine. engine.basis ≡ basis.items) }
     {
-        let height = basis.len();
-        let next = Vec::from_elem(alloc, 0, height + 2)?;
-        let room = Vec::from_elem(alloc, 0, height + 1)?;
-        let entries = Vec::from_elem(alloc, 0, height + 1)?;
-        let moved = Vec::from_elem(alloc, false, height + 1)?;
+        let notes = Notes::new(alloc, basis.len())?;
         Ok(Engine {
             alloc,
             rows,
             basis,
-            next,
-            room,
-            entries,
-            moved,
-            order: Vec::new(alloc),
-            combined: Column::empty(alloc),
+            notes,
         })
     }
 
@@ -171,9 +146,9 @@ impl Engine {
             self.alloc,
             self.rows.as_mut_slice(),
             self.basis.as_slice(),
-            self.next.as_mut_slice(),
-            self.room.as_mut_slice(),
-            self.entries.as_mut_slice(),
+            self.notes.next.as_mut_slice(),
+            self.notes.room.as_mut_slice(),
+            self.notes.entries.as_mut_slice(),
             &columns[column],
             limit,
         )?;
@@ -195,12 +170,7 @@ impl Engine {
         make_steps(
             self.rows.as_mut_slice(),
             self.basis.as_mut_slice(),
-            self.moved.as_mut_slice(),
-            &mut self.order,
-            self.entries.as_mut_slice(),
-            self.next.as_mut_slice(),
-            self.room.as_mut_slice(),
-            &mut self.combined,
+            &mut self.notes,
             &Run {
                 alloc: self.alloc,
                 columns,
