@@ -6,7 +6,7 @@ ghost use Rattle.it_question.specs.Limits.{IsQuestion};
 ghost use Rattle.it_question.specs.Questions.{question_body};
 ghost use Rattle.it_redundant.specs.Reduction.{IsSystemUnder};
 ghost use Rattle.it_space.specs.Problems.{IsProblem, problem_view};
-ghost use Rattle.it_space.specs.Rows.{IsUpTo};
+ghost use Rattle.it_space.specs.Rows.{IsOver};
 
 use crate::Task;
 use crate::output::Output;
@@ -24,7 +24,7 @@ const MOST: usize = 4096;
 
 /// Whether a row uses coordinates up to `size` alone.
 fn is_up_to(row: &Row, size: u32) -> bool
-    ensures { OnTrue result (IsUpTo size row.now) }
+    ensures { OnTrue result (IsOver size row.now) }
 {
     row.terms()
         .iter()
@@ -33,7 +33,7 @@ fn is_up_to(row: &Row, size: u32) -> bool
 
 /// Whether all rows do.
 fn are_up_to(rows: &[Row], size: u32) -> bool
-    ensures { OnTrue result (All (IsUpTo size) rows.now) }
+    ensures { OnTrue result (All (IsOver size) rows.now) }
 {
     rows.iter().all(|row| is_up_to(row, size))
 }

@@ -6,7 +6,7 @@ use Rattle.it_space.specs.Problems.{ProblemView, IsProblem}
 use Rattle.it_space.specs.declared.answers.Answer.{Answer}
 use Rattle.it_space.specs.Answers.{AnswerView, CertificateView, answer_view}
 use Rattle.it_space.specs.Answers as answer_views
-use Rattle.it_space.specs.Rows.{Terms, IsUpTo, value, map_of, negated_terms}
+use Rattle.it_space.specs.Rows.{Terms, IsOver, value, point_of, negated_terms}
 use Rattle.it_space.specs.Spaces.{size_of}
 use Rattle.it_polymatroid.specs.Certificates.{Form}
 use Rattle.it_polymatroid.specs.Polymatroid.{IsPolymatroid}
@@ -16,9 +16,9 @@ use Rattle.it_question.specs.Questions.{BodyView, VerbView, Prove, Eliminate, qu
 use Rattle.it_demand.specs.Canonical.{IsRowOf}
 use Rattle.it_demand.specs.Demands.{AreStated}
 use Rattle.it_demand.specs.Targets.{negation, targets}
-use Rattle.it_canon.specs.QuestionDemands.{variables_of, question_demands as demanded, terms_in, AreTrueAt}
+use Rattle.it_canon.specs.QuestionDemands.{variable_count, question_demands as demanded, terms_in, AreTrueAt}
 use Rattle.it_demand.specs.LineDemands.{space_of, AreRowsOf}
-use Rattle.it_question.specs.Tables.{problem_names, problem_lines}
+use Rattle.it_question.specs.ProblemLines.{problem_names, problem_lines}
 use Rattle.it_demand.specs.RowsOfForms.{terms_of_form}
 use Rattle.it_demand.proofs.FormRows.{rows_are_terms_of_forms}
 use Rattle.it_canon.proofs.PosesLemmas.{one_problem}
@@ -34,7 +34,7 @@ use Rattle.it_answer.specs.declared.types.Budgets.{Budgets}
 use Rattle.it_contain.specs.Proposals.{Plan}
 use Rattle.it_contain.proofs.PlanLemmas.{after_none}
 use Rattle.it_answer.specs.Forms.{Certifies, CertifiesForm, CertifyAll, all_demands}
-use Rattle.it_answer.specs.Shows.{IsCounterexample, ShowsBy, ViolatesFirst}
+use Rattle.it_answer.specs.Shows.{IsCounterexample, ShowsBy, Refutes}
 use Rattle.it_answer.specs.DueEliminations.{IsDueElimination}
 use Rattle.it_answer.specs.DueRelations.{IsDueByRuns, IsDueRelation}
 use Rattle.it_answer.specs.Replies.{Reply}
@@ -75,7 +75,7 @@ module _ (p : ProblemView) (f : Form) (t : Terms) (row : IsRowOf p.space f t) (b
 
 -- ---- the row of a form's negation
 
-turned_up_to : (size : ℕ) (ts : Terms) → IsUpTo size ts → IsUpTo size (negated_terms ts)
+turned_up_to : (size : ℕ) (ts : Terms) → IsOver size ts → IsOver size (negated_terms ts)
 turned_up_to size [] u = All-nil (λ (t : ℕ × ℤ). (1 ≤ t.0) × (t.0 ≤ size))
 turned_up_to size (t ∷ ts) u = All-cons (λ (t : ℕ × ℤ). (1 ≤ t.0) × (t.0 ≤ size)) (t.0, neg_ℤ t.1) (negated_terms ts) (All-head (λ (t : ℕ × ℤ). (1 ≤ t.0) × (t.0 ≤ size)) t ts u) (turned_up_to size ts (All-tail (λ (t : ℕ × ℤ). (1 ≤ t.0) × (t.0 ≤ size)) t ts u))
 
@@ -110,11 +110,11 @@ left_of_rows budgets plans q rates answer is x d = right_by_verb budgets plans q
 -- what an answer to `prove` shows of any targets
 abbrev ShowsTargets : BodyView → List Form → AnswerView → Type 0
 ShowsTargets q fs (answer_views.Yes ws) = CertifyAll q fs ws
-ShowsTargets q fs (answer_views.No is_back values) = ViolatesFirst q fs is_back values
+ShowsTargets q fs (answer_views.No is_back values) = Refutes q fs is_back values
 ShowsTargets q fs (answer_views.Undecided cause) = Unit {0}
 ShowsTargets q fs answer = ⊥
 
-shown_targets : (q : BodyView) (r : RelationView) (answer : AnswerView) → ShowsTargets q (targets (variables_of q) r) answer → ShowsBy q (Prove r) answer
+shown_targets : (q : BodyView) (r : RelationView) (answer : AnswerView) → ShowsTargets q (targets (variable_count q) r) answer → ShowsBy q (Prove r) answer
 shown_targets q r (answer_views.Yes ws) x = x
 shown_targets q r (answer_views.No is_back values) x = x
 shown_targets q r (answer_views.Undecided cause) x = tt
@@ -126,16 +126,16 @@ module _ (q : BodyView) (p : ProblemView) (e : p.space ≡ space_of (problem_nam
   to_question_space : (P : Space → Type 0) → P p.space → P (space_of (problem_names q))
   to_question_space P x = subst P e x
 
-  pub show_certificate : (f : Form) (t : Terms) (w : CertificateView) → IsUpTo (size_of p.space) t → ((x : ℕ → ℤ) → x 0 ≡ pos 0 → value t x ≡ f x) → CertifiesRow p t w → CertifiesForm q f w
+  pub show_certificate : (f : Form) (t : Terms) (w : CertificateView) → IsOver (size_of p.space) t → ((x : ℕ → ℤ) → x 0 ≡ pos 0 → value t x ≡ f x) → CertifiesRow p t w → CertifiesForm q f w
   show_certificate f t w up same c = to_question_space (λ s. Certifies (all_demands s.variables (demanded q)) f w)
       (by_forms (all_demands p.space.variables (demanded q)) (generators p) (generators_speak p.space (demanded q) p.constraints st) (size_of p.space + 1) (value t) f same w c (rows_add_up p t w k up c))
 
   show_point : (f : Form) (t : Terms) (values : List ℤ) → IsRowOf p.space f t → RefutesRow p t values → IsCounterexample q f values
   show_point f t values r c = record {
     complete = to_question_space (λ s. length values ≡ size_of s) c.complete;
-    polymatroid = to_question_space (λ s. IsPolymatroid s.variables (map_of values)) c.polymatroid;
-    lines_hold = to_question_space (λ s. AreTrueAt s.variables (map_of values) (problem_lines q)) ((question_met q p.space p.constraints e st (map_of values) refl).0 c.met);
-    violated = subst (λ (x : ℤ). x ≤ℤ neg_ℤ (pos 1)) (r.same (map_of values) refl) c.violated;
+    polymatroid = to_question_space (λ s. IsPolymatroid s.variables (point_of values)) c.polymatroid;
+    lines_hold = to_question_space (λ s. AreTrueAt s.variables (point_of values) (problem_lines q)) ((question_met q p.space p.constraints e st (point_of values) refl).0 c.met);
+    violated = subst (λ (x : ℤ). x ≤ℤ neg_ℤ (pos 1)) (r.same (point_of values) refl) c.violated;
   }
 
   show_all : (fs : List Form) (ts : List Terms) (ws : List CertificateView) → AreRowsOf p.space fs ts → CertifyRows p ts ws → CertifyAll q fs ws
@@ -146,7 +146,7 @@ module _ (q : BodyView) (p : ProblemView) (e : p.space ≡ space_of (problem_nam
   show_all (f ∷ fs) (t ∷ ts) [] z c = absurd c
   show_all (f ∷ fs) (t ∷ ts) (w ∷ ws) z c = (show_certificate f t w z.0.coordinates z.0.same c.0, show_all fs ts ws z.1 c.1)
 
-  show_first : (fs : List Form) (ts : List Terms) (is_back : Bool) (values : List ℤ) → AreRowsOf p.space fs ts → RefutesFirst p ts is_back values → ViolatesFirst q fs is_back values
+  show_first : (fs : List Form) (ts : List Terms) (is_back : Bool) (values : List ℤ) → AreRowsOf p.space fs ts → RefutesFirst p ts is_back values → Refutes q fs is_back values
   show_first [] [] is_back values z c = absurd c
   show_first [] (t ∷ ts) is_back values z c = absurd z
   show_first (f ∷ fs) [] is_back values z c = absurd z
@@ -168,9 +168,9 @@ module _ (q : BodyView) (p : ProblemView) (e : p.space ≡ space_of (problem_nam
       → IsRightAnswer budgets plans q (record { answer = answer; found = [] })
   answers_relation budgets plans r answer is a =
       let shown = shown_targets q r answer (to_question_space (λ s. ShowsTargets q (targets s.variables r) answer) (show_targets (targets p.space.variables r) a.rows answer a.are a.answered.shows)) in
-      let rows : a.rows ≡ map (terms_in q) (targets (variables_of q) r) =
+      let rows : a.rows ≡ map (terms_in q) (targets (variable_count q) r) =
       rows_are_terms_of_forms p.space (targets p.space.variables r) a.rows a.are ∙ ap (λ (s : Space). map (terms_of_form (size_of s)) (targets s.variables r)) e in
       let due : IsDueRelation budgets.pivots q r answer =
-      subst (λ (x : ProblemView). IsDueByRuns x budgets.pivots (map (terms_in q) (targets (variables_of q) r)) answer) (one_problem q p (record { space = e; limits = k; constraints = st }))
+      subst (λ (x : ProblemView). IsDueByRuns x budgets.pivots (map (terms_in q) (targets (variable_count q) r)) answer) (one_problem q p (record { space = e; limits = k; constraints = st }))
       (subst (λ (ts : List Terms). IsDueByRuns p budgets.pivots ts answer) rows a.answered.due) in
       right_by_verb budgets plans q (Prove r) (record { answer = answer; found = [] }) is shown (due, refl)

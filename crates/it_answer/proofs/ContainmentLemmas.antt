@@ -14,7 +14,7 @@ use Rattle.it_canon.specs.QuestionDemands.{problem_of, terms_in, AreTrueAt}
 use Rattle.it_canon.proofs.PosesLemmas.{one_problem}
 use Rattle.it_demand.specs.RowsOfForms.{terms_of_form}
 use Rattle.it_demand.specs.LineDemands.{space_of, AreAtLeastZero}
-use Rattle.it_question.specs.Tables.{problem_names, problem_names_by, problem_lines, problem_lines_by}
+use Rattle.it_question.specs.ProblemLines.{problem_names, names_under, problem_lines, lines_under}
 use Rattle.it_canon.proofs.ProblemLemmas.{question_met}
 use Rattle.it_check.proofs.Truth.{yes_is_true}
 use Rattle.it_prove.specs.ProofViews.{Yes, AreProofsOf}
@@ -46,7 +46,7 @@ use Rattle.it_answer.proofs.AnswerLemmas.{right_by_verb, show_certificate}
 
 module _ (q : BodyView) (a b : RegionView) (tries : List (List ℕ)) (p : Pair) (k : IsQuestion q) (is : q.verb ≡ Contain a b tries) (l : IsPair p) (o : IsPairOf q a b p) where
   first_is : p.first.space ≡ space_of (problem_names q)
-  first_is = o.first_space ∙ sym (ap (λ m. space_of (problem_names_by q.names m)) is)
+  first_is = o.first_space ∙ sym (ap (λ m. space_of (names_under q.names m)) is)
 
   n_is : p.first.space.variables ≡ length a.names.variables
   n_is = ap (λ (s : Space). s.variables) o.first_space
@@ -96,7 +96,7 @@ module _ (q : BodyView) (a b : RegionView) (tries : List (List ℕ)) (p : Pair) 
   module _ (h : ℕ → ℤ) (inside : IsIn q.lines a h) where
     constraints_met : AreMet h p.first.constraints.items
     constraints_met =
-        let lines : AreTrueAt (length a.names.variables) h (problem_lines q) = subst (λ (own : OwnLinesView). AreTrueAt (length a.names.variables) h own) (sym (ap (problem_lines_by q.lines) is)) inside.lines_hold in
+        let lines : AreTrueAt (length a.names.variables) h (problem_lines q) = subst (λ (own : OwnLinesView). AreTrueAt (length a.names.variables) h own) (sym (ap (lines_under q.lines) is)) inside.lines_hold in
         (question_met q p.first.space p.first.constraints.items first_is o.first h inside.polymatroid.empty).1 (subst (λ (n : ℕ). AreTrueAt n h (problem_lines q)) (sym n_is) lines)
 
     rows_hold : (budget : Option ℕ) (fs : List Form) (ts : List Terms) (ws : List CertificateView) → ArePulledRows p.first.space fs ts → AreProofsOf (problem_view p.first) budget ts ws → AreAtLeastZero h ts

@@ -8,7 +8,7 @@ use Rattle.it_space.specs.declared.problems.Kind.{Kind}
 use Rattle.it_space.specs.declared.problems.Kind.TheVariants.{Inequality, Equation}
 use Rattle.it_space.specs.Answers.{CertificateView}
 use Rattle.it_space.specs.Problems.{ProblemView, IsProblem}
-use Rattle.it_space.specs.Rows.{Terms, IsUpTo, value, one_at}
+use Rattle.it_space.specs.Rows.{Terms, IsOver, value, one_at}
 use Rattle.it_space.specs.Spaces.{size_of}
 use Rattle.it_polymatroid.specs.Certificates.{Form, IsAllowed, IsCertificate, combination}
 use Rattle.it_polymatroid.specs.Elementals.{elementals}
@@ -21,7 +21,7 @@ use Rattle.it_elemental.proofs.RowLemmas.{value-row}
 use Rattle.it_demand.specs.Demands.{Demand, LineDemand, States, AreStated}
 use Rattle.it_demand.proofs.ZipLemmas.{zip-append, zip-length}
 use Rattle.it_elemental.specs.Generators.{Generator, of_elemental, of_constraint, generator_list, generators, generator_at, forms_of, is_equation}
-use Rattle.it_answer.specs.Forms.{demand_of_elemental, all_demands, demand_at, Certifies, MayStand}
+use Rattle.it_answer.specs.Forms.{demand_of_elemental, all_demands, demand_at, Certifies, IsAllowedWeight}
 
 -- what isn't an equation is an inequality
 pub inequality_unless_equation : (k : Kind) → is_equation k ≡ false → k ≡ Inequality
@@ -71,26 +71,26 @@ module _ (ds : List Demand) (gs : List Generator) (z : AllZip Speaks ds gs) wher
     pub by_forms : IsCertificate size (forms_of gs) f w → ((p : ℕ → ℤ) → p 0 ≡ pos 0 → w.scale *ℤ f p ≡ combination w.weights (λ i. (forms_of gs).form i p)) → Certifies ds g w
     by_forms c everywhere = record {
       scale_from_one = c.scale_from_one;
-      allowed = All-weaker (IsAllowed (forms_of gs)) (MayStand ds) (λ x a. (omega (arith, a.0, same_count), λ e. a.1 (ap is_equation ((speaks_at x.0 a.0).kind ∙ e)))) w.weights c.allowed;
+      allowed = All-weaker (IsAllowed (forms_of gs)) (IsAllowedWeight ds) (λ x a. (omega (arith, a.0, same_count), λ e. a.1 (ap is_equation ((speaks_at x.0 a.0).kind ∙ e)))) w.weights c.allowed;
       adds_up = λ p e. ap (λ x. w.scale *ℤ x) (sym (same p e)) ∙ everywhere p e
           ∙ weighted_same p e w.weights (every_of (λ (x : ℕ × ℤ). x.0 < length gs) w.weights (All-weaker (IsAllowed (forms_of gs)) (λ (x : ℕ × ℤ). x.0 < length gs) (λ x a. a.0) w.weights c.allowed));
     }
 
     pub by_rows : Certifies ds g w → IsCertificate size (forms_of gs) f w
     by_rows c =
-        let listed_here : (x : ℕ × ℤ) → MayStand ds x → x.0 < length gs = λ x a. omega (arith, a.0, same_count) in
+        let listed_here : (x : ℕ × ℤ) → IsAllowedWeight ds x → x.0 < length gs = λ x a. omega (arith, a.0, same_count) in
         record {
           scale_from_one = c.scale_from_one;
-          allowed = All-weaker (MayStand ds) (IsAllowed (forms_of gs)) (λ x a. (listed_here x a, λ e. a.1 (sym (speaks_at x.0 (listed_here x a)).kind ∙ inequality_unless_equation (generator_at gs x.0).kind e))) w.weights c.allowed;
+          allowed = All-weaker (IsAllowedWeight ds) (IsAllowed (forms_of gs)) (λ x a. (listed_here x a, λ e. a.1 (sym (speaks_at x.0 (listed_here x a)).kind ∙ inequality_unless_equation (generator_at gs x.0).kind e))) w.weights c.allowed;
           adds_up = λ k h l. ap (λ x. w.scale *ℤ x) (same (one_at k) (one_at-zero k h)) ∙ c.adds_up (one_at k) (one_at-zero k h)
-              ∙ sym (weighted_same (one_at k) (one_at-zero k h) w.weights (every_of (λ (x : ℕ × ℤ). x.0 < length gs) w.weights (All-weaker (MayStand ds) (λ (x : ℕ × ℤ). x.0 < length gs) listed_here w.weights c.allowed)));
+              ∙ sym (weighted_same (one_at k) (one_at-zero k h) w.weights (every_of (λ (x : ℕ × ℤ). x.0 < length gs) w.weights (All-weaker (IsAllowedWeight ds) (λ (x : ℕ × ℤ). x.0 < length gs) listed_here w.weights c.allowed)));
         }
 
 -- rows that add up at each coordinate of a problem's space add up at every map
-pub rows_add_up : (q : ProblemView) (target : Terms) (w : CertificateView) → IsProblem q → IsUpTo (size_of q.space) target → CertifiesRow q target w
+pub rows_add_up : (q : ProblemView) (target : Terms) (w : CertificateView) → IsProblem q → IsOver (size_of q.space) target → CertifiesRow q target w
     → (p : ℕ → ℤ) → p 0 ≡ pos 0 → w.scale *ℤ value target p ≡ combination w.weights (λ i. (forms_of (generators q)).form i p)
 rows_add_up q target w k u c p e =
     let size = size_of q.space in
     let gs = generators q in
-    let rows : All (λ g. IsUpTo size g.row) gs = all_of (λ g. IsUpTo size g.row) gs (rows_of_space q.space.variables size q.constraints (omega arith) k.rows) in
+    let rows : All (λ g. IsOver size g.row) gs = all_of (λ g. IsOver size g.row) gs (rows_of_space q.space.variables size q.constraints (omega arith) k.rows) in
     adds_up_everywhere (size + 1) (forms_of gs) (value target) w (λ i l. value_linear size (generator_at gs i).row (rows i (record { kind = Inequality; row = [] }) l)) (value_linear size target u) c p e

@@ -11,7 +11,7 @@ use Rattle.it_question.specs.Questions.{BodyView, OwnLinesView, VerbView, Elimin
 use Rattle.it_question.specs.Limits.{AreRatesOf, IsQuestion, IsVerbOver}
 use Rattle.it_demand.specs.Demands.{AreStated, LineDemand, States}
 use Rattle.it_demand.specs.LineDemands.{given_demands, space_of}
-use Rattle.it_question.specs.Tables.{line_demands, problem_names_by, problem_lines_by}
+use Rattle.it_question.specs.ProblemLines.{line_demands, names_under, lines_under}
 use Rattle.it_canon.specs.QuestionDemands.{IsProblemOf}
 use Rattle.it_canon.proofs.GivenSets.{given_sets}
 use Rattle.it_canon.proofs.LinesMet.{lines_met}
@@ -21,14 +21,14 @@ use Rattle.it_redundant.specs.Theorems.{SpeakOfSets}
 
 module _ (q : BodyView) (rates : List ℕ) (givens : ProblemView) (is : q.verb ≡ Eliminate rates) (own : IsProblemOf q givens) where
   pub space_of_names : givens.space ≡ space_of q.names
-  space_of_names = own.space ∙ ap (λ verb. space_of (problem_names_by q.names verb)) is
+  space_of_names = own.space ∙ ap (λ verb. space_of (names_under q.names verb)) is
 
   abbrev given_lines : OwnLinesView
   given_lines = record { givens = q.lines.givens; rows = [] }
 
   lines_stated : AreStated givens.space (line_demands givens.space.variables given_lines) givens.constraints
   lines_stated = subst (λ (s : Space). AreStated givens.space (line_demands s.variables given_lines) givens.constraints) (sym space_of_names)
-      (subst (λ (verb : VerbView). AreStated givens.space (line_demands (length (problem_names_by q.names verb).variables) (problem_lines_by q.lines verb)) givens.constraints) is own.constraints)
+      (subst (λ (verb : VerbView). AreStated givens.space (line_demands (length (names_under q.names verb).variables) (lines_under q.lines verb)) givens.constraints) is own.constraints)
 
   pub givens_stated : AreStated givens.space (given_demands givens.space.variables 1 q.lines.givens) givens.constraints
   givens_stated = subst (λ (ds : List LineDemand). AreStated givens.space ds givens.constraints) (append-nil (given_demands givens.space.variables 1 q.lines.givens)) lines_stated

@@ -10,15 +10,15 @@ use Rattle.it_space.specs.declared.spaces.Space.{Space}
 use Rattle.it_space.specs.Answers.{AnswerView}
 use Rattle.it_space.specs.Answers.AnswerView.{Undecided, Region}
 use Rattle.it_space.specs.Problems.{ProblemView, AreMet}
-use Rattle.it_space.specs.Rows.{Terms, IsUpTo, map_of, value}
+use Rattle.it_space.specs.Rows.{Terms, IsOver, point_of, value}
 use Rattle.it_space.specs.Spaces.{size_of}
 use Rattle.it_polymatroid.specs.Polymatroid.{IsPolymatroid}
 use Rattle.it_syntax.specs.Givens.{IsTrueAt}
 use Rattle.it_syntax.specs.Meaning.{RelationView, Holds}
 use Rattle.it_question.specs.Questions.{BodyView, OwnLinesView, VerbView, Eliminate}
-use Rattle.it_canon.specs.QuestionDemands.{variables_of, problem_of, terms_in, AreTrueAt}
+use Rattle.it_canon.specs.QuestionDemands.{variable_count, problem_of, terms_in, AreTrueAt}
 use Rattle.it_demand.specs.LineDemands.{space_of, system_forms, AreRowsOf, AreAtLeastZero}
-use Rattle.it_question.specs.Tables.{problem_names, problem_names_by, problem_lines, problem_lines_by}
+use Rattle.it_question.specs.ProblemLines.{problem_names, names_under, problem_lines, lines_under}
 use Rattle.it_demand.specs.RowsOfForms.{terms_of_form}
 use Rattle.it_demand.proofs.FormRows.{rows_are_terms_of_forms}
 use Rattle.it_eliminate.specs.Elimination.{Member}
@@ -124,10 +124,10 @@ module _ (q : BodyView) (rates : List ℕ) (givens : ProblemView) (rows : List T
 
   row_does_not_follow : (others other_rows : List Terms) (row : Terms) (values : List ℤ) → others ≡ other_rows → theorems.SeparatesRow givens others row values → DoesNotFollow q other_rows row
   row_does_not_follow others other_rows row values e x = record {
-    point = map_of values;
-    polymatroid = subst (λ (s : Space). IsPolymatroid s.variables (map_of values)) same x.meets.0;
-    givens_true = subst (λ (s : Space). All (IsTrueAt s.variables (map_of values)) q.lines.givens) same ((true_at (map_of values) refl).0 x.meets.1);
-    others_hold = subst (λ (rs : List Terms). IsPointOf rs (map_of values)) e x.others_hold;
+    point = point_of values;
+    polymatroid = subst (λ (s : Space). IsPolymatroid s.variables (point_of values)) same x.meets.0;
+    givens_true = subst (λ (s : Space). All (IsTrueAt s.variables (point_of values)) q.lines.givens) same ((true_at (point_of values) refl).0 x.meets.1);
+    others_hold = subst (λ (rs : List Terms). IsPointOf rs (point_of values)) e x.others_hold;
     violated = x.violated;
   }
 
@@ -140,7 +140,7 @@ module _ (q : BodyView) (rates : List ℕ) (givens : ProblemView) (rows : List T
 
   region_shown : (kept : List (Terms × NeedView)) → IsReducedRegion givens rates rows kept → ShowsRegion q rates (marked_rows kept)
   region_shown kept x = record {
-    coordinates = subst (λ (rs : List Terms). All (IsUpTo (size_of (space_of q.names))) rs) (sym (rows_again kept)) (subst (λ (s : Space). All (IsUpTo (size_of s)) (kept_rows kept)) same x.coordinates);
+    coordinates = subst (λ (rs : List Terms). All (IsOver (size_of (space_of q.names))) rs) (sym (rows_again kept)) (subst (λ (s : Space). All (IsOver (size_of s)) (kept_rows kept)) same x.coordinates);
     free = λ r m. subst (λ (rs : List Terms). LacksCoordinate (2 ^ length q.names.variables + r) rs) (sym (rows_again kept)) (subst (λ (s : Space). LacksCoordinate (2 ^ s.variables + r) (kept_rows kept)) same (x.free r m));
     exact = λ p h g. subst (λ (rs : List Terms). IsPointOf rs p ↔ LinesExtend (length q.names.variables) rates q.lines.rows p) (sym (rows_again kept))
         (subst (λ (s : Space). IsPointOf (kept_rows kept) p ↔ LinesExtend s.variables rates q.lines.rows p) same (
@@ -159,23 +159,23 @@ module _ (q : BodyView) (rates : List ℕ) (givens : ProblemView) (rows : List T
   region_shows end answer x is = subst (ShowsBy q (Eliminate rates)) (sym is) (shows_end end x)
 
 pub region_is_due : (budgets : Budgets) (q : BodyView) (rates : List ℕ) (givens : ProblemView) (rows : List Terms) (end : ProjectedView) (answer : AnswerView) → givens ≡ problem_of q
-    → rows ≡ map (terms_in q) (system_forms (variables_of q) q.lines.rows) → ReducedEnds givens budgets.pivots budgets.rows rows [] [] rates end → answer ≡ answer_of_end end → IsDueElimination budgets q rates answer
+    → rows ≡ map (terms_in q) (system_forms (variable_count q) q.lines.rows) → ReducedEnds givens budgets.pivots budgets.rows rows [] [] rates end → answer ≡ answer_of_end end → IsDueElimination budgets q rates answer
 region_is_due budgets q rates givens rows end answer posed rows_are ends is = record {
   end = end;
-  ends = subst (λ (g : ProblemView). ReducedEnds g budgets.pivots budgets.rows (map (terms_in q) (system_forms (variables_of q) q.lines.rows)) [] [] rates end) posed
+  ends = subst (λ (g : ProblemView). ReducedEnds g budgets.pivots budgets.rows (map (terms_in q) (system_forms (variable_count q) q.lines.rows)) [] [] rates end) posed
       (subst (λ (rs : List Terms). ReducedEnds givens budgets.pivots budgets.rows rs [] [] rates end) rows_are ends);
   is = is;
 }
 
 -- the rows of the `row` lines are the terms of their forms
-pub system_rows_are : (q : BodyView) (s : Space) (rows : List Terms) → s ≡ space_of (problem_names q) → AreRowsOf s (system_forms s.variables q.lines.rows) rows → rows ≡ map (terms_in q) (system_forms (variables_of q) q.lines.rows)
+pub system_rows_are : (q : BodyView) (s : Space) (rows : List Terms) → s ≡ space_of (problem_names q) → AreRowsOf s (system_forms s.variables q.lines.rows) rows → rows ≡ map (terms_in q) (system_forms (variable_count q) q.lines.rows)
 system_rows_are q s rows same are = rows_are_terms_of_forms s (system_forms s.variables q.lines.rows) rows are ∙ ap (λ (t : Space). map (terms_of_form (size_of t)) (system_forms t.variables q.lines.rows)) same
 
 -- ---- there is one right answer
 
 pub one_elimination : (budgets : Budgets) (q : BodyView) (rates : List ℕ) (a b : AnswerView) → IsDueElimination budgets q rates a → IsDueElimination budgets q rates b → a ≡ b
 one_elimination budgets q rates a b x y = x.is
-    ∙ ap answer_of_end (one_reduced_end (problem_of q) budgets.pivots budgets.rows (map (terms_in q) (system_forms (variables_of q) q.lines.rows)) [] [] rates x.end y.end x.ends y.ends) ∙ sym y.is
+    ∙ ap answer_of_end (one_reduced_end (problem_of q) budgets.pivots budgets.rows (map (terms_in q) (system_forms (variable_count q) q.lines.rows)) [] [] rates x.end y.end x.ends y.ends) ∙ sym y.is
 
 -- ---- what follows
 
@@ -187,12 +187,12 @@ not_width step (projections.Wide rate) e = cc
 pub a_region_is_true : ARegionIsTrue
 a_region_is_true q rates rows is x p together =
     let a : ShowsRegion q rates rows = subst (λ (v : VerbView). ShowsBy q v (Region rows)) is x in
-    let n_is : variables_of q ≡ length q.names.variables = ap (λ verb. length (problem_names_by q.names verb).variables) is in
+    let n_is : variable_count q ≡ length q.names.variables = ap (λ verb. length (names_under q.names verb).variables) is in
     subst (λ (n : ℕ). IsPointOf (region_rows rows) p ↔ LinesExtend n rates q.lines.rows p) (sym n_is)
     (a.exact p (subst (λ (n : ℕ). IsPolymatroid n p) n_is together.0) (subst (λ (n : ℕ). All (IsTrueAt n p) q.lines.givens) n_is (givens_of_lines together.1)))
   where
-    givens_of_lines : AreTrueAt (variables_of q) p (problem_lines q) → All (IsTrueAt (variables_of q) p) q.lines.givens
-    givens_of_lines l = subst (λ (own : OwnLinesView). All (IsTrueAt (variables_of q) p) own.givens) (ap (problem_lines_by q.lines) is) l.givens
+    givens_of_lines : AreTrueAt (variable_count q) p (problem_lines q) → All (IsTrueAt (variable_count q) p) q.lines.givens
+    givens_of_lines l = subst (λ (own : OwnLinesView). All (IsTrueAt (variable_count q) p) own.givens) (ap (lines_under q.lines) is) l.givens
 
 pub needed_rows_are_needed : NeededRowsAreNeeded
 needed_rows_are_needed q rates rows is x =

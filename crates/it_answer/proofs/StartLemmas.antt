@@ -13,7 +13,7 @@ use Rattle.it_question.specs.Questions.{BodyView, VerbView, Prove, Eliminate, Co
 use Rattle.it_demand.specs.Demands.{LineDemand, States}
 use Rattle.it_demand.specs.Targets.{targets}
 use Rattle.it_demand.specs.LineDemands.{AreRowsOf}
-use Rattle.it_canon.specs.QuestionDemands.{question_demands, variables_of, problem_of, terms_in, IsProblemOf}
+use Rattle.it_canon.specs.QuestionDemands.{question_demands, variable_count, problem_of, terms_in, IsProblemOf}
 use Rattle.it_canon.proofs.ExistenceLemmas.{each_question, question_poses, relation_rows}
 use Rattle.it_demand.proofs.ZipLemmas.{zip-right}
 use Rattle.it_prove.proofs.SmallLemmas.{never_at_start}
@@ -38,7 +38,7 @@ module _ (q : BodyView) (k : IsQuestion q) (small : QuestionHasSmallNumbers q) (
   by_verb : (verb : VerbView) → q.verb ≡ verb → IsDueBy budgets plans q verb (record { answer = answer_views.Undecided (Width 0); found = found }) → ⊥
   by_verb (Prove r) about d =
       let is = question_poses q k small in
-      not_before_start (problem_of q) budgets.pivots (targets (variables_of q) r) (map (terms_in q) (targets (variables_of q) r)) is.limits (small_constraints q (problem_of q) is) (relation_rows q k small r about) d.0
+      not_before_start (problem_of q) budgets.pivots (targets (variable_count q) r) (map (terms_in q) (targets (variable_count q) r)) is.limits (small_constraints q (problem_of q) is) (relation_rows q k small r about) d.0
   by_verb (Eliminate rates) about d = not_width 0 d.0.end d.0.is
   by_verb (Contain first second tries) about d = d
 

@@ -7,27 +7,27 @@ use Rattle.it_number.proofs.SignLemmas.{least_by_multiple}
 use Rattle.it_space.specs.declared.problems.Kind.TheVariants.{Inequality}
 use Rattle.it_space.specs.Answers.{AnswerView, CertificateView}
 use Rattle.it_space.specs.Answers.AnswerView.{Yes, No, Contained}
-use Rattle.it_space.specs.Rows.{map_of}
+use Rattle.it_space.specs.Rows.{point_of}
 use Rattle.it_space.proofs.EveryLemmas.{every_of, every-append, every-map}
 use Rattle.it_polymatroid.specs.Certificates.{Form, Generators, IsAllowed}
 use Rattle.it_polymatroid.specs.Elementals.{elementals, elemental_value}
 use Rattle.it_polymatroid.proofs.Certified.{weighted_least}
 use Rattle.it_polymatroid.proofs.Generate.{elementals_generate}
-use Rattle.it_syntax.specs.Meaning.{multiple_of, side_at}
+use Rattle.it_syntax.specs.Meaning.{common_denominator, side_at}
 use Rattle.it_question.specs.Questions.{BodyView, VerbView, Prove, Eliminate, Contain}
 use Rattle.it_demand.specs.Canonical.{form_of}
 use Rattle.it_demand.specs.Demands.{Demand, LineDemand}
 use Rattle.it_demand.specs.Targets.{targets}
-use Rattle.it_canon.specs.QuestionDemands.{question_demands, variables_of, AreTrueTogether}
-use Rattle.it_question.specs.Tables.{problem_lines}
+use Rattle.it_canon.specs.QuestionDemands.{question_demands, variable_count, AreTrueTogether}
+use Rattle.it_question.specs.ProblemLines.{problem_lines}
 use Rattle.it_demand.specs.LineDemands.{given_demands, row_demands}
 use Rattle.it_demand.proofs.MetLemmas.{IsSatisfied, givens_satisfied, rows_satisfied, targets_met}
 use Rattle.it_elemental.specs.Generators.{is_equation}
 use Rattle.it_elemental.proofs.GeneratorLemmas.{every_or}
 use Rattle.it_check.proofs.Truth.{at_least, is_zero}
-use Rattle.it_answer.specs.Forms.{CertifiesForm, CertifyAll, all_demands, demand_at, demand_of_elemental, MayStand}
+use Rattle.it_answer.specs.Forms.{CertifiesForm, CertifyAll, all_demands, demand_at, demand_of_elemental, IsAllowedWeight}
 use Rattle.it_answer.proofs.FormLemmas.{inequality_unless_equation}
-use Rattle.it_answer.specs.Shows.{AContainmentIsTrue, ANoIsTrue, AYesIsTrue, NeverYesAndNo, Shows, ShowsBy, ViolatesFirst}
+use Rattle.it_answer.specs.Shows.{AContainmentIsTrue, ANoIsTrue, AYesIsTrue, NeverYesAndNo, Shows, ShowsBy, Refutes}
 
 -- ---- a certified form is at least 0
 
@@ -41,20 +41,20 @@ generators_by ds = record {
 
 module _ (q : BodyView) (m : ℕ → ℤ) (together : AreTrueTogether q m) where
   abbrev ds : List Demand
-  ds = all_demands (variables_of q) (question_demands q)
+  ds = all_demands (variable_count q) (question_demands q)
 
   -- what the lines demand is met
   lines_satisfied : All (λ d. IsSatisfied m d.demand) (question_demands q)
   lines_satisfied =
-      let n : ℕ = variables_of q in
+      let n : ℕ = variable_count q in
       let own = problem_lines q in
       All-append (λ (d : LineDemand). IsSatisfied m d.demand) (given_demands n 1 own.givens) (row_demands n 1 own.rows)
       ((givens_satisfied n 1 own.givens m).1 together.1.givens) ((rows_satisfied n 1 own.rows m).1 together.1.rows)
 
-  all_satisfied : Every (IsSatisfied m) (all_demands (variables_of q) (question_demands q))
+  all_satisfied : Every (IsSatisfied m) (all_demands (variable_count q) (question_demands q))
   unfolding all_demands
   all_satisfied =
-      let n : ℕ = variables_of q in
+      let n : ℕ = variable_count q in
       every-append (IsSatisfied m) (map (demand_of_elemental n) (elementals n)) (map (λ (d : LineDemand). d.demand) (question_demands q))
       (every-map (IsSatisfied m) (demand_of_elemental n) (elementals n) (every_of (λ e. pos 0 ≤ℤ elemental_value n m e) (elementals n) ((elementals_generate n m together.0.empty).1 together.0)))
       (every-map (IsSatisfied m) (λ (d : LineDemand). d.demand) (question_demands q) (every_of (λ (d : LineDemand). IsSatisfied m d.demand) (question_demands q) lines_satisfied))
@@ -67,7 +67,7 @@ module _ (q : BodyView) (m : ℕ → ℤ) (together : AreTrueTogether q m) where
       (subst (λ (x : ℤ). pos 0 ≤ℤ x) (sym (c.adds_up m together.0.empty))
       (weighted_least (generators_by ds) (λ i. (demand_at ds i).form m) (λ i l. at_least (demand_at ds i).kind ((demand_at ds i).form m) (satisfied_at i))
       (λ i l e. is_zero (demand_at ds i).kind ((demand_at ds i).form m) (satisfied_at i) e) w.weights
-      (All-weaker (MayStand ds) (IsAllowed (generators_by ds)) (λ x a. (a.0, λ e. a.1 (inequality_unless_equation (demand_at ds x.0).kind e))) w.weights c.allowed)))
+      (All-weaker (IsAllowedWeight ds) (IsAllowed (generators_by ds)) (λ x a. (a.0, λ e. a.1 (inequality_unless_equation (demand_at ds x.0).kind e))) w.weights c.allowed)))
 
   all_valid : (fs : List Form) (ws : List CertificateView) → CertifyAll q fs ws → All (λ f. pos 0 ≤ℤ f m) fs
   all_valid [] [] c = All-nil (λ (f : Form). pos 0 ≤ℤ f m)
@@ -82,31 +82,31 @@ shown_by q verb answer is x = subst (λ (v : VerbView). ShowsBy q v answer) is x
 
 pub a_yes_is_true : AYesIsTrue
 a_yes_is_true q r ws is x m together =
-    (targets_met r.sign (side_at (variables_of q) m (multiple_of r) r.left) (side_at (variables_of q) m (multiple_of r) r.right) (form_of (variables_of q) r) m refl).0
-    (all_valid q m together (targets (variables_of q) r) ws (shown_by q (Prove r) (Yes ws) is x))
+    (targets_met r.sign (side_at (variable_count q) m (common_denominator r) r.left) (side_at (variable_count q) m (common_denominator r) r.right) (form_of (variable_count q) r) m refl).0
+    (all_valid q m together (targets (variable_count q) r) ws (shown_by q (Prove r) (Yes ws) is x))
 
 not_at_least_zero : (x : ℤ) → x ≤ℤ neg_ℤ (pos 1) → pos 0 ≤ℤ x → ⊥
 not_at_least_zero x h k = omega (arith, ints)
 
 -- the values are a polymatroid and rates at which the lines are true and some target is below 0
-violates : (q : BodyView) (fs : List Form) (is_back : Bool) (values : List ℤ) → ViolatesFirst q fs is_back values
-    → AreTrueTogether q (map_of values) × (All (λ (f : Form). pos 0 ≤ℤ f (map_of values)) fs → ⊥)
+violates : (q : BodyView) (fs : List Form) (is_back : Bool) (values : List ℤ) → Refutes q fs is_back values
+    → AreTrueTogether q (point_of values) × (All (λ (f : Form). pos 0 ≤ℤ f (point_of values)) fs → ⊥)
 violates q [] is_back values c = absurd c
 violates q (f ∷ fs) false values c =
-    ((c.polymatroid, c.lines_hold), λ all. not_at_least_zero (f (map_of values)) c.violated (All-head (λ (f : Form). pos 0 ≤ℤ f (map_of values)) f fs all))
+    ((c.polymatroid, c.lines_hold), λ all. not_at_least_zero (f (point_of values)) c.violated (All-head (λ (f : Form). pos 0 ≤ℤ f (point_of values)) f fs all))
 violates q (f ∷ []) true values c = absurd c
 violates q (f ∷ g ∷ fs) true values c =
-    ((c.1.polymatroid, c.1.lines_hold), λ all. not_at_least_zero (g (map_of values)) c.1.violated (All-head (λ (f : Form). pos 0 ≤ℤ f (map_of values)) g fs (All-tail (λ (f : Form). pos 0 ≤ℤ f (map_of values)) f (g ∷ fs) all)))
+    ((c.1.polymatroid, c.1.lines_hold), λ all. not_at_least_zero (g (point_of values)) c.1.violated (All-head (λ (f : Form). pos 0 ≤ℤ f (point_of values)) g fs (All-tail (λ (f : Form). pos 0 ≤ℤ f (point_of values)) f (g ∷ fs) all)))
 
 pub a_no_is_true : ANoIsTrue
 a_no_is_true q r is_back values is x =
-    let v = violates q (targets (variables_of q) r) is_back values (shown_by q (Prove r) (No is_back values) is x) in
-    let p = map_of values in
-    (v.0, λ holds. v.1 ((targets_met r.sign (side_at (variables_of q) p (multiple_of r) r.left) (side_at (variables_of q) p (multiple_of r) r.right) (form_of (variables_of q) r) p refl).1 holds))
+    let v = violates q (targets (variable_count q) r) is_back values (shown_by q (Prove r) (No is_back values) is x) in
+    let p = point_of values in
+    (v.0, λ holds. v.1 ((targets_met r.sign (side_at (variable_count q) p (common_denominator r) r.left) (side_at (variable_count q) p (common_denominator r) r.right) (form_of (variable_count q) r) p refl).1 holds))
 
 both_by_verb : (q : BodyView) (verb : VerbView) (ws : List CertificateView) (is_back : Bool) (values : List ℤ) → q.verb ≡ verb → Shows q (Yes ws) → Shows q (No is_back values) → ⊥
 both_by_verb q (Prove r) ws is_back values is x y =
-    let refuted = a_no_is_true q r is_back values is y in refuted.1 (a_yes_is_true q r ws is x (map_of values) refuted.0)
+    let refuted = a_no_is_true q r is_back values is y in refuted.1 (a_yes_is_true q r ws is x (point_of values) refuted.0)
 both_by_verb q (Eliminate rates) ws is_back values is x y = shown_by q (Eliminate rates) (Yes ws) is x
 both_by_verb q (Contain a b tries) ws is_back values is x y = shown_by q (Contain a b tries) (Yes ws) is x
 

@@ -9,7 +9,7 @@ use Rattle.it_space.specs.Rows.{Terms, IsCanonical}
 use Rattle.it_syntax.specs.Meaning.{RelationView}
 use Rattle.it_question.specs.Questions.{BodyView, RegionView, VerbView, Prove, Eliminate, Contain}
 use Rattle.it_demand.specs.Targets.{targets}
-use Rattle.it_canon.specs.QuestionDemands.{variables_of, problem_of, terms_in}
+use Rattle.it_canon.specs.QuestionDemands.{variable_count, problem_of, terms_in}
 use Rattle.it_redundant.specs.ReducedElimination.{ProjectedView}
 use Rattle.it_redundant.specs.ReducedElimination as projections
 use Rattle.it_prove.specs.ProofViews.{Yes, No, Undecided, AreProofsOf}
@@ -127,7 +127,7 @@ module _ (p : ProblemView) (budget : Option ℕ) where
   one_due ts (answer_views.Open tried) b x y = absurd x
 
 one_for : (budget : Option ℕ) (q : BodyView) (r : RelationView) (a b : AnswerView) → IsDueRelation budget q r a → IsDueRelation budget q r b → a ≡ b
-one_for budget q r a b x y = one_due (problem_of q) budget (map (terms_in q) (targets (variables_of q) r)) a b x y
+one_for budget q r a b x y = one_due (problem_of q) budget (map (terms_in q) (targets (variable_count q) r)) a b x y
 
 -- ---- what a search finds
 
@@ -217,7 +217,7 @@ search_ascends q a b budget tries plan found (answer_views.Contained parts ws) x
 search_ascends q a b budget tries plan found (answer_views.Open tried) x = tt
 
 ascends_by : (budgets : Budgets) (plans : List Plan) (q : BodyView) (verb : VerbView) (reply : Reply) → IsDueBy budgets plans q verb reply → ProofsAscend reply.answer
-ascends_by budgets plans q (Prove r) reply d = targets_ascend (problem_of q) budgets.pivots (map (terms_in q) (targets (variables_of q) r)) reply.answer d.0
+ascends_by budgets plans q (Prove r) reply d = targets_ascend (problem_of q) budgets.pivots (map (terms_in q) (targets (variable_count q) r)) reply.answer d.0
 ascends_by budgets plans q (Eliminate rates) reply d = region_ascends reply.answer d.0.end d.0.is
 ascends_by budgets plans q (Contain a b tries) reply d = search_ascends q a b budgets.pivots budgets.tries _ reply.found reply.answer d
 

@@ -2,7 +2,7 @@
 use Rattle.it_space.specs.Answers.{AnswerView}
 use Rattle.it_space.specs.Answers.AnswerView.{Yes, No, Undecided, Region, Contained, Open}
 use Rattle.it_question.specs.Questions.{BodyView, VerbView, Prove, Eliminate, Contain}
-use Rattle.it_region.specs.Obligations.{ArePartsOf}
+use Rattle.it_region.specs.Obligations.{IsSubstitution}
 
 -- The verb gives such an answer, and the parts of a containment are sets of the first region's variables, one for each auxiliary of
 -- the second.
@@ -12,7 +12,7 @@ IsAnswerBy (Prove r) (No is_back values) = Unit {0}
 IsAnswerBy (Prove r) (Undecided cause) = Unit {0}
 IsAnswerBy (Eliminate rates) (Region rows) = Unit {0}
 IsAnswerBy (Eliminate rates) (Undecided cause) = Unit {0}
-IsAnswerBy (Contain a b tries) (Contained parts ws) = ArePartsOf a b parts
+IsAnswerBy (Contain a b tries) (Contained parts ws) = IsSubstitution a b parts
 IsAnswerBy (Contain a b tries) (Open tried) = Unit {0}
 IsAnswerBy verb answer = ⊥
 

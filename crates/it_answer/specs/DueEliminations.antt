@@ -8,7 +8,7 @@ use Rattle.it_space.specs.Answers.AnswerView.{Undecided, Region}
 use Rattle.it_space.specs.Rows.{Terms}
 use Rattle.it_question.specs.Questions.{BodyView}
 use Rattle.it_demand.specs.LineDemands.{system_forms}
-use Rattle.it_canon.specs.QuestionDemands.{variables_of, problem_of, terms_in}
+use Rattle.it_canon.specs.QuestionDemands.{variable_count, problem_of, terms_in}
 use Rattle.it_redundant.specs.Reduction.{NeedView, Needed, Unsettled}
 use Rattle.it_redundant.specs.ReducedElimination.{ProjectedView, ReducedEnds}
 use Rattle.it_redundant.specs.ReducedElimination as projections
@@ -33,5 +33,5 @@ answer_of_end (projections.Wide rate) = Undecided (causes.WideRate rate)
 -- those turned; each reduction under the constraints of the `given` lines, which are the question's problem.
 pub record IsDueElimination (budgets : Budgets) (q : BodyView) (rates : List ℕ) (answer : AnswerView) : Type 0 where
   pub end : ProjectedView
-  pub ends : ReducedEnds (problem_of q) budgets.pivots budgets.rows (map (terms_in q) (system_forms (variables_of q) q.lines.rows)) [] [] rates end
+  pub ends : ReducedEnds (problem_of q) budgets.pivots budgets.rows (map (terms_in q) (system_forms (variable_count q) q.lines.rows)) [] [] rates end
   pub is : answer ≡ answer_of_end end

@@ -7,7 +7,7 @@ use Rattle.it_space.specs.Problems.{ProblemView}
 use Rattle.it_space.specs.Rows.{Terms}
 use Rattle.it_syntax.specs.Meaning.{RelationView}
 use Rattle.it_question.specs.Questions.{BodyView}
-use Rattle.it_canon.specs.QuestionDemands.{variables_of, problem_of, terms_in}
+use Rattle.it_canon.specs.QuestionDemands.{variable_count, problem_of, terms_in}
 use Rattle.it_demand.specs.Targets.{targets}
 use Rattle.it_prove.specs.ProofViews as proof_views
 use Rattle.it_prove.specs.ProofViews.{EndsWith, AreProofsOf}
@@ -36,4 +36,4 @@ IsDueByRuns p budget ts answer = ⊥
 
 -- the same about the terms of the relation's targets, under the problem that the question poses
 abbrev pub IsDueRelation : Option ℕ → BodyView → RelationView → AnswerView → Type 0
-IsDueRelation budget q r answer = IsDueByRuns (problem_of q) budget (map (terms_in q) (targets (variables_of q) r)) answer
+IsDueRelation budget q r answer = IsDueByRuns (problem_of q) budget (map (terms_in q) (targets (variable_count q) r)) answer

@@ -8,7 +8,7 @@ use Rattle.it_polymatroid.specs.Certificates.{Form, combination}
 use Rattle.it_polymatroid.specs.Elementals.{Elemental, elementals, elemental_value}
 use Rattle.it_question.specs.Questions.{BodyView}
 use Rattle.it_demand.specs.Demands.{Demand, LineDemand}
-use Rattle.it_canon.specs.QuestionDemands.{question_demands, variables_of}
+use Rattle.it_canon.specs.QuestionDemands.{question_demands, variable_count}
 
 -- an elemental inequality of n variables as a demand
 abbrev pub demand_of_elemental : ℕ → Elemental → Demand
@@ -23,19 +23,19 @@ abbrev pub demand_at : List Demand → ℕ → Demand
 demand_at ds i = slice_index_or ds i (record { kind = Inequality; form = λ p. pos 0 })
 
 -- a weight that may stand in a certificate: of a demand that is there, and at least 0 where that is an inequality
-abbrev pub MayStand : List Demand → ℕ × ℤ → Type 0
-MayStand ds w = (w.0 < length ds) × ((demand_at ds w.0).kind ≡ Inequality → pos 0 ≤ℤ w.1)
+abbrev pub IsAllowedWeight : List Demand → ℕ × ℤ → Type 0
+IsAllowedWeight ds w = (w.0 < length ds) × ((demand_at ds w.0).kind ≡ Inequality → pos 0 ≤ℤ w.1)
 
 -- A certificate of a form (Farkas 1902): weights by which the demands add up to a positive multiple of it, at every map that is 0 at
 -- the empty set.
 pub record Certifies (ds : List Demand) (target : Form) (w : CertificateView) : Type 0 where
   pub scale_from_one : pos 1 ≤ℤ w.scale
-  pub allowed : All (MayStand ds) w.weights
+  pub allowed : All (IsAllowedWeight ds) w.weights
   pub adds_up : (p : ℕ → ℤ) → p 0 ≡ pos 0 → w.scale *ℤ target p ≡ combination w.weights (λ i. (demand_at ds i).form p)
 
 -- the elemental inequalities and the question's lines add up to the target by these weights
 abbrev pub CertifiesForm : BodyView → Form → CertificateView → Type 0
-CertifiesForm q f w = Certifies (all_demands (variables_of q) (question_demands q)) f w
+CertifiesForm q f w = Certifies (all_demands (variable_count q) (question_demands q)) f w
 
 -- one certificate of each target, in order
 abbrev pub CertifyAll : BodyView → List Form → List CertificateView → Type 0

@@ -11,7 +11,7 @@ use Rattle.it_question.specs.Questions.{BodyView, RegionView}
 use Rattle.it_demand.specs.Canonical.{form_of}
 use Rattle.it_demand.specs.LineDemands.{AreRowsOf}
 use Rattle.it_demand.specs.Targets.{negation, targets}
-use Rattle.it_canon.specs.QuestionDemands.{terms_in, variables_of}
+use Rattle.it_canon.specs.QuestionDemands.{terms_in, variable_count}
 use Rattle.it_region.specs.Obligations.{obligations}
 use Rattle.it_check.specs.Meaning.{CertifiesRow, RefutesRow}
 use Rattle.it_prove.specs.ProofViews.{ProofView}
@@ -75,7 +75,7 @@ answer_after_two w (proof_views.Undecided cause) = Undecided cause
 
 -- the rows of a relation's targets, in a question
 abbrev pub relation_rows : BodyView → RelationView → List Terms
-relation_rows q r = map (terms_in q) (targets (variables_of q) r)
+relation_rows q r = map (terms_in q) (targets (variable_count q) r)
 
 -- and those of the obligations of parts
 abbrev pub obligation_rows : BodyView → RegionView → RegionView → List ℕ → List Terms

@@ -8,7 +8,7 @@ ghost use Rattle.it_question.specs.Limits.{IsQuestion};
 ghost use Rattle.it_question.specs.Questions.{question_body};
 ghost use Rattle.it_demand.specs.Demands.{AreStated};
 ghost use Rattle.it_demand.specs.LineDemands.{space_of};
-ghost use Rattle.it_question.specs.Tables.{problem_names};
+ghost use Rattle.it_question.specs.ProblemLines.{problem_names};
 ghost use Rattle.it_canon.specs.QuestionDemands.{question_demands, IsProblemOf};
 ghost use Rattle.it_prove.specs.ProofViews.{proof_view};
 ghost use Rattle.it_answer.specs.RightAnswers.{IsAnswered};

@@ -5,7 +5,7 @@ ghost use Rattle.it_syntax.specs.Meaning.{relation_view};
 ghost use Rattle.it_question.specs.Limits.{IsQuestion};
 ghost use Rattle.it_question.specs.Questions.{Contain, Prove, question_body, region_view};
 ghost use Rattle.it_canon.specs.QuestionDemands.{terms_in};
-ghost use Rattle.it_region.specs.Obligations.{ArePartsOf};
+ghost use Rattle.it_region.specs.Obligations.{IsSubstitution};
 ghost use Rattle.it_answer.specs.AnswerKinds.{IsAnswerTo};
 ghost use Rattle.it_answer.specs.RowAnswers.{obligation_rows, relation_rows};
 ghost use Rattle.it_region.specs.AnswerForms.{answer_forms};
@@ -84,7 +84,7 @@ fn obligation_rows(
 ) -> Result<Vec<Row>, AllocError>
     requires limits { IsQuestion (question_body question.now) }
     requires contains { (question_body question.now).verb ≡ Contain (region_view first.now) (region_view second.now) tries.now }
-    requires parts { ArePartsOf (region_view first.now) (region_view second.now) parts.now }
+    requires parts { IsSubstitution (region_view first.now) (region_view second.now) parts.now }
     ensures { IfOk result (λ v. v.items ≡ obligation_rows (question_body question.now) (region_view first.now) (region_view second.now) parts.now) }
 {
     let pair = pair(alloc, question)?;

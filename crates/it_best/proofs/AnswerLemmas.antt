@@ -11,7 +11,7 @@ use Rattle.it_rational.proofs.RationalLaws.{ring_ℚ}
 use Rattle.it_space.specs.declared.problems.Kind.{Kind}
 use Rattle.it_space.specs.declared.problems.Kind.TheVariants.{Inequality, Equation}
 use Rattle.it_space.specs.Problems.{ProblemView, IsProblem, Meets}
-use Rattle.it_space.specs.Rows.{Terms, IsUpTo, map_of, value, negated_terms}
+use Rattle.it_space.specs.Rows.{Terms, IsOver, point_of, value, negated_terms}
 use Rattle.it_space.specs.Spaces.{size_of}
 use Rattle.it_space.proofs.EveryLemmas.{every_of, every-same, every-map, every_mapped, every_all}
 use Rattle.it_space.proofs.TermLemmas.{value-negated_terms}
@@ -38,20 +38,20 @@ use Rattle.it_best.proofs.WholePoints.{rational_map, whole_value, unknowns_met, 
 -- ---- the point of the third phase
 
 -- its values made whole
-whole_row : (hs : List Rational) (row : Terms) → integer (value row (map_of (scaled_point hs))) ≡ times (integer (pos (scale_of hs))) (rational_value row (rational_map hs))
-whole_row hs row = value_scaled (scale_of hs) (map_of (scaled_point hs)) (rational_map hs) row (row_scaled hs row)
+whole_row : (hs : List Rational) (row : Terms) → integer (value row (point_of (scaled_point hs))) ≡ times (integer (pos (scale_of hs))) (rational_value row (rational_map hs))
+whole_row hs row = value_scaled (scale_of hs) (point_of (scaled_point hs)) (rational_map hs) row (row_scaled hs row)
   where
-    row_scaled : (hs : List Rational) (row : Terms) → Every (λ (t : ℕ × ℤ). integer (map_of (scaled_point hs) t.0) ≡ times (integer (pos (scale_of hs))) (rational_map hs t.0)) row
-    row_scaled hs row = every_all (λ (t : ℕ × ℤ). integer (map_of (scaled_point hs) t.0) ≡ times (integer (pos (scale_of hs))) (rational_map hs t.0)) row (λ t. whole_value (scale_of hs) hs (denominators_divide hs) t.0)
+    row_scaled : (hs : List Rational) (row : Terms) → Every (λ (t : ℕ × ℤ). integer (point_of (scaled_point hs) t.0) ≡ times (integer (pos (scale_of hs))) (rational_map hs t.0)) row
+    row_scaled hs row = every_all (λ (t : ℕ × ℤ). integer (point_of (scaled_point hs) t.0) ≡ times (integer (pos (scale_of hs))) (rational_map hs t.0)) row (λ t. whole_value (scale_of hs) hs (denominators_divide hs) t.0)
 
-met_by_slack : (hs : List Rational) (k : Kind) (row : Terms) (s : Rational) → rational_value row (rational_map hs) ≡ minus s → IsSlack k s → Meets k (value row (map_of (scaled_point hs)))
-met_by_slack hs Inequality row s e i = least_scaled (scale_of hs) (map_of (scaled_point hs)) (rational_map hs) (scale_pos hs) row
-    (every_all (λ (t : ℕ × ℤ). integer (map_of (scaled_point hs) t.0) ≡ times (integer (pos (scale_of hs))) (rational_map hs t.0)) row (λ t. whole_value (scale_of hs) hs (denominators_divide hs) t.0))
+met_by_slack : (hs : List Rational) (k : Kind) (row : Terms) (s : Rational) → rational_value row (rational_map hs) ≡ minus s → IsSlack k s → Meets k (value row (point_of (scaled_point hs)))
+met_by_slack hs Inequality row s e i = least_scaled (scale_of hs) (point_of (scaled_point hs)) (rational_map hs) (scale_pos hs) row
+    (every_all (λ (t : ℕ × ℤ). integer (point_of (scaled_point hs) t.0) ≡ times (integer (pos (scale_of hs))) (rational_map hs t.0)) row (λ t. whole_value (scale_of hs) hs (denominators_divide hs) t.0))
     (ap is_at_least_zero e ∙ i)
-met_by_slack hs Equation row s e i = whole_same (value row (map_of (scaled_point hs))) (pos 0)
+met_by_slack hs Equation row s e i = whole_same (value row (point_of (scaled_point hs))) (pos 0)
     (whole_row hs row ∙ ap (times (integer (pos (scale_of hs)))) (e ∙ ap minus i) ∙ ring ring_ℚ (integer (pos (scale_of hs)) ∷ []) (S.times (v 0) (S.minus nil)) nil refl)
 
-module _ (q : ProblemView) (left right : Terms) (k : IsProblem q) (l : IsUpTo (size_of q.space) left) (r : IsUpTo (size_of q.space) right) (ws : List (ℕ × Rational))
+module _ (q : ProblemView) (left right : Terms) (k : IsProblem q) (l : IsOver (size_of q.space) left) (r : IsOver (size_of q.space) right) (ws : List (ℕ × Rational))
     (s : SumsUp rationals (length (span 1 (right_equation (size_of q.space) (generators q)))) (length (columns (third_phase q.space.variables (size_of q.space) (generators q) left right)))
     (feasibility_problem (span 1 (right_equation (size_of q.space) (generators q))) (columns (third_phase q.space.variables (size_of q.space) (generators q) left right)) (third_target (size_of q.space) (generators q) right)) ws) where
   abbrev gs : List Generator
@@ -64,7 +64,7 @@ module _ (q : ProblemView) (left right : Terms) (k : IsProblem q) (l : IsUpTo (s
   x = phases.x q left right k l r ws
 
   abbrev p : ℕ → ℤ
-  p = map_of (scaled_point hs)
+  p = point_of (scaled_point hs)
 
   abbrev big : ℕ
   big = scale_of hs
@@ -97,20 +97,20 @@ module _ (q : ProblemView) (left right : Terms) (k : IsProblem q) (l : IsUpTo (s
 
 -- ---- the point of the first phase, turned
 
-turned_map : (vs : List ℤ) (c : ℕ) → map_of (map neg_ℤ vs) c ≡ neg_ℤ (map_of vs c)
+turned_map : (vs : List ℤ) (c : ℕ) → point_of (map neg_ℤ vs) c ≡ neg_ℤ (point_of vs c)
 turned_map vs zero = refl
 turned_map [] (suc c) = refl
 turned_map (y ∷ vs) (suc zero) = refl
 turned_map (y ∷ vs) (suc (suc c)) = turned_map vs (suc c)
 
-value_at_turned : (row : Terms) (vs : List ℤ) → value row (map_of (map neg_ℤ vs)) ≡ neg_ℤ (value row (map_of vs))
+value_at_turned : (row : Terms) (vs : List ℤ) → value row (point_of (map neg_ℤ vs)) ≡ neg_ℤ (value row (point_of vs))
 value_at_turned [] vs = refl
-value_at_turned (t ∷ ts) vs = ap₂ (λ y z. t.1 *ℤ y +ℤ z) (turned_map vs t.0) (value_at_turned ts vs) ∙ regroup t.1 (map_of vs t.0) (value ts (map_of vs))
+value_at_turned (t ∷ ts) vs = ap₂ (λ y z. t.1 *ℤ y +ℤ z) (turned_map vs t.0) (value_at_turned ts vs) ∙ regroup t.1 (point_of vs t.0) (value ts (point_of vs))
   where
     regroup : (a y z : ℤ) → a *ℤ neg_ℤ y +ℤ neg_ℤ z ≡ neg_ℤ (a *ℤ y +ℤ z)
     regroup a y z = omega (arith, zring)
 
-pub never_right : (q : ProblemView) (left right : Terms) (qs : List Rational) → IsProblem q → IsUpTo (size_of q.space) left → IsUpTo (size_of q.space) right
+pub never_right : (q : ProblemView) (left right : Terms) (qs : List Rational) → IsProblem q → IsOver (size_of q.space) left → IsOver (size_of q.space) right
     → Separates rationals (length (span 1 (size_of q.space))) (length (columns (first_phase (generators q) left))) (feasibility_problem (span 1 (size_of q.space)) (columns (first_phase (generators q) left)) right) qs
     → HasNoFactor (ground_of q) (value left) (value right) (map neg_ℤ (scaled_point qs))
 unfolding first_phase
@@ -118,16 +118,16 @@ never_right q left right qs k l r s =
     let gs = generators q in
     let size = size_of q.space in
     let rows = rows_of_space q.space.variables size q.constraints (omega arith) k.rows in
-    let up : Every (λ u. IsUpTo size u.row) (first_phase gs left) = (l, every-map (λ (u : Generator). IsUpTo size u.row) counterweight gs (every-same (λ g. IsUpTo size g.row) (λ g. IsUpTo size (negated_terms g.row)) gs (λ g u. Rattle.it_best.proofs.RowLemmas.negated_up size g.row u) rows)) in
+    let up : Every (λ u. IsOver size u.row) (first_phase gs left) = (l, every-map (λ (u : Generator). IsOver size u.row) counterweight gs (every-same (λ g. IsOver size g.row) (λ g. IsOver size (negated_terms g.row)) gs (λ g u. Rattle.it_best.proofs.RowLemmas.negated_up size g.row u) rows)) in
     let met = unknowns_met size (first_phase gs left) right qs up r s in
-    let turned : Every (λ g. Meets g.kind (value g.row (map_of (map neg_ℤ (scaled_point qs))))) gs =
-    every-same (λ g. Meets g.kind (value (negated_terms g.row) (map_of (scaled_point qs)))) (λ g. Meets g.kind (value g.row (map_of (map neg_ℤ (scaled_point qs))))) gs
-    (λ g m. subst (Meets g.kind) (value-negated_terms g.row (map_of (scaled_point qs)) ∙ sym (value_at_turned g.row (scaled_point qs))) m)
-    (every_mapped (λ (u : Generator). Meets u.kind (value u.row (map_of (scaled_point qs)))) counterweight gs met.1) in
-    let both = listed_met q.space.variables q.constraints (map_of (map neg_ℤ (scaled_point qs))) refl turned in record {
+    let turned : Every (λ g. Meets g.kind (value g.row (point_of (map neg_ℤ (scaled_point qs))))) gs =
+    every-same (λ g. Meets g.kind (value (negated_terms g.row) (point_of (scaled_point qs)))) (λ g. Meets g.kind (value g.row (point_of (map neg_ℤ (scaled_point qs))))) gs
+    (λ g m. subst (Meets g.kind) (value-negated_terms g.row (point_of (scaled_point qs)) ∙ sym (value_at_turned g.row (scaled_point qs))) m)
+    (every_mapped (λ (u : Generator). Meets u.kind (value u.row (point_of (scaled_point qs)))) counterweight gs met.1) in
+    let both = listed_met q.space.variables q.constraints (point_of (map neg_ℤ (scaled_point qs))) refl turned in record {
       point = record { complete = length-map (scaled_point qs) neg_ℤ ∙ length-map qs (scaled_number (scale_of qs)) ∙ s.complete ∙ Rattle.it_polymatroid.proofs.Spans.length-span 1 size; holds = both };
       zero = value_at_turned left (scaled_point qs) ∙ ap neg_ℤ met.0;
-      above = subst (λ (z : ℤ). pos 1 ≤ℤ z) (sym (value_at_turned right (scaled_point qs))) (above_zero (value right (map_of (scaled_point qs))) (target_below size (first_phase gs left) right qs up r s));
+      above = subst (λ (z : ℤ). pos 1 ≤ℤ z) (sym (value_at_turned right (scaled_point qs))) (above_zero (value right (point_of (scaled_point qs))) (target_below size (first_phase gs left) right qs up r s));
     }
   where
     above_zero : (z : ℤ) → z ≤ℤ neg_ℤ (pos 1) → pos 1 ≤ℤ neg_ℤ z

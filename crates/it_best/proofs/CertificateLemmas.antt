@@ -10,7 +10,7 @@ use Rattle.it_space.specs.declared.problems.Kind.{Kind}
 use Rattle.it_space.specs.declared.problems.Kind.TheVariants.{Inequality, Equation}
 use Rattle.it_space.specs.Answers.{CertificateView}
 use Rattle.it_space.specs.Problems.{ProblemView, IsProblem, AreMet, Meets}
-use Rattle.it_space.specs.Rows.{Terms, IsUpTo, coefficient, value, one_at, single_term}
+use Rattle.it_space.specs.Rows.{Terms, IsOver, coefficient, value, one_at, single_term}
 use Rattle.it_space.specs.Spaces.{size_of}
 use Rattle.it_space.specs.Sums.{terms_from}
 use Rattle.it_space.proofs.EveryLemmas.{all_of, every-append}
@@ -139,18 +139,18 @@ form_is_least q form w k linear c p h m =
     let size = size_of q.space in
     let gs = generators q in
     let none : Generator = record { kind = Inequality; row = [] } in
-    let rows : All (λ g. IsUpTo size g.row) gs = all_of (λ g. IsUpTo size g.row) gs (rows_of_space q.space.variables size q.constraints (omega arith) k.rows) in
+    let rows : All (λ g. IsOver size g.row) gs = all_of (λ g. IsOver size g.row) gs (rows_of_space q.space.variables size q.constraints (omega arith) k.rows) in
     let met : All (λ g. Meets g.kind (value g.row p)) gs = all_of (λ g. Meets g.kind (value g.row p)) gs (met_listed q.space.variables q.constraints p h.empty h m) in
     certificates_prove (size + 1) (forms_of gs) form w (λ i l. value_linear size (generator_at gs i).row (rows i none l)) linear c p h.empty
     (λ i l. at_least (generator_at gs i).kind (value (generator_at gs i).row p) (met i none l))
     (λ i l e. is_zero (generator_at gs i).kind (value (generator_at gs i).row p) (met i none l) e)
 
 -- the forms that certificates of factors are of are linear
-pub linear-factor : (size : ℕ) (left right : Terms) (num den : ℤ) → IsUpTo size left → IsUpTo size right → IsLinear (size + 1) (λ p. num *ℤ value left p -ℤ den *ℤ value right p)
+pub linear-factor : (size : ℕ) (left right : Terms) (num den : ℤ) → IsOver size left → IsOver size right → IsLinear (size + 1) (λ p. num *ℤ value left p -ℤ den *ℤ value right p)
 linear-factor size left right num den l r =
     linear-sub (size + 1) (λ p. num *ℤ value left p) (λ p. den *ℤ value right p) (linear-scale (size + 1) num (value left) (value_linear size left l)) (linear-scale (size + 1) den (value right) (value_linear size right r))
 
-pub linear-neg : (size : ℕ) (left : Terms) → IsUpTo size left → IsLinear (size + 1) (λ p. neg_ℤ (value left p))
+pub linear-neg : (size : ℕ) (left : Terms) → IsOver size left → IsLinear (size + 1) (λ p. neg_ℤ (value left p))
 linear-neg size left l =
     linear_same (size + 1) (λ p. neg_ℤ (pos 1) *ℤ value left p) (λ p. neg_ℤ (value left p)) (λ p e. by_minus_one (value left p)) (linear-scale (size + 1) (neg_ℤ (pos 1)) (value left) (value_linear size left l))
   where
@@ -158,6 +158,6 @@ linear-neg size left l =
     by_minus_one x = omega (arith, ints)
 
 -- so a certified factor holds
-pub factor_holds : (q : ProblemView) (left right : Terms) (num den : ℤ) (w : CertificateView) → IsProblem q → IsUpTo (size_of q.space) left → IsUpTo (size_of q.space) right
+pub factor_holds : (q : ProblemView) (left right : Terms) (num den : ℤ) (w : CertificateView) → IsProblem q → IsOver (size_of q.space) left → IsOver (size_of q.space) right
     → IsFactor (ground_of q) (value left) (value right) num den w → HoldsFactor (ground_of q) (value left) (value right) num den
 factor_holds q left right num den w k l r f p h = form_is_least q (λ p. num *ℤ value left p -ℤ den *ℤ value right p) w k (linear-factor (size_of q.space) left right num den l r) f.certified p h.0 h.1

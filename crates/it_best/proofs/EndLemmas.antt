@@ -8,7 +8,7 @@ use Rattle.it_rational.specs.Rational.{Rational, integer, times}
 use Rattle.it_rational.proofs.RationalLaws.{ring_ℚ}
 use Rattle.it_rational.proofs.Field.{field_ℚ}
 use Rattle.it_space.specs.Problems.{ProblemView, IsProblem, AreMet}
-use Rattle.it_space.specs.Rows.{Terms, IsUpTo, coefficient, map_of, value, negated_terms}
+use Rattle.it_space.specs.Rows.{Terms, IsOver, coefficient, point_of, value, negated_terms}
 use Rattle.it_space.specs.Spaces.{size_of}
 use Rattle.it_space.proofs.TermLemmas.{coefficient-negated_terms, value-negated_terms, value-one_at}
 use Rattle.it_polymatroid.specs.Certificates.{IsCertificate}
@@ -52,14 +52,14 @@ pub right_end : (m : ℕ) (us : List Generator) (target : Terms) (budget : Optio
 right_end m us target budget e (inl a) = subst (IsRightEnd m us target) (sym a.1) tt
 right_end m us target budget e (inr a) = right_by field_ℚ (length (span 1 m)) (length (columns us)) (StepFits (length (span 1 m)) (length (columns us))) (feasibility_problem (span 1 m) (columns us) target) budget e a.1
 
-module _ (q : ProblemView) (left right : Terms) (k : IsProblem q) (l : IsUpTo (size_of q.space) left) (r : IsUpTo (size_of q.space) right) where
+module _ (q : ProblemView) (left right : Terms) (k : IsProblem q) (l : IsOver (size_of q.space) left) (r : IsOver (size_of q.space) right) where
   abbrev size : ℕ
   size = size_of q.space
 
   abbrev gs : List Generator
   gs = generators q
 
-  rows : Every (λ g. IsUpTo size g.row) gs
+  rows : Every (λ g. IsOver size g.row) gs
   rows = rows_of_space q.space.variables size q.constraints (omega arith) k.rows
 
   -- ---- the second phase
@@ -72,10 +72,10 @@ module _ (q : ProblemView) (left right : Terms) (k : IsProblem q) (l : IsUpTo (s
       ∙ ap integer (coefficient-negated_terms c left ∙ ap neg_ℤ (sym (value-one_at left c))))
 
   -- its point, made whole, meets the problem with a left side above 0
-  second_meets : (qs : List Rational) → IsRightEnd size gs (negated_terms left) (Point qs) → (IsPolymatroid q.space.variables (map_of (scaled_point qs)) × AreMet (map_of (scaled_point qs)) q.constraints) × (pos 1 ≤ℤ value left (map_of (scaled_point qs)))
+  second_meets : (qs : List Rational) → IsRightEnd size gs (negated_terms left) (Point qs) → (IsPolymatroid q.space.variables (point_of (scaled_point qs)) × AreMet (point_of (scaled_point qs)) q.constraints) × (pos 1 ≤ℤ value left (point_of (scaled_point qs)))
   second_meets qs s = (
-    listed_met q.space.variables q.constraints (map_of (scaled_point qs)) refl (unknowns_met size gs (negated_terms left) qs rows (negated_up size left l) s),
-    above_zero (value left (map_of (scaled_point qs))) (value (negated_terms left) (map_of (scaled_point qs))) (value-negated_terms left (map_of (scaled_point qs))) (target_below size gs (negated_terms left) qs rows (negated_up size left l) s),
+    listed_met q.space.variables q.constraints (point_of (scaled_point qs)) refl (unknowns_met size gs (negated_terms left) qs rows (negated_up size left l) s),
+    above_zero (value left (point_of (scaled_point qs))) (value (negated_terms left) (point_of (scaled_point qs))) (value-negated_terms left (point_of (scaled_point qs))) (target_below size gs (negated_terms left) qs rows (negated_up size left l) s),
   )
     where
       above_zero : (x y : ℤ) → y ≡ neg_ℤ x → y ≤ℤ neg_ℤ (pos 1) → pos 1 ≤ℤ x
@@ -88,12 +88,12 @@ module _ (q : ProblemView) (left right : Terms) (k : IsProblem q) (l : IsUpTo (s
   no_third_end ws qs ps a b c =
       let one = phases.first_right q left right ws a in
       let two = second_meets qs b in
-      let up : Every (λ u. IsUpTo (right_equation size gs) u.row) (third q left right) = third_up q.space.variables size gs left right rows l in
-      let t_up : IsUpTo (right_equation size gs) (third_target size gs right) = third_target_up size gs right r in
-      no_third_point q left right k l r (map_of (scaled_point ps)) refl
+      let up : Every (λ u. IsOver (right_equation size gs) u.row) (third q left right) = third_up q.space.variables size gs left right rows l in
+      let t_up : IsOver (right_equation size gs) (third_target size gs right) = third_target_up size gs right r in
+      no_third_point q left right k l r (point_of (scaled_point ps)) refl
       (unknowns_met (right_equation size gs) (third q left right) (third_target size gs right) ps up t_up c) (target_below (right_equation size gs) (third q left right) (third_target size gs right) ps up t_up c)
       (slice_index_or (numbers (first q left right) ws) 0 (integer (pos 0))).num (pos (slice_index_or (numbers (first q left right) ws) 0 (integer (pos 0))).den) one.from_one (factor_holds q left right _ _ _ k l r one)
-      (map_of (scaled_point qs)) refl two.0.0 two.0.1 two.1
+      (point_of (scaled_point qs)) refl two.0.0 two.0.1 two.1
 
   -- ---- the answers are right
 

@@ -8,7 +8,7 @@ use Rattle.it_rational.specs.Rational.{Rational, integer, plus, times, minus, is
 use Rattle.it_rational.proofs.RationalLaws.{ring_ℚ}
 use Rattle.it_space.specs.declared.problems.Kind.{Kind}
 use Rattle.it_space.specs.declared.problems.Kind.TheVariants.{Inequality, Equation}
-use Rattle.it_space.specs.Rows.{Terms, IsUpTo, coefficient, single_term}
+use Rattle.it_space.specs.Rows.{Terms, IsOver, coefficient, single_term}
 use Rattle.it_space.proofs.EveryLemmas.{every_of, every-append}
 use Rattle.it_space.proofs.TermLemmas.{coefficient-append, coefficient-single_term}
 use Rattle.it_polymatroid.specs.Elementals.{span}
@@ -90,12 +90,12 @@ values_sum e U f c [] s = refl
 values_sum e U f c (h ∷ hs) s = ap₂ (λ y z. plus (times h (integer y)) z) (s c (omega arith) (omega arith)) (values_sum e U f (c + 1) hs (λ d l m. s d (omega arith) (omega arith)))
 
 -- where unknowns have the coefficients of a row at an equation, the sum is the row's value at their numbers
-pub values_equation : (e : ℕ) (U : ℕ → Generator) (row : Terms) (hs : List Rational) (size : ℕ) → length hs ≡ size → IsUpTo size row → ((d : ℕ) → 1 ≤ d → d ≤ size → coefficient (U d).row e ≡ coefficient row d)
+pub values_equation : (e : ℕ) (U : ℕ → Generator) (row : Terms) (hs : List Rational) (size : ℕ) → length hs ≡ size → IsOver size row → ((d : ℕ) → 1 ≤ d → d ≤ size → coefficient (U d).row e ≡ coefficient row d)
     → number_sum e hs (map U (span 1 size)) ≡ rational_value row (rational_map hs)
 values_equation e U row hs size len u s =
     ap (λ n. number_sum e hs (map U (span 1 n))) (sym len)
     ∙ values_sum e U (coefficient row) 1 hs (λ d l m. s d l (omega (arith, len, m)))
-    ∙ row_value row hs (every_of (λ (t : ℕ × ℤ). (1 ≤ t.0) × (t.0 ≤ length hs)) row (subst (λ n. IsUpTo n row) (sym len) u))
+    ∙ row_value row hs (every_of (λ (t : ℕ × ℤ). (1 ≤ t.0) × (t.0 ≤ length hs)) row (subst (λ n. IsOver n row) (sym len) u))
 
 -- ---- coefficients by equation
 

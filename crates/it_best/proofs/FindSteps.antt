@@ -11,7 +11,7 @@ use Rattle.it_rational.specs.Rational.{Rational, integer}
 use Rattle.it_space.specs.declared.problems.Kind.{Kind}
 use Rattle.it_space.specs.declared.problems.Kind.TheVariants.{Inequality, Equation}
 use Rattle.it_space.specs.Problems.{ProblemView, IsProblem}
-use Rattle.it_space.specs.Rows.{Terms, IsUpTo, map_of, value}
+use Rattle.it_space.specs.Rows.{Terms, IsOver, point_of, value}
 use Rattle.it_space.specs.Spaces.{size_of}
 use Rattle.it_polymatroid.specs.Elementals.{span}
 use Rattle.it_polymatroid.proofs.Spans.{length-span}
@@ -100,7 +100,7 @@ numbers_length us ws = length-numbers_from us 0 (column_weight ws)
 
 -- ---- the third phase's numbers
 
-module _ (q : ProblemView) (left right : Terms) (k : IsProblem q) (l : IsUpTo (size_of q.space) left) (r : IsUpTo (size_of q.space) right) (ws : List (ℕ × Rational))
+module _ (q : ProblemView) (left right : Terms) (k : IsProblem q) (l : IsOver (size_of q.space) left) (r : IsOver (size_of q.space) right) (ws : List (ℕ × Rational))
     (s : PhaseSums (right_equation (size_of q.space) (generators q)) (third q left right) (third_target (size_of q.space) (generators q) right) ws) where
   abbrev ns : List Rational
   ns = numbers (third q left right) ws
@@ -118,8 +118,8 @@ module _ (q : ProblemView) (left right : Terms) (k : IsProblem q) (l : IsUpTo (s
   pub third_point_meets : (vs : List Rational) → vs ≡ take (size_of q.space) (drop (length (generators q)) (drop 1 ns)) → IsPoint (ground_of q) (scaled_point vs)
   third_point_meets vs e = subst (λ (vs : List Rational). IsPoint (ground_of q) (scaled_point vs)) (sym (e ∙ phases.values_are q left right k l r ws)) (third_meets q left right k l r ws s)
 
-  pub third_left_some : (vs : List Rational) → vs ≡ take (size_of q.space) (drop (length (generators q)) (drop 1 ns)) → pos 1 ≤ℤ value left (map_of (scaled_point vs))
-  third_left_some vs e = subst (λ (vs : List Rational). pos 1 ≤ℤ value left (map_of (scaled_point vs))) (sym (e ∙ phases.values_are q left right k l r ws)) (left_some q left right k l r ws s)
+  pub third_left_some : (vs : List Rational) → vs ≡ take (size_of q.space) (drop (length (generators q)) (drop 1 ns)) → pos 1 ≤ℤ value left (point_of (scaled_point vs))
+  third_left_some vs e = subst (λ (vs : List Rational). pos 1 ≤ℤ value left (point_of (scaled_point vs))) (sym (e ∙ phases.values_are q left right k l r ws)) (left_some q left right k l r ws s)
 
 -- ---- the first phase's
 
@@ -149,7 +149,7 @@ pub by_end : {E : Type 0} (m n : ℕ) (us vs : List Generator) (target : Terms) 
 by_end m n us vs target budget solved (Err e) Follows a b p f = tt
 by_end m n us vs target budget solved (Ok o) Follows a b p f = (end_of_answer solved, ends_so m n us vs target target budget (end_of_answer solved) a b refl p, f)
 
-pub right_result : {E : Type 0} (q : ProblemView) (left right : Terms) (budget : Option ℕ) (r : Result Best E) → IsProblem q → IsUpTo (size_of q.space) left → IsUpTo (size_of q.space) right
+pub right_result : {E : Type 0} (q : ProblemView) (left right : Terms) (budget : Option ℕ) (r : Result Best E) → IsProblem q → IsOver (size_of q.space) left → IsOver (size_of q.space) right
     → IfOk r (λ b. EndsWith q left right budget (best_view b)) → IfOk r (λ b. IsRightBest (ground_of q) (value left) (value right) (best_view b))
 right_result q left right budget (Err e) k l r h = tt
 right_result q left right budget (Ok b) k l r h = best_is_right q left right budget (best_view b) k l r h
@@ -166,22 +166,22 @@ goes_on q left right budget (Ok b) small f = inr (small, f)
 
 -- ---- the point of the least factor
 
-pub least_fits : (q : ProblemView) (left right : Terms) (x : Rational) (qs : List Rational) (point : List ℤ) (above below : ℤ) → point ≡ scaled_point qs → NumbersFit qs → PointFits q left point → ValueFits left (map_of point) × ValueFits right (map_of point)
-    → ◌≡◌ {A = ℤ × ℤ} (above, below) (value left (map_of point), value right (map_of point)) → IsWithin (x.num *ℤ above) × IsWithin (pos x.den *ℤ below) → LeastPointFits q left right x qs
+pub least_fits : (q : ProblemView) (left right : Terms) (x : Rational) (qs : List Rational) (point : List ℤ) (above below : ℤ) → point ≡ scaled_point qs → NumbersFit qs → PointFits q left point → ValueFits left (point_of point) × ValueFits right (point_of point)
+    → ◌≡◌ {A = ℤ × ℤ} (above, below) (value left (point_of point), value right (point_of point)) → IsWithin (x.num *ℤ above) × IsWithin (pos x.den *ℤ below) → LeastPointFits q left right x qs
 least_fits q left right x qs point above below e f p v same w =
-    let a : above ≡ value left (map_of point) = ap (λ (t : ℤ × ℤ). t.0) same in
-    let b : below ≡ value right (map_of point) = ap (λ (t : ℤ × ℤ). t.1) same in record {
+    let a : above ≡ value left (point_of point) = ap (λ (t : ℤ × ℤ). t.0) same in
+    let b : below ≡ value right (point_of point) = ap (λ (t : ℤ × ℤ). t.1) same in record {
       scaled = f;
       values = subst (SidesFit q left right) e (record { each = p.each; left_value = v.0; right_value = v.1 });
-      left_times = subst (λ (vs : List ℤ). IsWithin (x.num *ℤ value left (map_of vs))) e (subst (λ (z : ℤ). IsWithin (x.num *ℤ z)) a w.0);
-      right_times = subst (λ (vs : List ℤ). IsWithin (pos x.den *ℤ value right (map_of vs))) e (subst (λ (z : ℤ). IsWithin (pos x.den *ℤ z)) b w.1);
+      left_times = subst (λ (vs : List ℤ). IsWithin (x.num *ℤ value left (point_of vs))) e (subst (λ (z : ℤ). IsWithin (x.num *ℤ z)) a w.0);
+      right_times = subst (λ (vs : List ℤ). IsWithin (pos x.den *ℤ value right (point_of vs))) e (subst (λ (z : ℤ). IsWithin (pos x.den *ℤ z)) b w.1);
     }
 
-pub least_products : (q : ProblemView) (left right : Terms) (x : Rational) (qs : List Rational) (point : List ℤ) (above below : ℤ) → point ≡ scaled_point qs → ◌≡◌ {A = ℤ × ℤ} (above, below) (value left (map_of point), value right (map_of point))
+pub least_products : (q : ProblemView) (left right : Terms) (x : Rational) (qs : List Rational) (point : List ℤ) (above below : ℤ) → point ≡ scaled_point qs → ◌≡◌ {A = ℤ × ℤ} (above, below) (value left (point_of point), value right (point_of point))
     → LeastPointFits q left right x qs → IsWithin (x.num *ℤ above) × IsWithin (pos x.den *ℤ below)
 least_products q left right x qs point above below e same f =
-    let a : above ≡ value left (map_of point) = ap (λ (t : ℤ × ℤ). t.0) same in
-    let b : below ≡ value right (map_of point) = ap (λ (t : ℤ × ℤ). t.1) same in (
-      subst (λ (z : ℤ). IsWithin (x.num *ℤ z)) (sym a) (subst (λ (vs : List ℤ). IsWithin (x.num *ℤ value left (map_of vs))) (sym e) f.left_times),
-      subst (λ (z : ℤ). IsWithin (pos x.den *ℤ z)) (sym b) (subst (λ (vs : List ℤ). IsWithin (pos x.den *ℤ value right (map_of vs))) (sym e) f.right_times),
+    let a : above ≡ value left (point_of point) = ap (λ (t : ℤ × ℤ). t.0) same in
+    let b : below ≡ value right (point_of point) = ap (λ (t : ℤ × ℤ). t.1) same in (
+      subst (λ (z : ℤ). IsWithin (x.num *ℤ z)) (sym a) (subst (λ (vs : List ℤ). IsWithin (x.num *ℤ value left (point_of vs))) (sym e) f.left_times),
+      subst (λ (z : ℤ). IsWithin (pos x.den *ℤ z)) (sym b) (subst (λ (vs : List ℤ). IsWithin (pos x.den *ℤ value right (point_of vs))) (sym e) f.right_times),
     )

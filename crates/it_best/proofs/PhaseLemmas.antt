@@ -10,7 +10,7 @@ use Rattle.it_rational.specs.Rational.{Rational, integer, plus, times, minus}
 use Rattle.it_rational.proofs.RationalLaws.{ring_ℚ}
 use Rattle.it_space.specs.declared.problems.Kind.TheVariants.{Inequality, Equation}
 use Rattle.it_space.specs.Problems.{ProblemView, IsProblem}
-use Rattle.it_space.specs.Rows.{Terms, IsUpTo, coefficient, value, negated_terms}
+use Rattle.it_space.specs.Rows.{Terms, IsOver, coefficient, value, negated_terms}
 use Rattle.it_space.specs.Spaces.{size_of}
 use Rattle.it_space.proofs.EveryLemmas.{all_of, every-same, every-map, every_all}
 use Rattle.it_space.proofs.TermLemmas.{coefficient-append, coefficient-negated_terms}
@@ -77,7 +77,7 @@ module _ (q : ProblemView) (left right : Terms) (ws : List (ℕ × Rational))
 
 -- ---- the third phase
 
-module _ (q : ProblemView) (left right : Terms) (k : IsProblem q) (l : IsUpTo (size_of q.space) left) (r : IsUpTo (size_of q.space) right) (ws : List (ℕ × Rational)) where
+module _ (q : ProblemView) (left right : Terms) (k : IsProblem q) (l : IsOver (size_of q.space) left) (r : IsOver (size_of q.space) right) (ws : List (ℕ × Rational)) where
   abbrev size : ℕ
   size = size_of q.space
 
@@ -190,12 +190,12 @@ module _ (q : ProblemView) (left right : Terms) (k : IsProblem q) (l : IsUpTo (s
     at_end : (a : ℤ) (t : Bool) (x : ℤ) → a ≡ pos 0 → t ≡ true → a +ℤ (cond t x (pos 0) +ℤ pos 0) ≡ x
     at_end a t x e f = ap₂ (λ z u. z +ℤ (cond u x (pos 0) +ℤ pos 0)) e f ∙ +ℤ_idl (x +ℤ pos 0) ∙ +ℤ_idr x
 
-    beyond : (row : Terms) (e : ℕ) → IsUpTo size row → size < e → coefficient row e ≡ pos 0
+    beyond : (row : Terms) (e : ℕ) → IsOver size row → size < e → coefficient row e ≡ pos 0
     beyond row e u h = no_coefficient_beyond size row e u h
 
     weights_beyond : (e : ℕ) → size < e → number_sum e xs weights_of_gs ≡ integer (pos 0)
     weights_beyond e h = number_sum-none e xs weights_of_gs (every-map (λ (u : Generator). coefficient u.row e ≡ pos 0) counterweight gs
-        (every-same (λ g. IsUpTo size g.row) (λ g. coefficient (negated_terms g.row) e ≡ pos 0) gs (λ g u. coefficient-negated_terms e g.row ∙ ap neg_ℤ (beyond g.row e u h)) (rows_of_space q.space.variables size q.constraints (omega arith) k.rows)))
+        (every-same (λ g. IsOver size g.row) (λ g. coefficient (negated_terms g.row) e ≡ pos 0) gs (λ g u. coefficient-negated_terms e g.row ∙ ap neg_ℤ (beyond g.row e u h)) (rows_of_space q.space.variables size q.constraints (omega arith) k.rows)))
 
     values_low : (e : ℕ) → e ≤ size → number_sum e hs values_of_gs ≡ integer (pos 0)
     values_low e h = number_sum-none e hs values_of_gs (every-map (λ (u : Generator). coefficient u.row e ≡ pos 0) (coordinate_unknown q.space.variables size gs left right) (span 1 size)
@@ -213,7 +213,7 @@ module _ (q : ProblemView) (left right : Terms) (k : IsProblem q) (l : IsUpTo (s
         ∙ ap integer (target_at c ∙ with_end (coefficient right c) (coefficient right c) (pos 0) (nat_eq (left_equation size gs) c) (pos 1) refl (ne_eqb (left_equation size gs) c (λ e. omega (arith, e))))
 
     -- past them
-    high_sum : (e : ℕ) (row : Terms) → size < e → e ≤ right_equation size gs → IsUpTo size row → ((c : ℕ) → 1 ≤ c → c ≤ size → coefficient (coordinate_row size gs left right c) e ≡ coefficient row c)
+    high_sum : (e : ℕ) (row : Terms) → size < e → e ≤ right_equation size gs → IsOver size row → ((c : ℕ) → 1 ≤ c → c ≤ size → coefficient (coordinate_row size gs left right c) e ≡ coefficient row c)
         → plus (times x (integer (coefficient factor_row e))) (plus (rational_value row (rational_map hs)) (number_sum e ss (slacks (size + 1) gs))) ≡ integer (coefficient (third_target size gs right) e)
     high_sum e row h m u same =
         ap (plus (times x (integer (coefficient factor_row e))))
@@ -230,7 +230,7 @@ module _ (q : ProblemView) (left right : Terms) (k : IsProblem q) (l : IsUpTo (s
     generator_value_is j h = slack_of (rational_value (generator_at gs j).row (rational_map hs)) (number_sum (size + 1 + j) ss (slacks (size + 1) gs))
         (ap (λ y. plus (times x (integer y)) (plus (rational_value (generator_at gs j).row (rational_map hs)) (number_sum (size + 1 + j) ss (slacks (size + 1) gs))))
         (sym (factor_at (size + 1 + j) ∙ with_end (coefficient left (size + 1 + j)) (pos 0) (pos 0) (nat_eq (right_equation size gs) (size + 1 + j)) (neg_ℤ (pos 1)) (beyond left (size + 1 + j) l (omega arith)) (ne_eqb (right_equation size gs) (size + 1 + j) (λ e. omega (arith, e)))))
-        ∙ high_sum (size + 1 + j) (generator_at gs j).row (omega arith) (omega arith) (all_of (λ g. IsUpTo size g.row) gs (rows_of_space q.space.variables size q.constraints (omega arith) k.rows) j (record { kind = Inequality; row = [] }) h)
+        ∙ high_sum (size + 1 + j) (generator_at gs j).row (omega arith) (omega arith) (all_of (λ g. IsOver size g.row) gs (rows_of_space q.space.variables size q.constraints (omega arith) k.rows) j (record { kind = Inequality; row = [] }) h)
         (λ c a b. coordinate_at_generator size gs left right c j h)
         ∙ ap integer (target_at (size + 1 + j) ∙ with_end (coefficient right (size + 1 + j)) (pos 0) (pos 0) (nat_eq (left_equation size gs) (size + 1 + j)) (pos 1) (beyond right (size + 1 + j) r (omega arith)) (ne_eqb (left_equation size gs) (size + 1 + j) (λ e. omega (arith, e)))))
 

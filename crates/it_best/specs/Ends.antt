@@ -4,7 +4,7 @@ use Rattle.std.specs.Prelude.{◌≡◌, ◌⊎◌, ℕ, ◌+◌, ◌*◌, ◌<�
 use Rattle.it_number.specs.Limit.{IsWithin}
 use Rattle.it_rational.specs.Rational.{Rational, integer}
 use Rattle.it_space.specs.Problems.{ProblemView}
-use Rattle.it_space.specs.Rows.{Terms, ValueFits, coefficient, value, map_of, negated_terms}
+use Rattle.it_space.specs.Rows.{Terms, ValueFits, coefficient, value, point_of, negated_terms}
 use Rattle.it_space.specs.Spaces.{size_of}
 use Rattle.it_space.specs.Sums.{terms_from}
 use Rattle.it_polymatroid.specs.Elementals.{span}
@@ -68,17 +68,17 @@ pub record FactorFits (q : ProblemView) (left right : Terms) (factor : Rational)
 
 -- the values of each generator and of both sides at a point are formed within the limit
 pub record SidesFit (q : ProblemView) (left right : Terms) (values : List ℤ) : Type 0 where
-  pub each : All (λ g. ValueFits g.row (map_of values)) (generators q)
-  pub left_value : ValueFits left (map_of values)
-  pub right_value : ValueFits right (map_of values)
+  pub each : All (λ g. ValueFits g.row (point_of values)) (generators q)
+  pub left_value : ValueFits left (point_of values)
+  pub right_value : ValueFits right (point_of values)
 
 -- those of the point at which a factor holds with equality: the scaled values, and the products of the sides' values with the
 -- numerator and the denominator
 pub record LeastPointFits (q : ProblemView) (left right : Terms) (factor : Rational) (qs : List Rational) : Type 0 where
   pub scaled : NumbersFit qs
   pub values : SidesFit q left right (scaled_point qs)
-  pub left_times : IsWithin (factor.num *ℤ value left (map_of (scaled_point qs)))
-  pub right_times : IsWithin (pos factor.den *ℤ value right (map_of (scaled_point qs)))
+  pub left_times : IsWithin (factor.num *ℤ value left (point_of (scaled_point qs)))
+  pub right_times : IsWithin (pos factor.den *ℤ value right (point_of (scaled_point qs)))
 
 -- ---- the phases
 

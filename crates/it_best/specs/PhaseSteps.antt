@@ -3,7 +3,7 @@ use Rattle.std.specs.Prelude.{◌≡◌, ℕ, ◌+◌, ℤ, pos, neg_ℤ, List, 
 use Rattle.it_rational.specs.Rational.{Rational, plus, minus}
 use Rattle.it_space.specs.declared.problems.Kind.{Kind}
 use Rattle.it_space.specs.Problems.{ProblemView, IsProblem}
-use Rattle.it_space.specs.Rows.{Terms, IsUpTo, map_of, negated_terms, value}
+use Rattle.it_space.specs.Rows.{Terms, IsOver, point_of, negated_terms, value}
 use Rattle.it_space.specs.Spaces.{size_of}
 use Rattle.it_polymatroid.specs.Certificates.{IsCertificate}
 use Rattle.it_polymatroid.specs.Elementals.{span}
@@ -25,8 +25,8 @@ use Rattle.it_best.specs.Phases.{coordinate_unknown, right_equation, slacks, thi
 -- a problem, and the sides of a relation as rows over its coordinates
 pub record AreSides (q : ProblemView) (l r : Terms) : Type 0 where
   pub problem : IsProblem q
-  pub left : IsUpTo (size_of q.space) l
-  pub right : IsUpTo (size_of q.space) r
+  pub left : IsOver (size_of q.space) l
+  pub right : IsOver (size_of q.space) r
 
 -- ---- the phases
 
@@ -135,4 +135,4 @@ CertifyBelow q left ws = IsCertificate (size_of q.space + 1) (generators_of q) (
 
 -- the values of both sides at a point
 abbrev pub side_values : Terms → Terms → List ℤ → ℤ × ℤ
-side_values left right values = (value left (map_of values), value right (map_of values))
+side_values left right values = (value left (point_of values), value right (point_of values))

@@ -2,7 +2,7 @@
 use Rattle.std.specs.Prelude.{◌≡◌, ℕ, ◌+◌, ℤ, pos, neg_ℤ, ◌*ℤ◌, ◌≤ℤ◌, List, length, Option, None}
 use Rattle.it_space.specs.Answers.{CertificateView}
 use Rattle.it_space.specs.Problems.{ProblemView, IsProblem}
-use Rattle.it_space.specs.Rows.{Terms, IsUpTo, value}
+use Rattle.it_space.specs.Rows.{Terms, IsOver, value}
 use Rattle.it_space.specs.Spaces.{size_of}
 use Rattle.it_polymatroid.specs.Certificates.{Form}
 use Rattle.it_columns.specs.Columns.{columns}
@@ -13,7 +13,7 @@ use Rattle.it_best.specs.Factors.{HasNoFactor, HoldsFactor, IsFactor, IsLeastFac
 
 -- what the phases end with is right
 abbrev pub BestIsRight : Type 0
-BestIsRight = (q : ProblemView) (left right : Terms) (budget : Option ℕ) (o : BestView) → IsProblem q → IsUpTo (size_of q.space) left → IsUpTo (size_of q.space) right
+BestIsRight = (q : ProblemView) (left right : Terms) (budget : Option ℕ) (o : BestView) → IsProblem q → IsOver (size_of q.space) left → IsOver (size_of q.space) right
     → EndsWith q left right budget o → IsRightBest (ground_of q) (value left) (value right) o
 
 -- sides under a problem have one answer for a budget
@@ -28,7 +28,7 @@ BestNeverOutOfSteps = (q : ProblemView) (left right : Terms) (k phase : ℕ) →
 
 -- the least factor holds, and no smaller one does
 abbrev pub LeastIsLeast : Type 0
-LeastIsLeast = (q : ProblemView) (left right : Terms) (num den : ℤ) (proof : CertificateView) (values : List ℤ) → IsProblem q → IsUpTo (size_of q.space) left → IsUpTo (size_of q.space) right
+LeastIsLeast = (q : ProblemView) (left right : Terms) (num den : ℤ) (proof : CertificateView) (values : List ℤ) → IsProblem q → IsOver (size_of q.space) left → IsOver (size_of q.space) right
     → IsLeastFactor (ground_of q) (value left) (value right) num den proof values
     → HoldsFactor (ground_of q) (value left) (value right) num den
     × ((a b : ℤ) → pos 1 ≤ℤ b → HoldsFactor (ground_of q) (value left) (value right) a b → (num *ℤ b) ≤ℤ (a *ℤ den))
@@ -39,7 +39,7 @@ NeverIsNever = (q : ProblemView) (left right : Form) (values : List ℤ) → Has
 
 -- where the left side is at most 0, a factor that holds and all smaller ones do
 abbrev pub UnboundedIsUnbounded : Type 0
-UnboundedIsUnbounded = (q : ProblemView) (left right : Terms) (num den : ℤ) (proof below : CertificateView) → IsProblem q → IsUpTo (size_of q.space) left → IsUpTo (size_of q.space) right
+UnboundedIsUnbounded = (q : ProblemView) (left right : Terms) (num den : ℤ) (proof below : CertificateView) → IsProblem q → IsOver (size_of q.space) left → IsOver (size_of q.space) right
     → IsFactor (ground_of q) (value left) (value right) num den proof → (ground_of q).Certifies (λ p. neg_ℤ (value left p)) below
     → (a b : ℤ) → pos 1 ≤ℤ b → (a *ℤ den) ≤ℤ (num *ℤ b) → HoldsFactor (ground_of q) (value left) (value right) a b
 

@@ -1,7 +1,7 @@
 //! The best factor.
 ghost use Rattle.std.specs.Prelude.{◌≡◌, ◌<◌, ◌^◌, IfOk};
 ghost use Rattle.it_space.specs.Problems.{IsProblem, problem_view};
-ghost use Rattle.it_space.specs.Rows.{IsUpTo, negated_terms, value};
+ghost use Rattle.it_space.specs.Rows.{IsOver, negated_terms, value};
 ghost use Rattle.it_space.specs.Spaces.{size_of};
 ghost use Rattle.it_run.specs.Answers.{end_of_answer};
 ghost use Rattle.it_run.specs.Runs.RunEndView.{Weights};
@@ -93,7 +93,7 @@ fn third_end(
     budget: Budget,
 ) -> Result<Solved, AllocError>
     requires problem { IsProblem (problem_view problem.now) }
-    requires right { IsUpTo (size_of problem.now.space) right.now }
+    requires right { IsOver (size_of problem.now.space) right.now }
     ensures ends { IfOk result (λ a. ThirdEnds (problem_view problem.now) right.now (unknown_views unknowns.now) budget (end_of_answer a)) }
     ensures right { IfOk result (λ a. ThirdIsRight (problem_view problem.now) right.now (unknown_views unknowns.now) a) }
 {
@@ -296,8 +296,8 @@ pub fn best(
     budget: Budget,
 ) -> Result<Best, AllocError>
     requires problem { IsProblem (problem_view problem.now) }
-    requires left { IsUpTo (size_of problem.now.space) left.now }
-    requires right { IsUpTo (size_of problem.now.space) right.now }
+    requires left { IsOver (size_of problem.now.space) left.now }
+    requires right { IsOver (size_of problem.now.space) right.now }
     ensures ends { IfOk result (λ b. EndsWith (problem_view problem.now) left.now right.now budget (best_view b)) }
     ensures right { IfOk result (λ b. IsRightBest (ground_of (problem_view problem.now)) (value left.now) (value right.now) (best_view b)) }
 {

@@ -3,7 +3,7 @@ ghost use Rattle.std.specs.Prelude.{◌≡◌, ◌<◌, ◌^◌, ◌++◌, ◌*�
 ghost use Rattle.it_number.specs.Limit.{IsWithin};
 ghost use Rattle.it_space.specs.Answers.{certificate_view};
 ghost use Rattle.it_space.specs.Problems.{IsProblem, problem_view};
-ghost use Rattle.it_space.specs.Rows.{IsUpTo, ValueFits, map_of, negated_terms, single_term, value};
+ghost use Rattle.it_space.specs.Rows.{IsOver, ValueFits, point_of, negated_terms, single_term, value};
 ghost use Rattle.it_space.specs.Spaces.{size_of};
 ghost use Rattle.it_check.specs.Meaning.{CertificateFits, CertifiesRow, PointFits};
 ghost use Rattle.it_columns.specs.Scaling.{scaled_point};
@@ -76,7 +76,7 @@ fn factor_row(
 /// The certificate where the check finds it valid; else a number of the check passes the limit.
 fn if_valid(problem: &Problem, target: &Row, proof: Certificate) -> Result<Certificate, Wide>
     requires problem { IsProblem (problem_view problem.now) }
-    requires target { IsUpTo (size_of problem.now.space) target.now }
+    requires target { IsOver (size_of problem.now.space) target.now }
     requires certifies { CertifiesRow (problem_view problem.now) target.now (certificate_view proof) }
     ensures { OkIff result (CertificateFits (problem_view problem.now) target.now (certificate_view proof)) proof }
 {
@@ -118,7 +118,7 @@ pub fn below_proof(
     weights: &[Fraction],
 ) -> Result<Certificate, RowFault>
     requires problem { IsProblem (problem_view problem.now) }
-    requires left { IsUpTo (size_of problem.now.space) left.now }
+    requires left { IsOver (size_of problem.now.space) left.now }
     requires few { length weights.now < 2 ^ 32 }
     requires certified { CertifyBelow (problem_view problem.now) left.now weights.now }
     ensures value { IfOk result (λ c. certificate_view c ≡ weights_certificate (pos 1) weights.now) }
@@ -135,9 +135,9 @@ pub fn below_proof(
 /// the limit.
 fn check_point(alloc: Global, problem: &Problem, row: &Row, point: &Point) -> Result<(), RowFault>
     requires problem { IsProblem (problem_view problem.now) }
-    requires row { IsUpTo (size_of problem.now.space) row.now }
+    requires row { IsOver (size_of problem.now.space) row.now }
     requires meets { IsPoint (ground_of (problem_view problem.now)) point.now }
-    requires above { pos 1 ≤ℤ value row.now (map_of point.now) }
+    requires above { pos 1 ≤ℤ value row.now (point_of point.now) }
     ensures fits { OnOk result (PointFits (problem_view problem.now) row.now point.now) }
     ensures wide { IfErr result (λ f. f ≡ RowFault.Wide → ¬ (PointFits (problem_view problem.now) row.now point.now)) }
 {
@@ -150,9 +150,9 @@ fn check_point(alloc: Global, problem: &Problem, row: &Row, point: &Point) -> Re
 
 /// The values of both sides at a point.
 fn side_values(left: &Row, right: &Row, point: &Point) -> Result<(i128, i128), Wide>
-    requires left { IsUpTo (length point.now) left.now }
-    requires right { IsUpTo (length point.now) right.now }
-    ensures { OkIff result (ValueFits left.now (map_of point.now) × ValueFits right.now (map_of point.now)) (side_values left.now right.now point.now) }
+    requires left { IsOver (length point.now) left.now }
+    requires right { IsOver (length point.now) right.now }
+    ensures { OkIff result (ValueFits left.now (point_of point.now) × ValueFits right.now (point_of point.now)) (side_values left.now right.now point.now) }
 {
     let left = value(left, point)?;
     let right = value(right, point)?;
@@ -203,7 +203,7 @@ pub fn least_point(
     requires sides { AreSides (problem_view problem.now) left.now right.now }
     requires complete { length values.now ≡ size_of problem.now.space }
     requires meets { IsPoint (ground_of (problem_view problem.now)) (scaled_point values.now) }
-    requires some { pos 1 ≤ℤ value left.now (map_of (scaled_point values.now)) }
+    requires some { pos 1 ≤ℤ value left.now (point_of (scaled_point values.now)) }
     ensures value { IfOk result (λ p. p ≡ scaled_point values.now) }
     ensures fits { OnOk result (LeastPointFits (problem_view problem.now) left.now right.now factor.now values.now) }
     ensures wide { IfErr result (λ f. f ≡ RowFault.Wide → ¬ (LeastPointFits (problem_view problem.now) left.now right.now factor.now values.now)) }

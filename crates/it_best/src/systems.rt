@@ -2,7 +2,7 @@
 ghost use Rattle.std.specs.Prelude.{◌≡◌, ◌≢◌, ◌<◌, ◌+◌, ◌^◌, ◌++◌, ◌∷◌, [], pos, List, length, map, All, IfOk, OnOk};
 ghost use Rattle.it_number.specs.Limit.{IsWithin};
 ghost use Rattle.it_space.specs.Problems.{IsProblem, problem_view};
-ghost use Rattle.it_space.specs.Rows.{IsUpTo, coefficient};
+ghost use Rattle.it_space.specs.Rows.{IsOver, coefficient};
 ghost use Rattle.it_space.specs.Spaces.{size_of};
 ghost use Rattle.it_elemental.specs.Generators.{Generator, generators, generator_at};
 ghost use Rattle.it_best.specs.Ends.{third};
@@ -263,7 +263,7 @@ pub fn third_phase(
     right: &Row,
 ) -> Result<Vec<Unknown>, AllocError>
     requires problem { IsProblem (problem_view problem.now) }
-    requires left { IsUpTo (size_of problem.now.space) left.now }
+    requires left { IsOver (size_of problem.now.space) left.now }
     ensures { IfOk result (λ v. unknown_views v.items ≡ third (problem_view problem.now) left.now right.now) }
 {
     let rows = generator_rows(alloc, problem)?;

@@ -5,8 +5,8 @@ use Rattle.std.proofs.lemmas.Nat.{or_lt}
 use Rattle.it_syntax.specs.declared.types.Atom.{Atom}
 use Rattle.it_syntax.specs.declared.types.Atom.TheVariants.{Nothing, Entropy, Mutual, Rate}
 use Rattle.it_syntax.specs.declared.types.Term.{Term}
-use Rattle.it_syntax.specs.Meaning.{RelationView, multiple_of, times_of, atom_at, side_at, Compares, Holds, IsAtomOf}
-use Rattle.it_syntax.specs.Givens.{GivenView, Relation, Markov, Independent, Function, union_of, links, links_from, sum_given, IsTrueAt, IsRelationOf, IsGivenOf}
+use Rattle.it_syntax.specs.Meaning.{RelationView, common_denominator, multiplicity, atom_at, side_at, Relates, Holds, IsAtomOf}
+use Rattle.it_syntax.specs.Givens.{GivenView, Relation, Markov, Independent, Function, union_of, links, links_from, sum_of_conditionals, IsTrueAt, IsRelationOf, IsGivenOf}
 use Rattle.it_demand.proofs.ChainLemmas.{union_below}
 use Rattle.it_demand.proofs.LimitLemmas.{more_rates}
 use Rattle.it_canon.specs.Agreement.{AgreeOnCommon}
@@ -22,11 +22,11 @@ module _ (common rates n m : ℕ) (p q : ℕ → ℤ) (h : AgreeOnCommon common 
 
   side_same : (k : ℕ) (ts : List Term) → All (λ t. IsAtomOf common rates t.atom) ts → side_at m q k ts ≡ side_at n p k ts
   side_same k [] a = refl
-  side_same k (t ∷ ts) a = ap₂ (λ x y. cond t.negative (neg_ℤ (pos (times_of k t))) (pos (times_of k t)) *ℤ x +ℤ y)
+  side_same k (t ∷ ts) a = ap₂ (λ x y. cond t.negative (neg_ℤ (pos (multiplicity k t))) (pos (multiplicity k t)) *ℤ x +ℤ y)
       (atom_same t.atom (All-head (λ (t : Term). IsAtomOf common rates t.atom) t ts a)) (side_same k ts (All-tail (λ (t : Term). IsAtomOf common rates t.atom) t ts a))
 
   pub holds_same : (r : RelationView) → IsRelationOf common rates r → Holds n p r → Holds m q r
-  holds_same r k t = subst₂ (λ (x y : ℤ). Compares r.sign x y) (sym (side_same (multiple_of r) r.left k.left)) (sym (side_same (multiple_of r) r.right k.right)) t
+  holds_same r k t = subst₂ (λ (x y : ℤ). Relates r.sign x y) (sym (side_same (common_denominator r) r.left k.left)) (sym (side_same (common_denominator r) r.right k.right)) t
 
   zero_same : (a : Atom) → IsAtomOf common rates a → atom_at n p a ≡ pos 0 → atom_at m q a ≡ pos 0
   zero_same a k t = atom_same a k ∙ t
@@ -46,7 +46,7 @@ module _ (common rates n m : ℕ) (p q : ℕ → ℤ) (h : AgreeOnCommon common 
   all_links_same [] a t = All-nil (λ link. atom_at m q link ≡ pos 0)
   all_links_same (s ∷ sets) a t = links_same s sets (All-head (λ s. s < 2 ^ common) s sets a) (All-tail (λ s. s < 2 ^ common) s sets a) t
 
-  sum_same : (members : List ℕ) (given : ℕ) → All (λ s. s < 2 ^ common) members → given < 2 ^ common → sum_given m q members given ≡ sum_given n p members given
+  sum_same : (members : List ℕ) (given : ℕ) → All (λ s. s < 2 ^ common) members → given < 2 ^ common → sum_of_conditionals m q members given ≡ sum_of_conditionals n p members given
   sum_same [] given a l = refl
   sum_same (s ∷ members) given a l = ap₂ (λ x y. x +ℤ y) (atom_same (Entropy s given) (All-head (λ s. s < 2 ^ common) s members a, l)) (sum_same members given (All-tail (λ s. s < 2 ^ common) s members a) l)
 

@@ -12,15 +12,15 @@ use Rattle.it_syntax.specs.declared.types.Atom.TheVariants.{Nothing, Entropy, Mu
 use Rattle.it_syntax.specs.declared.types.Sign.{Sign}
 use Rattle.it_syntax.specs.declared.types.Sign.TheVariants.{AtLeast, AtMost, Equal}
 use Rattle.it_syntax.specs.declared.types.Term.{Term}
-use Rattle.it_syntax.specs.Givens.{GivenView, Relation, Markov, Independent, Function, IsRelationOf, IsGivenOf, AreSetsOf, links, links_from, sum_given, union_of}
-use Rattle.it_syntax.specs.Meaning.{RelationView, IsAtomOf, multiple_of, times_of, atom_at, side_at, difference_at}
+use Rattle.it_syntax.specs.Givens.{GivenView, Relation, Markov, Independent, Function, IsRelationOf, IsGivenOf, AreSetsOf, links, links_from, sum_of_conditionals, union_of}
+use Rattle.it_syntax.specs.Meaning.{RelationView, IsAtomOf, common_denominator, multiplicity, atom_at, side_at, difference_at}
 use Rattle.it_question.specs.Questions.{OwnLinesView}
 use Rattle.it_question.proofs.NumberLemmas.{HasSmallNumbers, GivenHasSmallNumbers, LinesHaveSmallNumbers}
 use Rattle.it_demand.specs.Canonical.{form_of, signed_difference}
 use Rattle.it_demand.specs.Demands.{Demand, LineDemand, demands, equations, independence_form, parts_from, parts_of, kind_of}
 use Rattle.it_demand.specs.LineDemands.{given_demands, row_demands}
-use Rattle.it_question.specs.Tables.{line_demands}
-use Rattle.it_demand.specs.Targets.{negation, targets, demanded_forms}
+use Rattle.it_question.specs.ProblemLines.{line_demands}
+use Rattle.it_demand.specs.Targets.{negation, targets, inequalities_of}
 use Rattle.it_demand.proofs.ChainLemmas.{union_below}
 use Rattle.it_demand.proofs.LimitLemmas.{more_rates}
 use Rattle.it_canon.proofs.SmallForms.{IsFormUpTo, form_zero, form-add, form-negation, form_same}
@@ -101,7 +101,7 @@ module _ (n m : ℕ) where
   side_up_to : (k : ℕ) → k ≤ 2 ^ 32 → (ts : List Term) → Every (λ (t : Term). IsAtomOf n m t.atom) ts → Every (λ (t : Term). t.number < 2 ^ 64) ts → IsFormUpTo last_coordinate (length ts * 2 ^ 98) (λ p. side_at n p k ts)
   side_up_to k l [] a b = form_same last_coordinate 0 (0 * 2 ^ 98) (λ p. pos 0) (λ p. pos 0) (omega arith) (λ p. refl) (form_zero last_coordinate)
   side_up_to k l (t ∷ ts) a b =
-      let times : ℕ = times_of k t in
+      let times : ℕ = multiplicity k t in
       let x : ℤ = cond t.negative (neg_ℤ (pos times)) (pos times) in
       form_same last_coordinate (4 * unsigned_abs x + length ts * 2 ^ 98) (length (t ∷ ts) * 2 ^ 98) (λ p. x *ℤ atom_at n p t.atom +ℤ side_at n p k ts) (λ p. side_at n p k (t ∷ ts)) (omega (arith, signed-small t.negative times (times-small t.number k t.denominator b.0 l))) (λ p. refl)
       (form-add last_coordinate (4 * unsigned_abs x) (length ts * 2 ^ 98) (λ p. x *ℤ atom_at n p t.atom) (λ p. side_at n p k ts) (atom_up_to x t.atom a.0) (side_up_to k l ts a.1 b.1))
@@ -111,7 +111,7 @@ module _ (n m : ℕ) where
 
   difference_up_to : (r : RelationView) → IsRelationOf n m r → HasSmallNumbers r → IsFormUpTo last_coordinate (2 ^ 106) (λ p. difference_at n p r)
   difference_up_to r h k =
-      let both = multiple_of r in
+      let both = common_denominator r in
       form_same last_coordinate (length r.left * 2 ^ 98 + length r.right * 2 ^ 98) (2 ^ 106) (λ p. side_at n p both r.left +ℤ neg_ℤ (side_at n p both r.right)) (λ p. difference_at n p r) (omega (arith, h.few)) (λ p. plus_negation (side_at n p both r.left) (side_at n p both r.right))
       (form-add last_coordinate (length r.left * 2 ^ 98) (length r.right * 2 ^ 98) (λ p. side_at n p both r.left) (negation (λ p. side_at n p both r.right))
       (side_up_to both h.small_multiple r.left (every_of (λ (t : Term). IsAtomOf n m t.atom) r.left h.left) k.0)
@@ -129,7 +129,7 @@ module _ (n m : ℕ) where
   pub targets_up_to : (r : RelationView) → IsRelationOf n m r → HasSmallNumbers r → Every (IsFormUpTo last_coordinate (2 ^ 106)) (targets n r)
   targets_up_to r h k = by_sign r.sign (form_of n r) (relation_up_to r h k)
     where
-      by_sign : (sign : Sign) (f : Form) → IsFormUpTo last_coordinate (2 ^ 106) f → Every (IsFormUpTo last_coordinate (2 ^ 106)) (demanded_forms (kind_of sign) f)
+      by_sign : (sign : Sign) (f : Form) → IsFormUpTo last_coordinate (2 ^ 106) f → Every (IsFormUpTo last_coordinate (2 ^ 106)) (inequalities_of (kind_of sign) f)
       by_sign AtLeast f x = (x, tt)
       by_sign AtMost f x = (x, tt)
       by_sign Equal f x = (x, (form-negation last_coordinate (2 ^ 106) f x, tt))
@@ -151,17 +151,17 @@ module _ (n m : ℕ) where
   chain_up_to [] a = tt
   chain_up_to (first ∷ sets) a = links_up_to first sets a.0 a.1
 
-  sum_up_to : (members : List ℕ) (given : ℕ) → given < 2 ^ n → Every (λ (s : ℕ). s < 2 ^ n) members → IsFormUpTo last_coordinate (length members * 4) (λ p. sum_given n p members given)
+  sum_up_to : (members : List ℕ) (given : ℕ) → given < 2 ^ n → Every (λ (s : ℕ). s < 2 ^ n) members → IsFormUpTo last_coordinate (length members * 4) (λ p. sum_of_conditionals n p members given)
   sum_up_to [] given h a = form_same last_coordinate 0 (0 * 4) (λ p. pos 0) (λ p. pos 0) (omega arith) (λ p. refl) (form_zero last_coordinate)
-  sum_up_to (x ∷ xs) given h a = form_same last_coordinate (4 + length xs * 4) (length (x ∷ xs) * 4) (λ p. atom_at n p (Entropy x given) +ℤ sum_given n p xs given) (λ p. sum_given n p (x ∷ xs) given) (omega arith) (λ p. refl)
-      (form-add last_coordinate 4 (length xs * 4) (λ p. atom_at n p (Entropy x given)) (λ p. sum_given n p xs given) (once_up_to (Entropy x given) (a.0, h)) (sum_up_to xs given h a.1))
+  sum_up_to (x ∷ xs) given h a = form_same last_coordinate (4 + length xs * 4) (length (x ∷ xs) * 4) (λ p. atom_at n p (Entropy x given) +ℤ sum_of_conditionals n p xs given) (λ p. sum_of_conditionals n p (x ∷ xs) given) (omega arith) (λ p. refl)
+      (form-add last_coordinate 4 (length xs * 4) (λ p. atom_at n p (Entropy x given)) (λ p. sum_of_conditionals n p xs given) (once_up_to (Entropy x given) (a.0, h)) (sum_up_to xs given h a.1))
 
   independence_up_to : (members : List ℕ) (given : ℕ) → AreSetsOf n 2 16 members → given < 2 ^ n → IsFormUpTo last_coordinate (2 ^ 106) (independence_form n members given)
   independence_up_to members given h k =
       let all = every_of (λ (s : ℕ). s < 2 ^ n) members h.within in
       let joint : Atom = Entropy (union_of members) given in
-      form_same last_coordinate (length members * 4 + 4) (2 ^ 106) (λ p. sum_given n p members given +ℤ neg_ℤ (atom_at n p joint)) (independence_form n members given) (omega (arith, h.few)) (λ p. plus_negation (sum_given n p members given) (atom_at n p joint))
-      (form-add last_coordinate (length members * 4) 4 (λ p. sum_given n p members given) (negation (λ p. atom_at n p joint)) (sum_up_to members given k all)
+      form_same last_coordinate (length members * 4 + 4) (2 ^ 106) (λ p. sum_of_conditionals n p members given +ℤ neg_ℤ (atom_at n p joint)) (independence_form n members given) (omega (arith, h.few)) (λ p. plus_negation (sum_of_conditionals n p members given) (atom_at n p joint))
+      (form-add last_coordinate (length members * 4) 4 (λ p. sum_of_conditionals n p members given) (negation (λ p. atom_at n p joint)) (sum_up_to members given k all)
       (form-negation last_coordinate 4 (λ p. atom_at n p joint) (once_up_to joint (union_below n members h.within, k))))
 
   given_up_to : (g : GivenView) → IsGivenOf n g → GivenHasSmallNumbers g → AreDemandsUpTo (demands n g)

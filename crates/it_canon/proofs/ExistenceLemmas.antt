@@ -18,8 +18,8 @@ use Rattle.it_question.proofs.FileReadings.{file_limits}
 use Rattle.it_question.proofs.NumberLemmas.{HasSmallNumbers, GivenHasSmallNumbers, VerbHasSmallNumbers, QuestionHasSmallNumbers, file_has_small_numbers}
 use Rattle.it_demand.specs.Demands.{LineDemand, AreStated}
 use Rattle.it_demand.specs.LineDemands.{AreRowsOf, space_of, system_forms}
-use Rattle.it_question.specs.Tables.{line_demands, givens_alone, lines_with, problem_names, problem_names_by, problem_lines_by}
-use Rattle.it_canon.specs.QuestionDemands.{variables_of, question_demands, problem_of, terms_in, IsProblemOf}
+use Rattle.it_question.specs.ProblemLines.{line_demands, givens_alone, lines_with, problem_names, names_under, lines_under}
+use Rattle.it_canon.specs.QuestionDemands.{variable_count, question_demands, problem_of, terms_in, IsProblemOf}
 use Rattle.it_demand.specs.Targets.{targets}
 use Rattle.it_demand.proofs.FormRows.{rows_are_terms_of_forms}
 use Rattle.it_canon.specs.Theorems.{QuestionHasProblem, RelationHasRows}
@@ -56,9 +56,9 @@ module _ (q : BodyView) (k : IsQuestion q) (small : QuestionHasSmallNumbers q) w
   problem_up_to : AreLineDemandsUpTo own_space.variables own_space.rates (question_demands q)
   problem_up_to = by_verb q.verb k.verb small.1 (shared_givens q own_space k refl) (shared_rows q own_space k refl)
     where
-      by_verb : (verb : VerbView) → IsVerbOver q.names verb → VerbHasSmallNumbers verb → All (IsGivenOf (length (problem_names_by q.names verb).variables)) q.lines.givens
-          → All (IsRelationOf (length (problem_names_by q.names verb).variables) (length (problem_names_by q.names verb).rates)) q.lines.rows
-          → AreLineDemandsUpTo (length (problem_names_by q.names verb).variables) (length (problem_names_by q.names verb).rates) (line_demands (length (problem_names_by q.names verb).variables) (problem_lines_by q.lines verb))
+      by_verb : (verb : VerbView) → IsVerbOver q.names verb → VerbHasSmallNumbers verb → All (IsGivenOf (length (names_under q.names verb).variables)) q.lines.givens
+          → All (IsRelationOf (length (names_under q.names verb).variables) (length (names_under q.names verb).rates)) q.lines.rows
+          → AreLineDemandsUpTo (length (names_under q.names verb).variables) (length (names_under q.names verb).rates) (line_demands (length (names_under q.names verb).variables) (lines_under q.lines verb))
       by_verb (Prove r) over counts givens rows = lines_up_to _ _ q.lines (every_of _ q.lines.givens givens) (every_of _ q.lines.rows rows) small.0
       by_verb (Eliminate rates) over counts givens rows = lines_up_to _ _ (givens_alone q.lines) (every_of _ q.lines.givens givens) tt (small.0.0, tt)
       by_verb (Contain first second tries) over counts givens rows =
@@ -77,12 +77,12 @@ module _ (q : BodyView) (k : IsQuestion q) (small : QuestionHasSmallNumbers q) w
       subst (IsProblemOf q) (one_problem q p is) is
 
   -- and the rows of its relation's targets
-  pub relation_rows : (r : RelationView) → q.verb ≡ Prove r → AreRowsOf own_space (targets (variables_of q) r) (map (terms_in q) (targets (variables_of q) r))
+  pub relation_rows : (r : RelationView) → q.verb ≡ Prove r → AreRowsOf own_space (targets (variable_count q) r) (map (terms_in q) (targets (variable_count q) r))
   relation_rows r about =
       let own : IsRelationOf (length q.names.variables) (length q.names.rates) r = subst (IsVerbOver q.names) about k.verb in
-      let over : IsRelationOf own_space.variables own_space.rates r = subst (λ (v : NamesView). IsRelationOf (length v.variables) (length v.rates) r) (sym (ap (problem_names_by q.names) about)) own in
-      let rows = rows_there own_space (space_is q k) (targets (variables_of q) r) (targets_up_to own_space.variables own_space.rates r over (subst VerbHasSmallNumbers about small.1)) in
-      subst (AreRowsOf own_space (targets (variables_of q) r)) (rows_are_terms_of_forms own_space (targets (variables_of q) r) rows.0 rows.1) rows.1
+      let over : IsRelationOf own_space.variables own_space.rates r = subst (λ (v : NamesView). IsRelationOf (length v.variables) (length v.rates) r) (sym (ap (names_under q.names) about)) own in
+      let rows = rows_there own_space (space_is q k) (targets (variable_count q) r) (targets_up_to own_space.variables own_space.rates r over (subst VerbHasSmallNumbers about small.1)) in
+      subst (AreRowsOf own_space (targets (variable_count q) r)) (rows_are_terms_of_forms own_space (targets (variable_count q) r) rows.0 rows.1) rows.1
 
   -- and those of its `row` lines
   system_up_to : (rs : List RelationView) → Every (IsRelationOf own_space.variables own_space.rates) rs → Every HasSmallNumbers rs → Every (IsFormUpTo (size_of own_space) (2 ^ 106)) (system_forms own_space.variables rs)
@@ -90,9 +90,9 @@ module _ (q : BodyView) (k : IsQuestion q) (small : QuestionHasSmallNumbers q) w
   system_up_to (r ∷ rs) h e = every-append (IsFormUpTo (size_of own_space) (2 ^ 106)) (targets own_space.variables r) (system_forms own_space.variables rs)
       (targets_up_to own_space.variables own_space.rates r h.0 e.0) (system_up_to rs h.1 e.1)
 
-  pub system_rows : AreRowsOf own_space (system_forms (variables_of q) q.lines.rows) (map (terms_in q) (system_forms (variables_of q) q.lines.rows))
+  pub system_rows : AreRowsOf own_space (system_forms (variable_count q) q.lines.rows) (map (terms_in q) (system_forms (variable_count q) q.lines.rows))
   system_rows =
-      let fs = system_forms (variables_of q) q.lines.rows in
+      let fs = system_forms (variable_count q) q.lines.rows in
       let rows = rows_there own_space (space_is q k) fs (system_up_to q.lines.rows (every_of (IsRelationOf own_space.variables own_space.rates) q.lines.rows (shared_rows q own_space k refl)) small.0.1) in
       subst (AreRowsOf own_space fs) (rows_are_terms_of_forms own_space fs rows.0 rows.1) rows.1
 
@@ -110,5 +110,5 @@ pub file_has_problems : QuestionHasProblem
 file_has_problems = each_question (λ q. IsProblemOf q.body (problem_of q.body)) (λ q k small. question_poses q.body k small)
 
 pub file_has_rows : RelationHasRows
-file_has_rows = each_question (λ q. (r : RelationView) → q.body.verb ≡ Prove r → AreRowsOf (space_of (problem_names q.body)) (targets (variables_of q.body) r) (map (terms_in q.body) (targets (variables_of q.body) r)))
+file_has_rows = each_question (λ q. (r : RelationView) → q.body.verb ≡ Prove r → AreRowsOf (space_of (problem_names q.body)) (targets (variable_count q.body) r) (map (terms_in q.body) (targets (variable_count q.body) r)))
     (λ q k small. relation_rows q.body k small)

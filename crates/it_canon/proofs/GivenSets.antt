@@ -6,7 +6,7 @@ use Rattle.std.proofs.lemmas.List.Elements.{All-nil, All-cons, All-head, All-tai
 use Rattle.std.proofs.lemmas.Bool.{cases_lt}
 use Rattle.it_space.specs.declared.spaces.Space.{Space}
 use Rattle.it_space.specs.declared.problems.Constraint.{Constraint}
-use Rattle.it_space.specs.Rows.{Terms, Ascends, IsUpTo, coefficient, one_at}
+use Rattle.it_space.specs.Rows.{Terms, Ascends, IsOver, coefficient, one_at}
 use Rattle.it_space.specs.Spaces.{size_of}
 use Rattle.it_space.proofs.CanonicalRows.{head_is, other_is}
 use Rattle.it_space.proofs.TermLemmas.{value-one_at}
@@ -17,8 +17,8 @@ use Rattle.it_syntax.specs.declared.types.Atom.TheVariants.{Nothing, Entropy, Mu
 use Rattle.it_syntax.specs.declared.types.Sign.{Sign}
 use Rattle.it_syntax.specs.declared.types.Sign.TheVariants.{AtLeast, AtMost, Equal}
 use Rattle.it_syntax.specs.declared.types.Term.{Term}
-use Rattle.it_syntax.specs.Meaning.{RelationView, IsAtomOf, multiple_of, times_of, atom_at, side_at}
-use Rattle.it_syntax.specs.Givens.{GivenView, Relation, Markov, Independent, Function, union_of, links_from, sum_given, IsRelationOf, IsGivenOf}
+use Rattle.it_syntax.specs.Meaning.{RelationView, IsAtomOf, common_denominator, multiplicity, atom_at, side_at}
+use Rattle.it_syntax.specs.Givens.{GivenView, Relation, Markov, Independent, Function, union_of, links_from, sum_of_conditionals, IsRelationOf, IsGivenOf}
 use Rattle.it_demand.specs.Canonical.{IsRowOf, form_of, signed_difference}
 use Rattle.it_demand.specs.Demands.{Demand, LineDemand, equation, equations, demand_of, demands, independence_form, States, AreStated, parts_of}
 use Rattle.it_demand.specs.LineDemands.{given_demands}
@@ -33,7 +33,7 @@ IsOfSets n form = (c : ℕ) → 2 ^ n ≤ c → form (one_at c) ≡ pos 0
 -- ---- rows
 
 -- a row without coefficients from a coordinate on has no terms there
-terms_below : (size bound from : ℕ) (ts : Terms) → Ascends from ts → ((c : ℕ) → bound ≤ c → coefficient ts c ≡ pos 0) → IsUpTo size ts → IsUpTo (bound - 1) ts
+terms_below : (size bound from : ℕ) (ts : Terms) → Ascends from ts → ((c : ℕ) → bound ≤ c → coefficient ts c ≡ pos 0) → IsOver size ts → IsOver (bound - 1) ts
 terms_below size bound from [] a z u = All-nil (λ (t : ℕ × ℤ). (1 ≤ t.0) × (t.0 ≤ bound - 1))
 terms_below size bound from (t ∷ ts) a z u = All-cons (λ (x : ℕ × ℤ). (1 ≤ x.0) × (x.0 ≤ bound - 1)) t ts (term_in_range.0, omega (arith, term_below_bound)) (terms_below size bound (t.0 + 1) ts a.3 no_later_coefficient (All-tail (λ (x : ℕ × ℤ). (1 ≤ x.0) × (x.0 ≤ size)) t ts u))
   where
@@ -50,7 +50,7 @@ terms_below size bound from (t ∷ ts) a z u = All-cons (λ (x : ℕ × ℤ). (1
     no_later_coefficient : (c : ℕ) → bound ≤ c → coefficient ts c ≡ pos 0
     no_later_coefficient c l = sym (other_is t ts c (λ e. omega (arith, term_below_bound, l, e))) ∙ z c l
 
-row_of_sets : (s : Space) (form : Form) (row : Terms) → IsOfSets s.variables form → IsRowOf s form row → IsUpTo (2 ^ s.variables - 1) row
+row_of_sets : (s : Space) (form : Form) (row : Terms) → IsOfSets s.variables form → IsRowOf s form row → IsOver (2 ^ s.variables - 1) row
 row_of_sets s form row f r = terms_below (size_of s) (2 ^ s.variables) 0 row r.canonical
     (λ c l. sym (value-one_at row c) ∙ r.same (one_at c) (one_at-zero c (omega (arith, l, pow_pos s.variables))) ∙ f c l) r.coordinates
 
@@ -69,18 +69,18 @@ atom_of_sets n (Rate r) k c h = absurd (omega (arith, k))
 
 side_of_sets : (n m : ℕ) (ts : List Term) → All (λ t. IsAtomOf n 0 t.atom) ts → IsOfSets n (λ p. side_at n p m ts)
 side_of_sets n m [] a c h = refl
-side_of_sets n m (t ∷ ts) a c h = ap₂ (λ x y. cond t.negative (neg_ℤ (pos (times_of m t))) (pos (times_of m t)) *ℤ x +ℤ y)
+side_of_sets n m (t ∷ ts) a c h = ap₂ (λ x y. cond t.negative (neg_ℤ (pos (multiplicity m t))) (pos (multiplicity m t)) *ℤ x +ℤ y)
     (atom_of_sets n t.atom (All-head (λ (t : Term). IsAtomOf n 0 t.atom) t ts a) c h) (side_of_sets n m ts (All-tail (λ (t : Term). IsAtomOf n 0 t.atom) t ts a) c h) ∙ omega (arith, ints)
 
 relation_of_sets : (n : ℕ) (r : RelationView) → IsRelationOf n 0 r → IsOfSets n (form_of n r)
-relation_of_sets n r k c h = ap₂ (λ x y. signed_difference r.sign (x -ℤ y)) (side_of_sets n (multiple_of r) r.left k.left c h) (side_of_sets n (multiple_of r) r.right k.right c h) ∙ zero_difference r.sign
+relation_of_sets n r k c h = ap₂ (λ x y. signed_difference r.sign (x -ℤ y)) (side_of_sets n (common_denominator r) r.left k.left c h) (side_of_sets n (common_denominator r) r.right k.right c h) ∙ zero_difference r.sign
   where
     zero_difference : (s : Sign) → signed_difference s (pos 0 -ℤ pos 0) ≡ pos 0
     zero_difference AtLeast = refl
     zero_difference AtMost = refl
     zero_difference Equal = refl
 
-sum_of_sets : (n : ℕ) (members : List ℕ) (given : ℕ) → All (λ s. s < 2 ^ n) members → given < 2 ^ n → IsOfSets n (λ p. sum_given n p members given)
+sum_of_sets : (n : ℕ) (members : List ℕ) (given : ℕ) → All (λ s. s < 2 ^ n) members → given < 2 ^ n → IsOfSets n (λ p. sum_of_conditionals n p members given)
 sum_of_sets n [] given a l c h = refl
 sum_of_sets n (s ∷ members) given a l c h = ap₂ (λ x y. x +ℤ y) (atom_of_sets n (Entropy s given) (All-head (λ s. s < 2 ^ n) s members a, l) c h) (sum_of_sets n members given (All-tail (λ s. s < 2 ^ n) s members a) l c h)
 
@@ -118,6 +118,6 @@ lines_of_sets n line (g ∷ gs) a =
 
 -- the rows of the constraints of `given` lines have no coordinate past the sets
 pub given_sets : (s : Space) (line : ℕ) (cs : List GivenView) (constraints : List Constraint) → All (IsGivenOf s.variables) cs → AreStated s (given_demands s.variables line cs) constraints
-    → All (λ c. IsUpTo (2 ^ s.variables - 1) c.row) constraints
-given_sets s line cs constraints a h = zip-passes (λ (d : LineDemand) (c : Constraint). States s d.origin d.demand c) (λ d. IsOfSets s.variables d.demand.form) (λ c. IsUpTo (2 ^ s.variables - 1) c.row)
+    → All (λ c. IsOver (2 ^ s.variables - 1) c.row) constraints
+given_sets s line cs constraints a h = zip-passes (λ (d : LineDemand) (c : Constraint). States s d.origin d.demand c) (λ d. IsOfSets s.variables d.demand.form) (λ c. IsOver (2 ^ s.variables - 1) c.row)
     (λ d c t f. row_of_sets s d.demand.form c.row f t.row) (given_demands s.variables line cs) constraints h (lines_of_sets s.variables line cs a)

@@ -7,7 +7,8 @@ use Rattle.it_space.specs.Rows.{Terms}
 use Rattle.it_polymatroid.specs.Certificates.{Form}
 use Rattle.it_demand.specs.Demands.{AreStated}
 use Rattle.it_demand.specs.LineDemands.{AreRowsOf, space_of}
-use Rattle.it_question.specs.Tables.{problem_names, constraint_of}
+use Rattle.it_question.specs.ProblemLines.{problem_names}
+use Rattle.it_question.specs.TableSizes.{constraint_of}
 use Rattle.it_question.proofs.TableLemmas.{stated_are}
 use Rattle.it_canon.specs.QuestionDemands.{question_demands}
 use Rattle.it_canon.specs.Theorems.{OneProblem}

@@ -8,7 +8,7 @@ use Rattle.std.proofs.Math.IntN.{+ℤ_idr, +ℤ_idl}
 use Rattle.it_number.proofs.SignLemmas.{size_negated}
 use Rattle.it_space.specs.declared.spaces.Space.{Space}
 use Rattle.it_space.specs.Bounds.{IsSmall}
-use Rattle.it_space.specs.Rows.{Terms, IsCanonical, IsUpTo, one_at, value, negated_terms, row_mass}
+use Rattle.it_space.specs.Rows.{Terms, IsCanonical, IsOver, one_at, value, negated_terms, row_mass}
 use Rattle.it_space.specs.Spaces.{IsSpace, size_of}
 use Rattle.it_space.specs.Sums.{terms_from}
 use Rattle.it_space.proofs.EveryLemmas.{every-append}
@@ -121,8 +121,8 @@ module _ (s : Space) (bound : ℕ) (within : bound < 2 ^ 127) (form : Form) (x :
       row-value coefficients row p refl z ∙ sym (+ℤ_idl (dense_form_from 0 coefficients p)) ∙ dense_is 0 (suc (size_of s)) coefficient_at p
       ∙ ap (λ (n : ℕ). dot n coefficient_at p) e ∙ sym ((value_linear (size_of s) x.terms x.coordinates).sum p z) ∙ x.same p
 
-  pub row_coordinates : IsUpTo (size_of s) row
-  row_coordinates = let e : length coefficients - 1 ≡ size_of s = omega (arith, length-map-span coefficient_at 0 (suc (size_of s))) in subst (λ (n : ℕ). IsUpTo n row) e (row_up_to coefficients row refl)
+  pub row_coordinates : IsOver (size_of s) row
+  row_coordinates = let e : length coefficients - 1 ≡ size_of s = omega (arith, length-map-span coefficient_at 0 (suc (size_of s))) in subst (λ (n : ℕ). IsOver n row) e (row_up_to coefficients row refl)
 
   pub row_is_canonical : IsCanonical row
   row_is_canonical = row_canonical coefficients row refl (omega (arith, all_small, within))

@@ -4,7 +4,7 @@ use Rattle.std.proofs.lemmas.List.Elements.{All-weaker}
 use Rattle.it_space.specs.Problems.{ProblemView}
 use Rattle.it_closure.specs.Sizes.{table_size}
 use Rattle.it_question.specs.Questions.{BodyView, QuestionView}
-use Rattle.it_question.specs.Tables.{most_entries, HasSmallTable}
+use Rattle.it_question.specs.TableSizes.{most_entries, HasSmallTable}
 use Rattle.it_question.proofs.FileReadings.{file_has_small_tables}
 use Rattle.it_canon.specs.QuestionDemands.{IsProblemOf}
 use Rattle.it_canon.specs.Theorems.{TableIsSmall}

@@ -7,19 +7,20 @@ use Rattle.it_polymatroid.specs.Certificates.{Form}
 use Rattle.it_polymatroid.specs.Polymatroid.{IsPolymatroid}
 use Rattle.it_demand.specs.LineDemands.{space_of}
 use Rattle.it_demand.specs.RowsOfForms.{terms_of_form}
-use Rattle.it_question.specs.Tables.{line_demands, problem_names, problem_lines, problem_of_lines}
+use Rattle.it_question.specs.ProblemLines.{line_demands, problem_names, problem_lines}
+use Rattle.it_question.specs.TableSizes.{problem_of_lines}
 use Rattle.it_syntax.specs.Meaning.{Holds}
 use Rattle.it_syntax.specs.Givens.{IsTrueAt}
 use Rattle.it_question.specs.Questions.{OwnLinesView, BodyView}
 use Rattle.it_demand.specs.Demands.{LineDemand, AreStated}
 
 -- how many variables the problem has
-abbrev pub variables_of : BodyView → ℕ
-variables_of q = length (problem_names q).variables
+abbrev pub variable_count : BodyView → ℕ
+variable_count q = length (problem_names q).variables
 
 -- the demands of a question in generator order
 abbrev pub question_demands : BodyView → List LineDemand
-question_demands q = line_demands (variables_of q) (problem_lines q)
+question_demands q = line_demands (variable_count q) (problem_lines q)
 
 -- each given is true of the map, and each row holds at it
 pub record AreTrueAt (n : ℕ) (p : ℕ → ℤ) (own : OwnLinesView) : Type 0 where
@@ -28,7 +29,7 @@ pub record AreTrueAt (n : ℕ) (p : ℕ → ℤ) (own : OwnLinesView) : Type 0 w
 
 -- a polymatroid and rates that make the lines of a question's problem true
 abbrev pub AreTrueTogether : BodyView → (ℕ → ℤ) → Type 0
-AreTrueTogether q p = IsPolymatroid (variables_of q) p × AreTrueAt (variables_of q) p (problem_lines q)
+AreTrueTogether q p = IsPolymatroid (variable_count q) p × AreTrueAt (variable_count q) p (problem_lines q)
 
 -- the problem that a question poses
 abbrev pub problem_of : BodyView → ProblemView

@@ -7,8 +7,9 @@ use Rattle.it_demand.specs.LineDemands.{space_of, AreRowsOf}
 use Rattle.it_demand.specs.Targets.{targets}
 use Rattle.it_question.specs.Files.{IsFile}
 use Rattle.it_question.specs.Questions.{BodyView, QuestionView, Prove}
-use Rattle.it_question.specs.Tables.{problem_names, most_entries}
-use Rattle.it_canon.specs.QuestionDemands.{variables_of, problem_of, terms_in, IsProblemOf}
+use Rattle.it_question.specs.ProblemLines.{problem_names}
+use Rattle.it_question.specs.TableSizes.{most_entries}
+use Rattle.it_canon.specs.QuestionDemands.{variable_count, problem_of, terms_in, IsProblemOf}
 
 -- the constraints of the problem that a question of a file poses state what its lines demand, within the limits
 abbrev pub QuestionHasProblem : Type 0
@@ -18,7 +19,7 @@ QuestionHasProblem = (bytes : List ℕ) (qs : List QuestionView) → IsFile byte
 abbrev pub RelationHasRows : Type 0
 RelationHasRows = (bytes : List ℕ) (qs : List QuestionView) → IsFile bytes qs
     → All (λ q. (r : RelationView) → q.body.verb ≡ Prove r
-    → AreRowsOf (space_of (problem_names q.body)) (targets (variables_of q.body) r) (map (terms_in q.body) (targets (variables_of q.body) r))) qs
+    → AreRowsOf (space_of (problem_names q.body)) (targets (variable_count q.body) r) (map (terms_in q.body) (targets (variable_count q.body) r))) qs
 
 -- the table with which the run about the problem of a question of a file begins isn't too large
 abbrev pub TableIsSmall : Type 0

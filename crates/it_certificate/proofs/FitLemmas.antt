@@ -8,7 +8,7 @@ use Rattle.std.proofs.lemmas.List.Elements.{All-nil, All-cons, All-head, All-tai
 use Rattle.serde_json.specs.Data.{Data}
 use Rattle.serde_json.specs.Find.{get, as_array, as_number, as_u64}
 use Rattle.it_number.specs.Limit.{IsWithin}
-use Rattle.it_space.specs.Rows.{Terms, IsUpTo}
+use Rattle.it_space.specs.Rows.{Terms, IsOver}
 use Rattle.it_space.specs.Spaces.{size_of}
 use Rattle.it_space.specs.Answers.{CertificateView, AnswerView}
 use Rattle.it_space.specs.Answers.AnswerView.{Yes, No, Undecided, Region, Contained, Open}
@@ -176,7 +176,7 @@ undecided_fits v d a is =
 
 -- ---- regions
 
-up_to : (from size : ℕ) (ts : Terms) → 1 ≤ from → is_row_between from size ts ≡ true → IsUpTo size ts
+up_to : (from size : ℕ) (ts : Terms) → 1 ≤ from → is_row_between from size ts ≡ true → IsOver size ts
 up_to from size [] low is = All-nil (λ t. (1 ≤ t.0) × (t.0 ≤ size))
 up_to from size (t ∷ ts) low is =
     let h = both_true (nat_le from t.0 && (nat_le t.0 size && not (unsigned_abs t.1 == 0))) (is_row_between (t.0 + 1) size ts) is in

@@ -14,8 +14,8 @@ use Rattle.it_question.specs.Questions.{RegionView}
 use Rattle.it_demand.specs.Demands.{Demand, LineDemand, demands, equations, kind_of, parts_from, parts_of}
 use Rattle.it_demand.specs.LineDemands.{given_demands, row_demands}
 use Rattle.it_demand.specs.Canonical.{form_of}
-use Rattle.it_demand.specs.Targets.{demanded_forms, targets}
-use Rattle.it_question.specs.Tables.{line_demands}
+use Rattle.it_demand.specs.Targets.{inequalities_of, targets}
+use Rattle.it_question.specs.ProblemLines.{line_demands}
 use Rattle.it_demand.proofs.ChainLemmas.{links-length}
 use Rattle.it_certificate.specs.Obligations.{obligation_count}
 use Rattle.it_certificate.specs.ReportSteps.{form_count, target_count, given_form_count, relation_form_count}
@@ -23,7 +23,7 @@ use Rattle.it_certificate.specs.ReportSteps.{form_count, target_count, given_for
 abbrev total : {A : Type 0} → (A → ℕ) → ℕ → List A → ℕ
 total f a xs = fold (λ s x. s + f x) a xs
 
-forms_counted : (k : Kind) (f : Form) → length (demanded_forms k f) ≡ form_count k
+forms_counted : (k : Kind) (f : Form) → length (inequalities_of k f) ≡ form_count k
 forms_counted Inequality f = refl
 forms_counted Equation f = refl
 

@@ -7,7 +7,7 @@ use Rattle.serde_json.specs.Data.{Data}
 use Rattle.serde_json.specs.Find.{get}
 use Rattle.serde_json.specs.View.{items_of}
 use Rattle.it_number.specs.Limit.{IsWithin}
-use Rattle.it_space.specs.Rows.{Terms, Ascends, IsCanonical, IsUpTo}
+use Rattle.it_space.specs.Rows.{Terms, Ascends, IsCanonical, IsOver}
 use Rattle.it_space.specs.Spaces.{size_of}
 use Rattle.it_space.specs.Answers.{CertificateView, AnswerView, is_nonzero_weight}
 use Rattle.it_space.specs.Answers.AnswerView.{Yes, No, Undecided, Region, Contained, Open}
@@ -149,7 +149,7 @@ undecided_back text v c fits =
 true_both : (a b : Bool) → a ≡ true → b ≡ true → (a && b) ≡ true
 true_both a b p q = ap (λ c. c && b) p ∙ q
 
-row_test : (from low size : ℕ) (ts : Terms) → (from ≤ low) → Ascends low ts → IsUpTo size ts → is_row_between from size ts ≡ true
+row_test : (from low size : ℕ) (ts : Terms) → (from ≤ low) → Ascends low ts → IsOver size ts → is_row_between from size ts ≡ true
 row_test from low size [] le asc up = refl
 row_test from low size (t ∷ ts) le asc up =
     let h = All-head (λ t. (1 ≤ t.0) × (t.0 ≤ size)) t ts up in
@@ -159,11 +159,11 @@ row_test from low size (t ∷ ts) le asc up =
     (true_both (nat_le from t.0) (nat_le t.0 size && not (unsigned_abs t.1 == 0)) there (true_both (nat_le t.0 size) (not (unsigned_abs t.1 == 0)) last (nonzero_passes t.1 asc.1)))
     (row_test (t.0 + 1) (t.0 + 1) size ts (omega arith) asc.3 (All-tail (λ t. (1 ≤ t.0) × (t.0 ≤ size)) t ts up))
 
-from_one : (size : ℕ) (ts : Terms) → Ascends 0 ts → IsUpTo size ts → Ascends 1 ts
+from_one : (size : ℕ) (ts : Terms) → Ascends 0 ts → IsOver size ts → Ascends 1 ts
 from_one size [] asc up = tt
 from_one size (t ∷ ts) asc up = ((All-head (λ t. (1 ≤ t.0) × (t.0 ≤ size)) t ts up).0, asc.1, asc.2, asc.3)
 
-row_kept : (size : ℕ) (ts : Terms) → IsCanonical ts → IsUpTo size ts → row_of size ts ≡ Some ts
+row_kept : (size : ℕ) (ts : Terms) → IsCanonical ts → IsOver size ts → row_of size ts ≡ Some ts
 row_kept size ts canonical up = ap (λ b. cond b (Some ts) None) (row_test 1 1 size ts (omega arith) (from_one size ts canonical up) up)
 
 mark_back : (m : Mark) (ts : Terms) → option_and_then mark_of (text_of (get (codes "mark") (row_value (m, ts)))) ≡ Some m

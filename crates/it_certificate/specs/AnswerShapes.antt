@@ -1,7 +1,7 @@
 -- Answers of the shape that a question wants. What is read has it, and what has it reads back.
 use Rattle.std.specs.Prelude.{◌≡◌, ℕ, ◌<◌, ◌^◌, ℤ, List, [], length, true, All, Some, None, slice_index_or}
 use Rattle.it_number.specs.Limit.{IsWithin}
-use Rattle.it_space.specs.Rows.{Terms, IsCanonical, IsUpTo}
+use Rattle.it_space.specs.Rows.{Terms, IsCanonical, IsOver}
 use Rattle.it_space.specs.Spaces.{size_of}
 use Rattle.it_space.specs.Answers.{CertificateView, AnswerView}
 use Rattle.it_space.specs.Answers.AnswerView.{Yes, No, Undecided, Region, Contained, Open}
@@ -30,7 +30,7 @@ pub record IsNumbered (c : CertificateView) : Type 0 where
 pub record IsRowIn (size : ℕ) (r : Mark × Terms) : Type 0 where
   pub terms : All IsNumberedAmount r.1
   pub canonical : IsCanonical r.1
-  pub coordinates : IsUpTo size r.1
+  pub coordinates : IsOver size r.1
 
 -- the rate is found by its name
 abbrev pub IsFoundIn : NamesView → ℕ → Type 0

@@ -1,9 +1,9 @@
 -- How many forms lines say to be at least 0.
 use Rattle.std.specs.Prelude.{ℕ, length, sum_by}
 use Rattle.it_question.specs.Questions.{RegionView}
-use Rattle.it_demand.specs.Targets.{demanded_forms}
-use Rattle.it_question.specs.Tables.{line_demands}
+use Rattle.it_demand.specs.Targets.{inequalities_of}
+use Rattle.it_question.specs.ProblemLines.{line_demands}
 
 -- how many forms a region's own lines say to be at least 0
 unfoldable pub obligation_count : RegionView → ℕ
-obligation_count r = sum_by (λ d. length (demanded_forms d.demand.kind d.demand.form)) (line_demands (length r.names.variables) r.lines)
+obligation_count r = sum_by (λ d. length (inequalities_of d.demand.kind d.demand.form)) (line_demands (length r.names.variables) r.lines)

@@ -3,7 +3,7 @@ use Rattle.std.specs.Prelude.{◌≡◌, ◌↔◌, ℕ, ◌+◌, ◌≤◌, ℤ
 use Rattle.it_number.specs.Limit.{IsWithin}
 use Rattle.it_space.specs.Problems.{ProblemView, IsProblem, AreMet}
 use Rattle.it_space.specs.Answers.{CertificateView}
-use Rattle.it_space.specs.Rows.{Terms, IsUpTo, ValueFits, coefficient, value, map_of}
+use Rattle.it_space.specs.Rows.{Terms, IsOver, ValueFits, coefficient, value, point_of}
 use Rattle.it_space.specs.Spaces.{size_of}
 use Rattle.it_polymatroid.specs.Certificates.{IsCertificate}
 use Rattle.it_polymatroid.specs.Elementals.{elementals}
@@ -24,26 +24,26 @@ CertificateFits q target w = (c : ℕ) → 1 ≤ c → c ≤ size_of q.space
 -- a point at which a polymatroid and rates meet the constraints and the target is -1 or less
 pub record RefutesRow (q : ProblemView) (target : Terms) (values : List ℤ) : Type 0 where
   pub complete : length values ≡ size_of q.space
-  pub polymatroid : IsPolymatroid q.space.variables (map_of values)
-  pub met : AreMet (map_of values) q.constraints
-  pub violated : value target (map_of values) ≤ℤ neg_ℤ (pos 1)
+  pub polymatroid : IsPolymatroid q.space.variables (point_of values)
+  pub met : AreMet (point_of values) q.constraints
+  pub violated : value target (point_of values) ≤ℤ neg_ℤ (pos 1)
 
 -- the value of each generator and of the target is formed within the limit
 pub record PointFits (q : ProblemView) (target : Terms) (values : List ℤ) : Type 0 where
-  pub each : All (λ g. ValueFits g.row (map_of values)) (generators q)
-  pub own : ValueFits target (map_of values)
+  pub each : All (λ g. ValueFits g.row (point_of values)) (generators q)
+  pub own : ValueFits target (point_of values)
 
 -- `Valid` exactly where there is a certificate that fits
 abbrev pub ValidYes : Type 0
-ValidYes = (q : ProblemView) (target : Terms) (w : CertificateView) → IsProblem q → IsUpTo (size_of q.space) target
+ValidYes = (q : ProblemView) (target : Terms) (w : CertificateView) → IsProblem q → IsOver (size_of q.space) target
     → (yes_verdict (generators q) (size_of q.space) target w ≡ Valid) ↔ (CertifiesRow q target w × CertificateFits q target w)
 
 -- `Valid` exactly where the point refutes the target and fits
 abbrev pub ValidNo : Type 0
-ValidNo = (q : ProblemView) (target : Terms) (values : List ℤ) → IsProblem q → IsUpTo (size_of q.space) target → length values ≡ size_of q.space
-    → (no_verdict (length (elementals q.space.variables)) (generators q) target (map_of values) ≡ Valid) ↔ (RefutesRow q target values × PointFits q target values)
+ValidNo = (q : ProblemView) (target : Terms) (values : List ℤ) → IsProblem q → IsOver (size_of q.space) target → length values ≡ size_of q.space
+    → (no_verdict (length (elementals q.space.variables)) (generators q) target (point_of values) ≡ Valid) ↔ (RefutesRow q target values × PointFits q target values)
 
 -- a certified target is at least 0 wherever a polymatroid and rates meet the problem
 abbrev pub YesIsTrue : Type 0
-YesIsTrue = (q : ProblemView) (target : Terms) (w : CertificateView) → IsProblem q → IsUpTo (size_of q.space) target → CertifiesRow q target w
+YesIsTrue = (q : ProblemView) (target : Terms) (w : CertificateView) → IsProblem q → IsOver (size_of q.space) target → CertifiesRow q target w
     → (p : ℕ → ℤ) → IsPolymatroid q.space.variables p → AreMet p q.constraints → pos 0 ≤ℤ value target p

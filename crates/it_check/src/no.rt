@@ -1,7 +1,7 @@
 //! The verdict on a counterexample.
 ghost use Rattle.std.specs.Prelude.{◌≡◌, ◌<◌, length, pos};
 ghost use Rattle.it_space.specs.Problems.{IsProblem, problem_view};
-ghost use Rattle.it_space.specs.Rows.{IsUpTo, map_of};
+ghost use Rattle.it_space.specs.Rows.{IsOver, point_of};
 ghost use Rattle.it_space.specs.Spaces.{size_of};
 ghost use Rattle.it_polymatroid.specs.Elementals.{elementals};
 ghost use Rattle.it_elemental.specs.Generators.{generators};
@@ -41,7 +41,7 @@ fn of_generator(problem: &Problem, index: u32, point: &Point) -> Option<Verdict>
     requires problem { IsProblem (problem_view problem.now) }
     requires listed { index < length (generators (problem_view problem.now)) }
     requires complete { length point.now ≡ size_of problem.now.space }
-    ensures { result ≡ of_generator (problem_view problem.now) index (map_of point.now) }
+    ensures { result ≡ of_generator (problem_view problem.now) index (point_of point.now) }
 {
     let Ok(value) = generator_value(problem, index, point) else {
         return Some(Verdict::Width { place: index });
@@ -57,7 +57,7 @@ fn of_generator(problem: &Problem, index: u32, point: &Point) -> Option<Verdict>
 fn of_generators(problem: &Problem, point: &Point) -> Option<Verdict>
     requires problem { IsProblem (problem_view problem.now) }
     requires complete { length point.now ≡ size_of problem.now.space }
-    ensures { result ≡ of_generators (length (elementals problem.now.space.variables)) 0 (generators (problem_view problem.now)) (map_of point.now) }
+    ensures { result ≡ of_generators (length (elementals problem.now.space.variables)) 0 (generators (problem_view problem.now)) (point_of point.now) }
 {
     for index in 0..generator_count(problem) {
         if let Some(verdict) = of_generator(problem, index, point) {
@@ -70,9 +70,9 @@ fn of_generators(problem: &Problem, point: &Point) -> Option<Verdict>
 /// A target that isn't violated, or whose value is wide.
 fn of_target(problem: &Problem, target: &Row, point: &Point) -> Option<Verdict>
     requires problem { IsProblem (problem_view problem.now) }
-    requires target { IsUpTo (size_of problem.now.space) target.now }
+    requires target { IsOver (size_of problem.now.space) target.now }
     requires complete { length point.now ≡ size_of problem.now.space }
-    ensures { result ≡ of_target (length (generators (problem_view problem.now))) (sum_within (pos 0) target.now (map_of point.now)) }
+    ensures { result ≡ of_target (length (generators (problem_view problem.now))) (sum_within (pos 0) target.now (point_of point.now)) }
 {
     let Ok(value) = value(target, point) else {
         let place = generator_count(problem);
@@ -89,9 +89,9 @@ fn of_target(problem: &Problem, target: &Row, point: &Point) -> Option<Verdict>
 /// generators and then the target.
 pub fn check_no(problem: &Problem, target: &Row, point: &Point) -> Verdict
     requires problem { IsProblem (problem_view problem.now) }
-    requires target { IsUpTo (size_of problem.now.space) target.now }
+    requires target { IsOver (size_of problem.now.space) target.now }
     requires complete { length point.now ≡ size_of problem.now.space }
-    ensures { result ≡ no_verdict (length (elementals problem.now.space.variables)) (generators (problem_view problem.now)) target.now (map_of point.now) }
+    ensures { result ≡ no_verdict (length (elementals problem.now.space.variables)) (generators (problem_view problem.now)) target.now (point_of point.now) }
 {
     if let Some(verdict) = of_generators(problem, point) {
         return verdict;

@@ -1,7 +1,7 @@
 //! The values of generators at a point.
 ghost use Rattle.std.specs.Prelude.{◌≡◌, ◌<◌, length};
 ghost use Rattle.it_space.specs.Problems.{IsProblem, problem_view};
-ghost use Rattle.it_space.specs.Rows.{IsValueOrWide, map_of};
+ghost use Rattle.it_space.specs.Rows.{IsValueOrWide, point_of};
 ghost use Rattle.it_space.specs.Spaces.{size_of};
 ghost use Rattle.it_elemental.specs.Generators.{generators, generator_at};
 
@@ -14,7 +14,7 @@ pub fn generator_value(problem: &Problem, index: u32, point: &Point) -> Result<i
     requires problem { IsProblem (problem_view problem.now) }
     requires listed { index < length (generators (problem_view problem.now)) }
     requires complete { length point.now ≡ size_of problem.now.space }
-    ensures { IsValueOrWide (generator_at (generators (problem_view problem.now)) index).row (map_of point.now) result }
+    ensures { IsValueOrWide (generator_at (generators (problem_view problem.now)) index).row (point_of point.now) result }
 {
     let n = problem.space.variables;
     let elementals = count(n);

@@ -3,7 +3,7 @@ ghost use Rattle.std.specs.Prelude.{◌≡◌, ◌<◌, ◌≤◌, ℤ, length, 
 ghost use Rattle.it_number.specs.Limit.{IsWithin};
 ghost use Rattle.it_space.specs.Answers.{certificate_view};
 ghost use Rattle.it_space.specs.Problems.{IsProblem, problem_view};
-ghost use Rattle.it_space.specs.Rows.{IsUpTo, IsValueOrWide, coefficient};
+ghost use Rattle.it_space.specs.Rows.{IsOver, IsValueOrWide, coefficient};
 ghost use Rattle.it_space.specs.Spaces.{size_of};
 ghost use Rattle.it_elemental.specs.Generators.{generators};
 ghost use Rattle.it_check.specs.Verdicts.{column, of_scale, of_weight, of_weights, of_coordinate, of_coordinates, yes_verdict};
@@ -122,7 +122,7 @@ fn of_coordinates(problem: &Problem, target: &Row, certificate: &Certificate) ->
 /// the weights as listed and the coordinates.
 pub fn check_yes(problem: &Problem, target: &Row, certificate: &Certificate) -> Verdict
     requires problem { IsProblem (problem_view problem.now) }
-    requires target { IsUpTo (size_of problem.now.space) target.now }
+    requires target { IsOver (size_of problem.now.space) target.now }
     ensures { result ≡ yes_verdict (generators (problem_view problem.now)) (size_of problem.now.space) target.now (certificate_view certificate.now) }
 {
     if let Some(verdict) = of_scale(certificate) {

@@ -13,7 +13,7 @@ use Rattle.it_space.specs.declared.answers.Mark.{Mark}
 use Rattle.it_space.specs.Answers.{AnswerView, CertificateView}
 use Rattle.it_space.specs.Answers.AnswerView.{Yes, No, Undecided, Region, Contained, Open}
 use Rattle.it_space.specs.Problems.{ProblemView, IsProblem}
-use Rattle.it_space.specs.Rows.{Terms, map_of, value}
+use Rattle.it_space.specs.Rows.{Terms, point_of, value}
 use Rattle.it_space.specs.Spaces.{size_of}
 use Rattle.it_polymatroid.specs.Certificates.{Form}
 use Rattle.it_polymatroid.specs.Polymatroid.{IsPolymatroid}
@@ -39,8 +39,8 @@ use Rattle.it_question.proofs.AsciiLemmas.{texts_are_ascii}
 use Rattle.it_demand.specs.Canonical.{IsRowOf}
 use Rattle.it_demand.specs.Targets.{targets}
 use Rattle.it_demand.specs.LineDemands.{AreRowsOf, space_of}
-use Rattle.it_question.specs.Tables.{problem_names, problem_lines}
-use Rattle.it_canon.specs.QuestionDemands.{variables_of, question_demands, problem_of, terms_in, AreTrueAt, IsProblemOf}
+use Rattle.it_question.specs.ProblemLines.{problem_names, problem_lines}
+use Rattle.it_canon.specs.QuestionDemands.{variable_count, question_demands, problem_of, terms_in, AreTrueAt, IsProblemOf}
 use Rattle.it_canon.proofs.ExistenceLemmas.{question_poses, relation_rows, system_rows}
 use Rattle.it_canon.proofs.ProblemLemmas.{question_met}
 use Rattle.it_region.specs.declared.types.Candidate.{Candidate}
@@ -51,7 +51,7 @@ use Rattle.it_contain.specs.Proposals.{Plan}
 use Rattle.it_answer.specs.declared.types.Budgets.{Budgets}
 use Rattle.it_answer.specs.Forms.{all_demands, CertifiesForm, CertifyAll, Certifies}
 use Rattle.it_answer.specs.Replies.{Reply}
-use Rattle.it_answer.specs.Shows.{IsCounterexample, ShowsRegion, ShowsBy, ShowsContained, ViolatesFirst}
+use Rattle.it_answer.specs.Shows.{IsCounterexample, ShowsRegion, ShowsBy, ShowsContained, Refutes}
 use Rattle.it_answer.specs.DueContainments.{IsDueContainment}
 use Rattle.it_answer.specs.DueEliminations.{IsDueElimination}
 use Rattle.it_answer.specs.DueRelations.{IsDueRelation, PointIsDue}
@@ -107,9 +107,9 @@ module _ (q : BodyView) (posed : IsProblemOf q (problem_of q)) (budget : Option 
   refutes_row : (f : Form) (t : Terms) (values : List ℤ) → IsRowOf (problem_of q).space f t → IsCounterexample q f values → RefutesRow (problem_of q) t values
   refutes_row f t values row c = record {
     complete = to_problem (λ s. length values ≡ size_of s) c.complete;
-    polymatroid = to_problem (λ s. IsPolymatroid s.variables (map_of values)) c.polymatroid;
-    met = (question_met q (problem_of q).space (problem_of q).constraints posed.space posed.constraints (map_of values) refl).1 (to_problem (λ s. AreTrueAt s.variables (map_of values) (problem_lines q)) c.lines_hold);
-    violated = subst (λ (x : ℤ). x ≤ℤ neg_ℤ (pos 1)) (sym (row.same (map_of values) refl)) c.violated;
+    polymatroid = to_problem (λ s. IsPolymatroid s.variables (point_of values)) c.polymatroid;
+    met = (question_met q (problem_of q).space (problem_of q).constraints posed.space posed.constraints (point_of values) refl).1 (to_problem (λ s. AreTrueAt s.variables (point_of values) (problem_lines q)) c.lines_hold);
+    violated = subst (λ (x : ℤ). x ≤ℤ neg_ℤ (pos 1)) (sym (row.same (point_of values) refl)) c.violated;
   }
 
   proof_valid : (f : Form) (t : Terms) (w : CertificateView) → IsRowOf (problem_of q).space f t → CertifiesForm q f w → EndsWith (problem_of q) t budget (proof_views.Yes w) → proof_verdict (problem_of q) t w ≡ Valid
@@ -124,7 +124,7 @@ module _ (q : BodyView) (posed : IsProblemOf q (problem_of q)) (budget : Option 
   proofs_valid (f ∷ fs) (t ∷ ts) (w ∷ ws) z c d =
       ap (λ v. if is_valid v then proofs_verdict (problem_of q) ts ws else v) (proof_valid f t w z.0 c.0 d.0) ∙ proofs_valid fs ts ws z.1 c.1 d.1
 
-  point_valid : (fs : List Form) (ts : List Terms) (back : Bool) (values : List ℤ) → AreRowsOf (problem_of q).space fs ts → ViolatesFirst q fs back values → PointIsDue (problem_of q) budget ts back values
+  point_valid : (fs : List Form) (ts : List Terms) (back : Bool) (values : List ℤ) → AreRowsOf (problem_of q).space fs ts → Refutes q fs back values → PointIsDue (problem_of q) budget ts back values
       → point_verdict (problem_of q) ts back values ≡ Valid
   unfolding point_verdict
   point_valid [] ts back values z c d = absurd c
@@ -238,7 +238,7 @@ module _ (back : ReadsBack) (q : QuestionView) (short : length q.text ≤ 104857
     yes_accepted : (r : RelationView) (ws : List CertificateView) → q.body.verb ≡ Prove r → ProofsAscend (Yes ws) → ShowsBy q.body (Prove r) (Yes ws) → IsDueRelation budgets.pivots q.body r (Yes ws) → IsAccepted (line_of (Yes ws))
     yes_accepted r ws about ascend shown due =
         let fits = right_prove_fits budgets.pivots q.body r (Yes ws) few posed about shown due in
-        let e = proofs_valid q.body posed budgets.pivots (targets (variables_of q.body) r) (map (terms_in q.body) (targets (variables_of q.body) r)) ws (relation_rows q.body limits small r about) shown due in
+        let e = proofs_valid q.body posed budgets.pivots (targets (variable_count q.body) r) (map (terms_in q.body) (targets (variable_count q.body) r)) ws (relation_rows q.body limits small r about) shown due in
         let plain = yes_plain q.text q.body.names text_is ws fits.1 in
         let reads = line_reads (Yes ws) (question_fits q.body (Yes ws) (Prove r) about fits) plain in
         judged_is_accepted (Yes ws) (line_of (Yes ws)) (clear_of (Yes ws) plain) (verdict_by_verb (Yes ws) (Prove r) about (ap Some e))
@@ -249,7 +249,7 @@ module _ (back : ReadsBack) (q : QuestionView) (short : length q.text ≤ 104857
     no_accepted r is_back values about shown due =
         let fits = right_prove_fits budgets.pivots q.body r (No is_back values) few posed about shown due in
         let rows = relation_rows q.body limits small r about in
-        let e = point_valid q.body posed budgets.pivots (targets (variables_of q.body) r) (map (terms_in q.body) (targets (variables_of q.body) r)) is_back values rows shown due in
+        let e = point_valid q.body posed budgets.pivots (targets (variable_count q.body) r) (map (terms_in q.body) (targets (variable_count q.body) r)) is_back values rows shown due in
         let plain = no_plain q.text q.body.names text_is is_back values fits.1 in
         judged_is_accepted (No is_back values) (line_of (No is_back values)) (clear_of (No is_back values) plain) (verdict_by_verb (No is_back values) (Prove r) about (ap Some e))
         (line_reads (No is_back values) (question_fits q.body (No is_back values) (Prove r) about fits) plain)

@@ -7,7 +7,7 @@ use Rattle.it_polymatroid.specs.Polymatroid.{IsPolymatroid}
 use Rattle.it_syntax.specs.Meaning.{RelationView, Holds}
 use Rattle.it_question.specs.declared.types.Question.{Question}
 use Rattle.it_question.specs.Questions.{BodyView, question_view, VerbView, Prove, Eliminate, Contain}
-use Rattle.it_question.specs.Tables.{problem_lines_by, problem_names_by}
+use Rattle.it_question.specs.ProblemLines.{lines_under, names_under}
 use Rattle.it_canon.specs.QuestionDemands.{AreTrueAt}
 use Rattle.it_copy.specs.CopyLines.{CopyView}
 use Rattle.it_copy.specs.declared.types.CopyFault.{CopyFault}
@@ -47,9 +47,9 @@ misfit_text pivots x k fault (Err e) misfit told some = tt
 
 -- of a question about a relation, what holds wherever its problem's lines are true holds wherever its own are
 own_lines : (e : BodyView) (r : RelationView) (verb : VerbView) → verb ≡ Prove r
-    → ((p : ℕ → ℤ) → IsPolymatroid (length (problem_names_by e.names verb).variables) p × AreTrueAt (length (problem_names_by e.names verb).variables) p (problem_lines_by e.lines verb) → Holds (length (problem_names_by e.names verb).variables) p r)
+    → ((p : ℕ → ℤ) → IsPolymatroid (length (names_under e.names verb).variables) p × AreTrueAt (length (names_under e.names verb).variables) p (lines_under e.lines verb) → Holds (length (names_under e.names verb).variables) p r)
     → (p : ℕ → ℤ) → IsPolymatroid (length e.names.variables) p × AreTrueAt (length e.names.variables) p e.lines → Holds (length e.names.variables) p r
-own_lines e r verb is h = subst (λ (v : VerbView). (p : ℕ → ℤ) → IsPolymatroid (length (problem_names_by e.names v).variables) p × AreTrueAt (length (problem_names_by e.names v).variables) p (problem_lines_by e.lines v) → Holds (length (problem_names_by e.names v).variables) p r) is h
+own_lines e r verb is h = subst (λ (v : VerbView). (p : ℕ → ℤ) → IsPolymatroid (length (names_under e.names v).variables) p × AreTrueAt (length (names_under e.names v).variables) p (lines_under e.lines v) → Holds (length (names_under e.names v).variables) p r) is h
 
 pub yes_with_copies : AYesIsTrue → YesByCopies → AYesWithCopiesIsTrue
 yes_with_copies is_true by_copies q e cs r ws limits verb extension shows p copies =

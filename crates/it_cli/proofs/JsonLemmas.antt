@@ -32,16 +32,16 @@ use Rattle.it_syntax.specs.NamesViews.{NamesView}
 use Rattle.it_question.specs.Questions.{BodyView, Prove}
 use Rattle.it_demand.specs.Canonical.{form_of}
 use Rattle.it_demand.specs.Demands.{Demand, States, AreStated, kind_of, LineDemand}
-use Rattle.it_demand.specs.Targets.{targets, demanded_forms}
-use Rattle.it_canon.specs.QuestionDemands.{variables_of, question_demands, problem_of, terms_in, IsProblemOf}
+use Rattle.it_demand.specs.Targets.{targets, inequalities_of}
+use Rattle.it_canon.specs.QuestionDemands.{variable_count, question_demands, problem_of, terms_in, IsProblemOf}
 use Rattle.it_demand.specs.LineDemands.{space_of, system_forms}
-use Rattle.it_question.specs.Tables.{problem_names, problem_names_by}
+use Rattle.it_question.specs.ProblemLines.{problem_names, names_under}
 use Rattle.it_demand.proofs.ZipLemmas.{zip-length}
 use Rattle.it_eliminate.specs.Elimination.{Member}
 use Rattle.it_redundant.specs.ReducedElimination.{ProjectedView}
 use Rattle.it_answer.specs.declared.types.Budgets.{Budgets}
-use Rattle.it_answer.specs.Forms.{all_demands, demand_of_elemental, CertifyAll, MayStand}
-use Rattle.it_answer.specs.Shows.{ShowsBy, ViolatesFirst}
+use Rattle.it_answer.specs.Forms.{all_demands, demand_of_elemental, CertifyAll, IsAllowedWeight}
+use Rattle.it_answer.specs.Shows.{ShowsBy, Refutes}
 use Rattle.it_answer.specs.DueEliminations.{answer_of_end, IsDueElimination}
 use Rattle.it_answer.specs.DueRelations.{PointIsDue, CauseIsDue, IsDueRelation}
 use Rattle.it_answer.proofs.UniqueLemmas.{undecided_same}
@@ -164,12 +164,12 @@ cause_by_end v q target c (Width k) b e = subst (IsCauseFor v) (undecided_same (
 
 -- ---- certificates
 
-pairs_below : (ds : List Demand) → length ds ≤ 2 ^ 32 → (from : ℕ) (ts : Terms) → Ascends from ts → All (MayStand ds) ts → All IsNumberedAmount ts
+pairs_below : (ds : List Demand) → length ds ≤ 2 ^ 32 → (from : ℕ) (ts : Terms) → Ascends from ts → All (IsAllowedWeight ds) ts → All IsNumberedAmount ts
 pairs_below ds few from [] a all = All-nil IsNumberedAmount
 pairs_below ds few from (t ∷ ts) a all =
-    let h = All-head (MayStand ds) t ts all in
+    let h = All-head (IsAllowedWeight ds) t ts all in
     let l : t.0 < 2 ^ 32 = let below = h.0 in omega (arith, below, few) in
-    All-cons IsNumberedAmount t ts (l, a.2) (pairs_below ds few (t.0 + 1) ts a.3 (All-tail (MayStand ds) t ts all))
+    All-cons IsNumberedAmount t ts (l, a.2) (pairs_below ds few (t.0 + 1) ts a.3 (All-tail (IsAllowedWeight ds) t ts all))
 
 -- the run's proofs of targets and of obligations
 pub proofs_scaled : (p : ProblemView) (budget : Option ℕ) (ts : List Terms) (ws : List CertificateView) → AreProofsOf p budget ts ws → All IsScaled ws
@@ -184,20 +184,20 @@ module _ (q : BodyView) (p : ProblemView) (space : p.space ≡ space_of (problem
       let same = zip-length (λ d c. States p.space d.origin d.demand c) (question_demands q) p.constraints stated in
       omega (arith, same, limits.few)
 
-  few_variables : variables_of q ≤ 10
+  few_variables : variable_count q ≤ 10
   few_variables = subst (λ (s : Space). s.variables ≤ 10) space limits.space.few
 
-  few_generators : length (all_demands (variables_of q) (question_demands q)) ≤ 2 ^ 32
+  few_generators : length (all_demands (variable_count q) (question_demands q)) ≤ 2 ^ 32
   unfolding all_demands
   few_generators =
-      let n = variables_of q in
-      let es = map (demand_of_elemental (variables_of q)) (elementals (variables_of q)) in
+      let n = variable_count q in
+      let es = map (demand_of_elemental (variable_count q)) (elementals (variable_count q)) in
       let ds = map (λ (d : LineDemand). d.demand) (question_demands q) in
       let sum = length-append es ds in
-      let first = length-map (elementals (variables_of q)) (demand_of_elemental (variables_of q)) in
+      let first = length-map (elementals (variable_count q)) (demand_of_elemental (variable_count q)) in
       let second = length-map (question_demands q) (λ (d : LineDemand). d.demand) in
       let e : 20000 + 2 ^ 20 ≤ 2 ^ 32 = lit≤ tt in
-      omega (arith, sum, first, second, few_elementals (variables_of q) few_variables, demands_counted, e)
+      omega (arith, sum, first, second, few_elementals (variable_count q) few_variables, demands_counted, e)
 
   -- certificates by the text, of such a shape, are numbered
   pub all_numbered : (fs : List Form) (ws : List CertificateView) → CertifyAll q fs ws → All IsScaled ws → All IsNumbered ws
@@ -205,7 +205,7 @@ module _ (q : BodyView) (p : ProblemView) (space : p.space ≡ space_of (problem
   all_numbered [] (w ∷ ws) c d = absurd c
   all_numbered (f ∷ fs) (w ∷ ws) c d =
       let s = All-head IsScaled w ws d in
-      All-cons IsNumbered w ws (record { scale = s.scale; weights = pairs_below (all_demands (variables_of q) (question_demands q)) few_generators 0 w.weights s.canonical c.0.allowed })
+      All-cons IsNumbered w ws (record { scale = s.scale; weights = pairs_below (all_demands (variable_count q) (question_demands q)) few_generators 0 w.weights s.canonical c.0.allowed })
       (all_numbered fs ws c.1 (All-tail IsScaled w ws d))
 
   pub all_counted : (fs : List Form) (ws : List CertificateView) → CertifyAll q fs ws → length ws ≡ length fs
@@ -223,7 +223,7 @@ module _ (q : BodyView) (posed : IsProblemOf q (problem_of q)) where
   values_due budget (t ∷ []) true values d = absurd d
   values_due budget (t ∷ u ∷ ts) true values d = values_by_end (problem_of q) u posed.limits values d.1.end d.1.follows
 
-  second_only : (s : Sign) (f : Form) (back : Bool) (values : List ℤ) → ViolatesFirst q (demanded_forms (kind_of s) f) back values → back ≡ true → is_equation (kind_of s) ≡ true
+  second_only : (s : Sign) (f : Form) (back : Bool) (values : List ℤ) → Refutes q (inequalities_of (kind_of s) f) back values → back ≡ true → is_equation (kind_of s) ≡ true
   second_only AtLeast f true values c e = absurd c
   second_only AtMost f true values c e = absurd c
   second_only Equal f back values c e = refl
@@ -241,16 +241,16 @@ module _ (q : BodyView) (posed : IsProblemOf q (problem_of q)) where
 pub right_prove_fits : (budget : Option ℕ) (q : BodyView) (r : RelationView) (a : AnswerView) → IfSome budget (λ n. n < 2 ^ 32) → IsProblemOf q (problem_of q) → q.verb ≡ Prove r → ShowsBy q (Prove r) a → IsDueRelation budget q r a
     → HasVerbShape q.names (Prove r) a
 right_prove_fits budget q r (Yes ws) few posed verb shown due = (
-  all_counted q (problem_of q) posed.space posed.limits posed.constraints (targets (variables_of q) r) ws shown ∙ targets_counted (variables_of q) (length q.names.variables) r,
-  all_numbered q (problem_of q) posed.space posed.limits posed.constraints (targets (variables_of q) r) ws shown (proofs_scaled (problem_of q) budget (map (terms_in q) (targets (variables_of q) r)) ws due),
+  all_counted q (problem_of q) posed.space posed.limits posed.constraints (targets (variable_count q) r) ws shown ∙ targets_counted (variable_count q) (length q.names.variables) r,
+  all_numbered q (problem_of q) posed.space posed.limits posed.constraints (targets (variable_count q) r) ws shown (proofs_scaled (problem_of q) budget (map (terms_in q) (targets (variable_count q) r)) ws due),
 )
 right_prove_fits budget q r (No back values) few posed verb shown due =
-    let own : space_of (problem_names q) ≡ space_of q.names = ap (λ (v : _). space_of (problem_names_by q.names v)) verb in (
-      point_size q (targets (variables_of q) r) back values shown ∙ ap size_of own,
-      values_due q posed budget (map (terms_in q) (targets (variables_of q) r)) back values due,
-      second_only q posed r.sign (form_of (variables_of q) r) back values shown,
+    let own : space_of (problem_names q) ≡ space_of q.names = ap (λ (v : _). space_of (names_under q.names v)) verb in (
+      point_size q (targets (variable_count q) r) back values shown ∙ ap size_of own,
+      values_due q posed budget (map (terms_in q) (targets (variable_count q) r)) back values due,
+      second_only q posed r.sign (form_of (variable_count q) r) back values shown,
     )
-right_prove_fits budget q r (Undecided cause) few posed verb shown due = cause_due q posed budget few (map (terms_in q) (targets (variables_of q) r)) cause due
+right_prove_fits budget q r (Undecided cause) few posed verb shown due = cause_due q posed budget few (map (terms_in q) (targets (variable_count q) r)) cause due
 right_prove_fits budget q r (Region rows) few posed verb shown due = absurd shown
 right_prove_fits budget q r (Contained parts proofs) few posed verb shown due = absurd shown
 right_prove_fits budget q r (Open tried) few posed verb shown due = absurd shown
@@ -264,7 +264,7 @@ answer_cause_same c d e = cc
 pub eliminated_cause_fits : (budgets : Budgets) (q : BodyView) (rates : List ℕ) (cause : Cause) → ((r : ℕ) → Member r rates → IsFoundIn q.names r × (step_of (get_or q.names.rates r []) ≡ None))
     → IsDueElimination budgets q rates (Undecided cause) → IsCauseFor q.names cause
 eliminated_cause_fits budgets q rates cause named due =
-    by_end due.end (end_of_rates (problem_of q) budgets.pivots budgets.rows (map (terms_in q) (system_forms (variables_of q) q.lines.rows)) [] [] rates due.end due.ends) due.is
+    by_end due.end (end_of_rates (problem_of q) budgets.pivots budgets.rows (map (terms_in q) (system_forms (variable_count q) q.lines.rows)) [] [] rates due.end due.ends) due.is
   where
     by_end : (end : ProjectedView) → IsEndOf rates end → Undecided cause ≡ answer_of_end end → IsCauseFor q.names cause
     by_end (projections.Region kept dropped) h is = absurd (cc)

@@ -17,7 +17,7 @@ use Rattle.it_space.specs.declared.answers.Answer.TheVariants as answers
 use Rattle.it_space.specs.Answers.{AnswerView, CertificateView, answer_view, certificate_view}
 use Rattle.it_space.specs.declared.answers.Mark.{Mark}
 use Rattle.it_space.specs.Answers as views
-use Rattle.it_space.specs.Rows.{Terms, IsUpTo}
+use Rattle.it_space.specs.Rows.{Terms, IsOver}
 use Rattle.it_space.specs.Spaces.{size_of}
 use Rattle.it_polymatroid.specs.Certificates.{Form}
 use Rattle.it_polymatroid.specs.Elementals.{elementals}
@@ -29,8 +29,8 @@ use Rattle.it_certificate.specs.Values.{IsWritable}
 use Rattle.it_question.specs.Limits.{IsQuestion, IsRegionOf, IsVerbOver}
 use Rattle.it_question.specs.Questions.{BodyView, QuestionView, RegionView, VerbView, Prove, Eliminate, Contain}
 use Rattle.it_demand.specs.Demands.{LineDemand, States, AreStated}
-use Rattle.it_canon.specs.QuestionDemands.{question_demands, problem_of, terms_in, variables_of}
-use Rattle.it_question.specs.Tables.{problem_names, problem_names_by}
+use Rattle.it_canon.specs.QuestionDemands.{question_demands, problem_of, terms_in, variable_count}
+use Rattle.it_question.specs.ProblemLines.{problem_names, names_under}
 use Rattle.it_demand.specs.LineDemands.{space_of, system_forms}
 use Rattle.it_demand.proofs.ZipLemmas.{zip-length}
 use Rattle.it_run.specs.Runs.RunEndView.{Weights, Point, Pivots, Width}
@@ -41,10 +41,10 @@ use Rattle.it_eliminate.proofs.MemberLemmas.{every_member}
 use Rattle.it_redundant.specs.ReducedElimination.{ProjectedView}
 use Rattle.it_redundant.specs.ReducedElimination as projections
 use Rattle.it_answer.specs.declared.types.Budgets.{Budgets}
-use Rattle.it_answer.specs.Shows.{ShowsBy, ViolatesFirst, region_rows}
+use Rattle.it_answer.specs.Shows.{ShowsBy, Refutes, region_rows}
 use Rattle.it_answer.specs.DueEliminations.{IsDueElimination, answer_of_end}
 use Rattle.it_answer.specs.DueRelations.{CauseIsDue, IsDueRelation}
-use Rattle.it_answer.specs.Forms.{CertifyAll, MayStand, all_demands}
+use Rattle.it_answer.specs.Forms.{CertifyAll, IsAllowedWeight, all_demands}
 use Rattle.it_demand.specs.Targets.{targets}
 use Rattle.it_answer.specs.RightAnswers.{IsDueBy, IsRightAnswer}
 use Rattle.it_print.specs.Lines.{IsCauseOf, IsPrintable, IsRowOver, answer_line, auxiliary_names, origins_of}
@@ -52,7 +52,7 @@ use Rattle.it_print.specs.ProofLines.{generator_rows, proof_text}
 use Rattle.it_region.specs.AnswerForms.{answer_forms}
 use Rattle.it_answer.proofs.UniqueLemmas.{undecided_same}
 use Rattle.it_region.specs.declared.types.Candidate.{Candidate}
-use Rattle.it_region.specs.Obligations.{ArePartsOf, obligations}
+use Rattle.it_region.specs.Obligations.{IsSubstitution, obligations}
 use Rattle.it_contain.specs.Proposals.{Plan}
 use Rattle.it_settings.specs.declared.types.Format.TheVariants.{Text, Proof}
 use Rattle.it_cli.specs.Right.{answer_lines}
@@ -70,18 +70,18 @@ origins_same s [] (c ∷ cs) h = absurd h
 origins_same s (d ∷ ds) [] h = absurd h
 origins_same s (d ∷ ds) (c ∷ cs) h = ap₂ (λ x xs. x ∷ xs) h.0.origin (origins_same s ds cs h.1)
 
-certificates : (q : BodyView) (n m : ℕ) (fs : List Form) (cs : List Certificate) → n ≡ variables_of q → m ≡ length (question_demands q) → CertifyAll q fs (map certificate_view cs)
+certificates : (q : BodyView) (n m : ℕ) (fs : List Form) (cs : List Certificate) → n ≡ variable_count q → m ≡ length (question_demands q) → CertifyAll q fs (map certificate_view cs)
     → All (λ (c : Certificate). All (λ (w : ℕ × ℤ). w.0 < length (elementals n) + m) c.weights.items) cs
 certificates q n m [] [] e f c = All-nil (λ (c : Certificate). All (λ (w : ℕ × ℤ). w.0 < length (elementals n) + m) c.weights.items)
 certificates q n m [] (k ∷ ks) e f c = absurd c
 certificates q n m (g ∷ fs) [] e f c = absurd c
 certificates q n m (g ∷ fs) (k ∷ ks) e f c = All-cons (λ (c : Certificate). All (λ (w : ℕ × ℤ). w.0 < length (elementals n) + m) c.weights.items) k ks
-    (All-weaker (MayStand (all_demands (variables_of q) (question_demands q))) (λ (w : ℕ × ℤ). w.0 < length (elementals n) + m)
-    (λ w a. omega (arith, a.0, length-demands (variables_of q) (question_demands q), ap (λ i. length (elementals i)) e, f)) k.weights.items c.0.allowed)
+    (All-weaker (IsAllowedWeight (all_demands (variable_count q) (question_demands q))) (λ (w : ℕ × ℤ). w.0 < length (elementals n) + m)
+    (λ w a. omega (arith, a.0, length-demands (variable_count q) (question_demands q), ap (λ i. length (elementals i)) e, f)) k.weights.items c.0.allowed)
     (certificates q n m fs ks e f c.1)
 
 -- a counterexample has a value for each coordinate
-pub point_size : (q : BodyView) (fs : List Form) (is_back : Bool) (values : List ℤ) → ViolatesFirst q fs is_back values → length values ≡ size_of (space_of (problem_names q))
+pub point_size : (q : BodyView) (fs : List Form) (is_back : Bool) (values : List ℤ) → Refutes q fs is_back values → length values ≡ size_of (space_of (problem_names q))
 point_size q [] is_back values c = absurd c
 point_size q (f ∷ fs) false values c = c.complete
 point_size q (f ∷ []) true values c = absurd c
@@ -112,38 +112,38 @@ cause_of_due p budget m (t ∷ ts) cause (inr e) = cause_of_due p budget m ts ca
 few_names : (q : BodyView) → IsQuestion q → (length (problem_names q).variables ≤ 10) × (length (problem_names q).rates ≤ 16)
 few_names q k = by_verb q.verb k.verb
   where
-    by_verb : (verb : VerbView) → IsVerbOver q.names verb → (length (problem_names_by q.names verb).variables ≤ 10) × (length (problem_names_by q.names verb).rates ≤ 16)
+    by_verb : (verb : VerbView) → IsVerbOver q.names verb → (length (names_under q.names verb).variables ≤ 10) × (length (names_under q.names verb).rates ≤ 16)
     by_verb (Prove r) over = (k.few, k.few_rates)
     by_verb (Eliminate rates) over = (k.few, k.few_rates)
     by_verb (Contain a b tries) over = (over.0.few_variables, subst (λ (rs : List (List ℕ)). length rs ≤ 16) (sym over.0.rates) k.few_rates)
 
 -- and at least one variable
-pub some_names : (q : BodyView) → IsQuestion q → 1 ≤ variables_of q
+pub some_names : (q : BodyView) → IsQuestion q → 1 ≤ variable_count q
 some_names q k = by_verb q.verb k.verb
   where
-    by_verb : (verb : VerbView) → IsVerbOver q.names verb → 1 ≤ length (problem_names_by q.names verb).variables
+    by_verb : (verb : VerbView) → IsVerbOver q.names verb → 1 ≤ length (names_under q.names verb).variables
     by_verb (Prove r) over = k.some
     by_verb (Eliminate rates) over = k.some
     by_verb (Contain a b tries) over = omega (arith, k.some, ap length over.0.variables, length-append q.names.variables over.0.own)
 
 printable_proof : (budget : Option ℕ) (q : BodyView) (r : RelationView) (m : ℕ) (answer : Answer) → IsQuestion q → m ≡ length (question_demands q) → ShowsBy q (Prove r) (answer_view answer)
     → IsDueRelation budget q r (answer_view answer) → IsPrintable q m answer
-printable_proof budget q r m (answers.Yes proofs) k few shown due = certificates q (variables_of q) m (targets (variables_of q) r) proofs.items refl few shown
+printable_proof budget q r m (answers.Yes proofs) k few shown due = certificates q (variable_count q) m (targets (variable_count q) r) proofs.items refl few shown
 printable_proof budget q r m (answers.No is_back point) k few shown due =
-    let size : length point ≡ size_of (space_of (problem_names q)) = point_size q (targets (variables_of q) r) is_back point shown in
+    let size : length point ≡ size_of (space_of (problem_names q)) = point_size q (targets (variable_count q) r) is_back point shown in
     let names = few_names q k in
-    (omega (arith, size, pow_pos (variables_of q)), omega (arith, size, pow_mono {i = variables_of q} {j = 10} names.0, names.1))
-printable_proof budget q r m (answers.Undecided cause) k few shown due = cause_of_due (problem_of q) budget (length (problem_names q).rates) (map (terms_in q) (targets (variables_of q) r)) cause due
+    (omega (arith, size, pow_pos (variable_count q)), omega (arith, size, pow_mono {i = variable_count q} {j = 10} names.0, names.1))
+printable_proof budget q r m (answers.Undecided cause) k few shown due = cause_of_due (problem_of q) budget (length (problem_names q).rates) (map (terms_in q) (targets (variable_count q) r)) cause due
 printable_proof budget q r m (answers.Region rows) k few shown due = absurd shown
 printable_proof budget q r m (answers.Contained parts proofs) k few shown due = absurd shown
 printable_proof budget q r m (answers.Open tried) k few shown due = absurd shown
 
 -- ---- an answer to `eliminate`
 
-region_rows_over : (v : NamesView) (rows : List (Mark × Terms)) → All (IsUpTo (size_of (space_of v))) (region_rows rows) → All (λ (row : Mark × Terms). IsRowOver v row.1) rows
+region_rows_over : (v : NamesView) (rows : List (Mark × Terms)) → All (IsOver (size_of (space_of v))) (region_rows rows) → All (λ (row : Mark × Terms). IsRowOver v row.1) rows
 region_rows_over v [] a = All-nil (λ (row : Mark × Terms). IsRowOver v row.1)
-region_rows_over v (row ∷ rows) a = All-cons (λ (row : Mark × Terms). IsRowOver v row.1) row rows (row_over v row.1 (All-head (IsUpTo (size_of (space_of v))) row.1 (region_rows rows) a))
-    (region_rows_over v rows (All-tail (IsUpTo (size_of (space_of v))) row.1 (region_rows rows) a))
+region_rows_over v (row ∷ rows) a = All-cons (λ (row : Mark × Terms). IsRowOver v row.1) row rows (row_over v row.1 (All-head (IsOver (size_of (space_of v))) row.1 (region_rows rows) a))
+    (region_rows_over v rows (All-tail (IsOver (size_of (space_of v))) row.1 (region_rows rows) a))
 
 -- a cause's rate is one of m
 abbrev IsCauseIn : ℕ → AnswerView → Type 0
@@ -161,7 +161,7 @@ printable_region budgets q rates m (answers.Yes proofs) names within shown due =
 printable_region budgets q rates m (answers.No is_back point) names within shown due = absurd shown
 printable_region budgets q rates m (answers.Undecided cause) names within shown due =
     subst (λ (v : NamesView). IsCauseOf (length v.rates) cause) (sym names) (subst (IsCauseIn (length q.names.rates)) (sym due.is)
-    (cause_of_end (length q.names.rates) rates due.end within (end_of_rates (problem_of q) budgets.pivots budgets.rows (map (terms_in q) (system_forms (variables_of q) q.lines.rows)) [] [] rates due.end due.ends)))
+    (cause_of_end (length q.names.rates) rates due.end within (end_of_rates (problem_of q) budgets.pivots budgets.rows (map (terms_in q) (system_forms (variable_count q) q.lines.rows)) [] [] rates due.end due.ends)))
 printable_region budgets q rates m (answers.Region rows) names within shown due = subst (λ (v : NamesView). All (λ (row : Mark × Terms). IsRowOver v row.1) rows.items) (sym names) (region_rows_over q.names rows.items shown.coordinates)
 printable_region budgets q rates m (answers.Contained parts proofs) names within shown due = absurd shown
 printable_region budgets q rates m (answers.Open tried) names within shown due = absurd shown
@@ -169,7 +169,7 @@ printable_region budgets q rates m (answers.Open tried) names within shown due =
 -- ---- an answer to `contain`
 
 -- the parts are as many as the names of auxiliary variables
-as_many_parts : (q : BodyView) (a b : RegionView) (tries : List (List ℕ)) (parts : List ℕ) → q.verb ≡ Contain a b tries → IsRegionOf q.names b → ArePartsOf a b parts → length parts ≡ length (auxiliary_names q.names q.verb)
+as_many_parts : (q : BodyView) (a b : RegionView) (tries : List (List ℕ)) (parts : List ℕ) → q.verb ≡ Contain a b tries → IsRegionOf q.names b → IsSubstitution a b parts → length parts ≡ length (auxiliary_names q.names q.verb)
 as_many_parts q a b tries parts is region are = are.count ∙ region.counted
     ∙ ap length (sym (ap (auxiliary_names q.names) is ∙ ap (drop (length q.names.variables)) region.variables ∙ drop-append_seam q.names.variables region.own))
 
@@ -181,7 +181,7 @@ printable_containment q a b tries m (answers.Undecided cause) is k few shown = a
 printable_containment q a b tries m (answers.Region rows) is k few shown = absurd shown
 printable_containment q a b tries m (answers.Contained parts proofs) is k few shown = (
   as_many_parts q a b tries parts.items is (subst (IsVerbOver q.names) is k.verb).1 shown.are_parts,
-  certificates q (variables_of q) m (obligations q a b parts.items) proofs.items refl few shown.certified,
+  certificates q (variable_count q) m (obligations q a b parts.items) proofs.items refl few shown.certified,
 )
 printable_containment q a b tries m (answers.Open tried) is k few shown = tt
 
@@ -193,7 +193,7 @@ right_is_printable budgets plans q m answer found k few right = by_verb q.verb r
   where
     by_verb : (verb : VerbView) → q.verb ≡ verb → ShowsBy q verb (answer_view answer) → IsDueBy budgets plans q verb (record { answer = answer_view answer; found = found }) → IsPrintable q m answer
     by_verb (Prove r) is shown due = printable_proof budgets.pivots q r m answer k few shown due.0
-    by_verb (Eliminate rates) is shown due = printable_region budgets q rates m answer (ap (problem_names_by q.names) is) (subst (IsVerbOver q.names) is k.verb).within shown due.0
+    by_verb (Eliminate rates) is shown due = printable_region budgets q rates m answer (ap (names_under q.names) is) (subst (IsVerbOver q.names) is k.verb).within shown due.0
     by_verb (Contain a b tries) is shown due = printable_containment q a b tries m answer is k few shown
 
 -- ---- its texts
@@ -202,7 +202,7 @@ right_is_printable budgets plans q m answer found k few right = by_verb q.verb r
 rates_of_problem : (q : BodyView) → IsQuestion q → (problem_names q).rates ≡ q.names.rates
 rates_of_problem q k = by_verb q.verb k.verb
   where
-    by_verb : (verb : VerbView) → IsVerbOver q.names verb → (problem_names_by q.names verb).rates ≡ q.names.rates
+    by_verb : (verb : VerbView) → IsVerbOver q.names verb → (names_under q.names verb).rates ≡ q.names.rates
     by_verb (Prove r) over = refl
     by_verb (Eliminate rates) over = refl
     by_verb (Contain a b tries) over = over.0.rates

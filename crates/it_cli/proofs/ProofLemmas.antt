@@ -15,8 +15,8 @@ use Rattle.it_elemental.specs.Generators.{Generator, generator_at, generator_lis
 use Rattle.it_question.specs.Questions.{BodyView}
 use Rattle.it_demand.specs.Demands.{AreStated, LineDemand}
 use Rattle.it_demand.specs.LineDemands.{space_of}
-use Rattle.it_question.specs.Tables.{problem_names}
-use Rattle.it_canon.specs.QuestionDemands.{question_demands, terms_in, variables_of}
+use Rattle.it_question.specs.ProblemLines.{problem_names}
+use Rattle.it_canon.specs.QuestionDemands.{question_demands, terms_in, variable_count}
 use Rattle.it_demand.proofs.FormRows.{no_terms}
 use Rattle.it_print.specs.Lines.{IsRowOver}
 use Rattle.it_print.specs.ProofLines.{generator_rows}
@@ -32,15 +32,15 @@ item_of_map g (b ∷ ys) z y e zero = refl
 item_of_map g (b ∷ ys) z y e (suc i) = item_of_map g ys z y e i
 
 generators_are_demands : (q : BodyView) (cs : List Constraint) → AreStated (space_of (problem_names q)) (question_demands q) cs
-    → generator_list (variables_of q) cs ≡ map (row_of_demand q) (all_demands (variables_of q) (question_demands q))
+    → generator_list (variable_count q) cs ≡ map (row_of_demand q) (all_demands (variable_count q) (question_demands q))
 unfolding all_demands
 generators_are_demands q cs stated = generators_are (space_of (problem_names q)) (question_demands q) cs stated
-    ∙ ap₂ (λ (xs ys : List Generator). xs ++ ys) (sym (map-map (row_of_demand q) (demand_of_elemental (variables_of q)) (elementals (variables_of q)))) (sym (map-map (row_of_demand q) (λ (d : LineDemand). d.demand) (question_demands q)))
-    ∙ sym (map-append (row_of_demand q) (map (demand_of_elemental (variables_of q)) (elementals (variables_of q))) (map (λ (d : LineDemand). d.demand) (question_demands q)))
+    ∙ ap₂ (λ (xs ys : List Generator). xs ++ ys) (sym (map-map (row_of_demand q) (demand_of_elemental (variable_count q)) (elementals (variable_count q)))) (sym (map-map (row_of_demand q) (λ (d : LineDemand). d.demand) (question_demands q)))
+    ∙ sym (map-append (row_of_demand q) (map (demand_of_elemental (variable_count q)) (elementals (variable_count q))) (map (λ (d : LineDemand). d.demand) (question_demands q)))
 
 pub generator_rows_are : (q : BodyView) (cs : List Constraint) → AreStated (space_of (problem_names q)) (question_demands q) cs → generator_rows (problem_names q) cs ≡ question_generators q
 generator_rows_are q cs stated = fun_ext (λ g. ap (λ (gs : List Generator). generator_at gs g) (generators_are_demands q cs stated)
-    ∙ item_of_map (row_of_demand q) (all_demands (variables_of q) (question_demands q)) _ _ (ap (λ (t : Terms). let x : Generator = record { kind = Inequality; row = t } in x) (sym (no_terms (size_of (space_of (problem_names q)))))) g)
+    ∙ item_of_map (row_of_demand q) (all_demands (variable_count q) (question_demands q)) _ _ (ap (λ (t : Terms). let x : Generator = record { kind = Inequality; row = t } in x) (sym (no_terms (size_of (space_of (problem_names q)))))) g)
 
 -- the rows of the constraints, and those of which an answer has certificates, are over the question's coordinates
 stated_over : (q : BodyView) (ds : List LineDemand) (cs : List Constraint) → AreStated (space_of (problem_names q)) ds cs → All (λ (c : Constraint). IsRowOver (problem_names q) c.row) cs

@@ -14,7 +14,7 @@ use Rattle.it_space.specs.Answers.AnswerView.{Region}
 use Rattle.it_space.specs.Cancelling.{times_up, times_down, cancelled_row, CancelFits}
 use Rattle.it_space.specs.Divisors.{lowest_terms}
 use Rattle.it_space.specs.Problems.{ProblemView}
-use Rattle.it_space.specs.Rows.{Terms, Ascends, IsCanonical, IsUpTo, coefficient}
+use Rattle.it_space.specs.Rows.{Terms, Ascends, IsCanonical, IsOver, coefficient}
 use Rattle.it_space.specs.Spaces.{size_of}
 use Rattle.it_space.proofs.CanonicalRows.{other_is, Rises, none_under, first_is}
 use Rattle.it_space.proofs.Contents.{content_pos, divided_all}
@@ -24,8 +24,8 @@ use Rattle.it_polymatroid.specs.Certificates.{Form}
 use Rattle.it_question.specs.Questions.{BodyView}
 use Rattle.it_question.specs.Limits.{IsQuestion}
 use Rattle.it_demand.specs.LineDemands.{AreRowsOf, space_of, system_forms}
-use Rattle.it_question.specs.Tables.{problem_names}
-use Rattle.it_canon.specs.QuestionDemands.{problem_of, terms_in, variables_of}
+use Rattle.it_question.specs.ProblemLines.{problem_names}
+use Rattle.it_canon.specs.QuestionDemands.{problem_of, terms_in, variable_count}
 use Rattle.it_eliminate.specs.Elimination.{EliminationEnds, PairsFit, with_row, with_lowest_rows, ordered_rows, results, next_list}
 use Rattle.it_eliminate.specs.Elimination as elimination
 use Rattle.it_eliminate.proofs.MemberLemmas.{every_member, member_every}
@@ -123,29 +123,29 @@ answer_same rows others e = cc
 
 -- where the terms of the lines' forms are their rows
 abbrev HasSystemRows : BodyView → Type 0
-HasSystemRows q = AreRowsOf (space_of (problem_names q)) (system_forms (variables_of q) q.lines.rows) (map (terms_in q) (system_forms (variables_of q) q.lines.rows))
+HasSystemRows q = AreRowsOf (space_of (problem_names q)) (system_forms (variable_count q) q.lines.rows) (map (terms_in q) (system_forms (variable_count q) q.lines.rows))
 
 rows_canonical : (budgets : Budgets) (q : BodyView) (rates : List ℕ) (rows : List (Mark × Terms)) → HasSystemRows q → IsDueElimination budgets q rates (Region rows) → Every IsCanonical (region_rows rows)
 rows_canonical budgets q rates rows are due = by_end due.end due.ends due.is
   where
-    by_end : (end : ProjectedView) → ReducedEnds (problem_of q) budgets.pivots budgets.rows (map (terms_in q) (system_forms (variables_of q) q.lines.rows)) [] [] rates end → Region rows ≡ answer_of_end end → Every IsCanonical (region_rows rows)
+    by_end : (end : ProjectedView) → ReducedEnds (problem_of q) budgets.pivots budgets.rows (map (terms_in q) (system_forms (variable_count q) q.lines.rows)) [] [] rates end → Region rows ≡ answer_of_end end → Every IsCanonical (region_rows rows)
     by_end (projections.Region kept dropped) e is =
         subst (λ (rs : List (Mark × Terms)). Every IsCanonical (region_rows rs)) (sym (answer_same rows (marked_rows kept) is))
-        (marked_canonical kept (kept_canonical (problem_of q) budgets.pivots budgets.rows (map (terms_in q) (system_forms (variables_of q) q.lines.rows)) [] kept [] dropped rates (stated_canonical _ _ _ are) tt e))
+        (marked_canonical kept (kept_canonical (problem_of q) budgets.pivots budgets.rows (map (terms_in q) (system_forms (variable_count q) q.lines.rows)) [] kept [] dropped rates (stated_canonical _ _ _ are) tt e))
     by_end (projections.Rows r) e is = absurd (cc)
     by_end (projections.Wide r) e is = absurd (cc)
 
-pairs_of_row : (size from : ℕ) (ts : Terms) → size < 2 ^ 32 → Ascends from ts → IsUpTo size ts → All IsNumberedAmount ts
+pairs_of_row : (size from : ℕ) (ts : Terms) → size < 2 ^ 32 → Ascends from ts → IsOver size ts → All IsNumberedAmount ts
 pairs_of_row size from [] few a up = All-nil IsNumberedAmount
 pairs_of_row size from (t ∷ ts) few a up =
     let h = All-head (λ (u : ℕ × ℤ). (1 ≤ u.0) × (u.0 ≤ size)) t ts up in
     All-cons IsNumberedAmount t ts (omega (arith, h.1, few), a.2) (pairs_of_row size (t.0 + 1) ts few a.3 (All-tail (λ (u : ℕ × ℤ). (1 ≤ u.0) × (u.0 ≤ size)) t ts up))
 
-rows_fit : (size : ℕ) (rows : List (Mark × Terms)) → size < 2 ^ 32 → All (IsUpTo size) (region_rows rows) → Every IsCanonical (region_rows rows) → All (IsRowIn size) rows
+rows_fit : (size : ℕ) (rows : List (Mark × Terms)) → size < 2 ^ 32 → All (IsOver size) (region_rows rows) → Every IsCanonical (region_rows rows) → All (IsRowIn size) rows
 rows_fit size [] few up canonical = All-nil (IsRowIn size)
 rows_fit size (r ∷ rows) few up canonical =
-    let h = All-head (IsUpTo size) r.1 (region_rows rows) up in
-    All-cons (IsRowIn size) r rows (record { terms = pairs_of_row size 0 r.1 few canonical.0 h; canonical = canonical.0; coordinates = h }) (rows_fit size rows few (All-tail (IsUpTo size) r.1 (region_rows rows) up) canonical.1)
+    let h = All-head (IsOver size) r.1 (region_rows rows) up in
+    All-cons (IsRowIn size) r rows (record { terms = pairs_of_row size 0 r.1 few canonical.0 h; canonical = canonical.0; coordinates = h }) (rows_fit size rows few (All-tail (IsOver size) r.1 (region_rows rows) up) canonical.1)
 
 few_coordinates : (q : BodyView) → IsQuestion q → size_of (space_of q.names) < 2 ^ 32
 few_coordinates q k = omega (arith, pow_mono {i = length q.names.variables} {j = 10} k.few, k.few_rates)

@@ -6,7 +6,7 @@ use Rattle.it_space.specs.Problems.{ProblemView}
 use Rattle.it_space.specs.Rows.{Terms}
 use Rattle.it_question.specs.Questions.{BodyView, VerbView, Prove, Eliminate, Contain}
 use Rattle.it_demand.specs.Targets.{targets}
-use Rattle.it_canon.specs.QuestionDemands.{problem_of, terms_in, variables_of}
+use Rattle.it_canon.specs.QuestionDemands.{problem_of, terms_in, variable_count}
 use Rattle.it_redundant.specs.ReducedElimination.{ProjectedView}
 use Rattle.it_redundant.specs.ReducedElimination as projections
 use Rattle.it_region.specs.declared.types.Candidate.{Candidate}
@@ -32,7 +32,7 @@ module _ (never : proofs.NeverOutOfSteps) where
   by_verb : (budgets : Budgets) (plans : List Plan) (q : BodyView) (verb : VerbView) (steps : ℕ) (found : List Candidate) → budgets.pivots ≡ None
       → IsDueBy budgets plans q verb (record { answer = Undecided (causes.Pivots steps); found = found }) → ⊥
   by_verb budgets plans q (Prove r) steps found none due =
-      let rows = map (terms_in q) (targets (variables_of q) r) in no_cause (problem_of q) steps rows (subst (λ (o : Option ℕ). CauseIsDue (problem_of q) o rows (causes.Pivots steps)) none due.0)
+      let rows = map (terms_in q) (targets (variable_count q) r) in no_cause (problem_of q) steps rows (subst (λ (o : Option ℕ). CauseIsDue (problem_of q) o rows (causes.Pivots steps)) none due.0)
   by_verb budgets plans q (Eliminate rates) steps found none due = no_steps_at_region_end steps due.0.end due.0.is
   by_verb budgets plans q (Contain a b tries) steps found none due = absurd due
 

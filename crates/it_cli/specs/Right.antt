@@ -7,7 +7,7 @@ use Rattle.it_space.specs.Answers.{AnswerView}
 use Rattle.it_elemental.specs.Generators.{Generator}
 use Rattle.it_question.specs.Questions.{BodyView, QuestionView}
 use Rattle.it_demand.specs.Demands.{Demand}
-use Rattle.it_canon.specs.QuestionDemands.{question_demands, terms_in, variables_of}
+use Rattle.it_canon.specs.QuestionDemands.{question_demands, terms_in, variable_count}
 use Rattle.it_region.specs.declared.types.Candidate.{Candidate}
 use Rattle.it_contain.specs.Proposals.{Plan, plan_after_all}
 use Rattle.it_certificate.specs.Values.{answer_text}
@@ -39,7 +39,7 @@ row_of_demand q d = record { kind = d.kind; row = terms_in q d.form }
 
 -- the rows of a question's generators, by number
 abbrev pub question_generators : BodyView → ℕ → Generator
-question_generators q g = row_of_demand q (demand_at (all_demands (variables_of q) (question_demands q)) g)
+question_generators q g = row_of_demand q (demand_at (all_demands (variable_count q) (question_demands q)) g)
 
 -- the lines of an answer to question k
 abbrev pub answer_lines : Format → ℕ → QuestionView → AnswerView → List ℕ

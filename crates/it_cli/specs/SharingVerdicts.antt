@@ -2,7 +2,7 @@
 use Rattle.std.specs.Prelude.{ℕ, Bool, ℤ, pos, ◌≤ℤ◌, ◌-ℤ◌, ◌*ℤ◌, List, length, ◌↔◌}
 use Rattle.it_space.specs.Answers.{CertificateView}
 use Rattle.it_space.specs.Answers.AnswerView.{Yes, No}
-use Rattle.it_space.specs.Rows.{map_of}
+use Rattle.it_space.specs.Rows.{point_of}
 use Rattle.it_syntax.specs.Meaning.{Holds}
 use Rattle.it_answer.specs.Shows.{Shows}
 use Rattle.it_canon.specs.Sides.{left_form, right_form}
@@ -18,7 +18,7 @@ AYesHoldsWherePerfect = (x : SharingView) (ws : List CertificateView) → IsShar
 -- where a no is shown, its values are such a polymatroid at which the relation doesn't hold
 abbrev pub ANoSharesPerfectly : Type 0
 ANoSharesPerfectly = (x : SharingView) (is_back : Bool) (values : List ℤ) → IsSharing x → Shows (made_question x).body (No is_back values)
-    → SharesPerfectly x (map_of values) × (Holds (length x.names.variables) (map_of values) x.relation → ⊥)
+    → SharesPerfectly x (point_of values) × (Holds (length x.names.variables) (point_of values) x.relation → ⊥)
 
 -- a factor holds for the made question exactly where it holds at all such polymatroids
 abbrev pub FactorsHoldWherePerfect : Type 0

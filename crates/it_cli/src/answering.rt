@@ -6,7 +6,7 @@ ghost use Rattle.it_question.specs.Limits.{IsQuestion};
 ghost use Rattle.it_question.specs.Questions.{question_view, question_body};
 ghost use Rattle.it_demand.specs.Demands.{AreStated};
 ghost use Rattle.it_demand.specs.LineDemands.{space_of};
-ghost use Rattle.it_question.specs.Tables.{problem_names};
+ghost use Rattle.it_question.specs.ProblemLines.{problem_names};
 ghost use Rattle.it_canon.specs.QuestionDemands.{question_demands};
 ghost use Rattle.it_answer.specs.AnswerKinds.{IsAnswerTo};
 ghost use Rattle.it_print.specs.Lines.{IsPrintable};

@@ -6,7 +6,7 @@ use Rattle.it_space.specs.declared.spaces.Space.{Space}
 use Rattle.it_space.specs.declared.problems.Kind.{Kind}
 use Rattle.it_space.specs.declared.problems.Kind.TheVariants.{Inequality, Equation}
 use Rattle.it_space.specs.declared.problems.Constraint.{Constraint}
-use Rattle.it_space.specs.Rows.{Terms, IsUpTo}
+use Rattle.it_space.specs.Rows.{Terms, IsOver}
 use Rattle.it_space.proofs.BoolLemmas.{both_true}
 use Rattle.it_space.proofs.OptionLemmas.{some_same, none_is_not_some}
 use Rattle.it_closure.specs.declared.dependences.Dependence.{Dependence}
@@ -36,7 +36,7 @@ term_is zero a h = absurd (omega arith)
 term_is (suc k) a h = refl
 
 -- the ends are those of the row
-pub row_found : (terms : Terms) (size : ℕ) (e : SetPair) → IsUpTo size terms → ends_of terms ≡ Some e → terms ≡ dependence_row e.negated e.from e.to
+pub row_found : (terms : Terms) (size : ℕ) (e : SetPair) → IsOver size terms → ends_of terms ≡ Some e → terms ≡ dependence_row e.negated e.from e.to
 row_found [] size e u q = absurd (none_is_not_some e q)
 row_found (t ∷ []) size e u q = by_first_test (is_one t.1) refl
   where
@@ -104,7 +104,7 @@ equation_is : (k : Kind) → is_equation k ≡ true → k ≡ Equation
 equation_is Inequality e = absurd (false≢true e)
 equation_is Equation e = refl
 
-says_dependence : (s : Space) (size g : ℕ) (c : Constraint) (d : Dependence) → IsUpTo size c.row → read_one s.variables g c ≡ Some d → SaysDependence s c d × (d.generator ≡ g)
+says_dependence : (s : Space) (size g : ℕ) (c : Constraint) (d : Dependence) → IsOver size c.row → read_one s.variables g c ≡ Some d → SaysDependence s c d × (d.generator ≡ g)
 says_dependence s size g c d u q = by_test (is_given c.origin && is_equation c.kind) refl
   where
     by_option : (o : Option SetPair) → ends_of c.row ≡ o → (is_given c.origin && is_equation c.kind) ≡ true → with_number s.variables g o ≡ Some d → SaysDependence s c d × (d.generator ≡ g)

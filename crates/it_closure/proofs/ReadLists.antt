@@ -4,7 +4,7 @@ use Rattle.std.proofs.lemmas.List.Elements.{All-head, All-tail}
 use Rattle.it_space.specs.declared.spaces.Space.{Space}
 use Rattle.it_space.specs.declared.problems.Constraint.{Constraint}
 use Rattle.it_space.specs.Problems.{ProblemView, IsProblem}
-use Rattle.it_space.specs.Rows.{IsUpTo}
+use Rattle.it_space.specs.Rows.{IsOver}
 use Rattle.it_space.specs.Spaces.{size_of}
 use Rattle.std.specs.List.{AllByRecursion as Every}
 use Rattle.it_space.proofs.EveryLemmas.{all_of, every-append}
@@ -20,7 +20,7 @@ pub record IsRead (s : Space) (cs : List Constraint) (g : ℕ) (d : Dependence) 
   pub number : d.generator ≡ g + place
   pub is : (c : Constraint) → SaysDependence s (Rattle.std.specs.Prelude.slice_index_or cs place c) d
 
-first_is_read : (s : Space) (size g : ℕ) (c : Constraint) (cs : List Constraint) (o : Option Dependence) → IsUpTo size c.row → read_one s.variables g c ≡ o → Every (IsRead s (c ∷ cs) g) (dependence_list o)
+first_is_read : (s : Space) (size g : ℕ) (c : Constraint) (cs : List Constraint) (o : Option Dependence) → IsOver size c.row → read_one s.variables g c ≡ o → Every (IsRead s (c ∷ cs) g) (dependence_list o)
 first_is_read s size g c cs None u e = tt
 first_is_read s size g c cs (Some d) u e =
     let r = (reads_exactly s size g c d u).0 e in
@@ -30,11 +30,11 @@ later_are_read : (s : Space) (c : Constraint) (cs : List Constraint) (g : ℕ) (
 later_are_read s c cs g [] e = tt
 later_are_read s c cs g (d ∷ ds) e = (record { place = suc e.0.place; inside = omega (arith, e.0.inside); number = e.0.number ∙ omega arith; is = λ x. e.0.is x }, later_are_read s c cs g ds e.1)
 
-pub all_read : (s : Space) (size g : ℕ) (cs : List Constraint) → All (λ c. IsUpTo size c.row) cs → Every (IsRead s cs g) (read_from s.variables g cs)
+pub all_read : (s : Space) (size g : ℕ) (cs : List Constraint) → All (λ c. IsOver size c.row) cs → Every (IsRead s cs g) (read_from s.variables g cs)
 all_read s size g [] u = tt
 all_read s size g (c ∷ cs) u = every-append (IsRead s (c ∷ cs) g) (dependence_list (read_one s.variables g c)) (read_from s.variables (g + 1) cs)
-    (first_is_read s size g c cs (read_one s.variables g c) (All-head (λ c. IsUpTo size c.row) c cs u) refl)
-    (later_are_read s c cs g (read_from s.variables (g + 1) cs) (all_read s size (g + 1) cs (All-tail (λ c. IsUpTo size c.row) c cs u)))
+    (first_is_read s size g c cs (read_one s.variables g c) (All-head (λ c. IsOver size c.row) c cs u) refl)
+    (later_are_read s c cs g (read_from s.variables (g + 1) cs) (all_read s size (g + 1) cs (All-tail (λ c. IsOver size c.row) c cs u)))
 
 each_is_dependence : (s : Space) (cs : List Constraint) (g : ℕ) (x : Constraint) (ds : List Dependence) → Every (IsRead s cs g) ds → Every (IsDependenceOf s) ds
 each_is_dependence s cs g x [] e = tt
@@ -46,6 +46,6 @@ read_of_space q g p = record {
   each = all_of (IsDependenceOf q.space) (read_from q.space.variables g q.constraints) (constraints_read q.constraints p.rows);
 }
   where
-    constraints_read : (cs : List Constraint) → All (λ c. IsUpTo (size_of q.space) c.row) cs → Every (IsDependenceOf q.space) (read_from q.space.variables g cs)
+    constraints_read : (cs : List Constraint) → All (λ c. IsOver (size_of q.space) c.row) cs → Every (IsDependenceOf q.space) (read_from q.space.variables g cs)
     constraints_read [] u = tt
     constraints_read (c ∷ cs) u = each_is_dependence q.space (c ∷ cs) g c (read_from q.space.variables g (c ∷ cs)) (all_read q.space (size_of q.space) g (c ∷ cs) u)

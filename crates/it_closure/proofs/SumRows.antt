@@ -1,6 +1,6 @@
 -- The row of the sums at places.
 use Rattle.std.proofs.Common.{◌≡◌, ℕ, ◌+◌, ◌<◌, ℤ, List, drop, ◌∙◌}
-use Rattle.it_space.specs.Rows.{Terms, coefficient, Ascends, IsUpTo}
+use Rattle.it_space.specs.Rows.{Terms, coefficient, Ascends, IsOver}
 use Rattle.it_space.specs.Sums.{terms_from}
 use Rattle.it_space.proofs.SumLemmas.{terms_from_one, row_ascends, row_up_to}
 use Rattle.it_polymatroid.proofs.Coefficients.{value_told}
@@ -13,7 +13,7 @@ pub record IsRowOfSums (n : ℕ) (ds : List Dependence) (terms : Terms) (size : 
   pub canonical : Ascends 0 new
   pub coefficients : (c : ℕ) → 0 < c → coefficient new c ≡ coefficient (placed_terms n ds terms) c
   pub collapse : IsCollapseOf n ds terms new
-  pub coordinates : IsUpTo size new
+  pub coordinates : IsOver size new
 
 pub row_of_sums : (n : ℕ) (ds : List Dependence) (terms new : Terms) (size : ℕ) (values : List ℤ) → new ≡ terms_from 1 (drop 1 values) → ArePlaced n ds terms (size + 1) values → IsRowOfSums n ds terms size new
 row_of_sums n ds terms new size values e a = rw e (record {

@@ -1,7 +1,7 @@
 //! Rows over closed sets.
 ghost use Rattle.std.specs.Prelude.{◌≡◌, ◌<◌, ◌≤◌, ◌+◌, ◌^◌, ◌+ℤ◌, length, IfOk, IfErr, OnOk, OnErr};
 ghost use Rattle.it_number.specs.Limit.{IsWithin};
-ghost use Rattle.it_space.specs.Rows.{IsUpTo, coefficient};
+ghost use Rattle.it_space.specs.Rows.{IsOver, coefficient};
 ghost use Rattle.it_space.specs.Spaces.{size_of};
 ghost use Rattle.it_space.specs.Sums.{number_at};
 ghost use Rattle.it_closure.specs.Collapse.{AreSumsByPlace, CollapseFits, IsCollapseOf, place};
@@ -32,10 +32,10 @@ impl Dependences {
     /// The row over closed sets: each set replaced by its closure, and sets with the closure of the empty set left out. `Wide`
     /// exactly where a partial sum, by ascending coordinate, is.
     pub fn collapse(&self, alloc: Global, row: &Row) -> Result<Row, RowFault>
-        requires { IsUpTo (size_of self.now.space) row.now }
+        requires { IsOver (size_of self.now.space) row.now }
         ensures row { IfOk result (IsCollapseOf self.now.space.variables self.now.list row.now) }
         ensures coefficients { IfOk result (λ r. AreSumsByPlace self.now.space.variables self.now.list row.now (coefficient r)) }
-        ensures coordinates { IfOk result (IsUpTo (size_of self.now.space)) }
+        ensures coordinates { IfOk result (IsOver (size_of self.now.space)) }
         ensures fits { OnOk result (CollapseFits self.now.space.variables self.now.list row.now) }
         ensures wide { IfErr result (λ fault. fault ≡ RowFault.Wide → ¬ (CollapseFits self.now.space.variables self.now.list row.now)) }
     {
@@ -46,7 +46,7 @@ impl Dependences {
 
 /// The coefficients of a row summed at their places; the sum at 0 is left out.
 fn placed_sums(alloc: Global, dependences: &Dependences, row: &Row) -> Result<Sums, RowFault>
-    requires { IsUpTo (size_of dependences.now.space) row.now }
+    requires { IsOver (size_of dependences.now.space) row.now }
     ensures placed { IfOk result (ArePlaced dependences.now.space.variables dependences.now.list row.now (size_of dependences.now.space + 1)) }
     ensures few { IfOk result (λ s. length s ≤ 2 ^ 11) }
     ensures wide { IfErr result (λ fault. fault ≡ RowFault.Wide → ¬ (CollapseFits dependences.now.space.variables dependences.now.list row.now)) }

@@ -1,7 +1,7 @@
 //! Whether a candidate is proved.
 ghost use Rattle.std.specs.Prelude.{All, IfOk, OnOk};
 ghost use Rattle.it_space.specs.Problems.{IsProblem, problem_view};
-ghost use Rattle.it_space.specs.Rows.{IsUpTo};
+ghost use Rattle.it_space.specs.Rows.{IsOver};
 ghost use Rattle.it_space.specs.Spaces.{size_of};
 ghost use Rattle.it_region.specs.Pairs.{IsPair};
 ghost use Rattle.it_contain.specs.Search.{IsProofBy};
@@ -22,7 +22,7 @@ fn proof_of(
     outcomes: &mut Outcomes,
 ) -> Result<Option<Certificate>, AllocError>
     requires problem { IsProblem (problem_view problem.now) }
-    requires target { IsUpTo (size_of problem.now.space) target.now }
+    requires target { IsOver (size_of problem.now.space) target.now }
     requires outcomes { AreOutcomes (problem_view problem.now) budget outcomes.old }
     ensures proves { IfOk result (λ o. ProvesOne (problem_view problem.now) budget target.now o) }
     ensures outcomes { OnOk result (AreOutcomes (problem_view problem.now) budget outcomes.new) }
@@ -45,7 +45,7 @@ fn proofs_of(
     outcomes: &mut Outcomes,
 ) -> Result<Option<Vec<Certificate>>, AllocError>
     requires problem { IsProblem (problem_view problem.now) }
-    requires targets { All (IsUpTo (size_of problem.now.space)) targets.now }
+    requires targets { All (IsOver (size_of problem.now.space)) targets.now }
     requires outcomes { AreOutcomes (problem_view problem.now) budget outcomes.old }
     ensures proves { IfOk result (λ o. ProvesAll (problem_view problem.now) budget targets.now o) }
     ensures outcomes { OnOk result (AreOutcomes (problem_view problem.now) budget outcomes.new) }

@@ -3,7 +3,7 @@ ghost use Rattle.std.specs.Prelude.{◌≡◌, ℕ, Option, IfOk, OnOk};
 ghost use Rattle.std.specs.Option.{option_map};
 ghost use Rattle.it_space.specs.Answers.{certificate_view};
 ghost use Rattle.it_space.specs.Problems.{IsProblem, problem_view};
-ghost use Rattle.it_space.specs.Rows.{IsUpTo};
+ghost use Rattle.it_space.specs.Rows.{IsOver};
 ghost use Rattle.it_space.specs.Spaces.{size_of};
 ghost use Rattle.it_contain.specs.SearchSteps.{AreOutcomes, IsKept, ProvesOne};
 
@@ -54,7 +54,7 @@ impl Outcomes {
         budget: Budget,
     ) -> Result<Option<Certificate>, AllocError>
         requires problem { IsProblem (problem_view problem.now) }
-        requires target { IsUpTo (size_of problem.now.space) target.now }
+        requires target { IsOver (size_of problem.now.space) target.now }
         requires outcomes { AreOutcomes (problem_view problem.now) budget self.old }
         ensures proves { IfOk result (λ o. ProvesOne (problem_view problem.now) budget target.now o) }
         ensures outcomes { OnOk result (AreOutcomes (problem_view problem.now) budget self.new) }

@@ -3,7 +3,7 @@ use Rattle.std.proofs.Common.{◌≡◌, ℕ, ◌<◌, ◌≤◌, length, List, 
 use Rattle.it_space.proofs.OptionLemmas.{some_same}
 use Rattle.it_question.specs.Questions.{BodyView}
 use Rattle.it_question.specs.QuestionLimits.{most_lines}
-use Rattle.it_question.specs.Tables.{HasSmallTable}
+use Rattle.it_question.specs.TableSizes.{HasSmallTable}
 use Rattle.it_copy.specs.declared.types.CopyFault.TheVariants.{Memory, Verb, Copy, Many, Large}
 use Rattle.it_copy.specs.CopyLines.{CopyView}
 use Rattle.it_copy.specs.Extensions.{CanBeMade, first_unplaced}

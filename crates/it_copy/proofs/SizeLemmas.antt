@@ -4,7 +4,7 @@ use Rattle.std.proofs.lemmas.Bool.Decides.{nat_tests}
 use Rattle.it_space.specs.Problems.{ProblemView}
 use Rattle.it_closure.specs.Sizes.{table_size}
 use Rattle.it_question.specs.Questions.{BodyView}
-use Rattle.it_question.specs.Tables.{most_entries}
+use Rattle.it_question.specs.TableSizes.{most_entries}
 use Rattle.it_canon.specs.QuestionDemands.{IsProblemOf}
 use Rattle.it_canon.proofs.SmallProblems.{small_by_problem, small_problem}
 use Rattle.it_copy.specs.ExtensionSteps.{IsLargeBy}

@@ -3,7 +3,7 @@ use Rattle.std.specs.Prelude.{◌≡◌, ◌<◌, ◌≤◌, Bool, true, false, 
 use Rattle.it_syntax.specs.NamesViews.{NamesView}
 use Rattle.it_question.specs.QuestionLimits.{most_lines}
 use Rattle.it_question.specs.Questions.{BodyView}
-use Rattle.it_question.specs.Tables.{HasSmallTable}
+use Rattle.it_question.specs.TableSizes.{HasSmallTable}
 use Rattle.it_copy.specs.declared.types.CopyFault.{CopyFault}
 use Rattle.it_copy.specs.declared.types.CopyFault.TheVariants.{Memory, Verb, Copy, Many, Large}
 use Rattle.it_copy.specs.CopyLines.{CopyView}

@@ -8,7 +8,7 @@ use Rattle.it_syntax.specs.Givens.{GivenView}
 use Rattle.it_question.specs.NewNames.{Variable, is_taken, with_name}
 use Rattle.it_question.specs.Questions.{VerbView, Prove, Eliminate, Contain, BodyView}
 use Rattle.it_question.specs.QuestionLimits.{most_lines, most_variables}
-use Rattle.it_question.specs.Tables.{HasSmallTable}
+use Rattle.it_question.specs.TableSizes.{HasSmallTable}
 use Rattle.it_copy.specs.declared.types.CopyFault.{CopyFault}
 use Rattle.it_copy.specs.declared.types.CopyFault.TheVariants as faults
 use Rattle.it_copy.specs.CopyLines.{CopyView}

@@ -6,7 +6,7 @@ ghost use Rattle.it_syntax.specs.Givens.{given_view};
 ghost use Rattle.it_syntax.specs.Meaning.{relation_view};
 ghost use Rattle.it_question.specs.Limits.{IsQuestion};
 ghost use Rattle.it_question.specs.NewNames.{Variable, is_taken, with_name};
-ghost use Rattle.it_question.specs.Tables.{most_entries};
+ghost use Rattle.it_question.specs.TableSizes.{most_entries};
 ghost use Rattle.it_question.specs.Questions.{Prove, question_body, question_view};
 ghost use Rattle.it_question.specs.QuestionLimits.{most_lines, most_variables};
 ghost use Rattle.it_copy.specs.CopyLines.{AreNamed, copy_view};

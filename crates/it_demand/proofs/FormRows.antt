@@ -5,7 +5,7 @@ use Rattle.std.proofs.lemmas.Bool.{cases_order}
 use Rattle.it_space.specs.declared.spaces.Space.{Space}
 use Rattle.it_space.specs.declared.problems.Kind.{Kind}
 use Rattle.it_space.specs.declared.problems.Constraint.{Constraint}
-use Rattle.it_space.specs.Rows.{Terms, Ascends, IsCanonical, IsUpTo, coefficient, one_at, single_term, value}
+use Rattle.it_space.specs.Rows.{Terms, Ascends, IsCanonical, IsOver, coefficient, one_at, single_term, value}
 use Rattle.it_space.specs.Spaces.{size_of}
 use Rattle.it_space.specs.Sums.{terms_from}
 use Rattle.it_space.proofs.CanonicalRows.{head_is, none_below, other_is}
@@ -47,7 +47,7 @@ told_from limit first (suc count) (t ∷ ts) f l a u h = by_order (cases_order t
     by_order (inr (inr k)) same later = later k ∙ ap (λ (x : ℤ). single_term first x ++ rest) (sym (none_below t.0 (t ∷ ts) first (omega arith, a.1, a.2, a.3) k) ∙ h first (omega arith))
 
 -- a canonical row with coordinates up to a number is the terms of each form that has its value at every map that is 0 at 0
-pub told_by_form : (size : ℕ) (form : Form) (row : Terms) → IsCanonical row → IsUpTo size row → ((p : ℕ → ℤ) → p 0 ≡ pos 0 → value row p ≡ form p) → row ≡ terms_of_form size form
+pub told_by_form : (size : ℕ) (form : Form) (row : Terms) → IsCanonical row → IsOver size row → ((p : ℕ → ℤ) → p 0 ≡ pos 0 → value row p ≡ form p) → row ≡ terms_of_form size form
 unfolding terms_of_form
 told_by_form size form row a up same =
     let each = every_of (λ (t : ℕ × ℤ). (1 ≤ t.0) × (t.0 ≤ size)) row up in

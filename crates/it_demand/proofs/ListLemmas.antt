@@ -5,7 +5,7 @@ use Rattle.it_number.proofs.Integers.{zring}
 use Rattle.it_space.proofs.ListLemmas.{drop_item}
 use Rattle.it_polymatroid.specs.Certificates.{Form}
 use Rattle.it_syntax.specs.declared.types.Term.{Term}
-use Rattle.it_syntax.specs.Meaning.{atom_at, side_at, times_of}
+use Rattle.it_syntax.specs.Meaning.{atom_at, side_at, multiplicity}
 use Rattle.it_demand.specs.Coefficients.{dense_form, largest, signed_by, IsFormAdded}
 
 -- the first i items are added, each changing no coefficient by more than a bound, and the form of the rest is still to add
@@ -32,9 +32,9 @@ under_way-more form one bound m old now new items i x h is splits small a u = re
 abbrev pub side_form : ℕ → ℕ → Bool → List Term → Form
 side_form n m negative terms p = signed_by negative (side_at n p m terms)
 
-pub side-splits : (n m : ℕ) (negative : Bool) (t : Term) (ts : List Term) (times : ℤ) → times ≡ signed_by negative (signed_by t.negative (pos (times_of m t)))
+pub side-splits : (n m : ℕ) (negative : Bool) (t : Term) (ts : List Term) (times : ℤ) → times ≡ signed_by negative (signed_by t.negative (pos (multiplicity m t)))
     → (p : ℕ → ℤ) → side_form n m negative (t ∷ ts) p ≡ times *ℤ atom_at n p t.atom +ℤ side_form n m negative ts p
-side-splits n m negative t ts times e p = signed_sum negative times (signed_by t.negative (pos (times_of m t))) (atom_at n p t.atom) (side_at n p m ts) e
+side-splits n m negative t ts times e p = signed_sum negative times (signed_by t.negative (pos (multiplicity m t))) (atom_at n p t.atom) (side_at n p m ts) e
   where
     signed_sum : (b : Bool) (k y x rest : ℤ) → k ≡ signed_by b y → signed_by b (y *ℤ x +ℤ rest) ≡ k *ℤ x +ℤ signed_by b rest
     signed_sum true k y x rest e = rw e (omega (arith, zring))

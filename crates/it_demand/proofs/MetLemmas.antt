@@ -13,12 +13,12 @@ use Rattle.it_syntax.specs.declared.types.Atom.{Atom}
 use Rattle.it_syntax.specs.declared.types.Sign.{Sign}
 use Rattle.it_syntax.specs.declared.types.Sign.TheVariants.{AtLeast, AtMost, Equal}
 use Rattle.it_syntax.specs.declared.types.Atom.TheVariants.{Entropy}
-use Rattle.it_syntax.specs.Meaning.{RelationView, multiple_of, atom_at, side_at, Compares, Holds}
-use Rattle.it_syntax.specs.Givens.{GivenView, Relation, Markov, Independent, Function, IsTrueAt, links, sum_given, union_of}
+use Rattle.it_syntax.specs.Meaning.{RelationView, common_denominator, atom_at, side_at, Relates, Holds}
+use Rattle.it_syntax.specs.Givens.{GivenView, Relation, Markov, Independent, Function, IsTrueAt, links, sum_of_conditionals, union_of}
 use Rattle.it_polymatroid.specs.Certificates.{Form}
 use Rattle.it_demand.specs.Canonical.{IsRowOf, form_of, signed_difference}
 use Rattle.it_demand.specs.Demands.{Demand, LineDemand, kind_of, equation, equations, demand_of, demands, States, AreStated, parts_from, parts_of, AreParts}
-use Rattle.it_demand.specs.Targets.{negation, targets, demanded_forms}
+use Rattle.it_demand.specs.Targets.{negation, targets, inequalities_of}
 use Rattle.it_demand.specs.LineDemands.{given_demands, row_demands, system_forms, AreRowsOf, AreAtLeastZero}
 use Rattle.it_demand.proofs.ZipLemmas.{zip-same, All-parts}
 
@@ -51,7 +51,7 @@ parts_each P part line parts (d ∷ ds) =
 one_demand_met : (p : ℕ → ℤ) (d : Demand) → All (IsSatisfied p) (d ∷ []) ↔ IsSatisfied p d
 one_demand_met p d = (λ m. All-head (IsSatisfied p) d [] m, λ m. All-cons (IsSatisfied p) d [] m (All-nil (IsSatisfied p)))
 
-demand_compares : (s : Sign) (x y : ℤ) → Meets (kind_of s) (signed_difference s (x -ℤ y)) ↔ Compares s x y
+demand_compares : (s : Sign) (x y : ℤ) → Meets (kind_of s) (signed_difference s (x -ℤ y)) ↔ Relates s x y
 demand_compares AtLeast x y = (λ h. omega (arith, ints, h), λ h. omega (arith, ints, h))
 demand_compares AtMost x y = (λ h. omega (arith, ints, h), λ h. omega (arith, ints, h))
 demand_compares Equal x y = (λ h. omega (arith, ints, h), λ h. omega (arith, ints, h))
@@ -72,9 +72,9 @@ pub iff_trans : {A B C : Type 0} → A ↔ B → B ↔ C → A ↔ C
 iff_trans f g = (λ a. g.0 (f.0 a), λ c. f.1 (g.1 c))
 
 demands_satisfied : (n : ℕ) (p : ℕ → ℤ) (c : GivenView) → All (IsSatisfied p) (demands n c) ↔ IsTrueAt n p c
-demands_satisfied n p (Relation r) = iff_trans (one_demand_met p _) (demand_compares r.sign (side_at n p (multiple_of r) r.left) (side_at n p (multiple_of r) r.right))
+demands_satisfied n p (Relation r) = iff_trans (one_demand_met p _) (demand_compares r.sign (side_at n p (common_denominator r) r.left) (side_at n p (common_denominator r) r.right))
 demands_satisfied n p (Markov sets) = links_met n p (links sets)
-demands_satisfied n p (Independent members given) = iff_trans (one_demand_met p _) (difference_is_zero (sum_given n p members given) (atom_at n p (Entropy (union_of members) given)))
+demands_satisfied n p (Independent members given) = iff_trans (one_demand_met p _) (difference_is_zero (sum_of_conditionals n p members given) (atom_at n p (Entropy (union_of members) given)))
 demands_satisfied n p (Function value argument) = one_demand_met p _
 
 -- the parts of a given, where it is true
@@ -101,14 +101,14 @@ rows_satisfied n line [] p = (λ m. All-nil (Holds n p), λ m. All-nil (λ (d : 
 rows_satisfied n line (r ∷ rs) p =
     let first : LineDemand = record { origin = Rate line; demand = demand_of n r } in
     let more = row_demands n (line + 1) rs in
-    let one = demand_compares r.sign (side_at n p (multiple_of r) r.left) (side_at n p (multiple_of r) r.right) in
+    let one = demand_compares r.sign (side_at n p (common_denominator r) r.left) (side_at n p (common_denominator r) r.right) in
     let rest = rows_satisfied n (line + 1) rs p in (
       λ m. All-cons (Holds n p) r rs (one.0 (All-head (λ (d : LineDemand). IsSatisfied p d.demand) first more m)) (rest.0 (All-tail (λ (d : LineDemand). IsSatisfied p d.demand) first more m)),
       λ m. All-cons (λ (d : LineDemand). IsSatisfied p d.demand) first more (one.1 (All-head (Holds n p) r rs m)) (rest.1 (All-tail (Holds n p) r rs m)),
     )
 
 -- the rows of a relation are at least 0 where it holds
-pub targets_met : (s : Sign) (x y : ℤ) (form : Form) (p : ℕ → ℤ) → form p ≡ signed_difference s (x -ℤ y) → All (λ (f : Form). pos 0 ≤ℤ f p) (demanded_forms (kind_of s) form) ↔ Compares s x y
+pub targets_met : (s : Sign) (x y : ℤ) (form : Form) (p : ℕ → ℤ) → form p ≡ signed_difference s (x -ℤ y) → All (λ (f : Form). pos 0 ≤ℤ f p) (inequalities_of (kind_of s) form) ↔ Relates s x y
 targets_met AtLeast x y form p e = (
   λ m. omega (arith, ints, e, All-head (λ (f : Form). pos 0 ≤ℤ f p) form [] m),
   λ h. All-cons (λ (f : Form). pos 0 ≤ℤ f p) form [] (omega (arith, ints, e, h)) (All-nil (λ (f : Form). pos 0 ≤ℤ f p)),
@@ -128,7 +128,7 @@ forms_met : (n : ℕ) (rs : List RelationView) (p : ℕ → ℤ) → All (λ (f 
 forms_met n [] p = (λ m. All-nil (Holds n p), λ m. All-nil (λ (f : Form). pos 0 ≤ℤ f p))
 forms_met n (r ∷ rs) p =
     let P : Form → Type 0 = λ (f : Form). pos 0 ≤ℤ f p in
-    let one = targets_met r.sign (side_at n p (multiple_of r) r.left) (side_at n p (multiple_of r) r.right) (form_of n r) p refl in
+    let one = targets_met r.sign (side_at n p (common_denominator r) r.left) (side_at n p (common_denominator r) r.right) (form_of n r) p refl in
     let rest = forms_met n rs p in (
       λ m. let each = All-parts P (targets n r) (system_forms n rs) m in All-cons (Holds n p) r rs (one.0 each.0) (rest.0 each.1),
       λ m. All-append P (targets n r) (system_forms n rs) (one.1 (All-head (Holds n p) r rs m)) (rest.1 (All-tail (Holds n p) r rs m)),

@@ -2,7 +2,7 @@
 use Rattle.std.proofs.Common.{◌≡◌, ℕ, zero, suc, ◌+◌, ◌-◌, ◌<◌, ◌≤◌, ◌^◌, ℤ, pos, negsuc, ◌+ℤ◌, ◌*ℤ◌, refl, ap, ◌∙◌, arith, List, [], ◌∷◌, length, drop, All, unsigned_abs}
 use Rattle.std.proofs.lemmas.Int.{ints}
 use Rattle.std.proofs.lemmas.List.Elements.{All-nil, All-cons}
-use Rattle.it_space.specs.Rows.{Terms, Ascends, IsUpTo, value}
+use Rattle.it_space.specs.Rows.{Terms, Ascends, IsOver, value}
 use Rattle.it_space.specs.Sums.{terms_from}
 use Rattle.it_demand.specs.Coefficients.{dense_form_from, dense_form, largest, IsNoLarger}
 use Rattle.it_space.proofs.TermLemmas.{ascends_lower}
@@ -29,7 +29,7 @@ pub row-value : (xs : List ℤ) (ts : Terms) (p : ℕ → ℤ) → ts ≡ terms_
 row-value [] ts p e z = ap (λ (r : Terms). value r p) e
 row-value (x ∷ xs) ts p e z = ap (λ (r : Terms). value r p) e ∙ terms-value 1 xs p ∙ omega (arith, ints, ap (λ y. x *ℤ y) z)
 
-pub row_up_to : (xs : List ℤ) (ts : Terms) → ts ≡ terms_from 1 (drop 1 xs) → IsUpTo (length xs - 1) ts
+pub row_up_to : (xs : List ℤ) (ts : Terms) → ts ≡ terms_from 1 (drop 1 xs) → IsOver (length xs - 1) ts
 row_up_to [] ts e = rw e (All-nil (λ t. (1 ≤ t.0) × (t.0 ≤ 0)))
 row_up_to (x ∷ xs) ts e = rw e (terms_up_to (length (x ∷ xs) - 1) 1 xs (omega arith) (omega arith))
 

@@ -4,7 +4,7 @@ use Rattle.std.specs.List.{AllZip, AllByRecursion as Every}
 use Rattle.it_space.specs.declared.problems.Kind.{Kind}
 use Rattle.it_space.specs.declared.problems.Origin.{Origin}
 use Rattle.it_space.specs.declared.problems.Constraint.{Constraint}
-use Rattle.it_space.specs.Rows.{Terms, IsCanonical, IsUpTo, coefficient, one_at, value}
+use Rattle.it_space.specs.Rows.{Terms, IsCanonical, IsOver, coefficient, one_at, value}
 use Rattle.it_space.specs.Spaces.{size_of}
 use Rattle.it_space.proofs.CanonicalRows.{rows_by_coefficients, other_is}
 use Rattle.it_space.proofs.TermLemmas.{value-one_at}
@@ -19,10 +19,10 @@ none_at_zero size [] u = refl
 none_at_zero size (t ∷ ts) u = other_is t ts 0 (λ e. omega (arith, u.0.0, e)) ∙ none_at_zero size ts u.1
 
 -- two canonical rows over the coordinates with one value at every map that is 0 at the empty set
-pub told_by_values : (size : ℕ) (r t : Terms) → IsUpTo size r → IsUpTo size t → IsCanonical r → IsCanonical t → ((p : ℕ → ℤ) → p 0 ≡ pos 0 → value r p ≡ value t p) → r ≡ t
+pub told_by_values : (size : ℕ) (r t : Terms) → IsOver size r → IsOver size t → IsCanonical r → IsCanonical t → ((p : ℕ → ℤ) → p 0 ≡ pos 0 → value r p ≡ value t p) → r ≡ t
 told_by_values size r t up up_also canonical also_canonical values = rows_by_coefficients 0 r t canonical also_canonical same_coefficients
   where
-    zero_at : (x : Terms) → IsUpTo size x → coefficient x 0 ≡ pos 0
+    zero_at : (x : Terms) → IsOver size x → coefficient x 0 ≡ pos 0
     zero_at x i = none_at_zero size x (every_of (λ (t : ℕ × ℤ). (1 ≤ t.0) × (t.0 ≤ size)) x i)
 
     same_coefficients : (c : ℕ) → coefficient r c ≡ coefficient t c

@@ -2,7 +2,7 @@
 use Rattle.std.specs.Prelude.{◌≡◌, ℕ, ℤ, pos, neg_ℤ}
 use Rattle.it_space.specs.declared.spaces.Space.{Space}
 use Rattle.it_space.specs.Bounds.{IsSmall}
-use Rattle.it_space.specs.Rows.{Terms, IsCanonical, IsUpTo, value}
+use Rattle.it_space.specs.Rows.{Terms, IsCanonical, IsOver, value}
 use Rattle.it_space.specs.Spaces.{size_of}
 use Rattle.it_polymatroid.specs.Certificates.{Form}
 use Rattle.it_syntax.specs.declared.types.Sign.{Sign}
@@ -13,7 +13,7 @@ use Rattle.it_syntax.specs.Meaning.{RelationView, difference_at}
 -- small coefficients
 pub record IsRowOf (s : Space) (form : Form) (row : Terms) : Type 0 where
   pub same : (p : ℕ → ℤ) → p 0 ≡ pos 0 → value row p ≡ form p
-  pub coordinates : IsUpTo (size_of s) row
+  pub coordinates : IsOver (size_of s) row
   pub canonical : IsCanonical row
   pub small : IsSmall row
 

@@ -13,7 +13,7 @@ use Rattle.it_syntax.specs.declared.types.Sign.TheVariants.{AtLeast, AtMost, Equ
 use Rattle.it_syntax.specs.declared.types.Atom.{Atom}
 use Rattle.it_syntax.specs.declared.types.Atom.TheVariants.{Entropy}
 use Rattle.it_syntax.specs.Meaning.{RelationView, atom_at}
-use Rattle.it_syntax.specs.Givens.{GivenView, Relation, Markov, Independent, Function, union_of, links, sum_given}
+use Rattle.it_syntax.specs.Givens.{GivenView, Relation, Markov, Independent, Function, union_of, links, sum_of_conditionals}
 use Rattle.it_demand.specs.Canonical.{IsRowOf, form_of}
 
 -- that a form is at least 0, or is 0
@@ -41,7 +41,7 @@ equations n atoms = map (λ atom. equation (λ p. atom_at n p atom)) atoms
 
 -- the sum of the H(A|W) over the members A, less their joint entropy given W
 abbrev pub independence_form : ℕ → List ℕ → ℕ → Form
-independence_form n members given p = sum_given n p members given -ℤ atom_at n p (Entropy (union_of members) given)
+independence_form n members given p = sum_of_conditionals n p members given -ℤ atom_at n p (Entropy (union_of members) given)
 
 -- one demand of a relation, one of each link of a chain, one of an independence and of a function
 abbrev pub demands : ℕ → GivenView → List Demand

@@ -12,10 +12,10 @@ abbrev pub negation : Form → Form
 negation form p = neg_ℤ (form p)
 
 -- the forms that a demand says to be at least 0: its own, and after it the negation of an equation's
-abbrev pub demanded_forms : Kind → Form → List Form
-demanded_forms Inequality form = form ∷ []
-demanded_forms Equation form = form ∷ negation form ∷ []
+abbrev pub inequalities_of : Kind → Form → List Form
+inequalities_of Inequality form = form ∷ []
+inequalities_of Equation form = form ∷ negation form ∷ []
 
 -- the targets of a relation over n variables
 abbrev pub targets : ℕ → RelationView → List Form
-targets n r = demanded_forms (kind_of r.sign) (form_of n r)
+targets n r = inequalities_of (kind_of r.sign) (form_of n r)

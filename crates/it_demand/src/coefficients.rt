@@ -1,9 +1,9 @@
 //! The coefficients of a linear form while it is added up.
 ghost use Rattle.std.specs.Prelude.{◌≡◌, ◌+◌, ◌*◌, ◌-◌, ◌^◌, ◌<◌, ◌≤◌, ℕ, ℤ, pos, ◌-ℤ◌, ◌*ℤ◌, neg_ℤ, unsigned_abs, bit_or, length, All, IfOk};
-ghost use Rattle.it_space.specs.Rows.{IsCanonical, IsUpTo, value};
+ghost use Rattle.it_space.specs.Rows.{IsCanonical, IsOver, value};
 ghost use Rattle.it_space.specs.Spaces.{IsSpace, size_of};
 ghost use Rattle.it_syntax.specs.declared.types.Atom.TheVariants.{Mutual};
-ghost use Rattle.it_syntax.specs.Meaning.{IsAtomOf, atom_at, side_at, times_of};
+ghost use Rattle.it_syntax.specs.Meaning.{IsAtomOf, atom_at, side_at, multiplicity};
 ghost use Rattle.it_demand.specs.Coefficients.{dense_form, largest, IsFormAdded, IsNoLarger, signed_by};
 
 use it_space::{Row, Space, Sums, VarSet};
@@ -122,7 +122,7 @@ impl Coefficients {
         ensures { IsFormAdded self.old self.new (2 ^ 98 * length terms.now) (λ p. signed_by negative (side_at space.variables p multiple terms.now)) }
     {
         for term in terms {
-            self.add_atom(space, term.atom, times_of(*term, multiple, negative));
+            self.add_atom(space, term.atom, multiplicity(*term, multiple, negative));
         }
     }
 
@@ -131,7 +131,7 @@ impl Coefficients {
         requires complete { length self ≤ 1040 }
         requires small { largest self < 2 ^ 127 }
         ensures same { IfOk result (λ row. (p : ℕ → ℤ) → p 0 ≡ pos 0 → value row p ≡ dense_form self p) }
-        ensures coordinates { IfOk result (IsUpTo (length self - 1)) }
+        ensures coordinates { IfOk result (IsOver (length self - 1)) }
         ensures canonical { IfOk result IsCanonical }
         ensures bounded { IfOk result (IsNoLarger self) }
     {
@@ -149,10 +149,10 @@ fn whole_times(number: u64, parts: u64) -> u128
 }
 
 /// How often a term counts its atom, with its sign, on a side that is added so many times, or taken off.
-fn times_of(term: Term, multiple: u64, negative: bool) -> i128
+fn multiplicity(term: Term, multiple: u64, negative: bool) -> i128
     requires some { 1 ≤ term.denominator }
     requires small { multiple ≤ 2 ^ 32 }
-    ensures value { result ≡ signed_by negative (signed_by term.negative (pos (times_of multiple term))) }
+    ensures value { result ≡ signed_by negative (signed_by term.negative (pos (multiplicity multiple term))) }
     ensures small { unsigned_abs result < 2 ^ 96 }
 {
     let number = whole_times(term.number, multiple / term.denominator) as i128;

@@ -2,7 +2,7 @@
 ghost use Rattle.std.specs.Prelude.{◌≡◌, ℕ, ℤ, pos, ◌+◌, ◌*◌, ◌-◌, ◌^◌, ◌<◌, ◌↔◌, [], ◌∷◌, length, IfOk};
 ghost use Rattle.it_space.specs.Problems.{AreMet};
 ghost use Rattle.it_space.specs.Spaces.{IsSpace, size_of};
-ghost use Rattle.it_syntax.specs.Givens.{Markov, given_view, union_of, sum_given, IsTrueAt, AreSetsOf, IsGivenOf};
+ghost use Rattle.it_syntax.specs.Givens.{Markov, given_view, union_of, sum_of_conditionals, IsTrueAt, AreSetsOf, IsGivenOf};
 ghost use Rattle.it_syntax.specs.Meaning.{IsAtomOf, atom_at};
 ghost use Rattle.it_demand.specs.Canonical.{IsRowOf};
 ghost use Rattle.it_demand.specs.Demands.{AreParts, demands, independence_form, kind_of};
@@ -165,7 +165,7 @@ fn add_members(sums: &mut Coefficients, space: Space, members: &[VarSet], given:
     requires given { given < 2 ^ space.variables }
     requires complete { length sums.old ≡ size_of space + 1 }
     requires small { largest sums.old ≡ 0 }
-    ensures { IsFormAdded sums.old sums.new (4 * length members.now) (λ p. sum_given space.variables p members.now given) }
+    ensures { IsFormAdded sums.old sums.new (4 * length members.now) (λ p. sum_of_conditionals space.variables p members.now given) }
 {
     for member in members {
         sums.add_atom(space, Atom::Entropy { of: *member, given }, 1);

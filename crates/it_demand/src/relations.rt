@@ -8,7 +8,7 @@ ghost use Rattle.it_demand.specs.Coefficients.{signed_by};
 
 use crate::coefficients::Coefficients;
 use it_space::{Row, Space};
-use it_syntax::multiple_of;
+use it_syntax::common_denominator;
 use it_syntax::types::{Relation, Sign};
 use std::alloc::{AllocError, Global};
 
@@ -34,7 +34,7 @@ pub fn difference(
     requires within { IsRelationOf space.variables space.rates (relation_view relation.now) }
     ensures { IfOk result (IsRowOf space (λ p. signed_by turned (difference_at space.variables p (relation_view relation.now)))) }
 {
-    let multiple = multiple_of(relation);
+    let multiple = common_denominator(relation);
     let mut sums = Coefficients::new(alloc, space)?;
     sums.add_side(space, relation.left.terms.as_slice(), multiple, turned);
     sums.add_side(space, relation.right.terms.as_slice(), multiple, !turned);

@@ -4,7 +4,7 @@ use Rattle.std.proofs.lemmas.List.{get_or_default, get_or-map, get_or_append_lef
 use Rattle.std.proofs.Math.Pow.{pow_mono}
 use Rattle.it_space.specs.declared.problems.Kind.TheVariants.{Inequality}
 use Rattle.it_space.specs.declared.problems.Constraint.{Constraint}
-use Rattle.it_space.specs.Rows.{Terms, coefficient, IsUpTo}
+use Rattle.it_space.specs.Rows.{Terms, coefficient, IsOver}
 use Rattle.std.proofs.lemmas.List.Elements.{All-head, All-tail}
 use Rattle.it_space.proofs.CanonicalRows.{other_is}
 use Rattle.it_polymatroid.specs.Elementals.{Conditional, elementals, elemental_at}
@@ -46,7 +46,7 @@ few_elementals n h =
     product a b c d h k = native.Mathlib.Nat.mul-le-mul h k
 
 -- past the last coordinate a row has no coefficient
-pub no_coefficient_beyond : (size : ℕ) (ts : Terms) (c : ℕ) → IsUpTo size ts → size < c → coefficient ts c ≡ pos 0
+pub no_coefficient_beyond : (size : ℕ) (ts : Terms) (c : ℕ) → IsOver size ts → size < c → coefficient ts c ≡ pos 0
 no_coefficient_beyond size [] c u h = refl
 no_coefficient_beyond size (t ∷ ts) c u h =
     other_is t ts c (λ e. omega (arith, (All-head (λ (t : ℕ × ℤ). (1 ≤ t.0) × (t.0 ≤ size)) t ts u).1)) ∙ no_coefficient_beyond size ts c (All-tail (λ (t : ℕ × ℤ). (1 ≤ t.0) × (t.0 ≤ size)) t ts u) h
@@ -59,17 +59,17 @@ pub after_is : (n : ℕ) (cs : List Constraint) (i k : ℕ) (d : Constraint) →
     → d ≡ get_or cs (i - k) d → generator_at (generator_list n cs) i ≡ of_constraint d
 after_is n cs i k d e h l is = after_is_constraint n cs i d (omega (arith, e)) l ∙ ap of_constraint (ap (λ k. get_or cs (i - k) d) (sym e) ∙ sym is)
 
-up_to_greater : (n m : ℕ) (row : Terms) → n ≤ m → IsUpTo n row → IsUpTo m row
+up_to_greater : (n m : ℕ) (row : Terms) → n ≤ m → IsOver n row → IsOver m row
 up_to_greater n m row h u i d l = let k = u i d l in (k.0, omega (arith, k.1))
 
 -- the rows of the generators are of the space
-pub rows_of_space : (n : ℕ) (size : ℕ) (cs : List Constraint) → 2 ^ n ≤ size + 1 → All (λ c. IsUpTo size c.row) cs → Every (λ g. IsUpTo size g.row) (generator_list n cs)
+pub rows_of_space : (n : ℕ) (size : ℕ) (cs : List Constraint) → 2 ^ n ≤ size + 1 → All (λ c. IsOver size c.row) cs → Every (λ g. IsOver size g.row) (generator_list n cs)
 unfolding generator_list
-rows_of_space n size cs h a = every-append (λ (g : Generator). IsUpTo size g.row) (map (of_elemental n) (elementals n)) (map of_constraint cs)
-    (every-map (λ (g : Generator). IsUpTo size g.row) (of_elemental n) (elementals n) (every_of (λ e. IsUpTo size (elemental_row n e)) (elementals n)
+rows_of_space n size cs h a = every-append (λ (g : Generator). IsOver size g.row) (map (of_elemental n) (elementals n)) (map of_constraint cs)
+    (every-map (λ (g : Generator). IsOver size g.row) (of_elemental n) (elementals n) (every_of (λ e. IsOver size (elemental_row n e)) (elementals n)
     (λ i d l. let same : get_or (elementals n) i (Conditional 0) ≡ get_or (elementals n) i d = get_or_default (elementals n) i (Conditional 0) d l in
-    up_to_greater (2 ^ n - 1) size (elemental_row n (get_or (elementals n) i d)) (omega arith) (subst (λ e. IsUpTo (2 ^ n - 1) (elemental_row n e)) same (within-row n (get_or (elementals n) i (Conditional 0)) (is_elemental n i l))))))
-    (every-map (λ (g : Generator). IsUpTo size g.row) of_constraint cs (every_of (λ (c : Constraint). IsUpTo size c.row) cs a))
+    up_to_greater (2 ^ n - 1) size (elemental_row n (get_or (elementals n) i d)) (omega arith) (subst (λ e. IsOver (2 ^ n - 1) (elemental_row n e)) same (within-row n (get_or (elementals n) i (Conditional 0)) (is_elemental n i l))))))
+    (every-map (λ (g : Generator). IsOver size g.row) of_constraint cs (every_of (λ (c : Constraint). IsOver size c.row) cs a))
 
 -- what holds of each item holds at each place, where it holds of what is read past the end
 pub every_or : {X : Type 0} (P : X → Type 0) (xs : List X) (i : ℕ) (d : X) → Every P xs → P d → P (get_or xs i d)

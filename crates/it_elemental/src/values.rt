@@ -1,7 +1,7 @@
 //! The values of elemental inequalities at a point.
 ghost use Rattle.std.specs.Prelude.{◌≡◌, ◌<◌, ◌≤◌, ◌^◌, ◌+◌, ◌+ℤ◌, ◌-ℤ◌, length, All, OkIff};
 ghost use Rattle.it_number.specs.Limit.{IsWithin};
-ghost use Rattle.it_space.specs.Rows.{IsValueOrWide, map_of};
+ghost use Rattle.it_space.specs.Rows.{IsValueOrWide, point_of};
 ghost use Rattle.it_polymatroid.specs.Elementals.{Conditional, Mutual, elementals, elemental_at};
 ghost use Rattle.it_elemental.specs.Broken.{AlternatingFits};
 ghost use Rattle.it_elemental.specs.Rows.{elemental_row};
@@ -19,7 +19,7 @@ pub fn value_at(n: u8, index: u32, point: &Point) -> Result<i128, Wide>
     requires few { n ≤ 10 }
     requires listed { index < length (elementals n) }
     requires complete { 2 ^ n ≤ length point.now + 1 }
-    ensures { IsValueOrWide (elemental_row n (elemental_at n index)) (map_of point.now) result }
+    ensures { IsValueOrWide (elemental_row n (elemental_at n index)) (point_of point.now) result }
 {
     match parts(n, index) {
         Elemental::Conditional { of } => conditional_entropy(point, n, of),
@@ -32,7 +32,7 @@ pub fn value_at(n: u8, index: u32, point: &Point) -> Result<i128, Wide>
 /// The value at a set, 0 at the empty set.
 fn at_set(point: &Point, set: VarSet) -> i128
     requires { set ≤ length point.now }
-    ensures value { result ≡ map_of point.now set }
+    ensures value { result ≡ point_of point.now set }
     ensures within { All IsWithin point.now }
 {
     let values = point.values();
@@ -56,7 +56,7 @@ fn conditional_entropy(point: &Point, n: u8, of: u8) -> Result<i128, Wide>
     requires few { n ≤ 10 }
     requires shape { of < n }
     requires complete { 2 ^ n ≤ length point.now + 1 }
-    ensures { IsValueOrWide (elemental_row n (Conditional of)) (map_of point.now) result }
+    ensures { IsValueOrWide (elemental_row n (Conditional of)) (point_of point.now) result }
 {
     difference(
         at_set(point, all_variables(n)),
@@ -75,7 +75,7 @@ fn mutual_information(
     requires few { n ≤ 10 }
     requires shape { IsElemental n (Mutual left right given) }
     requires complete { 2 ^ n ≤ length point.now + 1 }
-    ensures { IsValueOrWide (elemental_row n (Mutual left right given)) (map_of point.now) result }
+    ensures { IsValueOrWide (elemental_row n (Mutual left right given)) (point_of point.now) result }
 {
     let with_left = with_variable(given, left);
     let with_right = with_variable(given, right);

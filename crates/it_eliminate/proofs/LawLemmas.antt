@@ -3,7 +3,7 @@ use Rattle.std.proofs.Common.{◌≡◌, inl, inr, ◌↔◌, ℕ, ◌+◌, ◌^
 use Rattle.it_space.specs.declared.problems.System.{System}
 use Rattle.it_space.specs.declared.spaces.Space.{Space}
 use Rattle.it_space.specs.Problems.{IsSystem}
-use Rattle.it_space.specs.Rows.{Terms, IsUpTo}
+use Rattle.it_space.specs.Rows.{Terms, IsOver}
 use Rattle.it_space.specs.Spaces.{IsSpace, size_of}
 use Rattle.it_eliminate.specs.Elimination.{EliminatedView, Region, Rows, Wide, next_list, EliminationEnds, ordered_rows, list_after}
 use Rattle.it_eliminate.specs.Projections.{IsPointOf, Extends, LacksCoordinate, IsProjection}
@@ -46,12 +46,12 @@ pub is_projection : (most : ℕ) (system region : System) (rates : List ℕ) →
 is_projection most system region rates h same e =
     let ats : List ℕ = map (λ r. 2 ^ system.space.variables + r) rates in
     let is : region.rows.items ≡ list_after ats (ordered_rows system.rows.items) = region_is (2 ^ system.space.variables) most (ordered_rows system.rows.items) rates region.rows.items e in
-    let fits : All (IsUpTo (size_of system.space)) region.rows.items
-    = subst (λ (rs : List Terms). All (IsUpTo (size_of system.space)) rs) (sym is) (projection_up_to (size_of system.space) ats system.rows.items h.rows) in record {
+    let fits : All (IsOver (size_of system.space)) region.rows.items
+    = subst (λ (rs : List Terms). All (IsOver (size_of system.space)) rs) (sym is) (projection_up_to (size_of system.space) ats system.rows.items h.rows) in record {
       space = same;
       system = record {
         space = subst (λ (s : Space). IsSpace s) (sym same) h.space;
-        rows = subst (λ (s : Space). All (IsUpTo (size_of s)) region.rows.items) (sym same) fits;
+        rows = subst (λ (s : Space). All (IsOver (size_of s)) region.rows.items) (sym same) fits;
       };
       free = λ r m. subst (λ (rs : List Terms). LacksCoordinate (2 ^ system.space.variables + r) rs) (sym is)
           (projection_lacks (2 ^ system.space.variables + r) ats system.rows.items (member-map (λ r. 2 ^ system.space.variables + r) r rates m));

@@ -1,7 +1,7 @@
 -- The coordinates of the rows stay those of the space.
 use Rattle.std.proofs.Common.{ℕ, zero, suc, ◌≤◌, ℤ, pos, negsuc, ◌+ℤ◌, List, [], ◌∷◌, ◌++◌, Bool, true, false, nat_eq, nat_lt, All, if◌then◌else◌}
 use Rattle.std.specs.List.{AllByRecursion as Every}
-use Rattle.it_space.specs.Rows.{Terms, IsUpTo, single_term}
+use Rattle.it_space.specs.Rows.{Terms, IsOver, single_term}
 use Rattle.it_space.specs.Divisors.{content, divided_terms, lowest_terms}
 use Rattle.it_space.specs.Cancelling.{times_up, times_down, with_term, row_sum, row_multiple, cancelled_row}
 use Rattle.it_eliminate.proofs.MemberLemmas.{every_member, member_every}
@@ -65,19 +65,19 @@ module _ (size : ℕ) where
   up_to-after [] rows a = a
   up_to-after (at ∷ ats) rows a = up_to-after ats (next_list at rows) (up_to-next at rows a)
 
-  to_each : (rows : List Terms) → All (IsUpTo size) rows → Every UpTo rows
-  to_each rows a = each_row_up_to rows (every_of (IsUpTo size) rows a)
+  to_each : (rows : List Terms) → All (IsOver size) rows → Every UpTo rows
+  to_each rows a = each_row_up_to rows (every_of (IsOver size) rows a)
     where
-      each_row_up_to : (rows : List Terms) → Every (IsUpTo size) rows → Every UpTo rows
+      each_row_up_to : (rows : List Terms) → Every (IsOver size) rows → Every UpTo rows
       each_row_up_to [] a = tt
       each_row_up_to (r ∷ rows) a = (every_of Has r a.0, each_row_up_to rows a.1)
 
-  to_all : (rows : List Terms) → Every UpTo rows → All (IsUpTo size) rows
-  to_all rows a = all_of (IsUpTo size) rows (all_rows_up_to rows a)
+  to_all : (rows : List Terms) → Every UpTo rows → All (IsOver size) rows
+  to_all rows a = all_of (IsOver size) rows (all_rows_up_to rows a)
     where
-      all_rows_up_to : (rows : List Terms) → Every UpTo rows → Every (IsUpTo size) rows
+      all_rows_up_to : (rows : List Terms) → Every UpTo rows → Every (IsOver size) rows
       all_rows_up_to [] a = tt
       all_rows_up_to (r ∷ rows) a = (all_of Has r a.0, all_rows_up_to rows a.1)
 
-  pub projection_up_to : (ats : List ℕ) (rows : List Terms) → All (IsUpTo size) rows → All (IsUpTo size) (list_after ats (ordered_rows rows))
+  pub projection_up_to : (ats : List ℕ) (rows : List Terms) → All (IsOver size) rows → All (IsOver size) (list_after ats (ordered_rows rows))
   projection_up_to ats rows a = to_all (list_after ats (ordered_rows rows)) (up_to-after ats (ordered_rows rows) (up_to-with_lowest_rows [] rows tt (to_each rows a)))

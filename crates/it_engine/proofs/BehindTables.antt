@@ -27,7 +27,7 @@ use Rattle.it_engine.specs.Choosing.{first_negative_cost, is_above_zero}
 use Rattle.it_engine.specs.Loading.{IsNorm}
 use Rattle.it_vectors.specs.Sizes.{AreAtMost, IsShort}
 use Rattle.it_whole.specs.WholeRows.{WholeRowView}
-use Rattle.it_engine.specs.Tables.{IsOver, whole_row_at}
+use Rattle.it_engine.specs.Tables.{IsTableOver, whole_row_at}
 use Rattle.it_engine.proofs.Generators.{table_is_over, number, bottom, price_named, value_bounded}
 use Rattle.it_engine.proofs.NoWide as W
 use Rattle.it_engine.proofs.NamedBehind.{difference_is_named, sum_is_bounded}
@@ -58,7 +58,7 @@ module _ (p : FeasibilityProblem Rational) (b t : SimplexTable Rational) (column
   abbrev pub bottom_now : ℕ → ℕ
   bottom_now = bottom m n limit s.norm p mixed columns rows basis mixed_combines s.shows s.columns_are s.fit s.some
 
-  pub mixed_is_over : IsOver m n mixed number_now bottom_now
+  pub mixed_is_over : IsTableOver m n mixed number_now bottom_now
   mixed_is_over = table_is_over m n limit s.norm p mixed columns rows basis mixed_combines s.shows s.columns_are s.fit s.some
 
   pub moved_named : (i j : ℕ) → i ≤ m → j ≤ n + m → moved i ≡ true → IsRatio (t.entry i j) (number_now i j) (bottom_now i)
@@ -178,7 +178,7 @@ module _ (p : FeasibilityProblem Rational) (b t : SimplexTable Rational) (column
           difference_short x y k l hx hy h = omega (arith, ints, hx, hy, h)
 
       -- all numbers of the table are short, those of the rows that stay behind too, though they aren't formed
-      pub table_is_short : IsOver m n t true_number true_bottom
+      pub table_is_short : IsTableOver m n t true_number true_bottom
       table_is_short = record {
         some = true_some;
         low = λ i hi. low_by_move i hi (moved i) refl;
@@ -230,5 +230,5 @@ module _ (p : FeasibilityProblem Rational) (b t : SimplexTable Rational) (column
       pub step_is : (P : ℕ → ℕ → Type 0) → P r c → P (leaving_row rationals m n t (entering_column rationals m n t)) (entering_column rationals m n t)
       step_is P x = subst (λ (y : ℕ). P (leaving_row rationals m n t y) y) (sym column_enters) (subst (λ (x : ℕ). P x c) (sym row_leaves) x)
 
-      pub step_fits_behind : IsOver m n t true_number true_bottom → StepFits m n t
+      pub step_fits_behind : IsTableOver m n t true_number true_bottom → StepFits m n t
       step_fits_behind o = W.step_fits m n t true_number true_bottom o (step_is (λ r c. r < m) row) (step_is (λ r c. c < n) enters) (step_is (λ r c. is_candidate rationals t c r ≡ true) row_is_candidate)

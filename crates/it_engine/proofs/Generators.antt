@@ -14,7 +14,7 @@ use Rattle.it_run.specs.RowValues.{rational_value}
 use Rattle.it_space.specs.Sums.{number_at}
 use Rattle.it_vectors.specs.Sizes.{IsShort}
 use Rattle.it_whole.specs.WholeRows.{WholeRowView}
-use Rattle.it_engine.specs.Tables.{whole_row_at, IsOver, AreStartColumns, ShowsTable}
+use Rattle.it_engine.specs.Tables.{whole_row_at, IsTableOver, AreStartColumns, ShowsTable}
 use Rattle.it_whole.proofs.Names.{sum_named}
 
 -- a whole multiple of n / d
@@ -91,7 +91,7 @@ module _ (m n limit norm : ℕ) (p : FeasibilityProblem Rational) (t : SimplexTa
   abbrev pub number : ℕ → ℕ → ℤ
   number i j = cond (ltb j n) (price i j) (number_at (whole_row_at rows i).numbers (j - n))
 
-  pub table_is_over : IsOver m n t number bottom
+  pub table_is_over : IsTableOver m n t number bottom
   table_is_over = record {
     some = λ i hi. (s.row i (omega (arith, hi))).some;
     low = λ i hi. (s.row i (omega (arith, hi))).low;

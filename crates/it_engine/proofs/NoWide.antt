@@ -13,7 +13,7 @@ use Rattle.it_tableau.specs.Fits.{EntryFits, PivotFits}
 use Rattle.it_run.specs.Choice.{entering_column, leaving_row, is_candidate}
 use Rattle.it_run.specs.Solving.{StepFits}
 use Rattle.it_vectors.specs.Sizes.{IsShort}
-use Rattle.it_engine.specs.Tables.{IsOver}
+use Rattle.it_engine.specs.Tables.{IsTableOver}
 use Rattle.it_engine.proofs.Narrowness.{narrow_by, difference_fits}
 use Rattle.it_vectors.proofs.Bounds.{half_product}
 use Rattle.it_whole.proofs.Names.{minus_names, sign_named, scaled_name, quotient_in_row, quotient_of_names, product_in_row}
@@ -39,7 +39,7 @@ halves_within x y h k = for_each (unsigned_abs x) (unsigned_abs y) (unsigned_abs
     for_each : (a b c : ℕ) → a < 2 ^ 126 → b < 2 ^ 126 → c ≤ a + b → c < 2 ^ 127
     for_each a b c h k l = omega (arith, h, k, l)
 
-module _ (m n : ℕ) (t : SimplexTable Rational) (number : ℕ → ℕ → ℤ) (bottom : ℕ → ℕ) (o : IsOver m n t number bottom) where
+module _ (m n : ℕ) (t : SimplexTable Rational) (number : ℕ → ℕ → ℤ) (bottom : ℕ → ℕ) (o : IsTableOver m n t number bottom) where
   -- the ratio of a row with an entry above 0
   ratio_fits : (i c p : ℕ) → i ≤ m → c ≤ n + m → 0 < p → number i c ≡ pos p → IsNarrow (ratio rationals m n t c i)
   ratio_fits i c p hi hc hp e = narrow_by (ratio rationals m n t c i) (number i (n + m)) p hp

@@ -12,7 +12,7 @@ use Rattle.it_whole.specs.WholeRows.{IsRow, WholeRowView}
 
 -- each number of the table, its right sides and its cost row too, is a whole number over the denominator of its row, and all
 -- of these are short
-pub record IsOver (m n : ℕ) (t : SimplexTable Rational) (number : ℕ → ℕ → ℤ) (bottom : ℕ → ℕ) : Type 0 where
+pub record IsTableOver (m n : ℕ) (t : SimplexTable Rational) (number : ℕ → ℕ → ℤ) (bottom : ℕ → ℕ) : Type 0 where
   pub some : (i : ℕ) → i ≤ m → 0 < bottom i
   pub low : (i : ℕ) → i ≤ m → bottom i < 2 ^ 63
   pub named : (i j : ℕ) → i ≤ m → j ≤ n + m → IsRatio (t.entry i j) (number i j) (bottom i)

@@ -14,11 +14,11 @@ use Rattle.it_syntax.specs.Meaning.{RelationView}
 use Rattle.it_syntax.specs.NamesViews.{NamesView}
 use Rattle.it_question.specs.Limits.{IsQuestion}
 use Rattle.it_question.specs.Questions.{BodyView, Prove}
-use Rattle.it_question.specs.Tables.{problem_names, problem_names_by}
+use Rattle.it_question.specs.ProblemLines.{problem_names, names_under}
 use Rattle.it_demand.specs.Demands.{LineDemand, States}
 use Rattle.it_demand.proofs.ZipLemmas.{zip-length}
-use Rattle.it_canon.specs.QuestionDemands.{IsProblemOf, question_demands, variables_of}
-use Rattle.it_answer.specs.Forms.{CertifiesForm, MayStand, all_demands}
+use Rattle.it_canon.specs.QuestionDemands.{IsProblemOf, question_demands, variable_count}
+use Rattle.it_answer.specs.Forms.{CertifiesForm, IsAllowedWeight, all_demands}
 use Rattle.it_best.specs.declared.types.Best.{Best}
 use Rattle.it_best.specs.declared.types.Best.TheVariants as answers
 use Rattle.it_best.specs.BestViews.{best_view}
@@ -38,21 +38,21 @@ pub constraint_count : (q : BodyView) (p : ProblemView) → IsProblemOf q p → 
 constraint_count q p posed = zip-length (λ (d : LineDemand) (c : Constraint). States p.space d.origin d.demand c) (question_demands q) p.constraints posed.constraints
 
 module _ (q : BodyView) (m : ℕ) (count : m ≡ length (question_demands q)) where
-  generators_there : (f : Form) (w : Certificate) → CertifiesForm q f (certificate_view w) → IsThere (variables_of q) m w
-  generators_there f w c = All-weaker (MayStand (all_demands (variables_of q) (question_demands q))) (λ (x : ℕ × ℤ). x.0 < length (elementals (variables_of q)) + m)
-      (λ x a. omega (arith, a.0, length-demands (variables_of q) (question_demands q), count)) w.weights.items c.allowed
+  generators_there : (f : Form) (w : Certificate) → CertifiesForm q f (certificate_view w) → IsThere (variable_count q) m w
+  generators_there f w c = All-weaker (IsAllowedWeight (all_demands (variable_count q) (question_demands q))) (λ (x : ℕ × ℤ). x.0 < length (elementals (variable_count q)) + m)
+      (λ x a. omega (arith, a.0, length-demands (variable_count q) (question_demands q), count)) w.weights.items c.allowed
 
   values_of_names : (values : List ℤ) → length (problem_names q).variables ≤ 10 → length (problem_names q).rates ≤ 16 → IsPoint (question_ground q) values → AreValuesOf (problem_names q) values
   values_of_names values few few_rates i = (
-    omega (arith, i.complete, pow_pos (variables_of q)),
-    omega (arith, i.complete, pow_mono {i = variables_of q} {j = 10} few, few_rates),
+    omega (arith, i.complete, pow_pos (variable_count q)),
+    omega (arith, i.complete, pow_mono {i = variable_count q} {j = 10} few, few_rates),
   )
 
   best_printable : (r s : RelationView) (best : Best) → IsQuestion q → q.verb ≡ Prove s → ShowsFactor q r (best_view best) → IsBestPrintable (problem_names q) m best
   best_printable r s best k verb shown = by_best best shown
     where
       names_are : problem_names q ≡ q.names
-      names_are = ap (problem_names_by q.names) verb
+      names_are = ap (names_under q.names) verb
 
       few : length (problem_names q).variables ≤ 10
       few = omega (arith, ap (λ (v : NamesView). length v.variables) names_are, k.few)

@@ -4,7 +4,7 @@ use Rattle.it_space.specs.declared.problems.Kind.TheVariants.{Inequality}
 use Rattle.it_space.specs.declared.spaces.Space.{Space}
 use Rattle.it_space.specs.Answers.{CertificateView}
 use Rattle.it_space.specs.Problems.{ProblemView}
-use Rattle.it_space.specs.Rows.{Terms, IsUpTo, map_of, value}
+use Rattle.it_space.specs.Rows.{Terms, IsOver, point_of, value}
 use Rattle.it_space.specs.Spaces.{size_of}
 use Rattle.it_space.proofs.EveryLemmas.{all_of}
 use Rattle.it_polymatroid.specs.Certificates.{Form, IsCertificate, IsLinear, combination}
@@ -15,10 +15,10 @@ use Rattle.it_elemental.specs.Generators.{generators, generators_of, generator_a
 use Rattle.it_elemental.proofs.GeneratorLemmas.{rows_of_space}
 use Rattle.it_syntax.specs.Meaning.{RelationView}
 use Rattle.it_question.specs.Questions.{BodyView, VerbView, Prove}
-use Rattle.it_question.specs.Tables.{problem_lines, problem_names}
+use Rattle.it_question.specs.ProblemLines.{problem_lines, problem_names}
 use Rattle.it_demand.specs.Canonical.{IsRowOf}
 use Rattle.it_demand.specs.LineDemands.{space_of}
-use Rattle.it_canon.specs.QuestionDemands.{AreTrueAt, IsProblemOf, question_demands, variables_of, terms_in}
+use Rattle.it_canon.specs.QuestionDemands.{AreTrueAt, IsProblemOf, question_demands, variable_count, terms_in}
 use Rattle.it_canon.specs.Sides.{left_form, right_form}
 use Rattle.it_canon.proofs.ProblemLemmas.{question_met}
 use Rattle.it_answer.specs.Forms.{Certifies, CertifiesForm, all_demands}
@@ -44,7 +44,7 @@ module _ (q : BodyView) (p : ProblemView) (posed : IsProblemOf q p) where
   adds_up_at f w linear c x e =
       let size = size_of p.space in
       let gs = generators p in
-      let rows : All (λ g. IsUpTo size g.row) gs = all_of (λ g. IsUpTo size g.row) gs (rows_of_space p.space.variables size p.constraints (omega arith) posed.limits.rows) in
+      let rows : All (λ g. IsOver size g.row) gs = all_of (λ g. IsOver size g.row) gs (rows_of_space p.space.variables size p.constraints (omega arith) posed.limits.rows) in
       adds_up_everywhere (size + 1) (forms_of gs) f w (λ i l. value_linear size (generator_at gs i).row (rows i (record { kind = Inequality; row = [] }) l)) linear c x e
 
   certificate_by_text : (f g : Form) (w : CertificateView) → ((x : ℕ → ℤ) → x 0 ≡ pos 0 → f x ≡ g x) → IsLinear (size_of p.space + 1) f → IsCertificate (size_of p.space + 1) (generators_of p) f w → CertifiesForm q g w
@@ -55,8 +55,8 @@ module _ (q : BodyView) (p : ProblemView) (posed : IsProblemOf q p) where
   point_by_text values i = record {
     complete = in_question_space (λ s. length values ≡ size_of s) i.complete;
     holds = (
-      in_question_space (λ s. IsPolymatroid s.variables (map_of values)) i.holds.0,
-      in_question_space (λ s. AreTrueAt s.variables (map_of values) (problem_lines q)) ((question_met q p.space p.constraints posed.space posed.constraints (map_of values) refl).0 i.holds.1),
+      in_question_space (λ s. IsPolymatroid s.variables (point_of values)) i.holds.0,
+      in_question_space (λ s. AreTrueAt s.variables (point_of values) (problem_lines q)) ((question_met q p.space p.constraints posed.space posed.constraints (point_of values) refl).0 i.holds.1),
     );
   }
 
@@ -73,13 +73,13 @@ module _ (q : BodyView) (p : ProblemView) (posed : IsProblemOf q p) where
     best_by_text (Least num den w values) i = record {
       factor = factor_by_text num den w i.factor;
       point = point_by_text values i.point;
-      some = subst (λ (x : ℤ). pos 1 ≤ℤ x) (left_is.same (map_of values) refl) i.some;
-      equal = ap (λ x. den *ℤ x) (sym (right_is.same (map_of values) refl)) ∙ i.equal ∙ ap (λ x. num *ℤ x) (left_is.same (map_of values) refl);
+      some = subst (λ (x : ℤ). pos 1 ≤ℤ x) (left_is.same (point_of values) refl) i.some;
+      equal = ap (λ x. den *ℤ x) (sym (right_is.same (point_of values) refl)) ∙ i.equal ∙ ap (λ x. num *ℤ x) (left_is.same (point_of values) refl);
     }
     best_by_text (Never values) i = record {
       point = point_by_text values i.point;
-      zero = sym (left_is.same (map_of values) refl) ∙ i.zero;
-      above = subst (λ (x : ℤ). pos 1 ≤ℤ x) (right_is.same (map_of values) refl) i.above;
+      zero = sym (left_is.same (point_of values) refl) ∙ i.zero;
+      above = subst (λ (x : ℤ). pos 1 ≤ℤ x) (right_is.same (point_of values) refl) i.above;
     }
     best_by_text (Unbounded num den w below) i = (
       factor_by_text num den w i.0,
@@ -88,18 +88,18 @@ module _ (q : BodyView) (p : ProblemView) (posed : IsProblemOf q p) where
     best_by_text (Undecided cause) i = tt
 
   -- a row of the problem's space is the terms of its form
-  row_is : (form : ℕ → Form) (t : Terms) → IsRowOf p.space (form p.space.variables) t → t ≡ terms_in q (form (variables_of q))
+  row_is : (form : ℕ → Form) (t : Terms) → IsRowOf p.space (form p.space.variables) t → t ≡ terms_in q (form (variable_count q))
   row_is form t is = row_is_terms_of_form p.space (form p.space.variables) t is ∙ ap (λ (s : Space). terms_of_form (size_of s) (form s.variables)) posed.space
 
   -- what is found by rows is right by the text, and due
   pub right_factor : (budget : Option ℕ) (r : RelationView) (best : BestView) → IsFoundByRows p budget r best → IsRightFactor budget q r best
   right_factor budget r best f =
-      let variables : p.space.variables ≡ variables_of q = ap (λ (s : Space). s.variables) posed.space in
-      let left_is : IsRowOf p.space (left_form (variables_of q) r) f.left = subst (λ n. IsRowOf p.space (left_form n r) f.left) variables f.left_is in
-      let right_is : IsRowOf p.space (right_form (variables_of q) r) f.right = subst (λ n. IsRowOf p.space (right_form n r) f.right) variables f.right_is in record {
-        shows = best_by_text (left_form (variables_of q) r) (right_form (variables_of q) r) f.left f.right left_is right_is best f.right_of_rows;
-        due = subst (λ (x : ProblemView). EndsWith x (terms_in q (left_form (variables_of q) r)) (terms_in q (right_form (variables_of q) r)) budget best) (one_problem q p posed)
-            (subst (λ (t : Terms). EndsWith p (terms_in q (left_form (variables_of q) r)) t budget best) (row_is (λ n. right_form n r) f.right f.right_is)
+      let variables : p.space.variables ≡ variable_count q = ap (λ (s : Space). s.variables) posed.space in
+      let left_is : IsRowOf p.space (left_form (variable_count q) r) f.left = subst (λ n. IsRowOf p.space (left_form n r) f.left) variables f.left_is in
+      let right_is : IsRowOf p.space (right_form (variable_count q) r) f.right = subst (λ n. IsRowOf p.space (right_form n r) f.right) variables f.right_is in record {
+        shows = best_by_text (left_form (variable_count q) r) (right_form (variable_count q) r) f.left f.right left_is right_is best f.right_of_rows;
+        due = subst (λ (x : ProblemView). EndsWith x (terms_in q (left_form (variable_count q) r)) (terms_in q (right_form (variable_count q) r)) budget best) (one_problem q p posed)
+            (subst (λ (t : Terms). EndsWith p (terms_in q (left_form (variable_count q) r)) t budget best) (row_is (λ n. right_form n r) f.right f.right_is)
             (subst (λ (t : Terms). EndsWith p t f.right budget best) (row_is (λ n. left_form n r) f.left f.left_is) f.ends));
       }
 

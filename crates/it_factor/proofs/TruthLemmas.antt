@@ -1,10 +1,10 @@
 -- What it means that a reply shows what it says.
 use Rattle.std.proofs.Common.{◌≡◌, ℤ, neg_ℤ, ◌≤ℤ◌, ◌*ℤ◌, ◌-ℤ◌}
 use Rattle.it_space.specs.Answers.{CertificateView}
-use Rattle.it_space.specs.Rows.{map_of}
+use Rattle.it_space.specs.Rows.{point_of}
 use Rattle.it_polymatroid.specs.Certificates.{Form}
 use Rattle.it_question.specs.Questions.{BodyView}
-use Rattle.it_canon.specs.QuestionDemands.{variables_of}
+use Rattle.it_canon.specs.QuestionDemands.{variable_count}
 use Rattle.it_canon.specs.Sides.{left_form, right_form}
 use Rattle.it_answer.proofs.TruthLemmas.{form_at_least_zero}
 use Rattle.it_best.specs.Factors.{HoldsFactor, IsFactor}
@@ -17,18 +17,18 @@ certified_holds q left right num den w f p together = form_at_least_zero q p tog
 
 pub least_is_true : LeastIsTrue
 least_is_true q r num den proof values s =
-    let left = left_form (variables_of q) r in
-    let right = right_form (variables_of q) r in (
+    let left = left_form (variable_count q) r in
+    let right = right_form (variable_count q) r in (
       certified_holds q left right num den proof s.factor,
-      λ a b one holds. no_smaller num den a b (left (map_of values)) (right (map_of values)) s.some s.factor.from_one s.equal (holds (map_of values) s.point.holds),
+      λ a b one holds. no_smaller num den a b (left (point_of values)) (right (point_of values)) s.some s.factor.from_one s.equal (holds (point_of values) s.point.holds),
     )
 
 pub never_is_true : NeverIsTrue
-never_is_true q r values s a b one holds = none_at_zero a b (left_form (variables_of q) r (map_of values)) (right_form (variables_of q) r (map_of values)) s.zero s.above one (holds (map_of values) s.point.holds)
+never_is_true q r values s a b one holds = none_at_zero a b (left_form (variable_count q) r (point_of values)) (right_form (variable_count q) r (point_of values)) s.zero s.above one (holds (point_of values) s.point.holds)
 
 pub unbounded_is_true : UnboundedIsTrue
 unbounded_is_true q r num den proof below s a b one smaller p together =
-    let left = left_form (variables_of q) r in
-    let right = right_form (variables_of q) r in
+    let left = left_form (variable_count q) r in
+    let right = right_form (variable_count q) r in
     all_smaller num den a b (left p) (right p) s.0.from_one one smaller (certified_holds q left right num den proof s.0 p together)
     (form_at_least_zero q p together (λ x. neg_ℤ (left x)) below s.1)

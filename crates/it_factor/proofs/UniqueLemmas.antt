@@ -2,7 +2,7 @@
 use Rattle.std.proofs.Common.{◌≡◌, ℕ, Option, Some, None, refl, ap, sym, subst, ◌∙◌}
 use Rattle.it_syntax.specs.Meaning.{RelationView}
 use Rattle.it_question.specs.Questions.{BodyView}
-use Rattle.it_canon.specs.QuestionDemands.{problem_of, terms_in, variables_of}
+use Rattle.it_canon.specs.QuestionDemands.{problem_of, terms_in, variable_count}
 use Rattle.it_canon.specs.Sides.{left_form, right_form}
 use Rattle.it_best.specs.BestViews.{BestView}
 use Rattle.it_best.proofs.EndLemmas.{best_never_out_of_steps, one_best}
@@ -10,7 +10,7 @@ use Rattle.it_factor.specs.Replies.{Found, Other}
 use Rattle.it_factor.specs.RightReplies.{IsDueFactor, NeverOutOfSteps, OneRightReply}
 
 one_due : (budget : Option ℕ) (q : BodyView) (r : RelationView) (x y : BestView) → IsDueFactor budget q r x → IsDueFactor budget q r y → x ≡ y
-one_due budget q r x y a b = one_best (problem_of q) (terms_in q (left_form (variables_of q) r)) (terms_in q (right_form (variables_of q) r)) budget x y a b
+one_due budget q r x y a b = one_best (problem_of q) (terms_in q (left_form (variable_count q) r)) (terms_in q (right_form (variable_count q) r)) budget x y a b
 
 pub one_right_reply : OneRightReply
 one_right_reply budget q (Found x) (Found y) h k =
@@ -22,4 +22,4 @@ one_right_reply budget q Other (Found y) h k = let e : Some k.0 ≡ None = sym k
 one_right_reply budget q Other Other h k = refl
 
 pub never_out_of_steps : NeverOutOfSteps
-never_out_of_steps q k phase h = best_never_out_of_steps (problem_of q) (terms_in q (left_form (variables_of q) h.0)) (terms_in q (right_form (variables_of q) h.0)) k phase h.2.due
+never_out_of_steps q k phase h = best_never_out_of_steps (problem_of q) (terms_in q (left_form (variable_count q) h.0)) (terms_in q (right_form (variable_count q) h.0)) k phase h.2.due

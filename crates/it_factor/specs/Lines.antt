@@ -7,7 +7,7 @@ use Rattle.it_space.specs.declared.problems.Origin.{Origin}
 use Rattle.it_polymatroid.specs.Elementals.{elementals}
 use Rattle.it_syntax.specs.NamesViews.{NamesView}
 use Rattle.it_question.specs.Questions.{BodyView}
-use Rattle.it_question.specs.Tables.{problem_names}
+use Rattle.it_question.specs.ProblemLines.{problem_names}
 use Rattle.it_print.specs.Lines.{certificate_text, values_text}
 use Rattle.it_best.specs.declared.types.Best.{Best}
 use Rattle.it_best.specs.declared.types.Best.TheVariants as answers

@@ -7,9 +7,9 @@ use Rattle.it_syntax.specs.Meaning.{RelationView}
 use Rattle.it_syntax.specs.declared.types.Sign.{Sign}
 use Rattle.it_syntax.specs.declared.types.Sign.TheVariants.{AtLeast}
 use Rattle.it_question.specs.Questions.{BodyView, VerbView, Prove}
-use Rattle.it_question.specs.Tables.{problem_names}
+use Rattle.it_question.specs.ProblemLines.{problem_names}
 use Rattle.it_demand.specs.LineDemands.{space_of}
-use Rattle.it_canon.specs.QuestionDemands.{AreTrueTogether, problem_of, terms_in, variables_of}
+use Rattle.it_canon.specs.QuestionDemands.{AreTrueTogether, problem_of, terms_in, variable_count}
 use Rattle.it_canon.specs.Sides.{left_form, right_form}
 use Rattle.it_answer.specs.Forms.{CertifiesForm}
 use Rattle.it_best.specs.declared.types.BestCause.TheVariants.{Pivots}
@@ -41,17 +41,17 @@ question_ground q = record {
 
 -- what is found of the factors of the relation is right
 abbrev pub ShowsFactor : BodyView → RelationView → BestView → Type 0
-ShowsFactor q r best = IsRightBest (question_ground q) (left_form (variables_of q) r) (right_form (variables_of q) r) best
+ShowsFactor q r best = IsRightBest (question_ground q) (left_form (variable_count q) r) (right_form (variable_count q) r) best
 
 -- the factor num / den holds: num times the left side is at least den times the right one wherever the question's lines are true
 abbrev pub HoldsFor : BodyView → RelationView → ℤ → ℤ → Type 0
-HoldsFor q r num den = HoldsFactor (question_ground q) (left_form (variables_of q) r) (right_form (variables_of q) r) num den
+HoldsFor q r num den = HoldsFactor (question_ground q) (left_form (variable_count q) r) (right_form (variable_count q) r) num den
 
 -- ---- by the runs
 
 -- what the runs about the terms of both sides end with, under the problem that the question poses
 abbrev pub IsDueFactor : Option ℕ → BodyView → RelationView → BestView → Type 0
-IsDueFactor budget q r best = EndsWith (problem_of q) (terms_in q (left_form (variables_of q) r)) (terms_in q (right_form (variables_of q) r)) budget best
+IsDueFactor budget q r best = EndsWith (problem_of q) (terms_in q (left_form (variable_count q) r)) (terms_in q (right_form (variable_count q) r)) budget best
 
 -- ---- right replies
 

@@ -2,8 +2,8 @@
 ghost use Rattle.std.specs.Prelude.{◌≡◌, ◌≤◌, ◌++◌, length, codes, decimal, IfOk, OnOk};
 ghost use Rattle.std.specs.Fmt.{signed_decimal};
 ghost use Rattle.it_question.specs.Questions.{question_body};
-ghost use Rattle.it_question.specs.Tables.{problem_names};
-ghost use Rattle.it_canon.specs.QuestionDemands.{variables_of};
+ghost use Rattle.it_question.specs.ProblemLines.{problem_names};
+ghost use Rattle.it_canon.specs.QuestionDemands.{variable_count};
 ghost use Rattle.it_print.specs.Lines.{origins_of, values_text};
 ghost use Rattle.it_best.specs.BestViews.{best_view};
 ghost use Rattle.it_factor.specs.Lines.{AreValuesOf, IsBestPrintable, IsPrintable, IsThere, best_cause_text, best_line, reply_line};
@@ -27,8 +27,8 @@ fn write_proof(
     constraints: &[Constraint],
     proof: &Certificate,
 ) -> Result<(), AllocError>
-    requires some { 1 ≤ variables_of (question_body question.now) }
-    requires there { IsThere (variables_of (question_body question.now)) (length constraints.now) proof.now }
+    requires some { 1 ≤ variable_count (question_body question.now) }
+    requires there { IsThere (variable_count (question_body question.now)) (length constraints.now) proof.now }
     ensures { OnOk result (out.new.items ≡ out.old.items ++ proof_text (question_body question.now) constraints.now proof.now) }
 {
     write_signed(out, proof.scale)?;
@@ -57,8 +57,8 @@ fn write_factor(
     den: i128,
     proof: &Certificate,
 ) -> Result<(), AllocError>
-    requires some { 1 ≤ variables_of (question_body question.now) }
-    requires there { IsThere (variables_of (question_body question.now)) (length constraints.now) proof.now }
+    requires some { 1 ≤ variable_count (question_body question.now) }
+    requires there { IsThere (variable_count (question_body question.now)) (length constraints.now) proof.now }
     ensures { OnOk result (out.new.items ≡ out.old.items ++ proven_factor_text (question_body question.now) constraints.now num den proof.now) }
 {
     write_ratio(out, num, den)?;
@@ -77,8 +77,8 @@ fn least_line(
     proof: &Certificate,
     point: &Point,
 ) -> Result<Vec<u8>, AllocError>
-    requires some { 1 ≤ variables_of (question_body question.now) }
-    requires there { IsThere (variables_of (question_body question.now)) (length constraints.now) proof.now }
+    requires some { 1 ≤ variable_count (question_body question.now) }
+    requires there { IsThere (variable_count (question_body question.now)) (length constraints.now) proof.now }
     requires point { AreValuesOf (problem_names (question_body question.now)) point.now }
     ensures { IfOk result (λ t. t.items ≡ least_line (question_body question.now) constraints.now k num den proof.now point.now) }
 {
@@ -123,9 +123,9 @@ fn unbounded_line(
     proof: &Certificate,
     below: &Certificate,
 ) -> Result<Vec<u8>, AllocError>
-    requires some { 1 ≤ variables_of (question_body question.now) }
-    requires there { IsThere (variables_of (question_body question.now)) (length constraints.now) proof.now }
-    requires below { IsThere (variables_of (question_body question.now)) (length constraints.now) below.now }
+    requires some { 1 ≤ variable_count (question_body question.now) }
+    requires there { IsThere (variable_count (question_body question.now)) (length constraints.now) proof.now }
+    requires below { IsThere (variable_count (question_body question.now)) (length constraints.now) below.now }
     ensures { IfOk result (λ t. t.items ≡ unbounded_line (question_body question.now) constraints.now k num den proof.now below.now) }
 {
     let mut out = Vec::new(alloc);
@@ -196,7 +196,7 @@ fn best_line(
     constraints: &[Constraint],
     found: &Best,
 ) -> Result<Vec<u8>, AllocError>
-    requires some { 1 ≤ variables_of (question_body question.now) }
+    requires some { 1 ≤ variable_count (question_body question.now) }
     requires printable { IsBestPrintable (problem_names (question_body question.now)) (length constraints.now) found.now }
     ensures { IfOk result (λ t. t.items ≡ best_line k (problem_names (question_body question.now)) (origins_of constraints.now) (best_view found.now)) }
 {
@@ -227,7 +227,7 @@ pub fn reply_line(
     constraints: &[Constraint],
     reply: &Reply,
 ) -> Result<Vec<u8>, AllocError>
-    requires some { 1 ≤ variables_of (question_body question.now) }
+    requires some { 1 ≤ variable_count (question_body question.now) }
     requires printable { IsPrintable (question_body question.now) (length constraints.now) reply.now }
     ensures { IfOk result (λ t. t.items ≡ reply_line k (question_body question.now) (origins_of constraints.now) (reply_view reply.now)) }
 {

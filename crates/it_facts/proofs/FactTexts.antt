@@ -2,7 +2,7 @@
 use Rattle.std.proofs.Common.{◌≡◌, ℕ, ◌+◌, ◌<◌, if◌then◌else◌, List, [], ◌∷◌, ◌++◌, ◌||◌, length, map, drop, get_or, Bool, true, sym, ap, subst, ℤ, ◌∙◌, append_assoc}
 use Rattle.std.proofs.lemmas.List.{drop_more}
 use Rattle.it_space.specs.declared.spaces.Space.{Space}
-use Rattle.it_space.specs.Rows.{map_of}
+use Rattle.it_space.specs.Rows.{point_of}
 use Rattle.it_syntax.specs.NamesViews.{NamesView}
 use Rattle.it_facts.specs.Points.{Determine, TellsPoint, facts_text}
 use Rattle.it_facts.specs.declared.facts.Fact.{Fact}
@@ -28,6 +28,6 @@ item_step separator text items i x some out h is =
     ∙ ap (λ xs. out ++ joined_texts separator some (map text xs)) (sym (drop_item items i x h is))
 
 -- the text of facts that determine a point
-pub point_by_facts : (v : NamesView) (values : List ℤ) (text : List ℕ) (s : Space) (facts : List Fact) → s ≡ record { variables = length v.variables; rates = length v.rates } → Determine s.variables s.rates facts (map_of values)
+pub point_by_facts : (v : NamesView) (values : List ℤ) (text : List ℕ) (s : Space) (facts : List Fact) → s ≡ record { variables = length v.variables; rates = length v.rates } → Determine s.variables s.rates facts (point_of values)
     → text ≡ facts_text v facts → TellsPoint v values text
-point_by_facts v values text s facts e d t = record { facts = facts; determine = subst (λ (z : Space). Determine z.variables z.rates facts (map_of values)) e d; text_is = t }
+point_by_facts v values text s facts e d t = record { facts = facts; determine = subst (λ (z : Space). Determine z.variables z.rates facts (point_of values)) e d; text_is = t }

@@ -6,7 +6,7 @@ use Rattle.std.proofs.lemmas.Nat.{or_lt, and_comm, and_le_r, pow_below}
 use Rattle.std.proofs.lemmas.Nat.Bits.{and_pow, bit_at_and, bit_at_or, bit_at_above, bit_at-lt, bit_at-zero, same_from_bits}
 use Rattle.std.specs.Int.{bit_at}
 use Rattle.std.specs.Int.Bits.{or_zero_l}
-use Rattle.it_space.specs.Rows.{map_of}
+use Rattle.it_space.specs.Rows.{point_of}
 use Rattle.it_space.specs.Sets.{has_member, IsInside}
 use Rattle.it_space.proofs.SetLemmas.{bit_without, inside_below}
 use Rattle.it_polymatroid.specs.Polymatroid.{IsPolymatroid}
@@ -185,7 +185,7 @@ pub follows_by_item : (n : ℕ) (p : ℕ → ℤ) (facts : List Fact) (s i : ℕ
 unfolding Settles Follows
 follows_by_item n p facts s i fact h is settles q k all agree = settles q k (subst (IsTrueOf n q) (sym is) (all i fact h)) agree
 
-pub empty_follows : (n : ℕ) (values : List ℤ) (facts : List Fact) → Follows n (map_of values) facts 0
+pub empty_follows : (n : ℕ) (values : List ℤ) (facts : List Fact) → Follows n (point_of values) facts 0
 unfolding Follows
 empty_follows n values facts q k all agree = k.empty
 

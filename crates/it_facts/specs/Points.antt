@@ -2,7 +2,7 @@
 -- other values follow by the axioms of polymatroids (R. W. Yeung, "A Framework for Linear Information Inequalities", 1997).
 use Rattle.std.specs.Prelude.{◌≡◌, ℕ, zero, suc, ◌+◌, ◌^◌, ◌<◌, ℤ, pos, ◌+ℤ◌, List, [], ◌++◌, length, map, slice_index_or, cond, false, bit_or, All, codes}
 use Rattle.std.specs.Fmt.{signed_decimal}
-use Rattle.it_space.specs.Rows.{map_of}
+use Rattle.it_space.specs.Rows.{point_of}
 use Rattle.it_space.specs.Sets.{has_member}
 use Rattle.it_polymatroid.specs.Polymatroid.{IsPolymatroid}
 use Rattle.it_syntax.specs.NamesViews.{NamesView}
@@ -20,13 +20,13 @@ abbrev pub IsFunction : (ℕ → ℤ) → ℕ → ℕ → Type 0
 IsFunction p x set = p (bit_or set (2 ^ x)) ≡ p set
 
 -- the fact is about some of n variables and of so many rates
-abbrev pub IsOver : ℕ → ℕ → Fact → Type 0
-IsOver n rates (Entropy set value) = set < 2 ^ n
-IsOver n rates (Rate rate value) = rate < rates
-IsOver n rates (Constant x) = x < n
-IsOver n rates (Equal x y) = (x < n) × (y < n)
-IsOver n rates (Function x set) = (x < n) × (set < 2 ^ n)
-IsOver n rates (Independent set) = set < 2 ^ n
+abbrev pub IsFactOver : ℕ → ℕ → Fact → Type 0
+IsFactOver n rates (Entropy set value) = set < 2 ^ n
+IsFactOver n rates (Rate rate value) = rate < rates
+IsFactOver n rates (Constant x) = x < n
+IsFactOver n rates (Equal x y) = (x < n) × (y < n)
+IsFactOver n rates (Function x set) = (x < n) × (set < 2 ^ n)
+IsFactOver n rates (Independent set) = set < 2 ^ n
 
 -- the fact is true of a map, whose values at rates stand after those at sets of the n variables
 abbrev pub IsTrueOf : ℕ → (ℕ → ℤ) → Fact → Type 0
@@ -39,7 +39,7 @@ IsTrueOf n p (Independent set) = p set ≡ sum_of_members n p set
 
 -- The facts are true of the map, and no other polymatroid with rates has them.
 pub record Determine (n rates : ℕ) (facts : List Fact) (p : ℕ → ℤ) : Type 0 where
-  pub over : All (IsOver n rates) facts
+  pub over : All (IsFactOver n rates) facts
   pub true_of : All (IsTrueOf n p) facts
   pub alone : (q : ℕ → ℤ) → IsPolymatroid n q → All (IsTrueOf n q) facts → (c : ℕ) → c < 2 ^ n + rates → q c ≡ p c
 
@@ -63,5 +63,5 @@ facts_text v facts = joined_texts (codes ", ") false (map (fact_text v) facts)
 -- under these names the text has facts that determine the point of these values, which is 0 past them
 pub record TellsPoint (v : NamesView) (values : List ℤ) (text : List ℕ) : Type 0 where
   pub facts : List Fact
-  pub determine : Determine (length v.variables) (length v.rates) facts (map_of values)
+  pub determine : Determine (length v.variables) (length v.rates) facts (point_of values)
   pub text_is : text ≡ facts_text v facts

@@ -2,11 +2,11 @@
 use Rattle.std.specs.Prelude.{◌≡◌, ℕ, ◌+◌, ◌^◌, ◌<◌, ℤ, List, All}
 use Rattle.it_polymatroid.specs.Polymatroid.{IsPolymatroid}
 use Rattle.it_facts.specs.declared.facts.Fact.{Fact}
-use Rattle.it_facts.specs.Points.{IsOver, IsTrueOf}
+use Rattle.it_facts.specs.Points.{IsFactOver, IsTrueOf}
 
 -- the fact is over n variables and so many rates, and true of the map
 pub record IsFactOf (n rates : ℕ) (p : ℕ → ℤ) (fact : Fact) : Type 0 where
-  pub over : IsOver n rates fact
+  pub over : IsFactOver n rates fact
   pub true_of : IsTrueOf n p fact
 
 -- two maps have one value at each set before s

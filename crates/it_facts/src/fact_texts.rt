@@ -2,7 +2,7 @@
 ghost use Rattle.std.specs.Prelude.{◌≡◌, ◌<◌, ◌++◌, ◌||◌, [], if◌then◌else◌, length, slice_index_or, false, All, codes, IfOk, OnOk};
 ghost use Rattle.it_space.specs.Sets.{has_member};
 ghost use Rattle.it_print.specs.Lines.{joined_texts, members_from};
-ghost use Rattle.it_facts.specs.Points.{IsOver, fact_text, facts_text, variable_name};
+ghost use Rattle.it_facts.specs.Points.{IsFactOver, fact_text, facts_text, variable_name};
 ghost use Rattle.it_facts.specs.FactSteps.{member_text};
 
 use crate::facts::Fact;
@@ -72,7 +72,7 @@ fn write_members(out: &mut Vec<u8>, names: &Names, set: VarSet) -> Result<(), Al
 /// A fact.
 #[tactic(auto, unfolding(crate::specs::Points::fact_text))]
 fn write_fact(out: &mut Vec<u8>, names: &Names, fact: &Fact) -> Result<(), AllocError>
-    requires { IsOver (length names.now.variables) (length names.now.rates) fact.now }
+    requires { IsFactOver (length names.now.variables) (length names.now.rates) fact.now }
     ensures { OnOk result (out.new.items ≡ out.old.items ++ fact_text names.now fact.now) }
 {
     match fact {
@@ -111,7 +111,7 @@ fn write_fact(out: &mut Vec<u8>, names: &Names, fact: &Fact) -> Result<(), Alloc
 
 /// A fact, after `, ` where something stands before.
 fn write_next(out: &mut Vec<u8>, some: bool, names: &Names, fact: &Fact) -> Result<(), AllocError>
-    requires { IsOver (length names.now.variables) (length names.now.rates) fact.now }
+    requires { IsFactOver (length names.now.variables) (length names.now.rates) fact.now }
     ensures { OnOk result (out.new.items ≡ out.old.items ++ (if some then codes ", " else []) ++ fact_text names.now fact.now) }
 {
     write_between(out, some, b", ")?;
@@ -121,7 +121,7 @@ fn write_next(out: &mut Vec<u8>, some: bool, names: &Names, fact: &Fact) -> Resu
 /// Facts in order, with `, ` between them.
 #[tactic(auto, unfolding(crate::specs::Points::facts_text))]
 pub fn facts_text(alloc: Global, names: &Names, facts: &[Fact]) -> Result<Vec<u8>, AllocError>
-    requires { All (IsOver (length names.now.variables) (length names.now.rates)) facts.now }
+    requires { All (IsFactOver (length names.now.variables) (length names.now.rates)) facts.now }
     ensures { IfOk result (λ text. text.items ≡ facts_text names.now facts.now) }
 {
     let mut out = Vec::new(alloc);

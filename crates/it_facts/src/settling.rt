@@ -1,10 +1,10 @@
 //! Whether facts determine a point.
 ghost use Rattle.std.specs.Prelude.{◌≡◌, ◌≢◌, ℕ, ◌+◌, ◌^◌, ◌<◌, ◌≤◌, ◌+ℤ◌, pos, cond, All, IfOk};
 ghost use Rattle.std.specs.Bool.{OnFalse, OnTrue};
-ghost use Rattle.it_space.specs.Rows.{map_of};
+ghost use Rattle.it_space.specs.Rows.{point_of};
 ghost use Rattle.it_space.specs.Sets.{has_member};
 ghost use Rattle.it_space.specs.Spaces.{IsSpace};
-ghost use Rattle.it_facts.specs.Points.{Determine, IsFunction, IsOver, IsTrueOf, sum_of_members};
+ghost use Rattle.it_facts.specs.Points.{Determine, IsFunction, IsFactOver, IsTrueOf, sum_of_members};
 ghost use Rattle.it_facts.specs.Settling.{Follows, IsFactOf, Settles, TellRate, TellsRate};
 ghost use Rattle.it_facts.specs.declared.facts.Fact.TheVariants as fact;
 
@@ -21,7 +21,7 @@ fn are_equal(a: i128, b: i128) -> bool
 
 /// The value at a coordinate; 0 at the empty set's place and past the last value.
 pub fn value_at(point: &Point, coordinate: u32) -> i128
-    ensures { result ≡ map_of point.now coordinate }
+    ensures { result ≡ point_of point.now coordinate }
 {
     if coordinate == 0 || coordinate as usize > point.values().len() {
         0
@@ -32,14 +32,14 @@ pub fn value_at(point: &Point, coordinate: u32) -> i128
 
 /// The entropy of a set.
 pub fn entropy(point: &Point, set: VarSet) -> i128
-    ensures { result ≡ map_of point.now set }
+    ensures { result ≡ point_of point.now set }
 {
     value_at(point, set.number() as u32)
 }
 
 /// Whether two sets have one entropy.
 fn have_one_entropy(point: &Point, set: VarSet, other: VarSet) -> bool
-    ensures { OnTrue result (map_of point.now set ≡ map_of point.now other) }
+    ensures { OnTrue result (point_of point.now set ≡ point_of point.now other) }
 {
     are_equal(entropy(point, set), entropy(point, other))
 }
@@ -47,7 +47,7 @@ fn have_one_entropy(point: &Point, set: VarSet, other: VarSet) -> bool
 /// Whether a variable is a function of a set.
 pub fn is_function(point: &Point, variable: u8, set: VarSet) -> bool
     requires { variable < 16 }
-    ensures { OnTrue result (IsFunction (map_of point.now) variable set) }
+    ensures { OnTrue result (IsFunction (point_of point.now) variable set) }
 {
     let both = set.union(VarSet::single(variable));
     have_one_entropy(point, both, set)
@@ -56,7 +56,7 @@ pub fn is_function(point: &Point, variable: u8, set: VarSet) -> bool
 /// A sum with the entropy of a variable, where that is a member of the set.
 fn with_member(total: i128, point: &Point, set: VarSet, variable: u8) -> Result<i128, Wide>
     requires { variable < 16 }
-    ensures { IfOk result (λ t. t ≡ cond (has_member set variable) (map_of point.now (2 ^ variable)) (pos 0) +ℤ total) }
+    ensures { IfOk result (λ t. t ≡ cond (has_member set variable) (point_of point.now (2 ^ variable)) (pos 0) +ℤ total) }
 {
     if set.has(variable) {
         sum(entropy(point, VarSet::single(variable)), total)
@@ -68,7 +68,7 @@ fn with_member(total: i128, point: &Point, set: VarSet, variable: u8) -> Result<
 /// The sum of the entropies of a set's members, of the first n variables.
 fn sum_of_members(point: &Point, n: u8, set: VarSet) -> Result<i128, Wide>
     requires { n ≤ 16 }
-    ensures { IfOk result (λ t. t ≡ sum_of_members n (map_of point.now) set) }
+    ensures { IfOk result (λ t. t ≡ sum_of_members n (point_of point.now) set) }
 {
     let mut total = 0;
     for variable in 0..n {
@@ -80,7 +80,7 @@ fn sum_of_members(point: &Point, n: u8, set: VarSet) -> Result<i128, Wide>
 /// Whether the members of a set are independent.
 pub fn are_independent(point: &Point, n: u8, set: VarSet) -> bool
     requires { n ≤ 16 }
-    ensures { OnTrue result (map_of point.now set ≡ sum_of_members n (map_of point.now) set) }
+    ensures { OnTrue result (point_of point.now set ≡ sum_of_members n (point_of point.now) set) }
 {
     match sum_of_members(point, n, set) {
         Ok(total) => are_equal(entropy(point, set), total),
@@ -92,7 +92,7 @@ pub fn are_independent(point: &Point, n: u8, set: VarSet) -> bool
 pub fn are_functions(point: &Point, variable: u8, other: u8) -> bool
     requires variable { variable < 16 }
     requires other { other < 16 }
-    ensures { OnTrue result (IsFunction (map_of point.now) variable (2 ^ other) × IsFunction (map_of point.now) other (2 ^ variable)) }
+    ensures { OnTrue result (IsFunction (point_of point.now) variable (2 ^ other) × IsFunction (point_of point.now) other (2 ^ variable)) }
 {
     if is_function(point, variable, VarSet::single(other)) {
         is_function(point, other, VarSet::single(variable))
@@ -104,8 +104,8 @@ pub fn are_functions(point: &Point, variable: u8, other: u8) -> bool
 /// Whether a fact is true of a point.
 fn is_true(fact: &Fact, point: &Point, space: Space) -> bool
     requires space { IsSpace space }
-    requires over { IsOver space.variables space.rates fact.now }
-    ensures { OnTrue result (IsTrueOf space.variables (map_of point.now) fact.now) }
+    requires over { IsFactOver space.variables space.rates fact.now }
+    ensures { OnTrue result (IsTrueOf space.variables (point_of point.now) fact.now) }
 {
     let n = space.variables;
     match fact {
@@ -123,7 +123,7 @@ fn is_true(fact: &Fact, point: &Point, space: Space) -> bool
 /// Whether a fact is over the variables and rates of a space.
 fn is_over(fact: &Fact, space: Space) -> bool
     requires { IsSpace space }
-    ensures { OnTrue result (IsOver space.variables space.rates fact.now) }
+    ensures { OnTrue result (IsFactOver space.variables space.rates fact.now) }
 {
     let n = space.variables;
     match fact {
@@ -153,7 +153,7 @@ fn is_set_of(set: VarSet, n: u8) -> bool
 /// Whether a fact is over a space and true of a point.
 fn is_fact_of(fact: &Fact, point: &Point, space: Space) -> bool
     requires { IsSpace space }
-    ensures { OnTrue result (IsFactOf space.variables space.rates (map_of point.now) fact.now) }
+    ensures { OnTrue result (IsFactOf space.variables space.rates (point_of point.now) fact.now) }
 {
     if is_over(fact, space) {
         is_true(fact, point, space)
@@ -165,7 +165,7 @@ fn is_fact_of(fact: &Fact, point: &Point, space: Space) -> bool
 /// Whether each fact is over a space and true of a point.
 fn are_facts_of(facts: &[Fact], point: &Point, space: Space) -> bool
     requires { IsSpace space }
-    ensures { OnTrue result (All (IsFactOf space.variables space.rates (map_of point.now)) facts.now) }
+    ensures { OnTrue result (All (IsFactOf space.variables space.rates (point_of point.now)) facts.now) }
 {
     for fact in facts {
         if !is_fact_of(fact, point, space) {
@@ -180,7 +180,7 @@ fn settles_function(point: &Point, n: u8, set: VarSet, variable: u8, of: VarSet)
     requires few { n ≤ 10 }
     requires below { set < 2 ^ n }
     requires variable { variable < n }
-    ensures { OnTrue result (Settles n (map_of point.now) set (fact.Function variable of)) }
+    ensures { OnTrue result (Settles n (point_of point.now) set (fact.Function variable of)) }
 {
     let rest = set.minus(VarSet::single(variable));
     if set.has(variable) && of.inside(rest) {
@@ -195,7 +195,7 @@ fn settles_constant(point: &Point, n: u8, set: VarSet, variable: u8) -> bool
     requires few { n ≤ 10 }
     requires below { set < 2 ^ n }
     requires variable { variable < n }
-    ensures { OnTrue result (Settles n (map_of point.now) set (fact.Constant variable)) }
+    ensures { OnTrue result (Settles n (point_of point.now) set (fact.Constant variable)) }
 {
     settles_function(point, n, set, variable, VarSet::empty())
 }
@@ -207,7 +207,7 @@ fn settles_equal(point: &Point, n: u8, set: VarSet, variable: u8, other: u8) -> 
     requires below { set < 2 ^ n }
     requires variable { variable < n }
     requires other { other < n }
-    ensures { OnTrue result (Settles n (map_of point.now) set (fact.Equal variable other)) }
+    ensures { OnTrue result (Settles n (point_of point.now) set (fact.Equal variable other)) }
 {
     let rest = set.minus(VarSet::single(variable));
     let exchanged = rest.union(VarSet::single(other));
@@ -235,7 +235,7 @@ fn is_single(set: VarSet, n: u8) -> bool
 fn settles_independent(point: &Point, n: u8, set: VarSet, whole: VarSet) -> bool
     requires few { n ≤ 10 }
     requires below { whole < 2 ^ n }
-    ensures { OnTrue result (Settles n (map_of point.now) set (fact.Independent whole)) }
+    ensures { OnTrue result (Settles n (point_of point.now) set (fact.Independent whole)) }
 {
     if set.inside(whole) && !is_single(set, n) {
         are_independent(point, n, set)
@@ -249,7 +249,7 @@ fn settles_independent(point: &Point, n: u8, set: VarSet, whole: VarSet) -> bool
 fn settles(fact: &Fact, point: &Point, space: Space, set: VarSet) -> bool
     requires space { IsSpace space }
     requires below { set < 2 ^ space.variables }
-    ensures { OnTrue result (Settles space.variables (map_of point.now) set fact.now) }
+    ensures { OnTrue result (Settles space.variables (point_of point.now) set fact.now) }
 {
     if !is_over(fact, space) {
         return false;
@@ -275,7 +275,7 @@ fn settles(fact: &Fact, point: &Point, space: Space, set: VarSet) -> bool
 pub fn follows(facts: &[Fact], point: &Point, space: Space, set: VarSet) -> bool
     requires space { IsSpace space }
     requires below { set < 2 ^ space.variables }
-    ensures { OnTrue result (Follows space.variables (map_of point.now) facts.now set) }
+    ensures { OnTrue result (Follows space.variables (point_of point.now) facts.now set) }
 {
     if set == VarSet::empty() {
         return true;
@@ -291,7 +291,7 @@ pub fn follows(facts: &[Fact], point: &Point, space: Space, set: VarSet) -> bool
 /// Whether the value of each set follows.
 fn tell_sets(facts: &[Fact], point: &Point, space: Space) -> bool
     requires { IsSpace space }
-    ensures { OnTrue result ((s : ℕ) → s < 2 ^ space.variables → Follows space.variables (map_of point.now) facts.now s) }
+    ensures { OnTrue result ((s : ℕ) → s < 2 ^ space.variables → Follows space.variables (point_of point.now) facts.now s) }
 {
     for number in 0..1u16 << space.variables {
         if !follows(facts, point, space, VarSet::from_number(number)) {
@@ -338,7 +338,7 @@ fn tell_rates(facts: &[Fact], rates: u8) -> bool
 /// Whether facts determine a point: they are true of it, and of no other polymatroid with rates.
 pub fn determine(facts: &[Fact], point: &Point, space: Space) -> bool
     requires { IsSpace space }
-    ensures { OnTrue result (Determine space.variables space.rates facts.now (map_of point.now)) }
+    ensures { OnTrue result (Determine space.variables space.rates facts.now (point_of point.now)) }
 {
     if !are_facts_of(facts, point, space) {
         return false;

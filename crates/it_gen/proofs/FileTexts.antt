@@ -11,7 +11,7 @@ use Rattle.it_forms.proofs.LetterLemmas.{cleaned_append}
 use Rattle.it_syntax.specs.Spans.{letters_until}
 use Rattle.it_syntax.specs.Spelling.{is_word_byte, Stops, IsText}
 use Rattle.it_question.specs.Lines.{LineView, AreLines, IsFilled, split_lines, file_end, end_line, letters_of_lines}
-use Rattle.it_question.specs.Tables.{size_flag}
+use Rattle.it_question.specs.TableSizes.{size_flag}
 use Rattle.it_question.proofs.TableLemmas.{few_variables}
 use Rattle.it_question.specs.Texts.{with_texts}
 use Rattle.it_question.proofs.PlainLines.{spelled_plain, plain_same, plain_first}

@@ -3,7 +3,7 @@ use Rattle.std.proofs.Common.{◌≡◌, ℕ, ◌+◌, ◌-◌, ◌^◌, ◌<◌
 use Rattle.it_space.specs.declared.problems.Kind.TheVariants.{Inequality}
 use Rattle.it_space.specs.declared.problems.Constraint.{Constraint}
 use Rattle.it_space.specs.Problems.{ProblemView, IsProblem}
-use Rattle.it_space.specs.Rows.{value, IsUpTo}
+use Rattle.it_space.specs.Rows.{value, IsOver}
 use Rattle.it_space.specs.Spaces.{size_of}
 use Rattle.it_polymatroid.specs.Elementals.{elementals, elemental_at, elemental_value}
 use Rattle.it_elemental.specs.Generators.{Generator, generators, generator_at, generators_of}
@@ -24,8 +24,8 @@ pub constraint_is : (q : ProblemView) (i own : ℕ) (c : Constraint) → own ≡
 constraint_is q i own c e l b is = after_is q.space.variables q.constraints i own c e l (omega (arith, length-listed q.space.variables q.constraints)) is
 
 -- each row is of the space
-pub row_of_space : (q : ProblemView) (i : ℕ) → IsProblem q → 2 ^ q.space.variables ≤ size_of q.space + 1 → IsUpTo (size_of q.space) (generator_at (generators q) i).row
-row_of_space q i p s = every_or (λ (g : Generator). IsUpTo (size_of q.space) g.row) (generators q) i (record { kind = Inequality; row = [] })
+pub row_of_space : (q : ProblemView) (i : ℕ) → IsProblem q → 2 ^ q.space.variables ≤ size_of q.space + 1 → IsOver (size_of q.space) (generator_at (generators q) i).row
+row_of_space q i p s = every_or (λ (g : Generator). IsOver (size_of q.space) g.row) (generators q) i (record { kind = Inequality; row = [] })
     (rows_of_space q.space.variables (size_of q.space) q.constraints s p.rows) (λ k d h. absurd (omega arith))
 
 -- there are few elemental inequalities

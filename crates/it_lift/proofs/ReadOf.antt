@@ -3,7 +3,7 @@ use Rattle.std.proofs.Common.{◌≡◌, ℕ, zero, suc, ◌+◌, ◌-◌, ◌<�
 use Rattle.std.proofs.lemmas.Int.{ints}
 use Rattle.it_space.specs.declared.problems.Constraint.{Constraint}
 use Rattle.it_space.specs.Problems.{ProblemView}
-use Rattle.it_space.specs.Rows.{value, IsUpTo}
+use Rattle.it_space.specs.Rows.{value, IsOver}
 use Rattle.it_space.specs.Spaces.{size_of}
 use Rattle.it_polymatroid.specs.Elementals.{elementals}
 use Rattle.std.specs.List.{AllByRecursion as Every}
@@ -26,14 +26,14 @@ ascend_from_lower : (from to : ℕ) (ds : List Dependence) → from ≤ to → G
 ascend_from_lower from to [] h a = tt
 ascend_from_lower from to (d ∷ ds) h a = (omega (arith, a.0), a.1)
 
-ascend_read : (s : Rattle.it_space.specs.declared.spaces.Space.Space) (size g : ℕ) (cs : List Constraint) → All (λ c. IsUpTo size c.row) cs → GeneratorsAscend g (read_from s.variables g cs)
+ascend_read : (s : Rattle.it_space.specs.declared.spaces.Space.Space) (size g : ℕ) (cs : List Constraint) → All (λ c. IsOver size c.row) cs → GeneratorsAscend g (read_from s.variables g cs)
 ascend_read s size g [] u = tt
-ascend_read s size g (c ∷ cs) u = by_option (read_one s.variables g c) refl (ascend_read s size (g + 1) cs (Rattle.std.proofs.lemmas.List.Elements.All-tail (λ c. IsUpTo size c.row) c cs u))
+ascend_read s size g (c ∷ cs) u = by_option (read_one s.variables g c) refl (ascend_read s size (g + 1) cs (Rattle.std.proofs.lemmas.List.Elements.All-tail (λ c. IsOver size c.row) c cs u))
   where
     by_option : (o : Option Dependence) → read_one s.variables g c ≡ o → GeneratorsAscend (g + 1) (read_from s.variables (g + 1) cs) → GeneratorsAscend g (dependence_list o ++ read_from s.variables (g + 1) cs)
     by_option None e a = ascend_from_lower g (g + 1) (read_from s.variables (g + 1) cs) (omega arith) a
     by_option (Some d) e a =
-        let r = (reads_exactly s size g c d (Rattle.std.proofs.lemmas.List.Elements.All-head (λ c. IsUpTo size c.row) c cs u)).0 e in
+        let r = (reads_exactly s size g c d (Rattle.std.proofs.lemmas.List.Elements.All-head (λ c. IsOver size c.row) c cs u)).0 e in
         let k : d.generator ≡ g = r.1 in
         (omega arith, ascend_from_lower (d.generator + 1) (g + 1) (read_from s.variables (g + 1) cs) (omega arith) a)
 

@@ -5,7 +5,7 @@ use Rattle.std.proofs.lemmas.Nat.Bits.{bit_at-zero}
 use Rattle.std.specs.Int.Bits.{and_self}
 use Rattle.it_space.specs.Problems.{ProblemView, IsProblem}
 use Rattle.it_space.specs.Answers.{CertificateView}
-use Rattle.it_space.specs.Rows.{Terms, coefficient, value, IsUpTo}
+use Rattle.it_space.specs.Rows.{Terms, coefficient, value, IsOver}
 use Rattle.it_space.specs.Sets.{has_member}
 use Rattle.it_space.specs.Spaces.{size_of}
 use Rattle.it_polymatroid.specs.Elementals.{span}
@@ -37,7 +37,7 @@ flat-none F a (suc m) f = ap₂ (λ xs ys. xs ++ ys) (f a (omega arith)) (flat-n
 moves-none : (n : ℕ) (ds : List Dependence) (e : ℕ → ℤ) → ds ≡ [] → moves n ds e ≡ []
 moves-none n ds e q = subst (λ (es : List Dependence). moves n es e ≡ []) (sym q) (flat-none (moves_of n [] e) 0 (2 ^ n) (λ s h. at-none n s _ (omega arith)))
 
-pub is_own_lift : (q : ProblemView) (d : DependencesView) (target : Terms) (w : CertificateView) → IsProblem q → AreDependencesOf q d → IsUpTo (size_of q.space) target → IsCertificateOverClosed q d target w → d.list ≡ [] → IsLiftOf q d target w w
+pub is_own_lift : (q : ProblemView) (d : DependencesView) (target : Terms) (w : CertificateView) → IsProblem q → AreDependencesOf q d → IsOver (size_of q.space) target → IsCertificateOverClosed q d target w → d.list ≡ [] → IsLiftOf q d target w w
 is_own_lift q d target w p a t c none =
     let same : lifted_weights d.space.variables d.list (value target) (generators_of q) w ≡ w.weights =
     ap (λ ms. w.weights ++ ms) (moves-none d.space.variables d.list (excess w (value target) (generators_of q)) none) ∙ append-nil w.weights in

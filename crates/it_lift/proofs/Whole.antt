@@ -1,6 +1,6 @@
 -- The lift as a whole.
 use Rattle.std.proofs.Common.{◌≤ℤ◌, ◌≢◌, negsuc, ◌≡◌, ◌↔◌, ◌⊎◌, inl, inr, ℕ, zero, suc, ◌+◌, ◌^◌, ◌<◌, ◌≤◌, ℤ, pos, ◌+ℤ◌, ◌*ℤ◌, List, [], ◌∷◌, ◌++◌, length, Bool, true, false, cond, nat_eq, refl, sym, ap, subst, ◌∙◌, arith, All, ne_eqb}
-use Rattle.it_space.specs.Rows.{single_term, Terms, Ascends, coefficient, value, IsUpTo}
+use Rattle.it_space.specs.Rows.{single_term, Terms, Ascends, coefficient, value, IsOver}
 use Rattle.it_space.specs.Sums.{number_at, terms_from}
 use Rattle.it_polymatroid.specs.Certificates.{IsAllowed, IsLinear, combination}
 use Rattle.std.proofs.lemmas.Int.{ints}
@@ -80,7 +80,7 @@ canonical_weights_ascend from (t ∷ ts) a = (a.0, canonical_weights_ascend (t.0
 
 -- ---- what is lifted may stand in a certificate, and adds up
 
-module _ (q : ProblemView) (d : DependencesView) (target : Terms) (old : CertificateView) (p : IsProblem q) (a : AreDependencesOf q d) (t : IsUpTo (size_of q.space) target) (c : IsCertificateOverClosed q d target old) where
+module _ (q : ProblemView) (d : DependencesView) (target : Terms) (old : CertificateView) (p : IsProblem q) (a : AreDependencesOf q d) (t : IsOver (size_of q.space) target) (c : IsCertificateOverClosed q d target old) where
   abbrev lifted_parts : List (ℕ × ℤ)
   lifted_parts = lifted_weights d.space.variables d.list (value target) (generators_of q) old
 
@@ -136,7 +136,7 @@ module _ (q : ProblemView) (d : DependencesView) (target : Terms) (old : Certifi
       )
 
 -- what the code gives
-pub is_lift : (q : ProblemView) (d : DependencesView) (target : Terms) (old : CertificateView) (start end : List ℤ) → IsProblem q → AreDependencesOf q d → IsUpTo (size_of q.space) target → IsCertificateOverClosed q d target old
+pub is_lift : (q : ProblemView) (d : DependencesView) (target : Terms) (old : CertificateView) (start end : List ℤ) → IsProblem q → AreDependencesOf q d → IsOver (size_of q.space) target → IsCertificateOverClosed q d target old
     → length start ≡ (generators_of q).count → number_at start ≡ coefficient old.weights → AreWeightsAdded start end (moves d.space.variables d.list (excess old (value target) (generators_of q)))
     → IsLiftOf q d target old (record { scale = old.scale; weights = terms_from 0 end })
 is_lift q d target old start end p a t c len is added = record {

@@ -2,7 +2,7 @@
 ghost use Rattle.std.specs.Prelude.{[], ◌≢◌, ◌≡◌, ◌<◌, ◌≤◌, ◌+◌, ◌-◌, pos, length, All, OnOk, IfOk, IfErr};
 ghost use Rattle.it_space.specs.Answers.{certificate_view};
 ghost use Rattle.it_space.specs.Problems.{IsProblem, problem_view};
-ghost use Rattle.it_space.specs.Rows.{IsUpTo};
+ghost use Rattle.it_space.specs.Rows.{IsOver};
 ghost use Rattle.it_space.specs.Spaces.{size_of};
 ghost use Rattle.it_polymatroid.specs.Elementals.{elementals};
 ghost use Rattle.it_elemental.specs.Generators.{generators_of};
@@ -29,7 +29,7 @@ pub fn lift(
 ) -> Result<Certificate, RowFault>
     requires problem { IsProblem (problem_view problem.now) }
     requires dependences { AreDependencesOf (problem_view problem.now) dependences.now }
-    requires target { IsUpTo (size_of problem.now.space) target.now }
+    requires target { IsOver (size_of problem.now.space) target.now }
     requires sums { IsCertificateOverClosed (problem_view problem.now) dependences.now target.now (certificate_view collapsed.now) }
     ensures unchanged { IfOk result (λ c. dependences.now.list ≡ [] → certificate_view c ≡ certificate_view collapsed.now) }
     ensures fits { OnOk result (dependences.now.list ≢ [] → FitsLift (problem_view problem.now) dependences.now target.now (certificate_view collapsed.now)) }
@@ -53,7 +53,7 @@ fn lift_all(
 ) -> Result<Certificate, RowFault>
     requires problem { IsProblem (problem_view problem.now) }
     requires dependences { AreDependencesOf (problem_view problem.now) dependences.now }
-    requires target { IsUpTo (size_of problem.now.space) target.now }
+    requires target { IsOver (size_of problem.now.space) target.now }
     requires sums { IsCertificateOverClosed (problem_view problem.now) dependences.now target.now (certificate_view collapsed.now) }
     ensures fits { OnOk result (FitsLift (problem_view problem.now) dependences.now target.now (certificate_view collapsed.now)) }
     ensures nonzero { IfOk result (λ c. All (λ p. p.1 ≢ pos 0) (certificate_view c).weights) }

@@ -3,7 +3,7 @@ use Rattle.std.proofs.Common.{◌≡◌, ℕ, zero, suc, ◌+◌, ◌<◌, ◌�
 use Rattle.std.proofs.lemmas.Int.{ints}
 use Rattle.it_number.proofs.Integers.{zring}
 use Rattle.it_polymatroid.specs.Certificates.{Form, dot, IsLinear}
-use Rattle.it_space.specs.Rows.{one_at, Terms, IsUpTo, value}
+use Rattle.it_space.specs.Rows.{one_at, Terms, IsOver, value}
 use native.Mathlib.Nat.{eq-or-lt_of_le, le_of_suc-le-suc}
 use Rattle.std.proofs.lemmas.List.Elements.{All-head, All-tail}
 
@@ -71,7 +71,7 @@ linear-sub size f g l m = linear_same size (λ p. f p +ℤ neg_ℤ (pos 1) *ℤ 
     minus_as_negation x y = omega (arith, ints)
 
 -- and so is the value of a row
-pub value_linear : (size : ℕ) (row : Terms) → IsUpTo size row → IsLinear (size + 1) (value row)
+pub value_linear : (size : ℕ) (row : Terms) → IsOver size row → IsLinear (size + 1) (value row)
 value_linear size [] u = linear_zero (size + 1)
 value_linear size (t ∷ ts) u =
     let here : (1 ≤ t.0) × (t.0 ≤ size) = All-head (λ (t : ℕ × ℤ). (1 ≤ t.0) × (t.0 ≤ size)) t ts u in

@@ -12,10 +12,10 @@ use Rattle.it_polymatroid.proofs.Halves.{ElementalsHold, polymatroid_of}
 use Rattle.it_polymatroid.proofs.Instances.{elementals_of}
 
 -- the sets without two variables, as the list has them and by their digits
-lacks_by_bits : (i j k : ℕ) → bit_at k i ≡ 0 → bit_at k j ≡ 0 → (lacks i k && lacks j k) ≡ true
+lacks_by_bits : (i j k : ℕ) → bit_at k i ≡ 0 → bit_at k j ≡ 0 → (lacks k i && lacks k j) ≡ true
 lacks_by_bits i j k a b = grind (arith, nat_tests)
 
-bits_by_lacks : (i j k : ℕ) → (lacks i k && lacks j k) ≡ true → (bit_at k i ≡ 0) × (bit_at k j ≡ 0)
+bits_by_lacks : (i j k : ℕ) → (lacks k i && lacks k j) ≡ true → (bit_at k i ≡ 0) × (bit_at k j ≡ 0)
 bits_by_lacks i j k e = (grind (arith, nat_tests, bit_at-lt k i), grind (arith, nat_tests, bit_at-lt k j))
 
 -- what holds of every elemental inequality
@@ -30,9 +30,9 @@ to_list P n h = every-append P (map Conditional (span 0 n)) (flat_map (λ i. fla
     (every-span (λ i. Every P (flat_map (mutuals_of n i) (span (i + 1) (n - (i + 1))))) 0 n (λ i a b.
     every-flat_map P (mutuals_of n i) (span (i + 1) (n - (i + 1)))
     (every-span (λ j. Every P (mutuals_of n i j)) (i + 1) (n - (i + 1)) (λ j c d.
-    every-map P (Mutual i j) (filter (λ k. lacks i k && lacks j k) (span 0 (2 ^ n)))
-    (every-filter (λ k. P (Mutual i j k)) (λ k. lacks i k && lacks j k) (span 0 (2 ^ n))
-    (every-span (λ k. (lacks i k && lacks j k) ≡ true → P (Mutual i j k)) 0 (2 ^ n) (λ k e f t.
+    every-map P (Mutual i j) (filter (λ k. lacks k i && lacks k j) (span 0 (2 ^ n)))
+    (every-filter (λ k. P (Mutual i j k)) (λ k. lacks k i && lacks k j) (span 0 (2 ^ n))
+    (every-span (λ k. (lacks k i && lacks k j) ≡ true → P (Mutual i j k)) 0 (2 ^ n) (λ k e f t.
     let both = bits_by_lacks i j k t in h.mutual_of i j k (omega arith) (omega arith) (omega arith) both.0 both.1))))))))
 
 pub from_list : (P : Elemental → Type 0) (n : ℕ) → Every P (elementals n) → HoldsOfElementals P n
@@ -42,8 +42,8 @@ from_list P n e = record {
       let all : Every P (flat_map (λ i. flat_map (mutuals_of n i) (span (i + 1) (n - (i + 1)))) (span 0 n)) = every_back P (map Conditional (span 0 n)) (flat_map (λ i. flat_map (mutuals_of n i) (span (i + 1) (n - (i + 1)))) (span 0 n)) e in
       let at_i : Every P (flat_map (mutuals_of n i) (span (i + 1) (n - (i + 1)))) = every_spanned (λ i. Every P (flat_map (mutuals_of n i) (span (i + 1) (n - (i + 1))))) 0 n (every_flat_mapped P (λ i. flat_map (mutuals_of n i) (span (i + 1) (n - (i + 1)))) (span 0 n) all) i (omega arith) (omega arith) in
       let at_j : Every P (mutuals_of n i j) = every_spanned (λ j. Every P (mutuals_of n i j)) (i + 1) (n - (i + 1)) (every_flat_mapped P (mutuals_of n i) (span (i + 1) (n - (i + 1))) at_i) j (omega arith) (omega arith) in
-      every_spanned (λ k. (lacks i k && lacks j k) ≡ true → P (Mutual i j k)) 0 (2 ^ n)
-      (every_filtered (λ k. P (Mutual i j k)) (λ k. lacks i k && lacks j k) (span 0 (2 ^ n)) (every_mapped P (Mutual i j) (filter (λ k. lacks i k && lacks j k) (span 0 (2 ^ n))) at_j)) k (omega arith) (omega arith) (lacks_by_bits i j k a b);
+      every_spanned (λ k. (lacks k i && lacks k j) ≡ true → P (Mutual i j k)) 0 (2 ^ n)
+      (every_filtered (λ k. P (Mutual i j k)) (λ k. lacks k i && lacks k j) (span 0 (2 ^ n)) (every_mapped P (Mutual i j) (filter (λ k. lacks k i && lacks k j) (span 0 (2 ^ n))) at_j)) k (omega arith) (omega arith) (lacks_by_bits i j k a b);
 }
 
 at_most : (a b : ℤ) → pos 0 ≤ℤ (a -ℤ b) → b ≤ℤ a

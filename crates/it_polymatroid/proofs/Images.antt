@@ -14,7 +14,7 @@ use Rattle.it_space.proofs.ListLemmas.{drop_item}
 use Rattle.it_space.specs.Sets.{has_member, IsInside}
 use Rattle.it_space.proofs.SetLemmas.{or_assoc}
 use Rattle.it_polymatroid.specs.Polymatroid.{IsPolymatroid}
-use Rattle.it_polymatroid.specs.Substitutions.{union_from, image}
+use Rattle.it_polymatroid.specs.Substitutions.{union_from, union_of_images}
 
 or_swap : (a b c d : ℕ) → bit_or (bit_or a b) (bit_or c d) ≡ bit_or (bit_or a c) (bit_or b d)
 or_swap a b c d = same_from_bits _ _ (λ i.
@@ -33,7 +33,7 @@ union-more sets s u i x h is =
     ∙ sym (or_assoc u (part i x s) (union_from (i + 1) (drop (i + 1) sets) s))
 
 -- and at the end
-pub union-end : (sets : List ℕ) (s u i : ℕ) → length sets ≤ i → bit_or u (union_from i (drop i sets) s) ≡ image sets s → u ≡ image sets s
+pub union-end : (sets : List ℕ) (s u i : ℕ) → length sets ≤ i → bit_or u (union_from i (drop i sets) s) ≡ union_of_images sets s → u ≡ union_of_images sets s
 union-end sets s u i h e = sym (or_zero_r u) ∙ sym (ap (λ xs. bit_or u (union_from i xs s)) (drop_none sets i h)) ∙ e
   where
     drop_none : (xs : List ℕ) (i : ℕ) → length xs ≤ i → drop i xs ≡ []
@@ -76,15 +76,15 @@ union_below n first (x ∷ xs) s a = or_lt n (part first x s) (union_from (first
     by_test true = All-head (λ x. x < 2 ^ n) x xs a
     by_test false = pow_pos n
 
--- members of an image
+-- members of a union of images
 inside_or : (s t : ℕ) → IsInside s t → bit_or s t ≡ t
 inside_or s t h = same_from_bits _ _ (λ i. let p = bit_at_or s t i in let q = bit_at_and s t i in let e = ap (λ n. bit_at n i) h in omega arith)
 
 or_inside : (s t : ℕ) → bit_or s t ≡ t → IsInside s t
 or_inside s t h = same_from_bits _ _ (λ i. let p = bit_at_or s t i in let q = bit_at_and s t i in let e = ap (λ n. bit_at n i) h in omega arith)
 
-image_inside : (sets : List ℕ) (s t : ℕ) → IsInside s t → IsInside (image sets s) (image sets t)
-image_inside sets s t h = or_inside (image sets s) (image sets t) (sym (union-or 0 sets s t) ∙ ap (image sets) (inside_or s t h))
+image_inside : (sets : List ℕ) (s t : ℕ) → IsInside s t → IsInside (union_of_images sets s) (union_of_images sets t)
+image_inside sets s t h = or_inside (union_of_images sets s) (union_of_images sets t) (sym (union-or 0 sets s t) ∙ ap (union_of_images sets) (inside_or s t h))
 
 pub meet_left : (s t : ℕ) → IsInside (bit_and s t) s
 meet_left s t = same_from_bits _ _ (λ i. let p = bit_at_and (bit_and s t) s i in let q = bit_at_and s t i in omega arith)
@@ -101,22 +101,22 @@ meet_lt : (n s t : ℕ) → t < 2 ^ n → bit_and s t < 2 ^ n
 meet_lt n s t h = omega (arith, and_le_r s t)
 
 -- a polymatroid pulled back is a polymatroid
-pub pulled_polymatroid : (n m : ℕ) (h g : ℕ → ℤ) (sets : List ℕ) → All (λ x. x < 2 ^ n) sets → ((s : ℕ) → s < 2 ^ m → g s ≡ h (image sets s)) → IsPolymatroid n h → IsPolymatroid m g
+pub pulled_polymatroid : (n m : ℕ) (h g : ℕ → ℤ) (sets : List ℕ) → All (λ x. x < 2 ^ n) sets → ((s : ℕ) → s < 2 ^ m → g s ≡ h (union_of_images sets s)) → IsPolymatroid n h → IsPolymatroid m g
 pulled_polymatroid n m h g sets a is p = record {
   empty = is 0 (pow_pos m) ∙ ap h (union-empty 0 sets) ∙ p.empty;
-  rises = λ s t l i. subst₂ (λ (x y : ℤ). x ≤ℤ y) (sym (is s (omega (arith, i, and_le_r s t)))) (sym (is t l)) (p.rises (image sets s) (image sets t) (image_below t) (image_inside sets s t i));
+  rises = λ s t l i. subst₂ (λ (x y : ℤ). x ≤ℤ y) (sym (is s (omega (arith, i, and_le_r s t)))) (sym (is t l)) (p.rises (union_of_images sets s) (union_of_images sets t) (image_below t) (image_inside sets s t i));
   submodular = λ s t k l.
-      let low : h (image sets (bit_and s t)) ≤ℤ h (bit_and (image sets s) (image sets t)) = p.rises (image sets (bit_and s t)) (bit_and (image sets s) (image sets t)) (meet_lt n (image sets s) (image sets t) (image_below t))
-      (inside_meet (image sets (bit_and s t)) (image sets s) (image sets t) (image_inside sets (bit_and s t) s (meet_left s t)) (image_inside sets (bit_and s t) t (meet_right s t))) in
-      let both = p.submodular (image sets s) (image sets t) (image_below s) (image_below t) in
-      let u : g (bit_or s t) ≡ h (bit_or (image sets s) (image sets t)) = is (bit_or s t) (or_lt m s t k l) ∙ ap h (union-or 0 sets s t) in
-      let v : g (bit_and s t) ≡ h (image sets (bit_and s t)) = is (bit_and s t) (meet_lt m s t l) in
-      let x : g s ≡ h (image sets s) = is s k in
-      let y : g t ≡ h (image sets t) = is t l in
+      let low : h (union_of_images sets (bit_and s t)) ≤ℤ h (bit_and (union_of_images sets s) (union_of_images sets t)) = p.rises (union_of_images sets (bit_and s t)) (bit_and (union_of_images sets s) (union_of_images sets t)) (meet_lt n (union_of_images sets s) (union_of_images sets t) (image_below t))
+      (inside_meet (union_of_images sets (bit_and s t)) (union_of_images sets s) (union_of_images sets t) (image_inside sets (bit_and s t) s (meet_left s t)) (image_inside sets (bit_and s t) t (meet_right s t))) in
+      let both = p.submodular (union_of_images sets s) (union_of_images sets t) (image_below s) (image_below t) in
+      let u : g (bit_or s t) ≡ h (bit_or (union_of_images sets s) (union_of_images sets t)) = is (bit_or s t) (or_lt m s t k l) ∙ ap h (union-or 0 sets s t) in
+      let v : g (bit_and s t) ≡ h (union_of_images sets (bit_and s t)) = is (bit_and s t) (meet_lt m s t l) in
+      let x : g s ≡ h (union_of_images sets s) = is s k in
+      let y : g t ≡ h (union_of_images sets t) = is t l in
       omega (arith, ints, low, both, u, v, x, y);
 }
   where
-    image_below : (s : ℕ) → image sets s < 2 ^ n
+    image_below : (s : ℕ) → union_of_images sets s < 2 ^ n
     image_below s = union_below n 0 sets s a
 
 -- values pushed in order of the sets
@@ -131,7 +131,7 @@ values-push values f n v e h is s l = by_cases (cases_lt s n)
 
 -- the values pulled back are a table
 pub pulled_table : (f : SetFunction) (sets : List ℕ) (m : ℕ) (values : List ℤ) → IsTable f → m ≡ length sets → m ≤ 10 → length values ≡ 2 ^ length sets → All IsWithin values
-    → ((s : ℕ) → s < 2 ^ length sets → get_or values s (pos 0) ≡ value_at f (image sets s)) → IsTable (record { variables = m; values = values })
+    → ((s : ℕ) → s < 2 ^ length sets → get_or values s (pos 0) ≡ value_at f (union_of_images sets s)) → IsTable (record { variables = m; values = values })
 pulled_table f sets m values t e few complete within is = record {
   few = few;
   complete = complete ∙ ap (λ n. 2 ^ n) (sym e);

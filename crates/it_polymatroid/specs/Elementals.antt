@@ -20,11 +20,11 @@ span from (suc count) = from ∷ span (from + 1) count
 
 -- whether variable i is no member of k
 abbrev pub lacks : ℕ → ℕ → Bool
-lacks i k = not (has_member k i)
+lacks k i = not (has_member k i)
 
 -- `I(Xi; Xj | K)` for all K, by their numbers
 abbrev pub mutuals_of : ℕ → ℕ → ℕ → List Elemental
-mutuals_of n i j = map (Mutual i j) (filter (λ k. lacks i k && lacks j k) (span 0 (2 ^ n)))
+mutuals_of n i j = map (Mutual i j) (filter (λ k. lacks k i && lacks k j) (span 0 (2 ^ n)))
 
 -- the list: by variable, then by pair in lexicographic order and by set
 abbrev pub elementals : ℕ → List Elemental

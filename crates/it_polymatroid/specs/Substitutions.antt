@@ -8,5 +8,5 @@ union_from first [] s = 0
 union_from first (x ∷ xs) s = bit_or (if has_member s first then x else 0) (union_from (first + 1) xs s)
 
 -- what a set stands for
-abbrev pub image : List ℕ → ℕ → ℕ
-image sets s = union_from 0 sets s
+abbrev pub union_of_images : List ℕ → ℕ → ℕ
+union_of_images sets s = union_from 0 sets s

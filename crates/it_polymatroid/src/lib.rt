@@ -7,5 +7,5 @@ mod sums;
 mod tables;
 
 pub use laws::{certificates_prove, elementals_generate};
-pub use substitutions::{Substitution, image, pull_back};
+pub use substitutions::{Substitution, pull_back, union_of_images};
 pub use tables::{Table, is_polymatroid};

@@ -2,7 +2,7 @@
 ghost use Rattle.std.specs.Prelude.{◌≡◌, ◌<◌, ◌≤◌, ◌^◌, ℕ, pos, length, slice_index_or, All, IfOk, OnOk};
 ghost use Rattle.it_number.specs.Limit.{IsWithin};
 ghost use Rattle.it_polymatroid.specs.Polymatroid.{IsPolymatroid};
-ghost use Rattle.it_polymatroid.specs.Substitutions.{image};
+ghost use Rattle.it_polymatroid.specs.Substitutions.{union_of_images};
 ghost use Rattle.it_polymatroid.specs.Tables.{IsTable, value_at};
 
 use crate::tables::Table;
@@ -40,18 +40,18 @@ impl Substitution {
     }
 
     /// The union of what the members stand for.
-    fn image(&self, set: VarSet) -> VarSet
+    fn union_of_images(&self, set: VarSet) -> VarSet
         requires { length self.now ≤ 16 }
-        ensures { result ≡ image self.now set }
+        ensures { result ≡ union_of_images self.now set }
     {
-        image(self.sets.as_slice(), set)
+        union_of_images(self.sets.as_slice(), set)
     }
 }
 
 /// The union of the sets that the members of a set stand for, each variable for one of the sets in order.
-pub fn image(sets: &[VarSet], of: VarSet) -> VarSet
+pub fn union_of_images(sets: &[VarSet], of: VarSet) -> VarSet
     requires { length sets.now ≤ 16 }
-    ensures { result ≡ image sets.now of }
+    ensures { result ≡ union_of_images sets.now of }
 {
     let mut union = VarSet::empty();
     // by index, since it is the variable's number, and the invariant speaks of the sets from i on
@@ -70,7 +70,7 @@ pub fn pull_back(alloc: Global, table: &Table, by: &Substitution) -> Result<Tabl
     requires few { length by.now ≤ 10 }
     requires within { All (λ s. s < 2 ^ table.now.variables) by.now }
     ensures variables { IfOk result (λ t. t.variables ≡ length by.now) }
-    ensures values { IfOk result (λ t. (s : ℕ) → s < 2 ^ length by.now → value_at t s ≡ value_at table.now (image by.now s)) }
+    ensures values { IfOk result (λ t. (s : ℕ) → s < 2 ^ length by.now → value_at t s ≡ value_at table.now (union_of_images by.now s)) }
     ensures polymatroid { IfOk result (λ t. IsPolymatroid table.now.variables (value_at table.now) → IsPolymatroid t.variables (value_at t)) }
 {
     let variables = by.len() as u8;
@@ -85,12 +85,12 @@ fn pulled_values(alloc: Global, table: &Table, by: &Substitution) -> Result<Vec<
     ensures complete { IfOk result (λ v. length v.items ≡ 2 ^ length by.now) }
     ensures within { IfOk result (λ v. All IsWithin v.items) }
     ensures table { OnOk result (IsTable table.now) }
-    ensures values { IfOk result (λ v. (s : ℕ) → s < 2 ^ length by.now → slice_index_or v.items s (pos 0) ≡ value_at table.now (image by.now s)) }
+    ensures values { IfOk result (λ v. (s : ℕ) → s < 2 ^ length by.now → slice_index_or v.items s (pos 0) ≡ value_at table.now (union_of_images by.now s)) }
 {
     let count = 1u16 << by.len();
     let mut values = Vec::with_capacity(alloc, count as usize)?;
     for number in 0..count {
-        values.push(table.at(by.image(VarSet::from_number(number))))?;
+        values.push(table.at(by.union_of_images(VarSet::from_number(number))))?;
     }
     Ok(values)
 }

@@ -6,7 +6,7 @@ use Rattle.it_space.specs.declared.spaces.Space.{Space}
 use Rattle.it_space.specs.declared.problems.Kind.{Kind}
 use Rattle.it_space.specs.declared.problems.Kind.TheVariants.{Inequality}
 use Rattle.it_space.specs.declared.problems.Constraint.{Constraint}
-use Rattle.it_space.specs.Rows.{Terms, IsUpTo, one_at}
+use Rattle.it_space.specs.Rows.{Terms, IsOver, one_at}
 use Rattle.it_space.specs.Spaces.{size_of}
 use Rattle.it_space.proofs.EveryLemmas.{every_of}
 use Rattle.it_space.proofs.SumLemmas.{terms_up_to}
@@ -56,6 +56,6 @@ generators_are s ds cs a = ap₂ (λ (xs ys : List Generator). xs ++ ys) (elemen
     each_is_elemental i d l = subst (IsElemental s.variables) (get_or_default (elementals s.variables) i (Conditional 0) d l) (is_elemental s.variables i l)
 
 -- the terms of a form are over the coordinates
-pub form_up_to : (size : ℕ) (form : Form) → IsUpTo size (terms_of_form size form)
+pub form_up_to : (size : ℕ) (form : Form) → IsOver size (terms_of_form size form)
 unfolding terms_of_form
 form_up_to size form = terms_up_to size 1 (map (λ c. form (one_at c)) (span 1 size)) (omega arith) (omega (arith, length-map (span 1 size) (λ c. form (one_at c)), length-span 1 size))

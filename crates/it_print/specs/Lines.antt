@@ -19,8 +19,8 @@ use Rattle.it_space.specs.declared.problems.Origin.TheVariants.{Given, Rate}
 use Rattle.it_polymatroid.specs.Elementals.{Elemental, Conditional, Mutual, elementals, elemental_at}
 use Rattle.it_syntax.specs.NamesViews.{NamesView}
 use Rattle.it_question.specs.Questions.{BodyView, VerbView, Contain}
-use Rattle.it_canon.specs.QuestionDemands.{variables_of}
-use Rattle.it_question.specs.Tables.{problem_names}
+use Rattle.it_canon.specs.QuestionDemands.{variable_count}
+use Rattle.it_question.specs.ProblemLines.{problem_names}
 
 -- texts with a separator between them; `some`: one stands before them
 abbrev pub joined_texts : List ℕ → Bool → List (List ℕ) → List ℕ
@@ -197,9 +197,9 @@ AreListed n m proofs = All (λ c. All (λ w. w.0 < length (elementals n) + m) c.
 -- with m constraints: the generators of each certificate are there, the point's values, the cause's rate and the rows are of the
 -- question's names, and there is a set for each auxiliary variable
 abbrev pub IsPrintable : BodyView → ℕ → Answer → Type 0
-IsPrintable q m (answers.Yes proofs) = AreListed (variables_of q) m proofs.items
-IsPrintable q m (answers.No back point) = (length point < 2 ^ variables_of q + length (problem_names q).rates) × (length point < 2 ^ 16)
+IsPrintable q m (answers.Yes proofs) = AreListed (variable_count q) m proofs.items
+IsPrintable q m (answers.No back point) = (length point < 2 ^ variable_count q + length (problem_names q).rates) × (length point < 2 ^ 16)
 IsPrintable q m (answers.Undecided cause) = IsCauseOf (length (problem_names q).rates) cause
 IsPrintable q m (answers.Region rows) = All (λ row. IsRowOver (problem_names q) row.1) rows.items
-IsPrintable q m (answers.Contained parts proofs) = (length parts.items ≡ length (auxiliary_names q.names q.verb)) × AreListed (variables_of q) m proofs.items
+IsPrintable q m (answers.Contained parts proofs) = (length parts.items ≡ length (auxiliary_names q.names q.verb)) × AreListed (variable_count q) m proofs.items
 IsPrintable q m (answers.Open tried) = Unit {0}

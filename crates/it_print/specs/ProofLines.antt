@@ -10,7 +10,7 @@ use Rattle.it_space.specs.declared.problems.Origin.{Origin}
 use Rattle.it_elemental.specs.Generators.{Generator, generator_at, generator_list}
 use Rattle.it_syntax.specs.NamesViews.{NamesView}
 use Rattle.it_question.specs.Questions.{BodyView}
-use Rattle.it_question.specs.Tables.{problem_names}
+use Rattle.it_question.specs.ProblemLines.{problem_names}
 use Rattle.it_print.specs.Lines.{answer_line, origins_of, weight_text, row_text}
 
 -- what each generator says, by its number: an elemental inequality, or a constraint

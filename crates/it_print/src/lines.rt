@@ -2,7 +2,7 @@
 ghost use Rattle.std.specs.Prelude.{◌≡◌, ◌≤◌, ◌<◌, ◌+◌, ◌^◌, ◌++◌, length, codes, decimal, OnOk, IfOk, All};
 ghost use Rattle.it_space.specs.Answers.{answer_view};
 ghost use Rattle.it_question.specs.Questions.{question_body};
-ghost use Rattle.it_canon.specs.QuestionDemands.{variables_of};
+ghost use Rattle.it_canon.specs.QuestionDemands.{variable_count};
 ghost use Rattle.it_print.specs.Lines.{AreListed, IsCauseOf, IsPrintable, IsRowOver, answer_line, auxiliary_names, cause_text, contained_line, open_line, origins_of, undecided_line, values_text, region_lines};
 ghost use Rattle.it_print.specs.ByConstraints.{proofs_text_by};
 
@@ -26,7 +26,7 @@ pub fn answer_line(
     constraints: &[Constraint],
     answer: &Answer,
 ) -> Result<Vec<u8>, AllocError>
-    requires some { 1 ≤ variables_of (question_body question.now) }
+    requires some { 1 ≤ variable_count (question_body question.now) }
     requires printable { IsPrintable (question_body question.now) (length constraints.now) answer.now }
     ensures { IfOk result (λ t. t.items ≡ answer_line k (question_body question.now) (origins_of constraints.now) (answer_view answer.now)) }
 {

@@ -3,8 +3,8 @@ ghost use Rattle.std.specs.Prelude.{◌≡◌, ◌≤◌, ◌<◌, ◌+◌, ◌+
 ghost use Rattle.it_space.specs.Answers.{answer_view, is_nonzero_weight};
 ghost use Rattle.it_polymatroid.specs.Elementals.{elementals};
 ghost use Rattle.it_question.specs.Questions.{question_body};
-ghost use Rattle.it_question.specs.Tables.{problem_names};
-ghost use Rattle.it_canon.specs.QuestionDemands.{variables_of};
+ghost use Rattle.it_question.specs.ProblemLines.{problem_names};
+ghost use Rattle.it_canon.specs.QuestionDemands.{variable_count};
 ghost use Rattle.it_print.specs.Lines.{AreListed, IsPrintable, IsRowOver, answer_line, row_text};
 ghost use Rattle.it_print.specs.ProofLines.{generator_rows, generator_row_text, proof_text_by, sum_line};
 ghost use Rattle.it_print.specs.ByConstraints.{certificate_lines_by, elemental_row_text, proof_lines_by, weight_line_by};
@@ -31,7 +31,7 @@ pub fn proof_text(
     targets: &[Row],
     answer: &Answer,
 ) -> Result<Vec<u8>, AllocError>
-    requires some { 1 ≤ variables_of (question_body question.now) }
+    requires some { 1 ≤ variable_count (question_body question.now) }
     requires printable { IsPrintable (question_body question.now) (length constraints.now) answer.now }
     requires rows { All (λ c. IsRowOver (problem_names (question_body question.now)) c.row) constraints.now }
     requires targets { All (IsRowOver (problem_names (question_body question.now))) targets.now }

@@ -4,7 +4,7 @@ use Rattle.std.specs.List.{filter, AllByRecursion as Every}
 use Rattle.std.proofs.lemmas.Int.{ints}
 use Rattle.std.proofs.lemmas.Bool.{eqb-true, false≢true, true≢false}
 use Rattle.std.proofs.Math.IntN.{+ℤ_idl}
-use Rattle.it_space.specs.Rows.{Terms, coefficient, value, IsUpTo, one_at}
+use Rattle.it_space.specs.Rows.{Terms, coefficient, value, IsOver, one_at}
 use Rattle.it_space.proofs.CanonicalRows.{other_is}
 use Rattle.it_space.proofs.EveryLemmas.{every_of, all_of, every-same, every-filter}
 use Rattle.it_polymatroid.proofs.Forms.{one_at-zero}
@@ -74,7 +74,7 @@ module _ (n : ℕ) (ds : List Dependence) where
   collapsed_at row c h = sym (value-placed n ds row (one_at c)) ∙ value-one_at (placed_terms n ds row) c ∙ sym (coefficient_kept (placed_terms n ds row) c h)
 
   -- a row that the code has collapsed has these coefficients
-  pub collapse_same : (size : ℕ) (old new : Terms) → IsCollapseOf n ds old new → IsUpTo size new → (c : ℕ) → coefficient new c ≡ coefficient (collapsed_row n ds old) c
+  pub collapse_same : (size : ℕ) (old new : Terms) → IsCollapseOf n ds old new → IsOver size new → (c : ℕ) → coefficient new c ≡ coefficient (collapsed_row n ds old) c
   collapse_same size old new k u zero =
       coefficient_absent new 0 (every-same (λ (t : ℕ × ℤ). (1 ≤ t.0) × (t.0 ≤ size)) (λ t. t.0 ≢ 0) new (λ t b z. omega (arith, b.0, z)) (every_of (λ (t : ℕ × ℤ). (1 ≤ t.0) × (t.0 ≤ size)) new u))
       ∙ sym (coefficient_absent (collapsed_row n ds old) 0 (kept_some (placed_terms n ds old)))

@@ -6,7 +6,7 @@ use Rattle.std.proofs.lemmas.List.{drop_more, drop_all, take_all, map-append, ge
 use Rattle.it_space.specs.declared.problems.Kind.{Kind}
 use Rattle.it_space.specs.declared.problems.Kind.TheVariants.{Inequality, Equation}
 use Rattle.it_space.specs.Problems.{ProblemView, IsProblem}
-use Rattle.it_space.specs.Rows.{Terms, IsUpTo, coefficient, single_term}
+use Rattle.it_space.specs.Rows.{Terms, IsOver, coefficient, single_term}
 use Rattle.it_closure.specs.declared.dependences.Dependence.{Dependence}
 use Rattle.it_closure.specs.Collapse.{CollapseFits, IsCollapseOf}
 use Rattle.it_elemental.specs.Generators.{Generator, generators, generator_at}
@@ -117,15 +117,15 @@ weights_done gs f i j old h inv = sym (append-nil old) ∙ ap (λ xs. old ++ wei
 
 -- ---- rows as the code has them
 
-pub row_up_to : (q : ProblemView) (s : Space) (i : ℕ) (row : Terms) → IsProblem q → s ≡ q.space → row ≡ (generator_at (generators q) i).row → IsUpTo (size_of s) row
-row_up_to q s i row k e r = subst (λ (t : Space). IsUpTo (size_of t) row) (sym e) (subst (IsUpTo (size_of q.space)) (sym r) (row_of_space q i k (omega (arith, pow_pos q.space.variables))))
+pub row_up_to : (q : ProblemView) (s : Space) (i : ℕ) (row : Terms) → IsProblem q → s ≡ q.space → row ≡ (generator_at (generators q) i).row → IsOver (size_of s) row
+row_up_to q s i row k e r = subst (λ (t : Space). IsOver (size_of t) row) (sym e) (subst (IsOver (size_of q.space)) (sym r) (row_of_space q i k (omega (arith, pow_pos q.space.variables))))
 
-pub collapse_so : (q : ProblemView) (d : DependencesView) (r new target : Terms) → d.space ≡ q.space → r ≡ target → IsCollapseOf d.space.variables d.list r new → IsUpTo (size_of d.space) new
+pub collapse_so : (q : ProblemView) (d : DependencesView) (r new target : Terms) → d.space ≡ q.space → r ≡ target → IsCollapseOf d.space.variables d.list r new → IsOver (size_of d.space) new
     → (c : ℕ) → coefficient new c ≡ coefficient (collapsed_row q.space.variables d.list target) c
 collapse_so q d r new target s e k u c =
     collapse_same d.space.variables d.list (size_of d.space) r new k u c ∙ ap (λ t. coefficient (collapsed_row d.space.variables d.list t) c) e
     ∙ ap (λ (t : Space). coefficient (collapsed_row t.variables d.list target) c) s
 
-pub target_so : (q : ProblemView) (d : DependencesView) (new target : Terms) → d.space ≡ q.space → d.list ≡ dependences_of q → IsCollapseOf d.space.variables d.list target new → IsUpTo (size_of d.space) new
+pub target_so : (q : ProblemView) (d : DependencesView) (new target : Terms) → d.space ≡ q.space → d.list ≡ dependences_of q → IsCollapseOf d.space.variables d.list target new → IsOver (size_of d.space) new
     → (c : ℕ) → coefficient new c ≡ coefficient (closed_target q target) c
 target_so q d new target s l k u c = collapse_so q d target new target s refl k u c ∙ ap (λ ds. coefficient (collapsed_row q.space.variables ds target) c) l

@@ -8,7 +8,7 @@ use Rattle.it_space.specs.declared.problems.Kind.{Kind}
 use Rattle.it_space.specs.declared.problems.Kind.TheVariants.{Inequality, Equation}
 use Rattle.it_space.specs.Problems.{ProblemView, IsProblem}
 use Rattle.it_space.specs.Answers.{CertificateView}
-use Rattle.it_space.specs.Rows.{Terms, Ascends, coefficient, value, IsUpTo, one_at, single_term}
+use Rattle.it_space.specs.Rows.{Terms, Ascends, coefficient, value, IsOver, one_at, single_term}
 use Rattle.it_space.specs.Spaces.{size_of}
 use Rattle.it_space.proofs.CanonicalRows.{head_is, other_is, rows_by_coefficients}
 use Rattle.it_polymatroid.specs.Certificates.{IsAllowed, combination}
@@ -105,7 +105,7 @@ value_null (w ∷ ws) f e = ap₂ (λ x y. w.1 *ℤ x +ℤ y) (e w.0) (value_nul
     zero_value : (x : ℤ) → x *ℤ pos 0 +ℤ pos 0 ≡ pos 0
     zero_value x = omega (arith, ints)
 
-pub below_size : (size m : ℕ) (row : Terms) → size < m → IsUpTo size row → Every (λ (t : ℕ × ℤ). t.0 < m) row
+pub below_size : (size m : ℕ) (row : Terms) → size < m → IsOver size row → Every (λ (t : ℕ × ℤ). t.0 < m) row
 below_size size m row h u = every-same (λ (t : ℕ × ℤ). (1 ≤ t.0) × (t.0 ≤ size)) (λ (t : ℕ × ℤ). t.0 < m) row (λ t b. omega (arith, b.1)) (every_of (λ (t : ℕ × ℤ). (1 ≤ t.0) × (t.0 ≤ size)) row u)
 
 -- ---- what a lift is given
@@ -123,14 +123,14 @@ dependences_sound q k = of_space (read_of q) (are_dependences_of q k).shape
 pub read_is : (q : ProblemView) (d : DependencesView) → d.space ≡ q.space → d.list ≡ dependences_of q → read_of q ≡ d
 read_is q d s l = ap₂ (λ x y. record { space = x; list = y }) (sym s) (sym l)
 
-module _ (q : ProblemView) (target : Terms) (k : IsProblem q) (u : IsUpTo (size_of q.space) target) (ws : List (ℕ × Rational))
+module _ (q : ProblemView) (target : Terms) (k : IsProblem q) (u : IsOver (size_of q.space) target) (ws : List (ℕ × Rational))
     (a : SumsUp rationals (length (closed_places q)) (length (columns (closed_generators q))) (feasibility_problem (closed_places q) (columns (closed_generators q)) (closed_target q target)) ws) where
   sizes : size_of q.space < 2 ^ q.space.variables + q.space.rates
   sizes = omega (arith, Rattle.std.proofs.lemmas.Nat.pow_pos q.space.variables)
 
   row_up_to : (i : ℕ) → Every (λ (t : ℕ × ℤ). t.0 < 2 ^ q.space.variables + q.space.rates) (generator_at (generators q) i).row
   row_up_to i = below_size (size_of q.space) (2 ^ q.space.variables + q.space.rates) (generator_at (generators q) i).row sizes
-      (every_or (λ (g : Generator). IsUpTo (size_of q.space) g.row) (generators q) i (record { kind = Inequality; row = [] })
+      (every_or (λ (g : Generator). IsOver (size_of q.space) g.row) (generators q) i (record { kind = Inequality; row = [] })
       (rows_of_space q.space.variables (size_of q.space) q.constraints (omega arith) k.rows) (λ j d h. absurd (omega arith)))
 
   -- at each coordinate, a place of the run or not
@@ -212,7 +212,7 @@ ascends_of from (t ∷ ts) a e w = (
     rest c true q = subst (λ (m : ℕ). IsWithin (coefficient ts m)) (eqb-true t.0 c q) (subst IsWithin (sym no_later_coefficient) (omega arith))
     rest c false q = subst IsWithin (other_is t ts c (λ r. false≢true (sym q ∙ Rattle.std.proofs.Common.eq-eqb t.0 c r))) (w c)
 
-module _ (q : ProblemView) (target : Terms) (k : IsProblem q) (u : IsUpTo (size_of q.space) target) (ws : List (ℕ × Rational))
+module _ (q : ProblemView) (target : Terms) (k : IsProblem q) (u : IsOver (size_of q.space) target) (ws : List (ℕ × Rational))
     (a : SumsUp rationals (length (closed_places q)) (length (columns (closed_generators q))) (feasibility_problem (closed_places q) (columns (closed_generators q)) (closed_target q target)) ws)
     (fit : NumbersFit (numbers_of ws)) where
   is_lifted : (w new : CertificateView) → w ≡ certificate_of (generators q) ws → IsLiftOf q (read_of q) target w new → (dependences_of q ≡ [] → new ≡ w) → (dependences_of q ≢ [] → All (λ (p : ℕ × ℤ). p.1 ≢ pos 0) new.weights)

@@ -12,7 +12,7 @@ use Rattle.it_rational.specs.Rational.{Rational, integer, times, is_at_least_zer
 use Rattle.it_rational.proofs.RationalLaws.{ring_ℚ}
 use Rattle.it_space.specs.declared.spaces.Space.{Space}
 use Rattle.it_space.specs.Problems.{ProblemView, IsProblem, Meets}
-use Rattle.it_space.specs.Rows.{Terms, Ascends, IsUpTo, coefficient, map_of, value, single_term}
+use Rattle.it_space.specs.Rows.{Terms, Ascends, IsOver, coefficient, point_of, value, single_term}
 use Rattle.it_space.specs.Spaces.{size_of}
 use Rattle.it_space.proofs.EveryLemmas.{every_of, all_of, every-same, every-map, every_mapped, every_all}
 use Rattle.it_polymatroid.specs.Elementals.{span}
@@ -128,10 +128,10 @@ every_at : {X : Type 0} (P : X → Type 0) (xs : List X) (i : ℕ) (d : X) → E
 every_at P xs i d e h = all_of P xs e i d h
 
 -- the values at all coordinates are those at their places
-value_spread : (n : ℕ) (ds : List Dependence) (size : ℕ) (at : Terms) (row : Terms) → IsUpTo size row → value row (map_of (map (spread_out n ds (coefficient at)) (span 1 size))) ≡ value row (spread_out n ds (coefficient at))
+value_spread : (n : ℕ) (ds : List Dependence) (size : ℕ) (at : Terms) (row : Terms) → IsOver size row → value row (point_of (map (spread_out n ds (coefficient at)) (span 1 size))) ≡ value row (spread_out n ds (coefficient at))
 value_spread n ds size at row u = value_of_terms row (every_of (λ (t : ℕ × ℤ). (1 ≤ t.0) × (t.0 ≤ size)) row u)
   where
-    value_of_place : (c : ℕ) → 1 ≤ c → c ≤ size → map_of (map (spread_out n ds (coefficient at)) (span 1 size)) c ≡ coefficient at (place n ds c)
+    value_of_place : (c : ℕ) → 1 ≤ c → c ≤ size → point_of (map (spread_out n ds (coefficient at)) (span 1 size)) c ≡ coefficient at (place n ds c)
     value_of_place zero h l = absurd (omega arith)
     value_of_place (suc c) h l =
         get_or-map (λ c. coefficient at (place n ds c)) (span 1 size) c 0 (pos 0) (omega (arith, length-span 1 size))
@@ -140,11 +140,11 @@ value_spread n ds size at row u = value_of_terms row (every_of (λ (t : ℕ × �
         one_plus : (c : ℕ) → 1 + c ≡ suc c
         one_plus c = omega arith
 
-    value_of_terms : (ts : Terms) → Every (λ (t : ℕ × ℤ). (1 ≤ t.0) × (t.0 ≤ size)) ts → value ts (map_of (map (spread_out n ds (coefficient at)) (span 1 size))) ≡ value ts (spread_out n ds (coefficient at))
+    value_of_terms : (ts : Terms) → Every (λ (t : ℕ × ℤ). (1 ≤ t.0) × (t.0 ≤ size)) ts → value ts (point_of (map (spread_out n ds (coefficient at)) (span 1 size))) ≡ value ts (spread_out n ds (coefficient at))
     value_of_terms [] b = refl
     value_of_terms (t ∷ ts) b = ap₂ (λ x y. t.1 *ℤ x +ℤ y) (value_of_place t.0 b.0.0 b.0.1) (value_of_terms ts b.1)
 
-module _ (q : ProblemView) (target : Terms) (qs : List Rational) (k : IsProblem q) (u : IsUpTo (size_of q.space) target)
+module _ (q : ProblemView) (target : Terms) (qs : List Rational) (k : IsProblem q) (u : IsOver (size_of q.space) target)
     (s : Separates rationals (length (closed_places q)) (length (columns (closed_generators q))) (feasibility_problem (closed_places q) (columns (closed_generators q)) (closed_target q target)) qs) where
   abbrev values : Terms
   values = terms_of_places (closed_places q) (scaled_point qs)
@@ -158,16 +158,16 @@ module _ (q : ProblemView) (target : Terms) (qs : List Rational) (k : IsProblem 
   whole_at : (c : ℕ) → integer (coefficient values c) ≡ times (integer (pos (scale_of qs))) (rational_at (closed_places q) qs c)
   whole_at = whole_found (scale_of qs) 1 (2 ^ q.space.variables + q.space.rates) (closed_places q) qs closed_places_rise (denominators_divide qs)
 
-  rows : Every (λ g. IsUpTo (size_of q.space) g.row) (generators q)
+  rows : Every (λ g. IsOver (size_of q.space) g.row) (generators q)
   rows = rows_of_space q.space.variables (size_of q.space) q.constraints (omega arith) k.rows
 
-  row_over_places : (row : Terms) → IsUpTo (size_of q.space) row → Every (λ (t : ℕ × ℤ). In (closed_places q) t.0) (collapsed_row q.space.variables (dependences_of q) row)
+  row_over_places : (row : Terms) → IsOver (size_of q.space) row → Every (λ (t : ℕ × ℤ). In (closed_places q) t.0) (collapsed_row q.space.variables (dependences_of q) row)
   row_over_places row b = collapsed_over q.space.variables q.space.rates (dependences_of q) (dependences_sound q k) row (below_size (size_of q.space) (2 ^ q.space.variables + q.space.rates) row sizes b)
 
   columns_over : Every (λ (r : Terms). Every (λ (t : ℕ × ℤ). In (closed_places q) t.0) r) (columns (closed_generators q))
   columns_over = columns_keep (In (closed_places q)) (closed_generators q)
       (every-map (λ g. Every (λ (t : ℕ × ℤ). In (closed_places q) t.0) g.row) (collapsed_generator q.space.variables (dependences_of q)) (generators q)
-      (every-same (λ g. IsUpTo (size_of q.space) g.row) (λ g. Every (λ (t : ℕ × ℤ). In (closed_places q) t.0) (collapsed_row q.space.variables (dependences_of q) g.row)) (generators q) (λ g b. row_over_places g.row b) rows))
+      (every-same (λ g. IsOver (size_of q.space) g.row) (λ g. Every (λ (t : ℕ × ℤ). In (closed_places q) t.0) (collapsed_row q.space.variables (dependences_of q) g.row)) (generators q) (λ g b. row_over_places g.row b) rows))
 
   values_separate : ((j : ℕ) → j < length (columns (closed_generators q)) → is_at_least_zero (rational_value (get_or (columns (closed_generators q)) j []) (rational_at (closed_places q) qs)) ≡ true)
       × (is_at_least_zero (rational_value (closed_target q target) (rational_at (closed_places q) qs)) ≡ false)
@@ -189,18 +189,18 @@ module _ (q : ProblemView) (target : Terms) (qs : List Rational) (k : IsProblem 
       (least_scaled (scale_of qs) (coefficient values) (rational_at (closed_places q) qs) (scale_pos qs) (get_or (columns (closed_generators q)) j [])
       (scaled_row (get_or (columns (closed_generators q)) j [])) (values_separate.0 j l))))
 
-  value_same : (row : Terms) → IsUpTo (size_of q.space) row → value (collapsed_row q.space.variables (dependences_of q) row) (coefficient values) ≡ value row (map_of (spread_point q qs))
+  value_same : (row : Terms) → IsOver (size_of q.space) row → value (collapsed_row q.space.variables (dependences_of q) row) (coefficient values) ≡ value row (point_of (spread_point q qs))
   value_same row b = collapsed_value q.space.variables (dependences_of q) row (coefficient values) no_value_at_zero ∙ sym (value_spread q.space.variables (dependences_of q) (size_of q.space) values row b)
-      ∙ ap (λ (vs : List ℤ). value row (map_of vs)) (spread_same q.space.variables (dependences_of q) (size_of q.space) (closed_places q) (scaled_point qs))
+      ∙ ap (λ (vs : List ℤ). value row (point_of vs)) (spread_same q.space.variables (dependences_of q) (size_of q.space) (closed_places q) (scaled_point qs))
 
-  generators_met : Every (λ g. Meets g.kind (value g.row (map_of (spread_point q qs)))) (generators q)
-  generators_met = every_both (λ g. IsUpTo (size_of q.space) g.row) (λ g. Meets g.kind (value (collapsed_row q.space.variables (dependences_of q) g.row) (coefficient values))) (λ g. Meets g.kind (value g.row (map_of (spread_point q qs)))) (generators q)
+  generators_met : Every (λ g. Meets g.kind (value g.row (point_of (spread_point q qs)))) (generators q)
+  generators_met = every_both (λ g. IsOver (size_of q.space) g.row) (λ g. Meets g.kind (value (collapsed_row q.space.variables (dependences_of q) g.row) (coefficient values))) (λ g. Meets g.kind (value g.row (point_of (spread_point q qs)))) (generators q)
       (λ g b m. subst (Meets g.kind) (value_same g.row b) m) rows
       (every_mapped (λ g. Meets g.kind (value g.row (coefficient values))) (collapsed_generator q.space.variables (dependences_of q)) (generators q) closed_met)
 
   pub point_right : RefutesRow q target (spread_point q qs)
   point_right =
-      let both = listed_met q.space.variables q.constraints (map_of (spread_point q qs)) refl generators_met in
+      let both = listed_met q.space.variables q.constraints (point_of (spread_point q qs)) refl generators_met in
       record {
         complete = spread_length q.space.variables (dependences_of q) (size_of q.space) (zip (closed_places q) (scaled_point qs));
         polymatroid = both.0;

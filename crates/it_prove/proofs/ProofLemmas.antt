@@ -10,7 +10,7 @@ use Rattle.it_space.specs.declared.answers.Cause.TheVariants.{Scale}
 use Rattle.it_space.specs.declared.answers.Cause.TheVariants as causes
 use Rattle.it_space.specs.Problems.{ProblemView, IsProblem}
 use Rattle.it_space.specs.Answers.{CertificateView}
-use Rattle.it_space.specs.Rows.{Terms, IsCanonical, IsUpTo, coefficient, map_of}
+use Rattle.it_space.specs.Rows.{Terms, IsCanonical, IsOver, coefficient, point_of}
 use Rattle.it_space.specs.Spaces.{size_of}
 use Rattle.it_polymatroid.specs.Elementals.{elementals}
 use Rattle.std.specs.List.{AllByRecursion as Every}
@@ -44,7 +44,7 @@ use Rattle.it_prove.specs.declared.types.Proof.{Proof}
 use Rattle.it_prove.proofs.PointLemmas.{point_right}
 use Rattle.it_prove.proofs.LiftLemmas.{one_lift}
 
-module _ (q : ProblemView) (target : Terms) (k : IsProblem q) (u : IsUpTo (size_of q.space) target) where
+module _ (q : ProblemView) (target : Terms) (k : IsProblem q) (u : IsOver (size_of q.space) target) where
   -- ---- weights
 
   module _ (ws : List (ℕ × Rational)) (w : CertificateView) (lift : IsLifted q target ws w) (certifies : CertifiesRow q target w) where
@@ -64,10 +64,10 @@ module _ (q : ProblemView) (target : Terms) (k : IsProblem q) (u : IsUpTo (size_
     values_refute : RefutesRow q target values
     values_refute = subst (RefutesRow q target) (sym same) (point_right q target qs k u s)
 
-    pub refuted_follows : Valid ≡ no_verdict (length (elementals q.space.variables)) (generators q) target (map_of values) → Follows q target (Point qs) (No values)
+    pub refuted_follows : Valid ≡ no_verdict (length (elementals q.space.variables)) (generators q) target (point_of values) → Follows q target (Point qs) (No values)
     refuted_follows e = inl ((fit, subst (PointFits q target) same ((valid_no_is q target values k u values_refute.complete).0 (sym e)).1), ap No same)
 
-    pub wide_point : (no_verdict (length (elementals q.space.variables)) (generators q) target (map_of values) ≡ Valid → ⊥) → Follows q target (Point qs) (Undecided Scale)
+    pub wide_point : (no_verdict (length (elementals q.space.variables)) (generators q) target (point_of values) ≡ Valid → ⊥) → Follows q target (Point qs) (Undecided Scale)
     wide_point n = inr ((λ f. n ((valid_no_is q target values k u values_refute.complete).1 (values_refute, subst (PointFits q target) (sym same) f.1))), refl)
 
     pub point_size : length values ≡ size_of q.space

@@ -4,7 +4,7 @@ use Rattle.std.specs.Result.{IfOk}
 use Rattle.it_rational.specs.Rational.{Rational}
 use Rattle.it_rational.proofs.Field.{field_ℚ}
 use Rattle.it_space.specs.Problems.{ProblemView, IsProblem}
-use Rattle.it_space.specs.Rows.{Terms, IsUpTo}
+use Rattle.it_space.specs.Rows.{Terms, IsOver}
 use Rattle.it_space.specs.Spaces.{size_of}
 use Rattle.it_tableau.specs.Problems.{feasibility_problem}
 use Rattle.it_run.specs.Runs.{RunEndView}
@@ -31,7 +31,7 @@ module _ (q : ProblemView) (target : Terms) where
       let m = length (closed_places q) in let n = length (columns (closed_generators q)) in
       right_by field_ℚ m n (StepFits m n) (feasibility_problem (closed_places q) (columns (closed_generators q)) (closed_target q target)) budget end a.1
 
-  right_outcome : IsProblem q → IsUpTo (size_of q.space) target → (end : RunEndView (List (ℕ × Rational)) (List Rational)) (o : ProofView) → IsRightEnd end → Follows q target end o → IsRightProof q target o
+  right_outcome : IsProblem q → IsOver (size_of q.space) target → (end : RunEndView (List (ℕ × Rational)) (List Rational)) (o : ProofView) → IsRightEnd end → Follows q target end o → IsRightProof q target o
   right_outcome k u (Weights ws) o r (inl (w, lift, fit, is)) = subst (IsRightProof q target) (sym is) (lifted_certifies q target k u ws r fit.0.numbers w lift, fit.1)
   right_outcome k u (Weights ws) o r (inr a) = subst (IsRightProof q target) (sym a.1) tt
   right_outcome k u (Point qs) o r (inl a) = subst (IsRightProof q target) (sym a.1) (point_right q target qs k u r, a.0.1)
@@ -43,7 +43,7 @@ pub ends_are_right : EndsAreRight
 ends_are_right q target budget o k u e = right_outcome q target k u e.end o (right_run q target budget e.end e.run) e.follows
 
 -- so is what the code gives
-pub right_result : {E : Type 0} (q : ProblemView) (target : Terms) (budget : Option ℕ) (r : Result Proof E) → IsProblem q → IsUpTo (size_of q.space) target
+pub right_result : {E : Type 0} (q : ProblemView) (target : Terms) (budget : Option ℕ) (r : Result Proof E) → IsProblem q → IsOver (size_of q.space) target
     → IfOk r (λ proof. EndsWith q target budget (proof_view proof)) → IfOk r (λ proof. IsRightProof q target (proof_view proof))
 right_result q target budget (Err e) k u h = tt
 right_result q target budget (Ok proof) k u h = ends_are_right q target budget (proof_view proof) k u h

@@ -9,7 +9,7 @@ use Rattle.it_space.specs.declared.answers.Cause.TheVariants.{Scale}
 use Rattle.it_space.specs.Problems.{ProblemView, IsProblem}
 use Rattle.it_space.specs.Answers.{CertificateView, certificate_view}
 use Rattle.it_space.specs.Bounds.{IsSmall}
-use Rattle.it_space.specs.Rows.{Terms, IsCanonical, IsUpTo, coefficient, value}
+use Rattle.it_space.specs.Rows.{Terms, IsCanonical, IsOver, coefficient, value}
 use Rattle.it_space.specs.Spaces.{size_of}
 use Rattle.it_run.specs.Runs.{RunEndView}
 use Rattle.it_run.specs.Runs.RunEndView.{Weights, Point, Pivots, Width}
@@ -88,7 +88,7 @@ IsRightProof q target (Undecided cause) = Unit {0}
 
 -- what a run ends with is right
 abbrev pub EndsAreRight : Type 0
-EndsAreRight = (q : ProblemView) (target : Terms) (budget : Option ℕ) (o : ProofView) → IsProblem q → IsUpTo (size_of q.space) target → EndsWith q target budget o → IsRightProof q target o
+EndsAreRight = (q : ProblemView) (target : Terms) (budget : Option ℕ) (o : ProofView) → IsProblem q → IsOver (size_of q.space) target → EndsWith q target budget o → IsRightProof q target o
 
 -- a target under a problem has one outcome for a budget
 abbrev pub OneProofView : Type 0

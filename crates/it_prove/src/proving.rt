@@ -5,7 +5,7 @@ ghost use Rattle.std.specs.Option.{IfNone};
 ghost use Rattle.it_space.specs.Answers.{certificate_view};
 ghost use Rattle.it_space.specs.declared.answers.Cause.TheVariants as causes;
 ghost use Rattle.it_space.specs.Problems.{IsProblem, ProblemView, problem_view};
-ghost use Rattle.it_space.specs.Rows.{IsUpTo, coefficient};
+ghost use Rattle.it_space.specs.Rows.{IsOver, coefficient};
 ghost use Rattle.it_space.specs.Spaces.{size_of};
 ghost use Rattle.it_closure.specs.Reading.{dependences_of};
 ghost use Rattle.it_run.specs.Runs.RunEndView.{Point, Weights};
@@ -40,7 +40,7 @@ fn lifted_certificate(
     requires problem { IsProblem (problem_view problem.now) }
     requires space { dependences.now.space ≡ problem.now.space }
     requires list { dependences.now.list ≡ dependences_of (problem_view problem.now) }
-    requires target { IsUpTo (size_of problem.now.space) target.now }
+    requires target { IsOver (size_of problem.now.space) target.now }
     requires sum { ClosedSumsUp (problem_view problem.now) target.now weights.now }
     ensures lifted { IfOk result (λ c. IsLifted (problem_view problem.now) target.now weights.now (certificate_view c)) }
     ensures certifies { IfOk result (λ c. CertifiesRow (problem_view problem.now) target.now (certificate_view c)) }
@@ -63,7 +63,7 @@ fn by_weights(
     requires problem { IsProblem (problem_view problem.now) }
     requires space { dependences.now.space ≡ problem.now.space }
     requires list { dependences.now.list ≡ dependences_of (problem_view problem.now) }
-    requires target { IsUpTo (size_of problem.now.space) target.now }
+    requires target { IsOver (size_of problem.now.space) target.now }
     requires sum { ClosedSumsUp (problem_view problem.now) target.now weights.now }
     ensures { IfOk result (λ proof. Follows (problem_view problem.now) target.now (Weights weights.now) (proof_view proof)) }
 {
@@ -89,7 +89,7 @@ fn by_point(
     requires problem { IsProblem (problem_view problem.now) }
     requires space { dependences.now.space ≡ problem.now.space }
     requires list { dependences.now.list ≡ dependences_of (problem_view problem.now) }
-    requires target { IsUpTo (size_of problem.now.space) target.now }
+    requires target { IsOver (size_of problem.now.space) target.now }
     requires coordinates { coordinates.now ≡ closed_places (problem_view problem.now) }
     requires apart { ClosedSeparates (problem_view problem.now) target.now point.now }
     ensures { IfOk result (λ proof. Follows (problem_view problem.now) target.now (Point point.now) (proof_view proof)) }
@@ -120,7 +120,7 @@ fn collapse_rows(
 ) -> Result<ClosedRows, RowFault>
     requires problem { IsProblem (problem_view problem.now) }
     requires closed { IsClosedProblem (problem_view problem.now) closed.now }
-    requires target { IsUpTo (size_of problem.now.space) target.now }
+    requires target { IsOver (size_of problem.now.space) target.now }
     ensures columns { IfOk result (λ c. SameRows (closed.now.columns.items ++ c.columns.items) (columns (closed_generators (problem_view problem.now)))) }
     ensures target { IfOk result (λ c. (k : ℕ) → coefficient c.target k ≡ coefficient (closed_target (problem_view problem.now) target.now) k) }
     ensures fits { OnOk result (CollapsesFit (problem_view problem.now) target.now) }
@@ -144,7 +144,7 @@ fn closed_proof(
     requires space { closed.now.dependences.space ≡ problem.now.space }
     requires list { closed.now.dependences.list ≡ dependences_of (problem_view problem.now) }
     requires coordinates { closed.now.coordinates.items ≡ closed_places (problem_view problem.now) }
-    requires target { IsUpTo (size_of problem.now.space) target.now }
+    requires target { IsOver (size_of problem.now.space) target.now }
     requires columns { SameRows closed.now.columns.items (columns (closed_generators (problem_view problem.now))) }
     requires collapsed { (k : ℕ) → coefficient collapsed.now k ≡ coefficient (closed_target (problem_view problem.now) target.now) k }
     requires fits { CollapsesFit (problem_view problem.now) target.now }
@@ -188,7 +188,7 @@ fn with_columns(
 ) -> Result<Proof, AllocError>
     requires problem { IsProblem (problem_view problem.now) }
     requires closed { IsClosedProblem (problem_view problem.now) closed.old }
-    requires target { IsUpTo (size_of problem.now.space) target.now }
+    requires target { IsOver (size_of problem.now.space) target.now }
     requires columns { SameRows (closed.old.columns.items ++ rows.columns.items) (columns (closed_generators (problem_view problem.now))) }
     requires collapsed { (k : ℕ) → coefficient rows.target k ≡ coefficient (closed_target (problem_view problem.now) target.now) k }
     requires fits { CollapsesFit (problem_view problem.now) target.now }
@@ -214,7 +214,7 @@ impl ClosedProblem {
     ) -> Result<Proof, AllocError>
         requires problem { IsProblem (problem_view problem.now) }
         requires closed { IsClosedProblem (problem_view problem.now) self.old }
-        requires target { IsUpTo (size_of problem.now.space) target.now }
+        requires target { IsOver (size_of problem.now.space) target.now }
         ensures ends { IfOk result (λ proof. EndsWith (problem_view problem.now) target.now budget (proof_view proof)) }
         ensures unbound { IfNone budget (IfOk result (λ proof. (k : ℕ) → proof_view proof ≢ Undecided (causes.Pivots k))) }
         ensures right { IfOk result (λ proof. IsRightProof (problem_view problem.now) target.now (proof_view proof)) }
@@ -239,7 +239,7 @@ pub fn prove(
     budget: Budget,
 ) -> Result<Proof, AllocError>
     requires problem { IsProblem (problem_view problem.now) }
-    requires target { IsUpTo (size_of problem.now.space) target.now }
+    requires target { IsOver (size_of problem.now.space) target.now }
     ensures ends { IfOk result (λ proof. EndsWith (problem_view problem.now) target.now budget (proof_view proof)) }
     ensures unbound { IfNone budget (IfOk result (λ proof. (k : ℕ) → proof_view proof ≢ Undecided (causes.Pivots k))) }
     ensures right { IfOk result (λ proof. IsRightProof (problem_view problem.now) target.now (proof_view proof)) }

@@ -11,7 +11,7 @@ use Rattle.it_question.specs.Limits.{IsQuestion}
 use Rattle.it_question.specs.Lines.{LineView, AreLinesOf, letters_of_lines}
 use Rattle.it_question.specs.QuestionForms.{file}
 use Rattle.it_question.specs.Questions.{BodyView, QuestionView, question_body, question_view}
-use Rattle.it_question.specs.Tables.{HasSmallTable}
+use Rattle.it_question.specs.TableSizes.{HasSmallTable}
 use Rattle.it_question.specs.Texts.{question_line_count, with_texts}
 use Rattle.it_question.proofs.FileLemmas.{file_ends}
 use Rattle.it_question.proofs.LimitLemmas.{IsRead, file_limited}

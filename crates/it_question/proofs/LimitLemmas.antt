@@ -29,7 +29,8 @@ use Rattle.it_question.specs.NewNames.{NameSortView, Variable, Rate, with_name, 
 use Rattle.it_question.specs.QuestionForms.{count, new_name, more_new, new_names, names_line, own_line, own_words, own_keyword, more_own_lines, own_lines, once, more_once, distinct, auxiliary, set, part, more_parts, try_line, more_tries, region, containment, verb, question, more_questions, file}
 use Rattle.it_question.specs.QuestionLimits.{most_questions, most_variables, most_rates, most_lines, auxiliaries_left, givens_left, rows_left}
 use Rattle.it_question.specs.Questions.{OwnLinesView, RegionView, VerbView, Prove, Eliminate, Contain, BodyView, no_lines}
-use Rattle.it_question.specs.Tables.{givens_alone, problem_names_by, problem_lines_by, problem_of_lines, most_entries, size_flag, HasSmallTable}
+use Rattle.it_question.specs.ProblemLines.{givens_alone, names_under, lines_under}
+use Rattle.it_question.specs.TableSizes.{problem_of_lines, most_entries, size_flag, HasSmallTable}
 use Rattle.it_question.specs.TrySets.{Sets, unnamed_sets, with_set, auxiliary_env}
 use Rattle.it_question.proofs.QuestionLines.{IsGrown, not_grown, grown_more}
 
@@ -274,7 +275,7 @@ unflagged_is_small v own e = by_test (nat_lt most_entries (table_size (problem_o
 -- what a question with these lines may want
 record IsWanted (own : OwnLinesView) (v : NamesView) (y : VerbView) : Type 0 where
   over : IsVerbOver v y
-  small : table_size (problem_of_lines (problem_names_by v y) (problem_lines_by own y)) ≤ most_entries
+  small : table_size (problem_of_lines (names_under v y) (lines_under own y)) ≤ most_entries
 
 containment_keeps : (own : OwnLinesView) (v : NamesView) → length v.variables ≤ 10 → Always (containment own v) (λ p y. IsWanted own v y)
 unfolding containment Always
@@ -284,7 +285,7 @@ containment_keeps own v few =
     always_weaker (region g r v) _ _
     (λ p first hf l e m. always_weaker (region (givens_left g first.lines) (rows_left r first.lines) v) _ _
     (λ q second hs. always_weaker (more_tries (auxiliary_env v second.names) (env_of first.names) (unnamed_sets second.auxiliaries) []) _ _
-    (λ s tries ht l e none l' e' m'. record { over = (hf.region, hs.region, ht.0, ht.1); small = unflagged_is_small first.names (problem_lines_by own (Contain first second tries)) none })
+    (λ s tries ht l e none l' e' m'. record { over = (hf.region, hs.region, ht.0, ht.1); small = unflagged_is_small first.names (lines_under own (Contain first second tries)) none })
     (tries_keep (auxiliary_env v second.names) (env_of first.names) (length first.names.variables) (knows_names first.names) second.auxiliaries))
     (region_keeps (givens_left g first.lines) (rows_left r first.lines) v (omega arith) (omega arith) few))
     (region_keeps g r v (omega arith) (omega arith) few)

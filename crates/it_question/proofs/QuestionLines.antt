@@ -19,7 +19,8 @@ use Rattle.it_question.specs.QuestionForms.{own_words, own_keyword, new_name, mo
 use Rattle.it_question.specs.Questions.{OwnLinesView, RegionView, VerbView, Prove, Eliminate, Contain, BodyView}
 use Rattle.it_question.specs.Texts.{own_line_count, region_line_count, verb_line_count, question_line_count}
 use Rattle.it_question.specs.TrySets.{Sets}
-use Rattle.it_question.specs.Tables.{givens_alone, size_flag, lines_with}
+use Rattle.it_question.specs.ProblemLines.{givens_alone, lines_with}
+use Rattle.it_question.specs.TableSizes.{size_flag}
 use Rattle.it_question.specs.QuestionLimits.{most_questions, most_lines}
 use Rattle.it_question.proofs.Puts.{AreTokens, HasLines, Puts, puts_at, no_lines, tokens_then, taken_token, in_line, end_puts, tokens_lines, lines_then, lines_as, line_puts}
 

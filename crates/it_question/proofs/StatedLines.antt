@@ -8,7 +8,7 @@ use Rattle.it_demand.specs.Demands.{LineDemand, States, AreStated}
 use Rattle.it_demand.specs.LineDemands.{given_demands, row_demands}
 use Rattle.it_demand.proofs.ZipLemmas.{zip-append}
 use Rattle.it_demand.proofs.GeneratorLemmas.{givens-append, rows-append}
-use Rattle.it_question.specs.Tables.{line_demands}
+use Rattle.it_question.specs.ProblemLines.{line_demands}
 
 -- constraints one after the other
 pub stated-append : (s : Space) (ds es : List LineDemand) (cs ts all : List Constraint) → AreStated s ds cs → AreStated s es ts → all ≡ cs ++ ts → AreStated s (ds ++ es) all

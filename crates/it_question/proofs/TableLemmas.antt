@@ -7,7 +7,7 @@ use Rattle.it_space.specs.declared.problems.Kind.{Kind}
 use Rattle.it_space.specs.declared.problems.Origin.{Origin}
 use Rattle.it_space.specs.declared.problems.Constraint.{Constraint}
 use Rattle.it_space.specs.Problems.{IsProblem}
-use Rattle.it_space.specs.Rows.{Terms, IsUpTo}
+use Rattle.it_space.specs.Rows.{Terms, IsOver}
 use Rattle.it_space.specs.Spaces.{IsSpace, size_of}
 use Rattle.std.proofs.Math.Nat.{mul-le-mul, pow-le-pow_right}
 use Rattle.std.proofs.lemmas.List.{length-map, append-nil}
@@ -32,7 +32,8 @@ use Rattle.it_demand.proofs.ZipLemmas.{zip-length, zip-right}
 use Rattle.it_question.specs.Questions.{OwnLinesView, RegionView}
 use Rattle.it_question.specs.Limits.{IsRegionOf}
 use Rattle.it_question.specs.ReaderSteps.{flag_if_large}
-use Rattle.it_question.specs.Tables.{line_demands, constraint_of, problem_of_lines, most_entries, size_flag}
+use Rattle.it_question.specs.ProblemLines.{line_demands}
+use Rattle.it_question.specs.TableSizes.{constraint_of, problem_of_lines, most_entries, size_flag}
 
 abbrev constraint : Terms → Kind → Origin → Constraint
 constraint row kind origin = record { row = row; kind = kind; origin = origin }
@@ -51,7 +52,7 @@ stated_are s (d ∷ ds) (c ∷ cs) a =
 pub stated_problem : (s : Space) (ds : List LineDemand) (cs : List Constraint) → IsSpace s → length ds ≤ 2 ^ 20 → AreStated s ds cs → IsProblem (record { space = s; constraints = cs })
 stated_problem s ds cs k few h = record {
   space = k;
-  rows = zip-right (λ (d : LineDemand) (c : Constraint). States s d.origin d.demand c) (λ c. IsUpTo (size_of s) c.row) (λ d c t. t.row.coordinates) ds cs h;
+  rows = zip-right (λ (d : LineDemand) (c : Constraint). States s d.origin d.demand c) (λ c. IsOver (size_of s) c.row) (λ d c t. t.row.coordinates) ds cs h;
   few = omega (arith, zip-length (λ (d : LineDemand) (c : Constraint). States s d.origin d.demand c) ds cs h, few);
 }
 

@@ -3,7 +3,8 @@ pub mod LineTexts
 pub mod Cursors
 pub mod Bodies
 pub mod Questions
-pub mod Tables
+pub mod ProblemLines
+pub mod TableSizes
 pub mod NewNames
 pub mod Sorts
 pub mod Texts

@@ -15,7 +15,8 @@ use Rattle.it_syntax.specs.NamesViews.{NamesView, index_of}
 use Rattle.it_syntax.specs.Scopes.{env_of, scope_of, Environment}
 use Rattle.it_question.specs.Questions.{OwnLinesView, RegionView, VerbView, BodyView, Prove, Eliminate, Contain, no_lines}
 use Rattle.it_question.specs.NewNames.{NameSortView, Variable, Rate, with_name, no_names, is_taken, new_flag, once_flag}
-use Rattle.it_question.specs.Tables.{givens_alone, lines_with, size_flag}
+use Rattle.it_question.specs.ProblemLines.{givens_alone, lines_with}
+use Rattle.it_question.specs.TableSizes.{size_flag}
 use Rattle.it_forms.specs.Forms.{Kind, Keyword, LineEnd, is_of, Terminal, Form, Give, Take, If, While}
 use Rattle.it_forms.specs.Words.{◌>>=◌, ◌>>◌, word, flagged_word, any_word, symbol, each_after, each_flagged, zero_alone, line_end, to_end, file_end, limit_flag}
 

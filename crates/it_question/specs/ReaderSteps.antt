@@ -7,7 +7,8 @@ use Rattle.it_syntax.specs.Misspellings.{SpellsUntil}
 use Rattle.it_question.specs.Lines.{plain_text, LineView, IsLine, IsFilled}
 use Rattle.it_question.specs.QuestionForms.{own_words, more_tries}
 use Rattle.it_question.specs.QuestionLimits.{auxiliaries_left, most_lines}
-use Rattle.it_question.specs.Tables.{lines_with, size_flag}
+use Rattle.it_question.specs.ProblemLines.{lines_with}
+use Rattle.it_question.specs.TableSizes.{size_flag}
 use Rattle.it_question.specs.TrySets.{auxiliary_env, unnamed_sets}
 use Rattle.it_question.specs.declared.tries.Regions.{Regions}
 use Rattle.it_syntax.specs.Givens.{GivenView}

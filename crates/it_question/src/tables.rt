@@ -11,7 +11,8 @@ ghost use Rattle.it_question.specs.Limits.{AreLinesOver, IsRegionOf};
 ghost use Rattle.it_question.specs.Questions.{own_lines_view, region_view};
 ghost use Rattle.it_question.specs.QuestionLimits.{most_lines};
 ghost use Rattle.it_question.specs.ReaderSteps.{containment_flag, flag_if_large};
-ghost use Rattle.it_question.specs.Tables.{line_demands, givens_alone, lines_with, most_entries, size_flag};
+ghost use Rattle.it_question.specs.ProblemLines.{line_demands, givens_alone, lines_with};
+ghost use Rattle.it_question.specs.TableSizes.{most_entries, size_flag};
 
 use crate::types::{OwnLines, Region};
 use it_closure::size;

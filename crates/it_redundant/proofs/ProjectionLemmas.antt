@@ -5,7 +5,7 @@ use Rattle.it_space.specs.declared.problems.System.{System}
 use Rattle.it_space.specs.declared.spaces.Space.{Space}
 use Rattle.it_space.specs.Answers.{CertificateView}
 use Rattle.it_space.specs.Problems.{ProblemView, IsProblem, IsSystem}
-use Rattle.it_space.specs.Rows.{Terms, IsUpTo, coefficient}
+use Rattle.it_space.specs.Rows.{Terms, IsOver, coefficient}
 use Rattle.it_space.specs.Spaces.{IsSpace, size_of}
 use Rattle.it_space.proofs.EveryLemmas.{every_of, all_of}
 use Rattle.it_eliminate.specs.Elimination.{Member, EliminatedView, EliminationEnds, ordered_rows, next_list, list_after}
@@ -50,15 +50,15 @@ step_list base most rows r next (inr (inr e)) =
     let is : next ≡ next_list (base + r) rows = same_list next (next_list (base + r) rows) e.2 in (is, subst (λ (xs : List Terms). length xs ≤ most) (sym is) e.1)
 
 -- the rows of the list are of the space, and so are those that stay of it
-list_up : (givens : ProblemView) (most : ℕ) (rows : List Terms) (r : ℕ) (next : List Terms) → All (IsUpTo (size_of givens.space)) rows
-    → EliminationEnds (2 ^ givens.space.variables) most (ordered_rows rows) (r ∷ []) (elimination.Region next) → All (IsUpTo (size_of givens.space)) next
-list_up givens most rows r next up e = subst (λ (xs : List Terms). All (IsUpTo (size_of givens.space)) xs) (sym (step_list (2 ^ givens.space.variables) most (ordered_rows rows) r next e).0)
+list_up : (givens : ProblemView) (most : ℕ) (rows : List Terms) (r : ℕ) (next : List Terms) → All (IsOver (size_of givens.space)) rows
+    → EliminationEnds (2 ^ givens.space.variables) most (ordered_rows rows) (r ∷ []) (elimination.Region next) → All (IsOver (size_of givens.space)) next
+list_up givens most rows r next up e = subst (λ (xs : List Terms). All (IsOver (size_of givens.space)) xs) (sym (step_list (2 ^ givens.space.variables) most (ordered_rows rows) r next e).0)
     (projection_up_to (size_of givens.space) ((2 ^ givens.space.variables + r) ∷ []) rows up)
 
-pub kept_up : (givens : ProblemView) (budget : Option ℕ) (most : ℕ) (rows : List Terms) (r : ℕ) (next : List Terms) (mid : List (Terms × NeedView)) (dropped : List (Terms × CertificateView)) → All (IsUpTo (size_of givens.space)) rows
-    → EliminationEnds (2 ^ givens.space.variables) most (ordered_rows rows) (r ∷ []) (elimination.Region next) → Reduces givens budget [] next mid dropped → All (IsUpTo (size_of givens.space)) (kept_rows mid)
-kept_up givens budget most rows r next mid dropped up e red = all_of (IsUpTo (size_of givens.space)) (kept_rows mid)
-    (every_kept givens budget (IsUpTo (size_of givens.space)) [] next mid dropped red (every_of (IsUpTo (size_of givens.space)) next (list_up givens most rows r next up e)))
+pub kept_up : (givens : ProblemView) (budget : Option ℕ) (most : ℕ) (rows : List Terms) (r : ℕ) (next : List Terms) (mid : List (Terms × NeedView)) (dropped : List (Terms × CertificateView)) → All (IsOver (size_of givens.space)) rows
+    → EliminationEnds (2 ^ givens.space.variables) most (ordered_rows rows) (r ∷ []) (elimination.Region next) → Reduces givens budget [] next mid dropped → All (IsOver (size_of givens.space)) (kept_rows mid)
+kept_up givens budget most rows r next mid dropped up e red = all_of (IsOver (size_of givens.space)) (kept_rows mid)
+    (every_kept givens budget (IsOver (size_of givens.space)) [] next mid dropped red (every_of (IsOver (size_of givens.space)) next (list_up givens most rows r next up e)))
 
 -- ---- rate after rate
 
@@ -114,7 +114,7 @@ module _ (givens : ProblemView) (budget : Option ℕ) (most : ℕ) (limits : IsP
     region : IsReducedRegion givens rates rows kept
     keeps : (c : ℕ) → LacksCoordinate c rows → LacksCoordinate c (kept_rows kept)
 
-  nothing_gone : (kept : List (Terms × NeedView)) → All (IsUpTo (size_of givens.space)) (kept_rows kept) → AreNeeded givens kept → Holds [] (kept_rows kept) kept
+  nothing_gone : (kept : List (Terms × NeedView)) → All (IsOver (size_of givens.space)) (kept_rows kept) → AreNeeded givens kept → Holds [] (kept_rows kept) kept
   nothing_gone kept up need = record {
     region = record { coordinates = up; free = λ r m. absurd m; exact = λ p meets. rates_exact [] (kept_rows kept) p; needed = need };
     keeps = λ c h. h;
@@ -132,7 +132,7 @@ module _ (givens : ProblemView) (budget : Option ℕ) (most : ℕ) (limits : IsP
       → Extends (map (λ r. 2 ^ givens.space.variables + r) rates) xs p → Extends (map (λ r. 2 ^ givens.space.variables + r) rates) ys p
   extends_alike rates xs ys p m f y = record { factor = y.factor; some = y.some; point = y.point; kept = y.kept; meets = f y.point (point_meets rates xs p y m) y.meets }
 
-  module _ (rows : List Terms) (r : ℕ) (next : List Terms) (mid : List (Terms × NeedView)) (dropped : List (Terms × CertificateView)) (up : All (IsUpTo (size_of givens.space)) rows)
+  module _ (rows : List Terms) (r : ℕ) (next : List Terms) (mid : List (Terms × NeedView)) (dropped : List (Terms × CertificateView)) (up : All (IsOver (size_of givens.space)) rows)
       (e : EliminationEnds (2 ^ givens.space.variables) most (ordered_rows rows) (r ∷ []) (elimination.Region next)) (red : Reduces givens budget [] next mid dropped) where
     next_is : next ≡ next_list (2 ^ givens.space.variables + r) (ordered_rows rows)
     next_is = (step_list (2 ^ givens.space.variables) most (ordered_rows rows) r next e).0
@@ -140,10 +140,10 @@ module _ (givens : ProblemView) (budget : Option ℕ) (most : ℕ) (limits : IsP
     few_next : length next ≤ most
     few_next = (step_list (2 ^ givens.space.variables) most (ordered_rows rows) r next e).1
 
-    next_up : All (IsUpTo (size_of givens.space)) next
+    next_up : All (IsOver (size_of givens.space)) next
     next_up = list_up givens most rows r next up e
 
-    mid_up : All (IsUpTo (size_of givens.space)) (kept_rows mid)
+    mid_up : All (IsOver (size_of givens.space)) (kept_rows mid)
     mid_up = kept_up givens budget most rows r next mid dropped up e red
 
     mid_alike : HoldAlike givens next (kept_rows mid)
@@ -195,7 +195,7 @@ module _ (givens : ProblemView) (budget : Option ℕ) (most : ℕ) (limits : IsP
   region_not_wide xs ds r e = cc
 
   module _ (kept : List (Terms × NeedView)) (dropped : List (Terms × CertificateView)) where
-    later_region_holds : (rs : List ℕ) (mid : List (Terms × NeedView)) (gone : List (Terms × CertificateView)) → All (IsUpTo (size_of givens.space)) (kept_rows mid) → AreNeeded givens mid
+    later_region_holds : (rs : List ℕ) (mid : List (Terms × NeedView)) (gone : List (Terms × CertificateView)) → All (IsOver (size_of givens.space)) (kept_rows mid) → AreNeeded givens mid
         → ReducedEnds givens budget most (kept_rows mid) mid gone rs (Region kept dropped) → Holds rs (kept_rows mid) kept
     later_region_holds [] mid gone up need is = subst (λ (k : List (Terms × NeedView)). Holds [] (kept_rows mid) k) (sym (same_region kept mid dropped gone is)) (nothing_gone mid up need)
     later_region_holds (r ∷ rs) mid gone up need (elimination.Region next, e, g) =
@@ -203,13 +203,13 @@ module _ (givens : ProblemView) (budget : Option ℕ) (most : ℕ) (limits : IsP
     later_region_holds (r ∷ rs) mid gone up need (elimination.Rows rate, e, is) = absurd (region_not_rows kept dropped rate is)
     later_region_holds (r ∷ rs) mid gone up need (elimination.Wide rate, e, is) = absurd (region_not_wide kept dropped rate is)
 
-    first_region_holds : (r : ℕ) (rs : List ℕ) (rows : List Terms) → All (IsUpTo (size_of givens.space)) rows → ReducedEnds givens budget most rows [] [] (r ∷ rs) (Region kept dropped) → Holds (r ∷ rs) rows kept
+    first_region_holds : (r : ℕ) (rs : List ℕ) (rows : List Terms) → All (IsOver (size_of givens.space)) rows → ReducedEnds givens budget most rows [] [] (r ∷ rs) (Region kept dropped) → Holds (r ∷ rs) rows kept
     first_region_holds r rs rows up (elimination.Region next, e, g) =
         one_more rows r next g.0 g.1 up e g.2 rs kept (later_region_holds rs g.0 g.1 (mid_up rows r next g.0 g.1 up e g.2) (mid_needed rows r next g.0 g.1 up e g.2) g.3)
     first_region_holds r rs rows up (elimination.Rows rate, e, is) = absurd (region_not_rows kept dropped rate is)
     first_region_holds r rs rows up (elimination.Wide rate, e, is) = absurd (region_not_wide kept dropped rate is)
 
-  pub region_reduced : (rates : List ℕ) (rows : List Terms) (end : ProjectedView) → 1 ≤ length rates → All (IsUpTo (size_of givens.space)) rows → ReducedEnds givens budget most rows [] [] rates end
+  pub region_reduced : (rates : List ℕ) (rows : List Terms) (end : ProjectedView) → 1 ≤ length rates → All (IsOver (size_of givens.space)) rows → ReducedEnds givens budget most rows [] [] rates end
       → RegionIsReduced givens rates rows end
   region_reduced [] rows end some up e = absurd (omega arith)
   region_reduced (r ∷ rs) rows (Region kept dropped) some up e = (first_region_holds kept dropped r rs rows up e).region
@@ -225,10 +225,10 @@ module _ (givens : ProblemView) (budget : Option ℕ) (most : ℕ) (system : Sys
       (subst (λ (x : EliminatedView). EliminationEnds (2 ^ system.space.variables) most (ordered_rows system.rows.items) (rate ∷ []) x) is ends)
 
   module _ (next : System) (is : end ≡ elimination_ends.Region next) where
-    pub region_up : (reduced : Reduced) → All (IsUpTo (size_of system.space)) system.rows.items → Reduces givens budget [] next.rows.items (kept_view reduced) (dropped_view reduced)
-        → All (IsUpTo (size_of givens.space)) (kept_rows (kept_view reduced))
+    pub region_up : (reduced : Reduced) → All (IsOver (size_of system.space)) system.rows.items → Reduces givens budget [] next.rows.items (kept_view reduced) (dropped_view reduced)
+        → All (IsOver (size_of givens.space)) (kept_rows (kept_view reduced))
     region_up reduced up red = kept_up givens budget most system.rows.items rate next.rows.items (kept_view reduced) (dropped_view reduced)
-        (subst (λ (s : Space). All (IsUpTo (size_of s)) system.rows.items) space up) (over_givens (elimination.Region next.rows.items) (ap eliminated_view is)) red
+        (subst (λ (s : Space). All (IsOver (size_of s)) system.rows.items) space up) (over_givens (elimination.Region next.rows.items) (ap eliminated_view is)) red
 
 -- of rows that stay, a rate leaves what it leaves of them as a system
 pub next_of_region : {E : Type 0} (givens : ProblemView) (budget : Option ℕ) (most rate : ℕ) (end : Projected) (reduced : Reduced) (rows : List Terms) (result : Result Projected E) → end ≡ projection_ends.Region reduced
@@ -241,9 +241,9 @@ next_of_region givens budget most rate end reduced rows (Ok e) is same h = subst
 pub kept_is_system : (givens : ProblemView) (end : Projected) (reduced : Reduced) (system : System) → IsSpace givens.space → end ≡ projection_ends.Region reduced → HasRowsUpTo (size_of givens.space) (projected_view end)
     → system.space ≡ givens.space → system.rows.items ≡ map (λ k. k.0) reduced.kept.items → IsSystem system
 kept_is_system givens end reduced system limits is up space rows =
-    let kept : All (IsUpTo (size_of givens.space)) (kept_rows (kept_view reduced)) = subst (λ (x : Projected). HasRowsUpTo (size_of givens.space) (projected_view x)) is up in
+    let kept : All (IsOver (size_of givens.space)) (kept_rows (kept_view reduced)) = subst (λ (x : Projected). HasRowsUpTo (size_of givens.space) (projected_view x)) is up in
     record {
       space = subst IsSpace (sym space) limits;
-      rows = subst (λ (s : Space). All (IsUpTo (size_of s)) system.rows.items) (sym space)
-          (subst (λ (xs : List Terms). All (IsUpTo (size_of givens.space)) xs) (rows_kept reduced.kept.items ∙ sym rows) kept);
+      rows = subst (λ (s : Space). All (IsOver (size_of s)) system.rows.items) (sym space)
+          (subst (λ (xs : List Terms). All (IsOver (size_of givens.space)) xs) (rows_kept reduced.kept.items ∙ sym rows) kept);
     }

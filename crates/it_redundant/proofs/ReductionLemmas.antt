@@ -4,7 +4,7 @@ use Rattle.std.specs.List.{AllByRecursion as Every}
 use Rattle.std.proofs.lemmas.List.Elements.{All-nil, All-cons, All-head, All-tail, All-append}
 use Rattle.it_space.specs.Answers.{CertificateView}
 use Rattle.it_space.specs.Problems.{ProblemView, IsProblem}
-use Rattle.it_space.specs.Rows.{Terms, IsUpTo, map_of, value}
+use Rattle.it_space.specs.Rows.{Terms, IsOver, point_of, value}
 use Rattle.it_space.specs.Spaces.{size_of}
 use Rattle.it_eliminate.specs.Projections.{IsPointOf}
 use Rattle.it_check.proofs.Truth.{yes_is_true}
@@ -48,29 +48,29 @@ module _ (givens : ProblemView) (budget : Option ℕ) where
   few_kept row (No values) = omega arith
   few_kept row (Undecided cause) = omega arith
 
-  pub kept_up_to : (size : ℕ) (row : Terms) (o : ProofView) → IsUpTo size row → All (IsUpTo size) (kept_rows (kept_by row o))
-  kept_up_to size row (Yes w) h = All-nil (IsUpTo size)
-  kept_up_to size row (No values) h = All-cons (IsUpTo size) row [] h (All-nil (IsUpTo size))
-  kept_up_to size row (Undecided cause) h = All-cons (IsUpTo size) row [] h (All-nil (IsUpTo size))
+  pub kept_up_to : (size : ℕ) (row : Terms) (o : ProofView) → IsOver size row → All (IsOver size) (kept_rows (kept_by row o))
+  kept_up_to size row (Yes w) h = All-nil (IsOver size)
+  kept_up_to size row (No values) h = All-cons (IsOver size) row [] h (All-nil (IsOver size))
+  kept_up_to size row (Undecided cause) h = All-cons (IsOver size) row [] h (All-nil (IsOver size))
 
   -- rows that stay and rows that are still to be visited, as the calls take them
   record AreTaken (before rows : List Terms) : Type 0 where
     count : length before + length rows ≤ 65535
-    up : All (IsUpTo (size_of givens.space)) before
-    ups : All (IsUpTo (size_of givens.space)) rows
+    up : All (IsOver (size_of givens.space)) before
+    ups : All (IsOver (size_of givens.space)) rows
 
-  own_up : (before rows : List Terms) (row : Terms) → AreTaken before (row ∷ rows) → IsUpTo (size_of givens.space) row
-  own_up before rows row t = All-head (IsUpTo (size_of givens.space)) row rows t.ups
+  own_up : (before rows : List Terms) (row : Terms) → AreTaken before (row ∷ rows) → IsOver (size_of givens.space) row
+  own_up before rows row t = All-head (IsOver (size_of givens.space)) row rows t.ups
 
-  others_up : (before rows : List Terms) (row : Terms) → AreTaken before (row ∷ rows) → All (IsUpTo (size_of givens.space)) (before ++ rows)
-  others_up before rows row t = All-append (IsUpTo (size_of givens.space)) before rows t.up (All-tail (IsUpTo (size_of givens.space)) row rows t.ups)
+  others_up : (before rows : List Terms) (row : Terms) → AreTaken before (row ∷ rows) → All (IsOver (size_of givens.space)) (before ++ rows)
+  others_up before rows row t = All-append (IsOver (size_of givens.space)) before rows t.up (All-tail (IsOver (size_of givens.space)) row rows t.ups)
 
   -- and after a visit
   taken_next : (before rows : List Terms) (row : Terms) (o : ProofView) → AreTaken before (row ∷ rows) → AreTaken (before ++ kept_rows (kept_by row o)) rows
   taken_next before rows row o t = record {
     count = omega (arith, t.count, length-append before (kept_rows (kept_by row o)), few_kept row o);
-    up = All-append (IsUpTo (size_of givens.space)) before (kept_rows (kept_by row o)) t.up (kept_up_to (size_of givens.space) row o (own_up before rows row t));
-    ups = All-tail (IsUpTo (size_of givens.space)) row rows t.ups;
+    up = All-append (IsOver (size_of givens.space)) before (kept_rows (kept_by row o)) t.up (kept_up_to (size_of givens.space) row o (own_up before rows row t));
+    ups = All-tail (IsOver (size_of givens.space)) row rows t.ups;
   }
 
   module _ (limits : IsProblem givens) (few : length givens.constraints ≤ 65535) where
@@ -79,7 +79,7 @@ module _ (givens : ProblemView) (budget : Option ℕ) where
 
     module _ (p : ℕ → ℤ) (meets : MeetsGivens givens p) where
       -- a row with an outcome holds: it is proved from the others, or it is one that stays
-      row_holds : (others : List Terms) (row : Terms) (o : ProofView) → IsProblem (with_rows givens others) → IsUpTo (size_of givens.space) row
+      row_holds : (others : List Terms) (row : Terms) (o : ProofView) → IsProblem (with_rows givens others) → IsOver (size_of givens.space) row
           → EndsWith (with_rows givens others) row budget o → IsPointOf others p → IsPointOf (kept_rows (kept_by row o)) p → pos 0 ≤ℤ value row p
       row_holds others row (Yes w) problem own ends h k =
           yes_is_true (with_rows givens others) row w problem own (ends_are_right (with_rows givens others) row budget (Yes w) problem own ends).0 p meets.0 (problem_is_met p givens others meets.1 h)
@@ -93,31 +93,31 @@ module _ (givens : ProblemView) (budget : Option ℕ) where
           let hold : IsPointOf rows p = all_hold (before ++ kept_rows (kept_by row o)) rows k d (taken_next before rows row o t) r (rows_append p before (kept_rows (kept_by row o)) b parts.0) parts.1 in
           (row_holds (before ++ rows) row o (taken_problem before rows row t) (own_up before rows row t) ends (rows_append p before rows b hold) parts.0, hold)
 
-  taken_first : (rows : List Terms) → length rows ≤ 65535 → All (IsUpTo (size_of givens.space)) rows → AreTaken [] rows
-  taken_first rows count ups = record { count = omega (arith, count); up = All-nil (IsUpTo (size_of givens.space)); ups = ups }
+  taken_first : (rows : List Terms) → length rows ≤ 65535 → All (IsOver (size_of givens.space)) rows → AreTaken [] rows
+  taken_first rows count ups = record { count = omega (arith, count); up = All-nil (IsOver (size_of givens.space)); ups = ups }
 
   pub hold_alike : IsProblem givens → length givens.constraints ≤ 65535 → (rows : List Terms) (kept : List (Terms × NeedView)) (dropped : List (Terms × CertificateView)) → length rows ≤ 65535
-      → All (IsUpTo (size_of givens.space)) rows → Reduces givens budget [] rows kept dropped → HoldAlike givens rows (kept_rows kept)
+      → All (IsOver (size_of givens.space)) rows → Reduces givens budget [] rows kept dropped → HoldAlike givens rows (kept_rows kept)
   hold_alike limits few rows kept dropped count ups r p meets =
       (λ h. kept_hold p [] rows kept dropped r h, λ h. all_hold limits few p meets [] rows kept dropped (taken_first rows count ups) r tt h)
 
   -- ---- the point of a needed row separates it from the others that stay
 
   -- the point with which the run about a row ends, under the givens and other rows
-  point_separates : (others : List Terms) (row : Terms) (values : List ℤ) → IsProblem (with_rows givens others) → IsUpTo (size_of givens.space) row → EndsWith (with_rows givens others) row budget (No values) → SeparatesRow givens others row values
+  point_separates : (others : List Terms) (row : Terms) (values : List ℤ) → IsProblem (with_rows givens others) → IsOver (size_of givens.space) row → EndsWith (with_rows givens others) row budget (No values) → SeparatesRow givens others row values
   point_separates others row values problem own ends =
-      let refutes = (ends_are_right (with_rows givens others) row budget (No values) problem own ends).0 in let p = map_of values in record {
+      let refutes = (ends_are_right (with_rows givens others) row budget (No values) problem own ends).0 in let p = point_of values in record {
         meets = (refutes.polymatroid, front_is_met p givens.constraints (row_constraints 1 others) refutes.met);
         others_hold = met_rows_hold p 1 others (rest_is_met p givens.constraints (row_constraints 1 others) refutes.met);
         violated = refutes.violated;
       }
 
-  need_at : (before rows : List Terms) (row : Terms) (o : ProofView) (kept : List (Terms × NeedView)) (dropped : List (Terms × CertificateView)) → IsProblem (with_rows givens (before ++ rows)) → IsUpTo (size_of givens.space) row
+  need_at : (before rows : List Terms) (row : Terms) (o : ProofView) (kept : List (Terms × NeedView)) (dropped : List (Terms × CertificateView)) → IsProblem (with_rows givens (before ++ rows)) → IsOver (size_of givens.space) row
       → EndsWith (with_rows givens (before ++ rows)) row budget o → Reduces givens budget (before ++ kept_rows (kept_by row o)) rows kept dropped
       → (k : Terms × NeedView) → kept_by row o ≡ k ∷ [] → IsNeeded givens (before ++ kept_rows kept) k
   need_at before rows row (Yes w) kept dropped problem own ends r k e = absurd (let n : 0 ≡ 1 = ap length e in omega (arith, n))
   need_at before rows row (No values) kept dropped problem own ends r k e = subst (IsNeeded givens (before ++ kept_rows kept)) (ap (λ ks. get_or ks 0 k) e)
-      (let apart = point_separates (before ++ rows) row values problem own ends in let p = map_of values in record {
+      (let apart = point_separates (before ++ rows) row values problem own ends in let p = point_of values in record {
         meets = apart.meets;
         others_hold = rows_append p before (kept_rows kept) (rows_front p before rows apart.others_hold) (kept_hold p (before ++ row ∷ []) rows kept dropped r (rows_rest p before rows apart.others_hold));
         violated = apart.violated;
@@ -137,7 +137,7 @@ module _ (givens : ProblemView) (budget : Option ℕ) where
         problem : IsProblem (with_rows givens (before ++ rows))
         problem = taken_problem limits few before rows row t
 
-        row_up_to : IsUpTo (size_of givens.space) row
+        row_up_to : IsOver (size_of givens.space) row
         row_up_to = own_up before rows row t
 
         staying_rows_needed : (x : Terms × NeedView) → x.0 ≡ row → ((n : Terms × NeedView) → x ∷ [] ≡ n ∷ [] → IsNeeded givens (before ++ kept_rows ks) n)
@@ -157,7 +157,7 @@ module _ (givens : ProblemView) (budget : Option ℕ) where
         by_outcome (No values) ends e r u later = staying_rows_needed (row, Needed values) refl (need_at before rows row (No values) ks d problem row_up_to ends r) r pre e (later (before ++ row ∷ []) u r)
         by_outcome (Undecided cause) ends e r u later = staying_rows_needed (row, Unsettled cause) refl (need_at before rows row (Undecided cause) ks d problem row_up_to ends r) r pre e (later (before ++ row ∷ []) u r)
 
-    pub kept_are_needed : (rows : List Terms) (kept : List (Terms × NeedView)) (dropped : List (Terms × CertificateView)) → length rows ≤ 65535 → All (IsUpTo (size_of givens.space)) rows
+    pub kept_are_needed : (rows : List Terms) (kept : List (Terms × NeedView)) (dropped : List (Terms × CertificateView)) → length rows ≤ 65535 → All (IsOver (size_of givens.space)) rows
         → Reduces givens budget [] rows kept dropped → AreNeeded givens kept
     kept_are_needed rows kept dropped count ups r pre post k is = needed_from [] rows kept dropped (taken_first rows count ups) r pre post k is
 

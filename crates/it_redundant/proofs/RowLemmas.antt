@@ -5,7 +5,7 @@ use Rattle.it_space.specs.declared.problems.Constraint.{Constraint}
 use Rattle.it_space.specs.declared.problems.Kind.TheVariants.{Inequality}
 use Rattle.it_space.specs.declared.problems.Origin.TheVariants.{Rate}
 use Rattle.it_space.specs.Problems.{ProblemView, IsProblem, IsMet, AreMet}
-use Rattle.it_space.specs.Rows.{Terms, IsUpTo}
+use Rattle.it_space.specs.Rows.{Terms, IsOver}
 use Rattle.it_space.specs.Spaces.{size_of}
 use Rattle.it_eliminate.specs.Projections.{IsPointOf}
 use Rattle.it_redundant.specs.Reduction.{row_constraints, with_rows}
@@ -45,18 +45,18 @@ module _ (p : ℕ → ℤ) where
 
 -- ---- the problem keeps the limits
 
-row_limits : (size line : ℕ) (rows : List Terms) → All (IsUpTo size) rows → All (λ (c : Constraint). IsUpTo size c.row) (row_constraints line rows)
-row_limits size line [] h = All-nil (λ (c : Constraint). IsUpTo size c.row)
-row_limits size line (row ∷ rows) h = All-cons (λ (c : Constraint). IsUpTo size c.row) _ (row_constraints (line + 1) rows) (All-head (IsUpTo size) row rows h) (row_limits size (line + 1) rows (All-tail (IsUpTo size) row rows h))
+row_limits : (size line : ℕ) (rows : List Terms) → All (IsOver size) rows → All (λ (c : Constraint). IsOver size c.row) (row_constraints line rows)
+row_limits size line [] h = All-nil (λ (c : Constraint). IsOver size c.row)
+row_limits size line (row ∷ rows) h = All-cons (λ (c : Constraint). IsOver size c.row) _ (row_constraints (line + 1) rows) (All-head (IsOver size) row rows h) (row_limits size (line + 1) rows (All-tail (IsOver size) row rows h))
 
 pub row_count : (line : ℕ) (rows : List Terms) → length (row_constraints line rows) ≡ length rows
 row_count line [] = refl
 row_count line (row ∷ rows) = ap suc (row_count (line + 1) rows)
 
-pub problem_limits : (givens : ProblemView) (rows : List Terms) → IsProblem givens → length givens.constraints ≤ 65535 → length rows ≤ 65535 → All (IsUpTo (size_of givens.space)) rows → IsProblem (with_rows givens rows)
+pub problem_limits : (givens : ProblemView) (rows : List Terms) → IsProblem givens → length givens.constraints ≤ 65535 → length rows ≤ 65535 → All (IsOver (size_of givens.space)) rows → IsProblem (with_rows givens rows)
 problem_limits givens rows h few few_rows up = record {
   space = h.space;
-  rows = All-append (λ (c : Constraint). IsUpTo (size_of givens.space) c.row) givens.constraints (row_constraints 1 rows) h.rows (row_limits (size_of givens.space) 1 rows up);
+  rows = All-append (λ (c : Constraint). IsOver (size_of givens.space) c.row) givens.constraints (row_constraints 1 rows) h.rows (row_limits (size_of givens.space) 1 rows up);
   few = let total : length (givens.constraints ++ row_constraints 1 rows) ≡ length givens.constraints + length rows
       = length-append givens.constraints (row_constraints 1 rows) ∙ ap (λ n. length givens.constraints + n) (row_count 1 rows) in
       omega (arith, total, few, few_rows);

@@ -5,7 +5,7 @@ use Rattle.std.proofs.lemmas.List.Elements.{All-append}
 use Rattle.it_space.specs.Answers.{CertificateView}
 use Rattle.it_space.specs.declared.problems.Constraint.{Constraint}
 use Rattle.it_space.specs.Problems.{ProblemView, IsProblem}
-use Rattle.it_space.specs.Rows.{Terms, IsUpTo}
+use Rattle.it_space.specs.Rows.{Terms, IsOver}
 use Rattle.it_space.specs.Spaces.{size_of}
 use Rattle.it_prove.specs.ClosedProblems.{IsClosedProblem}
 use Rattle.it_prove.specs.declared.closed.ClosedProblem.{ClosedProblem}
@@ -34,7 +34,7 @@ pub record IsUnderWay (givens : ProblemView) (budget : Option ℕ) (size : ℕ) 
 
 module _ (givens : ProblemView) (budget : Option ℕ) (size : ℕ) (rows : List Terms) where
   pub under_way_more : (kept new_kept : List (Terms × NeedView)) (dropped new_dropped : List (Terms × CertificateView)) (i : ℕ) (row : Terms) (o : ProofView) → i < length rows
-      → drop i rows ≡ row ∷ drop (i + 1) rows → IsUpTo size row → EndsWith (with_rows givens (kept_rows kept ++ drop (i + 1) rows)) row budget o
+      → drop i rows ≡ row ∷ drop (i + 1) rows → IsOver size row → EndsWith (with_rows givens (kept_rows kept ++ drop (i + 1) rows)) row budget o
       → new_kept ≡ kept ++ kept_by row o → new_dropped ≡ dropped ++ dropped_by row o
       → IsUnderWay givens budget size rows kept dropped i → IsUnderWay givens budget size rows new_kept new_dropped (i + 1)
   under_way_more kept new_kept dropped new_dropped i row o below next own out e f u = record {
@@ -44,7 +44,7 @@ module _ (givens : ProblemView) (budget : Option ℕ) (size : ℕ) (rows : List 
         (o, k, d, out, refl, refl, subst (λ x. Reduces givens budget x (drop (i + 1) rows) k d) (ap kept_rows e ∙ rows_of_parts kept (kept_by row o)) r))));
     few = let total : length (kept_rows new_kept) ≡ length (kept_rows kept) + length (kept_rows (kept_by row o))
         = ap (λ x. length (kept_rows x)) e ∙ ap length (rows_of_parts kept (kept_by row o)) ∙ length-append (kept_rows kept) (kept_rows (kept_by row o)) in omega (arith, total, few_kept givens budget row o, u.few);
-    up = subst (AreRowsUpTo size) (sym (ap kept_rows e ∙ rows_of_parts kept (kept_by row o))) (All-append (IsUpTo size) (kept_rows kept) (kept_rows (kept_by row o)) u.up (kept_up_to givens budget size row o own));
+    up = subst (AreRowsUpTo size) (sym (ap kept_rows e ∙ rows_of_parts kept (kept_by row o))) (All-append (IsOver size) (kept_rows kept) (kept_rows (kept_by row o)) u.up (kept_up_to givens budget size row o own));
   }
 
   pub under_way_end : (kept : List (Terms × NeedView)) (dropped : List (Terms × CertificateView)) (i : ℕ) → drop i rows ≡ [] → IsUnderWay givens budget size rows kept dropped i
@@ -145,7 +145,7 @@ module _ (givens p : ProblemView) (kept : List (Terms × Need)) (after : List Te
   pub visit_limits : IsProblem givens → length givens.constraints ≤ 65535 → length kept + length after ≤ 65535 → AreRowsUpTo (size_of givens.space) (map (λ k. k.0) kept)
       → AreRowsUpTo (size_of givens.space) after → IsProblem p
   visit_limits limits few count up ups = subst IsProblem (sym is) (problem_limits givens (map (λ k. k.0) kept ++ after) limits few
-      (omega (arith, count, length-append (map (λ k. k.0) kept) after, length-map kept (λ (k : Terms × Need). k.0))) (All-append (IsUpTo (size_of givens.space)) (map (λ k. k.0) kept) after up ups))
+      (omega (arith, count, length-append (map (λ k. k.0) kept) after, length-map kept (λ (k : Terms × Need). k.0))) (All-append (IsOver (size_of givens.space)) (map (λ k. k.0) kept) after up ups))
 
   -- what was made of the givens serves the problem
   pub visit_closed : (c : ClosedProblem) → IsClosedProblem givens c → IsClosedProblem p c

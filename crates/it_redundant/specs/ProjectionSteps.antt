@@ -1,7 +1,7 @@
 -- One rate of reduced elimination. No public clause cites this module.
 use Rattle.std.specs.Prelude.{◌≡◌, ℕ, ◌^◌, List, [], ◌∷◌, Option, All}
 use Rattle.it_space.specs.Problems.{ProblemView}
-use Rattle.it_space.specs.Rows.{Terms, IsUpTo}
+use Rattle.it_space.specs.Rows.{Terms, IsOver}
 use Rattle.it_eliminate.specs.Elimination.{EliminatedView, EliminationEnds, ordered_rows}
 use Rattle.it_redundant.specs.Reduction.{kept_rows}
 use Rattle.it_redundant.specs.ReducedElimination.{ProjectedView, Region, Rows, Wide, GoesOn, ReducedEnds}
@@ -24,6 +24,6 @@ Resumes givens budget most rates (Wide other) end = end ≡ Wide other
 
 -- the rows of a region are of the space
 abbrev pub HasRowsUpTo : ℕ → ProjectedView → Type 0
-HasRowsUpTo size (Region kept dropped) = All (IsUpTo size) (kept_rows kept)
+HasRowsUpTo size (Region kept dropped) = All (IsOver size) (kept_rows kept)
 HasRowsUpTo size (Rows rate) = Unit {0}
 HasRowsUpTo size (Wide rate) = Unit {0}

@@ -3,14 +3,14 @@ use Rattle.std.specs.Prelude.{◌≡◌, ℕ, ◌+◌, List, [], ◌∷◌, ◌+
 use Rattle.it_space.specs.declared.problems.Constraint.{Constraint}
 use Rattle.it_space.specs.declared.problems.Origin.TheVariants.{Rate}
 use Rattle.it_space.specs.Problems.{ProblemView}
-use Rattle.it_space.specs.Rows.{Terms, IsUpTo}
+use Rattle.it_space.specs.Rows.{Terms, IsOver}
 use Rattle.it_prove.specs.ProofViews.{ProofView, EndsWith}
 use Rattle.it_redundant.specs.declared.types.Reduced.{Reduced}
 use Rattle.it_redundant.specs.Reduction.{row_constraints, with_rows, kept_by, dropped_by, kept_rows, kept_view, dropped_view}
 
 -- the coordinates of each row are from 1 to a number
 abbrev pub AreRowsUpTo : ℕ → List Terms → Type 0
-AreRowsUpTo size rows = All (IsUpTo size) rows
+AreRowsUpTo size rows = All (IsOver size) rows
 
 -- a row was visited between the rows that stay so far and those after it
 pub record IsVisited (givens : ProblemView) (budget : Option ℕ) (row : Terms) (after : List Terms) (old new : Reduced) : Type 0 where

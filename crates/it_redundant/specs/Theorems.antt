@@ -2,7 +2,7 @@
 use Rattle.std.specs.Prelude.{◌≡◌, ◌↔◌, ℕ, ◌+◌, ◌-◌, ◌^◌, ℤ, neg_ℤ, pos, ◌≤ℤ◌, List, ◌++◌, ◌∷◌, map, All, Option}
 use Rattle.it_space.specs.Answers.{CertificateView}
 use Rattle.it_space.specs.Problems.{ProblemView, AreMet}
-use Rattle.it_space.specs.Rows.{Terms, IsUpTo, map_of, value}
+use Rattle.it_space.specs.Rows.{Terms, IsOver, point_of, value}
 use Rattle.it_space.specs.Spaces.{size_of}
 use Rattle.it_polymatroid.specs.Polymatroid.{IsPolymatroid}
 use Rattle.it_eliminate.specs.Elimination.{Member}
@@ -20,9 +20,9 @@ HoldAlike givens rows kept = (p : ℕ → ℤ) → MeetsGivens givens p → IsPo
 
 -- the point meets the givens and the other rows, and violates this one
 pub record SeparatesRow (givens : ProblemView) (others : List Terms) (row : Terms) (values : List ℤ) : Type 0 where
-  pub meets : MeetsGivens givens (map_of values)
-  pub others_hold : IsPointOf others (map_of values)
-  pub violated : value row (map_of values) ≤ℤ neg_ℤ (pos 1)
+  pub meets : MeetsGivens givens (point_of values)
+  pub others_hold : IsPointOf others (point_of values)
+  pub violated : value row (point_of values) ≤ℤ neg_ℤ (pos 1)
 
 -- the point of a needed row separates it from the others; of an unsettled row nothing is said
 abbrev pub IsNeeded : ProblemView → List Terms → Terms × NeedView → Type 0
@@ -41,12 +41,12 @@ OneReduction = (givens : ProblemView) (budget : Option ℕ) (before rows : List 
 
 -- the givens speak of entropies alone
 abbrev pub SpeakOfSets : ProblemView → Type 0
-SpeakOfSets givens = All (λ c. IsUpTo (2 ^ givens.space.variables - 1) c.row) givens.constraints
+SpeakOfSets givens = All (λ c. IsOver (2 ^ givens.space.variables - 1) c.row) givens.constraints
 
 -- rows of the space, without the eliminated rates, that hold at a polymatroid which meets the givens, and rates, exactly where this
 -- point extends to the eliminated rates; and each is needed or unsettled
 pub record IsReducedRegion (givens : ProblemView) (rates : List ℕ) (rows : List Terms) (kept : List (Terms × NeedView)) : Type 0 where
-  pub coordinates : All (IsUpTo (size_of givens.space)) (kept_rows kept)
+  pub coordinates : All (IsOver (size_of givens.space)) (kept_rows kept)
   pub free : (r : ℕ) → Member r rates → LacksCoordinate (2 ^ givens.space.variables + r) (kept_rows kept)
   pub exact : (p : ℕ → ℤ) → MeetsGivens givens p → IsPointOf (kept_rows kept) p ↔ Extends (map (λ r. 2 ^ givens.space.variables + r) rates) rows p
   pub needed : AreNeeded givens kept

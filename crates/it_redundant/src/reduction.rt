@@ -2,7 +2,7 @@
 ghost use Rattle.std.specs.Prelude.{◌≡◌, [], ◌∷◌, ◌++◌, ◌+◌, ◌<◌, ◌≤◌, length, map, OnOk, IfOk};
 ghost use Rattle.it_space.specs.Answers.{certificate_view};
 ghost use Rattle.it_space.specs.Problems.{IsProblem, problem_view};
-ghost use Rattle.it_space.specs.Rows.{IsUpTo};
+ghost use Rattle.it_space.specs.Rows.{IsOver};
 ghost use Rattle.it_space.specs.Spaces.{size_of};
 ghost use Rattle.it_prove.specs.ClosedProblems.{IsClosedProblem};
 ghost use Rattle.it_prove.specs.ProofViews.{proof_view};
@@ -85,7 +85,7 @@ fn visit(
     requires givens { IsProblem (problem_view givens.now) }
     requires few_givens { length givens.now.constraints.items ≤ 65535 }
     requires few { length reduced.old.kept.items + length after.now < 65535 }
-    requires row { IsUpTo (size_of givens.now.space) row.now }
+    requires row { IsOver (size_of givens.now.space) row.now }
     requires kept { AreRowsUpTo (size_of givens.now.space) (map (λ k. k.0) reduced.old.kept.items) }
     requires after { AreRowsUpTo (size_of givens.now.space) after.now }
     requires closed { IsClosedProblem (problem_view givens.now) closed.old }

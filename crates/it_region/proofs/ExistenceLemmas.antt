@@ -6,14 +6,14 @@ use Rattle.std.proofs.lemmas.List.Elements.{All-weaker}
 use Rattle.std.proofs.lemmas.Nat.{pow_pos}
 use Rattle.it_space.specs.declared.problems.Constraint.{Constraint}
 use Rattle.it_space.specs.declared.spaces.Space.{Space}
-use Rattle.it_space.specs.Rows.{IsUpTo, row_mass}
+use Rattle.it_space.specs.Rows.{IsOver, row_mass}
 use Rattle.it_space.specs.Spaces.{size_of}
 use Rattle.it_space.proofs.EveryLemmas.{every_of, every-append}
 use Rattle.it_polymatroid.specs.Certificates.{Form}
 use Rattle.it_syntax.specs.Givens.{IsRelationOf, IsGivenOf}
 use Rattle.it_question.specs.Limits.{IsQuestion, IsVerbOver}
 use Rattle.it_question.specs.Questions.{BodyView, RegionView, Contain}
-use Rattle.it_question.specs.Tables.{problem_names, problem_names_by}
+use Rattle.it_question.specs.ProblemLines.{problem_names, names_under}
 use Rattle.it_question.proofs.NumberLemmas.{VerbHasSmallNumbers, QuestionHasSmallNumbers}
 use Rattle.it_demand.specs.Demands.{LineDemand}
 use Rattle.it_demand.specs.LineDemands.{given_demands, row_demands, space_of}
@@ -24,7 +24,7 @@ use Rattle.it_canon.proofs.DemandForms.{given_lines_up_to, row_lines_up_to}
 use Rattle.it_canon.proofs.SmallForms.{IsFormUpTo, row, row_same, row_coordinates, row_is_canonical}
 use Rattle.it_region.specs.declared.types.Candidate.{Candidate}
 use Rattle.it_region.specs.declared.types.Pair.{Pair}
-use Rattle.it_region.specs.Obligations.{obligations, own_demands, ArePartsOf, IsPulledRow, ArePulledRows}
+use Rattle.it_region.specs.Obligations.{obligations, own_demands, IsSubstitution, IsPulledRow, ArePulledRows}
 use Rattle.it_region.specs.Pairs.{IsPair, FitsPair, candidate_coordinate, candidate_sets, pair_obligations}
 use Rattle.it_region.specs.Pulling.{substituted_sets, pulled_coordinate}
 use Rattle.it_region.proofs.ObligationForms.{constraints_up_to, obligations_up_to}
@@ -59,12 +59,12 @@ pair_rows_there p c k f =
     All-weaker (λ (d : Constraint). row_mass d.row < 2 ^ 127) (λ (d : Constraint). row_mass d.row ≤ 2 ^ 127 - 1) (λ d l. omega (arith, l)) p.own.items k.small in
     rows_of_forms p.first.space (2 ^ 127 - 1) (lit< tt) (pair_obligations p c)
     (constraints_up_to (size_of p.space) (size_of p.first.space) (2 ^ 127 - 1) (candidate_coordinate p c) within p.own.items
-    (every_of (λ (d : Constraint). IsUpTo (size_of p.space) d.row) p.own.items k.rows) (every_of (λ (d : Constraint). row_mass d.row ≤ 2 ^ 127 - 1) p.own.items small))
+    (every_of (λ (d : Constraint). IsOver (size_of p.space) d.row) p.own.items k.rows) (every_of (λ (d : Constraint). row_mass d.row ≤ 2 ^ 127 - 1) p.own.items small))
 
 -- ---- of parts that fit a question
 
 module _ (q : BodyView) (k : IsQuestion q) (small : QuestionHasSmallNumbers q) (first second : RegionView) (tries : List (List ℕ)) (about : q.verb ≡ Contain first second tries) where
-  pub obligation_rows_there : (parts : List ℕ) → ArePartsOf first second parts → ArePulledRows (space_of (problem_names q)) (obligations q first second parts) (map (terms_in q) (obligations q first second parts))
+  pub obligation_rows_there : (parts : List ℕ) → IsSubstitution first second parts → ArePulledRows (space_of (problem_names q)) (obligations q first second parts) (map (terms_in q) (obligations q first second parts))
   obligation_rows_there parts h =
       let over : IsVerbOver q.names (Contain first second tries) = subst (IsVerbOver q.names) about k.verb in
       let counts : VerbHasSmallNumbers (Contain first second tries) = subst VerbHasSmallNumbers about small.1 in
@@ -81,6 +81,6 @@ module _ (q : BodyView) (k : IsQuestion q) (small : QuestionHasSmallNumbers q) (
       let within : (c : ℕ) → c ≤ 2 ^ m - 1 + rates → f c ≤ size_of (space_of first.names) =
       λ c e. let p = pulled_within n m rates (substituted_sets (length q.names.variables) parts) sets c e in omega (arith, p, ap length l.rates, ap length r.rates) in
       let fs : List Form = obligations q first second parts in
-      let same : space_of first.names ≡ space_of (problem_names q) = sym (ap (λ v. space_of (problem_names_by q.names v)) about) in
+      let same : space_of first.names ≡ space_of (problem_names q) = sym (ap (λ v. space_of (names_under q.names v)) about) in
       subst (λ (s : Space). ArePulledRows s fs (map (terms_of_form (size_of s)) fs)) same
       (rows_of_forms (space_of first.names) (2 ^ 106) (lit< tt) fs (obligations_up_to (2 ^ m - 1 + rates) (size_of (space_of first.names)) (2 ^ 106) f within (own_demands q second) forms))

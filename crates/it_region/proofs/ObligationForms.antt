@@ -1,11 +1,11 @@
 -- Obligations are forms of small coefficients, as the demands and the constraints are that give them.
 use Rattle.std.proofs.Common.{◌≡◌, ℕ, ◌+◌, ◌≤◌, ℤ, ◌+ℤ◌, ◌*ℤ◌, unsigned_abs, List, [], ◌∷◌, refl, ap, ◌∙◌, arith}
 use Rattle.std.specs.List.{AllByRecursion as Every}
-use Rattle.it_demand.specs.Targets.{demanded_forms}
+use Rattle.it_demand.specs.Targets.{inequalities_of}
 use Rattle.it_space.specs.declared.problems.Constraint.{Constraint}
 use Rattle.it_space.specs.declared.problems.Kind.{Kind}
 use Rattle.it_space.specs.declared.problems.Kind.TheVariants.{Inequality, Equation}
-use Rattle.it_space.specs.Rows.{Terms, IsUpTo, value, row_mass}
+use Rattle.it_space.specs.Rows.{Terms, IsOver, value, row_mass}
 use Rattle.it_space.proofs.EveryLemmas.{every_of, every-append}
 use Rattle.it_polymatroid.specs.Certificates.{Form}
 use Rattle.it_demand.specs.Demands.{LineDemand}
@@ -18,7 +18,7 @@ moved_terms f [] = []
 moved_terms f (t ∷ ts) = (f t.0, t.1) ∷ moved_terms f ts
 
 -- a row as a form
-form_of_row : (n a : ℕ) (row : Terms) → IsUpTo n row → row_mass row ≤ a → IsFormUpTo n a (value row)
+form_of_row : (n a : ℕ) (row : Terms) → IsOver n row → row_mass row ≤ a → IsFormUpTo n a (value row)
 form_of_row n a row up small = record { terms = row; same = λ p. refl; coordinates = each_below row (every_of (λ (t : ℕ × ℤ). (1 ≤ t.0) × (t.0 ≤ n)) row up); small = small }
   where
     each_below : (ts : Terms) → Every (λ (t : ℕ × ℤ). (1 ≤ t.0) × (t.0 ≤ n)) ts → Every (λ (t : ℕ × ℤ). t.0 ≤ n) ts
@@ -47,18 +47,18 @@ module _ (n m a : ℕ) (f : ℕ → ℕ) (within : (c : ℕ) → c ≤ n → f c
       moved-mass [] = refl
       moved-mass (t ∷ ts) = ap (λ (k : ℕ). unsigned_abs t.1 + k) (moved-mass ts)
 
-  demanded_up_to : (kind : Kind) (g : Form) → IsFormUpTo m a g → Every (IsFormUpTo m a) (demanded_forms kind g)
+  demanded_up_to : (kind : Kind) (g : Form) → IsFormUpTo m a g → Every (IsFormUpTo m a) (inequalities_of kind g)
   demanded_up_to Inequality g x = (x, tt)
   demanded_up_to Equation g x = (x, (form-negation m a g x, tt))
 
   -- the obligations that demands give
   pub obligations_up_to : (ds : List LineDemand) → Every (λ (d : LineDemand). IsFormUpTo n a d.demand.form) ds → Every (IsFormUpTo m a) (demand_obligations f ds)
   obligations_up_to [] h = tt
-  obligations_up_to (d ∷ ds) h = every-append (IsFormUpTo m a) (demanded_forms d.demand.kind (pulled_form f d.demand.form)) (demand_obligations f ds)
+  obligations_up_to (d ∷ ds) h = every-append (IsFormUpTo m a) (inequalities_of d.demand.kind (pulled_form f d.demand.form)) (demand_obligations f ds)
       (demanded_up_to d.demand.kind (pulled_form f d.demand.form) (form_moved d.demand.form h.0)) (obligations_up_to ds h.1)
 
   -- and those that constraints give
-  pub constraints_up_to : (cs : List Constraint) → Every (λ (c : Constraint). IsUpTo n c.row) cs → Every (λ (c : Constraint). row_mass c.row ≤ a) cs → Every (IsFormUpTo m a) (constraint_obligations f cs)
+  pub constraints_up_to : (cs : List Constraint) → Every (λ (c : Constraint). IsOver n c.row) cs → Every (λ (c : Constraint). row_mass c.row ≤ a) cs → Every (IsFormUpTo m a) (constraint_obligations f cs)
   constraints_up_to [] up small = tt
-  constraints_up_to (c ∷ cs) up small = every-append (IsFormUpTo m a) (demanded_forms c.kind (pulled_form f (value c.row))) (constraint_obligations f cs)
+  constraints_up_to (c ∷ cs) up small = every-append (IsFormUpTo m a) (inequalities_of c.kind (pulled_form f (value c.row))) (constraint_obligations f cs)
       (demanded_up_to c.kind (pulled_form f (value c.row)) (form_moved (value c.row) (form_of_row n a c.row up.0 small.0))) (constraints_up_to cs up.1 small.1)

@@ -6,7 +6,7 @@ use Rattle.std.proofs.lemmas.List.Sums.{AllPass-from_list_all, list_all-from_All
 use Rattle.it_space.specs.declared.spaces.Space.{Space}
 use Rattle.it_space.specs.declared.problems.Constraint.{Constraint}
 use Rattle.it_space.specs.Problems.{IsProblem, problem_view}
-use Rattle.it_space.specs.Rows.{Terms, IsUpTo, row_mass}
+use Rattle.it_space.specs.Rows.{Terms, IsOver, row_mass}
 use Rattle.it_space.specs.Spaces.{size_of}
 use Rattle.it_question.specs.Limits.{IsQuestion, IsVerbOver, IsRegionOf}
 use Rattle.it_question.specs.Questions.{RegionView, VerbView, Prove, Eliminate, Contain, BodyView}
@@ -36,8 +36,8 @@ small_mass ts k = let m = mass_within ts k.each in let few = k.few in omega (ari
 pub stated_small : (s : Space) (ds : List LineDemand) (cs : List Constraint) → AreStated s ds cs → All (λ c. row_mass c.row < 2 ^ 127) cs
 stated_small s ds cs a = zip-right (λ (d : LineDemand) (c : Constraint). States s d.origin d.demand c) (λ c. row_mass c.row < 2 ^ 127) (λ d c t. small_mass c.row t.row.small) ds cs a
 
-pub stated_rows : (s : Space) (ds : List LineDemand) (cs : List Constraint) → AreStated s ds cs → All (λ c. IsUpTo (size_of s) c.row) cs
-stated_rows s ds cs a = zip-right (λ (d : LineDemand) (c : Constraint). States s d.origin d.demand c) (λ c. IsUpTo (size_of s) c.row) (λ d c t. t.row.coordinates) ds cs a
+pub stated_rows : (s : Space) (ds : List LineDemand) (cs : List Constraint) → AreStated s ds cs → All (λ c. IsOver (size_of s) c.row) cs
+stated_rows s ds cs a = zip-right (λ (d : LineDemand) (c : Constraint). States s d.origin d.demand c) (λ c. IsOver (size_of s) c.row) (λ d c t. t.row.coordinates) ds cs a
 
 pub region_wider : (q : BodyView) (r : RegionView) → IsRegionOf q.names r → length r.names.variables ≡ length q.names.variables + r.auxiliaries
 region_wider q r k = omega (arith, ap length k.variables, length-append q.names.variables k.own, k.counted)

@@ -4,7 +4,7 @@ use Rattle.std.specs.Int.{bit_at}
 use Rattle.std.proofs.Math.Nat.{eq-or-lt_of_le, pow-le-pow_right}
 use Rattle.std.proofs.lemmas.Bool.{cases_lt, eqb-true, le-ltb, lt-ltb}
 use Rattle.std.proofs.lemmas.Nat.Bits.{bit_at_or, same_from_bits, bit_at-zero, bit_at-lt, bit_at-pow_same, bit_at-pow_other, bit_at_above}
-use Rattle.it_polymatroid.specs.Substitutions.{union_from, image}
+use Rattle.it_polymatroid.specs.Substitutions.{union_from, union_of_images}
 use Rattle.std.proofs.lemmas.List.Elements.{All-nil, All-cons, All-append}
 use Rattle.it_space.specs.declared.spaces.Space.{Space}
 use Rattle.it_space.specs.Spaces.{size_of}
@@ -73,8 +73,8 @@ union_bits (suc k) i parts s j lt =
     bit_at_or (cond (eqb (bit_at s i) 1) (2 ^ i) 0) (union_from (i + 1) (singles (i + 1) k ++ parts) s) j
     ∙ union_bit i s j _ _ refl (union_bits k (i + 1) parts s j (subst (λ n. s < 2 ^ n) e lt)) (below_at_or_above j i (cases_lt j i))
 
-pub common_stay : (common : ℕ) (parts : List ℕ) (s : ℕ) → s < 2 ^ common → image (substituted_sets common parts) s ≡ s
-common_stay common parts s lt = same_from_bits (image (substituted_sets common parts) s) s (λ j.
+pub common_stay : (common : ℕ) (parts : List ℕ) (s : ℕ) → s < 2 ^ common → union_of_images (substituted_sets common parts) s ≡ s
+common_stay common parts s lt = same_from_bits (union_of_images (substituted_sets common parts) s) s (λ j.
     union_bits common 0 parts s j (let e : 0 + common ≡ common = omega arith in subst (λ n. s < 2 ^ n) (sym e) lt) ∙ ap (λ z. cond z 0 (bit_at s j)) (le-ltb j 0 (omega arith)))
 
 -- ---- the list of what the variables stand for
@@ -95,18 +95,18 @@ length-sets common parts = omega (arith, length-append (singles 0 common) parts,
 
 -- ---- pulled coordinates
 
-pub coordinate_of_set : (n m : ℕ) (sets : List ℕ) (c : ℕ) → c < 2 ^ m → pulled_coordinate n m sets c ≡ image sets c
+pub coordinate_of_set : (n m : ℕ) (sets : List ℕ) (c : ℕ) → c < 2 ^ m → pulled_coordinate n m sets c ≡ union_of_images sets c
 unfolding pulled_coordinate
-coordinate_of_set n m sets c lt = ap (λ b. cond b (image sets c) (2 ^ n + (c - 2 ^ m))) (lt-ltb c (2 ^ m) lt)
+coordinate_of_set n m sets c lt = ap (λ b. cond b (union_of_images sets c) (2 ^ n + (c - 2 ^ m))) (lt-ltb c (2 ^ m) lt)
 
 pub coordinate_above_sets : (n m : ℕ) (sets : List ℕ) (c : ℕ) → 2 ^ m ≤ c → pulled_coordinate n m sets c ≡ 2 ^ n + (c - 2 ^ m)
 unfolding pulled_coordinate
-coordinate_above_sets n m sets c le = ap (λ b. cond b (image sets c) (2 ^ n + (c - 2 ^ m))) (le-ltb c (2 ^ m) le)
+coordinate_above_sets n m sets c le = ap (λ b. cond b (union_of_images sets c) (2 ^ n + (c - 2 ^ m))) (le-ltb c (2 ^ m) le)
 
 pub coordinate_of_rate : (n m : ℕ) (sets : List ℕ) (r : ℕ) → pulled_coordinate n m sets (2 ^ m + r) ≡ 2 ^ n + r
 coordinate_of_rate n m sets r = let le : 2 ^ m ≤ 2 ^ m + r = omega arith in let e : 2 ^ n + ((2 ^ m + r) - 2 ^ m) ≡ 2 ^ n + r = omega arith in coordinate_above_sets n m sets (2 ^ m + r) le ∙ e
 
-pub image_up_to : (s : Space) (sets : List ℕ) (c : ℕ) → All (λ x. x < 2 ^ s.variables) sets → image sets c ≤ size_of s
+pub image_up_to : (s : Space) (sets : List ℕ) (c : ℕ) → All (λ x. x < 2 ^ s.variables) sets → union_of_images sets c ≤ size_of s
 image_up_to s sets c a = omega (arith, union_below s.variables 0 sets c a)
 
 -- ---- loops that list them

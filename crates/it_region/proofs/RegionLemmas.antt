@@ -1,7 +1,7 @@
 -- Where the obligations hold at a point of the first region, the pulled-back point is one of the second.
 use Rattle.std.proofs.Common.{◌≡◌, ℕ, ◌+◌, ◌≤◌, ℤ, pos, ◌≤ℤ◌, List, [], ◌∷◌, length, ap, subst, ◌∙◌, arith, All}
 use Rattle.std.proofs.lemmas.List.Elements.{All-nil, All-cons, All-append}
-use Rattle.it_demand.specs.Targets.{demanded_forms}
+use Rattle.it_demand.specs.Targets.{inequalities_of}
 use Rattle.it_polymatroid.specs.Certificates.{Form}
 use Rattle.it_polymatroid.proofs.Images.{pulled_polymatroid}
 use Rattle.it_question.specs.Limits.{IsQuestion, IsVerbOver}
@@ -26,7 +26,7 @@ use Rattle.it_region.proofs.RowLemmas.{demanded_forms_met}
 pub all_met : (f : ℕ → ℕ) (p : ℕ → ℤ) (ds : List LineDemand) → AreFormsAtLeastZero p (demand_obligations f ds) → All (λ d. IsSatisfied (λ c. p (f c)) d.demand) ds
 all_met f p [] a = All-nil (λ (d : LineDemand). IsSatisfied (λ c. p (f c)) d.demand)
 all_met f p (d ∷ ds) a =
-    let each = All-parts (λ (g : Form). pos 0 ≤ℤ g p) (demanded_forms d.demand.kind (pulled_form f d.demand.form)) (demand_obligations f ds) a in
+    let each = All-parts (λ (g : Form). pos 0 ≤ℤ g p) (inequalities_of d.demand.kind (pulled_form f d.demand.form)) (demand_obligations f ds) a in
     All-cons (λ (d : LineDemand). IsSatisfied (λ c. p (f c)) d.demand) d ds ((demanded_forms_met d.demand.kind (pulled_form f d.demand.form) p).0 each.0) (all_met f p ds each.1)
 
 -- the limits of a containment

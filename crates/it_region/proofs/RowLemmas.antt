@@ -3,7 +3,7 @@ use Rattle.std.proofs.Common.{◌≡◌, ◌↔◌, ℕ, ◌+◌, ◌-◌, ◌<�
 use Rattle.std.proofs.lemmas.Int.{ints}
 use Rattle.std.proofs.lemmas.List.{drop_all}
 use Rattle.std.proofs.lemmas.List.Elements.{All-nil, All-cons, All-head, All-tail, All-append}
-use Rattle.it_demand.specs.Targets.{demanded_forms}
+use Rattle.it_demand.specs.Targets.{inequalities_of}
 use Rattle.it_number.proofs.Integers.{zring}
 use Rattle.it_space.proofs.ListLemmas.{drop_item}
 use Rattle.it_space.specs.declared.spaces.Space.{Space}
@@ -11,7 +11,7 @@ use Rattle.it_space.specs.declared.problems.Kind.{Kind}
 use Rattle.it_space.specs.declared.problems.Kind.TheVariants.{Inequality, Equation}
 use Rattle.it_space.specs.declared.problems.Constraint.{Constraint}
 use Rattle.it_space.specs.Problems.{Meets, IsMet, AreMet}
-use Rattle.it_space.specs.Rows.{Terms, IsCanonical, IsUpTo, value, row_mass}
+use Rattle.it_space.specs.Rows.{Terms, IsCanonical, IsOver, value, row_mass}
 use Rattle.it_space.specs.Spaces.{size_of}
 use Rattle.it_polymatroid.specs.Certificates.{Form}
 use Rattle.it_demand.specs.LineDemands.{AreAtLeastZero}
@@ -55,11 +55,11 @@ signed_form-nil f true p = refl
 signed_form-nil f false p = refl
 
 pub row_at_end : {E : Type 0} (s : Space) (f : ℕ → ℕ) (turned : Bool) (whole : Terms) (now : List ℤ) (i : ℕ) (row : Result Terms E) → length whole ≤ i → IsUnderWay f turned whole (size_of s) now i
-    → IfOk row (λ r. (p : ℕ → ℤ) → p 0 ≡ pos 0 → value r p ≡ dense_form now p) → IfOk row (IsUpTo (length now - 1)) → IfOk row IsCanonical → IfOk row (IsPulledRow s (signed_form f turned whole))
+    → IfOk row (λ r. (p : ℕ → ℤ) → p 0 ≡ pos 0 → value r p ≡ dense_form now p) → IfOk row (IsOver (length now - 1)) → IfOk row IsCanonical → IfOk row (IsPulledRow s (signed_form f turned whole))
 row_at_end s f turned whole now i (Err e) l u same up can = tt
 row_at_end s f turned whole now i (Ok row) l u same up can = record {
   same = λ p z. same p z ∙ omega (arith, ints, u.sum p, ap (λ (ts : Terms). signed_form f turned ts p) (drop_all i whole l) ∙ signed_form-nil f turned p);
-  coordinates = let e : length now - 1 ≡ size_of s = omega (arith, u.complete) in subst (λ n. IsUpTo n row) e up;
+  coordinates = let e : length now - 1 ≡ size_of s = omega (arith, u.complete) in subst (λ n. IsOver n row) e up;
   canonical = can;
 }
 
@@ -77,7 +77,7 @@ pub rows_same : (s : Space) (fs : List Form) (rows : List Terms) (p : ℕ → �
 rows_same s fs rows p z a = zip-same (IsPulledRow s) (IsFormAtLeastZero p) (λ (row : Terms). pos 0 ≤ℤ value row p)
     (λ f row r. (λ h. subst (λ (x : ℤ). pos 0 ≤ℤ x) (r.same p z) h, λ h. subst (λ (x : ℤ). pos 0 ≤ℤ x) (sym (r.same p z)) h)) fs rows a
 
-pub demanded_forms_met : (k : Kind) (form : Form) (p : ℕ → ℤ) → All (IsFormAtLeastZero p) (demanded_forms k form) ↔ Meets k (form p)
+pub demanded_forms_met : (k : Kind) (form : Form) (p : ℕ → ℤ) → All (IsFormAtLeastZero p) (inequalities_of k form) ↔ Meets k (form p)
 demanded_forms_met Inequality form p = (λ a. All-head (IsFormAtLeastZero p) form [] a, λ h. All-cons (IsFormAtLeastZero p) form [] h (All-nil (IsFormAtLeastZero p)))
 demanded_forms_met Equation form p =
     let down : Form = λ q. neg_ℤ (form q) in (
@@ -88,7 +88,7 @@ demanded_forms_met Equation form p =
 forms_met : (f : ℕ → ℕ) (p : ℕ → ℤ) (cs : List Constraint) → All (IsFormAtLeastZero p) (constraint_obligations f cs) ↔ AreMet (λ c. p (f c)) cs
 forms_met f p [] = (λ a. All-nil (IsMet (λ c. p (f c))), λ a. All-nil (IsFormAtLeastZero p))
 forms_met f p (c ∷ cs) =
-    let first : List Form = demanded_forms c.kind (pulled_form f (value c.row)) in
+    let first : List Form = inequalities_of c.kind (pulled_form f (value c.row)) in
     let one = demanded_forms_met c.kind (pulled_form f (value c.row)) p in
     let rest = forms_met f p cs in (
       λ a. let each = All-parts (IsFormAtLeastZero p) first (constraint_obligations f cs) a in All-cons (IsMet (λ c. p (f c))) c cs (one.0 each.0) (rest.0 each.1),
@@ -102,8 +102,8 @@ obligations_met s f cs rows a p z =
     let m = forms_met f p cs in
     (λ h. m.0 (r.0 h), λ h. r.1 (m.1 h))
 
-pub obligations_up_to : (s : Space) (fs : List Form) (rows : List Terms) → ArePulledRows s fs rows → All (IsUpTo (size_of s)) rows
-obligations_up_to s fs rows a = zip-right (IsPulledRow s) (IsUpTo (size_of s)) (λ f row r. r.coordinates) fs rows a
+pub obligations_up_to : (s : Space) (fs : List Form) (rows : List Terms) → ArePulledRows s fs rows → All (IsOver (size_of s)) rows
+obligations_up_to s fs rows a = zip-right (IsPulledRow s) (IsOver (size_of s)) (λ f row r. r.coordinates) fs rows a
 
 -- of a result whose rows are a vector's items
 pub met_of : {E : Type 0} (s : Space) (g f : ℕ → ℕ) (cs : List Constraint) (r : Result (Vec Terms Global) E) → g ≡ f → IfOk r (λ v. ArePulledRows s (constraint_obligations g cs) v.items)
@@ -111,6 +111,6 @@ pub met_of : {E : Type 0} (s : Space) (g f : ℕ → ℕ) (cs : List Constraint)
 met_of s g f cs (Err e) is a = tt
 met_of s g f cs (Ok v) is a = obligations_met s f cs v.items (subst (λ (h : ℕ → ℕ). ArePulledRows s (constraint_obligations h cs) v.items) is a)
 
-pub up_to_of : {E : Type 0} (s : Space) (fs : List Form) (r : Result (Vec Terms Global) E) → IfOk r (λ v. ArePulledRows s fs v.items) → IfOk r (λ v. All (IsUpTo (size_of s)) v.items)
+pub up_to_of : {E : Type 0} (s : Space) (fs : List Form) (r : Result (Vec Terms Global) E) → IfOk r (λ v. ArePulledRows s fs v.items) → IfOk r (λ v. All (IsOver (size_of s)) v.items)
 up_to_of s fs (Err e) a = tt
 up_to_of s fs (Ok v) a = obligations_up_to s fs v.items a

@@ -3,7 +3,7 @@ use Rattle.std.proofs.Common.{◌≡◌, ℕ, zero, suc, ◌+◌, ◌<◌, ◌�
 use Rattle.std.specs.List.{AllZip}
 use Rattle.std.proofs.Math.Seq.{take-append_seam}
 use Rattle.std.proofs.lemmas.List.{length-take-le, take-take}
-use Rattle.it_demand.specs.Targets.{demanded_forms}
+use Rattle.it_demand.specs.Targets.{inequalities_of}
 use Rattle.it_space.specs.declared.spaces.Space.{Space}
 use Rattle.it_space.specs.declared.problems.Kind.{Kind}
 use Rattle.it_space.specs.declared.problems.Kind.TheVariants.{Inequality, Equation}
@@ -23,7 +23,7 @@ use Rattle.it_demand.proofs.UniqueRows.{told_by_values, zip-told}
 use Rattle.it_demand.proofs.ZipLemmas.{zip-append}
 use Rattle.it_region.specs.declared.types.Candidate.{Candidate}
 use Rattle.it_region.specs.declared.types.Pair.{Pair}
-use Rattle.it_region.specs.Obligations.{pulled_form, demand_obligations, constraint_obligations, own_demands, obligations, ArePartsOf, IsPulledRow, ArePulledRows}
+use Rattle.it_region.specs.Obligations.{pulled_form, demand_obligations, constraint_obligations, own_demands, obligations, IsSubstitution, IsPulledRow, ArePulledRows}
 use Rattle.it_region.specs.Pairs.{IsPair, IsPairOf, FitsPair, candidate_coordinate, pair_obligations}
 use Rattle.it_region.specs.Pulling.{substituted_sets, pulled_coordinate}
 use Rattle.it_region.proofs.PullingLemmas.{coordinate_of_empty_set}
@@ -55,7 +55,7 @@ rows_as_pulled s (f ∷ fs) (t ∷ ts) a = (record { same = a.0.same; coordinate
 abbrev pub AreOne : Form → Form → Type 0
 AreOne f g = (p : ℕ → ℤ) → p 0 ≡ pos 0 → f p ≡ g p
 
-demanded_forms_same : (k : Kind) (f g : Form) → AreOne f g → AllZip AreOne (demanded_forms k f) (demanded_forms k g)
+demanded_forms_same : (k : Kind) (f g : Form) → AreOne f g → AllZip AreOne (inequalities_of k f) (inequalities_of k g)
 demanded_forms_same Inequality f g h = (h, tt)
 demanded_forms_same Equation f g h = (h, (λ p z. ap neg_ℤ (h p z), tt))
 
@@ -64,10 +64,10 @@ forms_same s f [] [] e a = tt
 forms_same s f [] (c ∷ cs) e a = absurd a
 forms_same s f (d ∷ ds) [] e a = absurd a
 forms_same s f (d ∷ ds) (c ∷ cs) e a =
-    let one : AllZip AreOne (demanded_forms d.demand.kind (pulled_form f (value c.row))) (demanded_forms d.demand.kind (pulled_form f d.demand.form)) =
+    let one : AllZip AreOne (inequalities_of d.demand.kind (pulled_form f (value c.row))) (inequalities_of d.demand.kind (pulled_form f d.demand.form)) =
     demanded_forms_same d.demand.kind (pulled_form f (value c.row)) (pulled_form f d.demand.form) (λ p z. a.0.row.same (λ x. p (f x)) (ap p e ∙ z)) in
-    zip-append AreOne (demanded_forms c.kind (pulled_form f (value c.row))) (constraint_obligations f cs) (demanded_forms d.demand.kind (pulled_form f d.demand.form)) (demand_obligations f ds)
-    (subst (λ (k : Kind). AllZip AreOne (demanded_forms k (pulled_form f (value c.row))) (demanded_forms d.demand.kind (pulled_form f d.demand.form))) (sym a.0.kind) one) (forms_same s f ds cs e a.1)
+    zip-append AreOne (inequalities_of c.kind (pulled_form f (value c.row))) (constraint_obligations f cs) (inequalities_of d.demand.kind (pulled_form f d.demand.form)) (demand_obligations f ds)
+    (subst (λ (k : Kind). AllZip AreOne (inequalities_of k (pulled_form f (value c.row))) (inequalities_of d.demand.kind (pulled_form f d.demand.form))) (sym a.0.kind) one) (forms_same s f ds cs e a.1)
 
 rows_of_text : (s : Space) (fs gs : List Form) (rows : List Terms) → AllZip AreOne fs gs → ArePulledRows s fs rows → ArePulledRows s gs rows
 rows_of_text s [] [] [] h a = tt
@@ -119,14 +119,14 @@ module _ (q : BodyView) (a b : RegionView) (p : Pair) (o : IsPairOf q a b p) whe
       ∙ ap (λ (f : ℕ → ℕ). map (terms_of_form size) (demand_obligations f (own_demands q b))) (coordinate_is c)
 
   -- the parts of a candidate that fits
-  pub parts_are : (c : Candidate) → IsPair p → FitsPair p c → ArePartsOf a b (candidate_parts c)
+  pub parts_are : (c : Candidate) → IsPair p → FitsPair p c → IsSubstitution a b (candidate_parts c)
   parts_are c l f = record {
     count = length-take-le c.count c.parts (omega (arith, f.complete, f.count, l.few_parts)) ∙ f.count ∙ o.parts;
     within = subst (λ (n : ℕ). All (λ s. s < 2 ^ n) (candidate_parts c)) first_variables f.within;
   }
 
   -- and a candidate of parts does
-  pub parts_fit : (c : Candidate) (parts : List ℕ) → length c.parts ≡ 4 → c.count ≡ length parts → candidate_parts c ≡ parts → ArePartsOf a b parts → FitsPair p c
+  pub parts_fit : (c : Candidate) (parts : List ℕ) → length c.parts ≡ 4 → c.count ≡ length parts → candidate_parts c ≡ parts → IsSubstitution a b parts → FitsPair p c
   parts_fit c parts four count same h = record {
     complete = four;
     count = count ∙ h.count ∙ sym o.parts;

@@ -3,13 +3,13 @@ use Rattle.std.specs.Prelude.{◌≡◌, ℕ, ◌+◌, ◌<◌, ◌^◌, ℤ, po
 use Rattle.std.specs.List.{AllZip}
 use Rattle.it_space.specs.declared.spaces.Space.{Space}
 use Rattle.it_space.specs.declared.problems.Constraint.{Constraint}
-use Rattle.it_space.specs.Rows.{Terms, IsCanonical, IsUpTo, value}
+use Rattle.it_space.specs.Rows.{Terms, IsCanonical, IsOver, value}
 use Rattle.it_space.specs.Spaces.{size_of}
 use Rattle.it_polymatroid.specs.Certificates.{Form}
 use Rattle.it_question.specs.Questions.{RegionView, BodyView}
-use Rattle.it_demand.specs.Targets.{demanded_forms}
+use Rattle.it_demand.specs.Targets.{inequalities_of}
 use Rattle.it_demand.specs.Demands.{LineDemand}
-use Rattle.it_question.specs.Tables.{demands_from}
+use Rattle.it_question.specs.ProblemLines.{demands_from}
 use Rattle.it_region.specs.Pulling.{substituted_sets, pulled_coordinate}
 
 -- the form at a map pulled back, which has at each coordinate c the value at f c
@@ -19,12 +19,12 @@ pulled_form f form p = form (λ c. p (f c))
 -- the obligations that demands give, in order
 abbrev pub demand_obligations : (ℕ → ℕ) → List LineDemand → List Form
 demand_obligations f [] = []
-demand_obligations f (d ∷ ds) = demanded_forms d.demand.kind (pulled_form f d.demand.form) ++ demand_obligations f ds
+demand_obligations f (d ∷ ds) = inequalities_of d.demand.kind (pulled_form f d.demand.form) ++ demand_obligations f ds
 
 -- and those that constraints give
 abbrev pub constraint_obligations : (ℕ → ℕ) → List Constraint → List Form
 constraint_obligations f [] = []
-constraint_obligations f (c ∷ cs) = demanded_forms c.kind (pulled_form f (value c.row)) ++ constraint_obligations f cs
+constraint_obligations f (c ∷ cs) = inequalities_of c.kind (pulled_form f (value c.row)) ++ constraint_obligations f cs
 
 -- what the second region's own lines demand; its lines are counted after the question's own
 abbrev pub own_demands : BodyView → RegionView → List LineDemand
@@ -39,7 +39,7 @@ abbrev pub AreFormsAtLeastZero : (ℕ → ℤ) → List Form → Type 0
 AreFormsAtLeastZero p forms = All (λ f. pos 0 ≤ℤ f p) forms
 
 -- a set of the first region's variables for each auxiliary of the second one
-pub record ArePartsOf (a b : RegionView) (parts : List ℕ) : Type 0 where
+pub record IsSubstitution (a b : RegionView) (parts : List ℕ) : Type 0 where
   pub count : length parts ≡ b.auxiliaries
   pub within : All (λ s. s < 2 ^ length a.names.variables) parts
 
@@ -47,7 +47,7 @@ pub record ArePartsOf (a b : RegionView) (parts : List ℕ) : Type 0 where
 -- are sums, so they may be larger than those of a row from a question file.
 pub record IsPulledRow (s : Space) (form : Form) (row : Terms) : Type 0 where
   pub same : (p : ℕ → ℤ) → p 0 ≡ pos 0 → value row p ≡ form p
-  pub coordinates : IsUpTo (size_of s) row
+  pub coordinates : IsOver (size_of s) row
   pub canonical : IsCanonical row
 
 -- one row for each form, in order

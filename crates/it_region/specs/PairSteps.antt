@@ -3,7 +3,7 @@ use Rattle.std.specs.Prelude.{◌≡◌, ℕ, ◌<◌, ◌^◌, List, length, Al
 use Rattle.it_space.specs.declared.problems.Constraint.{Constraint}
 use Rattle.it_space.specs.Rows.{value}
 use Rattle.it_polymatroid.specs.Certificates.{Form}
-use Rattle.it_demand.specs.Targets.{demanded_forms}
+use Rattle.it_demand.specs.Targets.{inequalities_of}
 use Rattle.it_region.specs.declared.types.Pair.{Pair}
 use Rattle.it_region.specs.Obligations.{pulled_form}
 
@@ -14,4 +14,4 @@ pub record AreSetsFor (p : Pair) (sets : List ℕ) : Type 0 where
 
 -- the obligations that one constraint gives
 abbrev pub obligations_of : (ℕ → ℕ) → Constraint → List Form
-obligations_of f c = demanded_forms c.kind (pulled_form f (value c.row))
+obligations_of f c = inequalities_of c.kind (pulled_form f (value c.row))

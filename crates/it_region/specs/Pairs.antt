@@ -1,7 +1,7 @@
 -- Pairs of regions, and the candidates that fit them.
 use Rattle.std.specs.Prelude.{◌≡◌, ℕ, ◌+◌, ◌<◌, ◌≤◌, ◌^◌, ℤ, List, take, length, All}
 use Rattle.it_space.specs.Problems.{IsProblem, problem_view}
-use Rattle.it_space.specs.Rows.{IsUpTo, row_mass}
+use Rattle.it_space.specs.Rows.{IsOver, row_mass}
 use Rattle.it_space.specs.Spaces.{IsSpace, size_of}
 use Rattle.it_polymatroid.specs.Certificates.{Form}
 use Rattle.it_question.specs.Questions.{RegionView, VerbView, Contain, BodyView}
@@ -17,7 +17,7 @@ use Rattle.it_region.specs.Obligations.{own_demands, constraint_obligations}
 pub record IsPair (p : Pair) : Type 0 where
   pub problem : IsProblem (problem_view p.first)
   pub space : IsSpace p.space
-  pub rows : All (λ c. IsUpTo (size_of p.space) c.row) p.own.items
+  pub rows : All (λ c. IsOver (size_of p.space) c.row) p.own.items
   pub small : All (λ c. row_mass c.row < 2 ^ 127) p.own.items
   pub few_parts : p.parts ≤ 4
   pub variables : p.common + p.parts ≡ p.space.variables

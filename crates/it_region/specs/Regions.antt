@@ -4,7 +4,7 @@ use Rattle.it_polymatroid.specs.Polymatroid.{IsPolymatroid}
 use Rattle.it_question.specs.Questions.{OwnLinesView, RegionView, BodyView}
 use Rattle.it_canon.specs.Agreement.{AgreeOnCommon}
 use Rattle.it_canon.specs.QuestionDemands.{AreTrueAt}
-use Rattle.it_question.specs.Tables.{lines_with}
+use Rattle.it_question.specs.ProblemLines.{lines_with}
 
 -- entropies of the region's variables and values of the rates, as one map from coordinates, that meet all lines
 pub record IsIn (own : OwnLinesView) (r : RegionView) (p : ℕ → ℤ) : Type 0 where

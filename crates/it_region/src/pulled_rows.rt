@@ -1,7 +1,7 @@
 //! The obligations of a candidate.
 ghost use Rattle.std.specs.Prelude.{◌≡◌, ◌+◌, ◌<◌, ◌≤◌, ◌^◌, ◌*ℤ◌, ◌↔◌, unsigned_abs, length, All, IfOk};
 ghost use Rattle.it_space.specs.Problems.{AreMet};
-ghost use Rattle.it_space.specs.Rows.{IsUpTo, value, row_mass};
+ghost use Rattle.it_space.specs.Rows.{IsOver, value, row_mass};
 ghost use Rattle.it_space.specs.Spaces.{size_of};
 ghost use Rattle.it_demand.specs.LineDemands.{AreAtLeastZero, AtMaps};
 ghost use Rattle.it_demand.specs.Coefficients.{largest, signed_by, IsFormAdded};
@@ -12,7 +12,7 @@ ghost use Rattle.it_region.specs.Pairs.{FitsPair, IsPair, pair_obligations, cand
 
 use crate::types::{Candidate, Pair};
 use it_canon::Coefficients;
-use it_polymatroid::image;
+use it_polymatroid::union_of_images;
 use it_space::{Constraint, Kind, Row, VarSet};
 use std::alloc::{AllocError, Global};
 
@@ -55,7 +55,7 @@ fn pulled_coordinate(pair: &Pair, sets: &[VarSet], coordinate: u32) -> usize
 {
     let count = 1u32 << pair.space.variables;
     if coordinate < count {
-        image(sets, VarSet::from_number(coordinate as u16)).number() as usize
+        union_of_images(sets, VarSet::from_number(coordinate as u16)).number() as usize
     } else {
         (1usize << pair.first.space.variables) + (coordinate - count) as usize
     }
@@ -95,7 +95,7 @@ fn pulled_row(
 ) -> Result<Row, AllocError>
     requires pair { IsPair pair.now }
     requires sets { AreSetsFor pair.now sets.now }
-    requires row { IsUpTo (size_of pair.now.space) row.now }
+    requires row { IsOver (size_of pair.now.space) row.now }
     requires small { row_mass row.now < 2 ^ 127 }
     ensures { IfOk result (IsPulledRow pair.now.first.space (λ p. signed_by turned (value row.now (λ c. p (pair_coordinate pair.now sets.now c))))) }
 {
@@ -115,7 +115,7 @@ fn demanded_rows(
 ) -> Result<Vec<Row>, AllocError>
     requires pair { IsPair pair.now }
     requires sets { AreSetsFor pair.now sets.now }
-    requires row { IsUpTo (size_of pair.now.space) constraint.now.row }
+    requires row { IsOver (size_of pair.now.space) constraint.now.row }
     requires small { row_mass constraint.now.row < 2 ^ 127 }
     ensures { IfOk result (λ v. ArePulledRows pair.now.first.space (obligations_of (pair_coordinate pair.now sets.now) constraint.now) v.items) }
 {
@@ -152,7 +152,7 @@ pub fn obligations(
     requires fits { FitsPair pair.now candidate.now }
     ensures rows { IfOk result (λ v. ArePulledRows pair.now.first.space (pair_obligations pair.now candidate.now) v.items) }
     ensures met { IfOk result (λ v. AtMaps (λ p. AreAtLeastZero p v.items ↔ AreMet (candidate_map pair.now candidate.now p) pair.now.own.items)) }
-    ensures limits { IfOk result (λ v. All (IsUpTo (size_of pair.now.first.space)) v.items) }
+    ensures limits { IfOk result (λ v. All (IsOver (size_of pair.now.first.space)) v.items) }
 {
     let sets = candidate_sets(alloc, pair, candidate)?;
     rows_of(alloc, pair, sets.as_slice())

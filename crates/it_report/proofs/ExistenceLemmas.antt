@@ -8,7 +8,7 @@ use Rattle.serde_json.specs.Find.{get}
 use Rattle.serde_json.specs.Read.{read}
 use Rattle.it_space.specs.Answers.{AnswerView}
 use Rattle.it_question.specs.Questions.{BodyView, QuestionView}
-use Rattle.it_question.specs.Tables.{problem_names}
+use Rattle.it_question.specs.ProblemLines.{problem_names}
 use Rattle.it_certificate.specs.declared.keys.Key.{Key}
 use Rattle.it_certificate.specs.Parts.{text_of}
 use Rattle.it_certificate.specs.Reports.{ReadsReport, report_of}

@@ -16,13 +16,13 @@ use Rattle.it_question.specs.Questions.{BodyView, QuestionView, RegionView, Verb
 use Rattle.it_demand.specs.Canonical.{form_of}
 use Rattle.it_elemental.specs.Generators.{is_equation}
 use Rattle.it_demand.specs.Demands.{AreStated, kind_of}
-use Rattle.it_demand.specs.Targets.{targets, demanded_forms}
+use Rattle.it_demand.specs.Targets.{targets, inequalities_of}
 use Rattle.it_demand.specs.LineDemands.{AreRowsOf, space_of}
-use Rattle.it_question.specs.Tables.{problem_names, problem_names_by}
+use Rattle.it_question.specs.ProblemLines.{problem_names, names_under}
 use Rattle.it_canon.specs.QuestionDemands.{question_demands, IsProblemOf, terms_in}
 use Rattle.it_region.specs.declared.types.Candidate.{Candidate}
 use Rattle.it_region.specs.declared.types.Pair.{Pair}
-use Rattle.it_region.specs.Obligations.{obligations, ArePartsOf, ArePulledRows}
+use Rattle.it_region.specs.Obligations.{obligations, IsSubstitution, ArePulledRows}
 use Rattle.it_region.specs.Pairs.{IsPair, IsPairOf, Pairs, IsContainment, FitsPair, pair_obligations}
 use Rattle.it_region.proofs.TextLemmas.{text_rows, parts_fit, rows_as_pulled, pulled_rows_are}
 use Rattle.it_certificate.specs.AnswerShapes.{HasQuestionShape, HasVerbShape, HasContainmentShape}
@@ -105,7 +105,7 @@ has_verdict q p is a ts names v are own e =
 
 module _ (q : BodyView) (r : RelationView) (about : q.verb ≡ Prove r) where
   relation_names : problem_names q ≡ q.names
-  relation_names = ap (λ v. problem_names_by q.names v) about
+  relation_names = ap (λ v. names_under q.names v) about
 
   -- the targets' rows
   pub target_rows_are : (a : AnswerView) (s : Space) (ts : List Terms) → s ≡ space_of (problem_names q) → AreRowsOf s (targets s.variables r) ts → ArePulledRows s (answer_forms q a) ts
@@ -118,7 +118,7 @@ module _ (q : BodyView) (r : RelationView) (about : q.verb ≡ Prove r) where
   one_target : (n : ℕ) → 0 < length (targets n r)
   one_target n = by_sign r.sign (form_of n r)
     where
-      by_sign : (sign : Sign) (f : Form) → 0 < length (demanded_forms (kind_of sign) f)
+      by_sign : (sign : Sign) (f : Form) → 0 < length (inequalities_of (kind_of sign) f)
       by_sign AtLeast f = lit< tt
       by_sign AtMost f = lit< tt
       by_sign Equal f = lit< tt
@@ -126,7 +126,7 @@ module _ (q : BodyView) (r : RelationView) (about : q.verb ≡ Prove r) where
   two_targets : (n : ℕ) → is_equation (kind_of r.sign) ≡ true → 1 < length (targets n r)
   two_targets n = by_sign r.sign (form_of n r)
     where
-      by_sign : (sign : Sign) (f : Form) → is_equation (kind_of sign) ≡ true → 1 < length (demanded_forms (kind_of sign) f)
+      by_sign : (sign : Sign) (f : Form) → is_equation (kind_of sign) ≡ true → 1 < length (inequalities_of (kind_of sign) f)
       by_sign AtLeast f e = absurd (cc)
       by_sign AtMost f e = absurd (cc)
       by_sign Equal f e = lit< tt
@@ -140,14 +140,14 @@ module _ (q : BodyView) (r : RelationView) (about : q.verb ≡ Prove r) where
 
 -- ---- a containment
 
-pub parts_as_named : (first second : RegionView) (parts : List ℕ) (ws : List CertificateView) → HasContainmentShape first second parts ws → ArePartsOf first second parts
+pub parts_as_named : (first second : RegionView) (parts : List ℕ) (ws : List CertificateView) → HasContainmentShape first second parts ws → IsSubstitution first second parts
 parts_as_named first second parts ws h = record {
   count = h.each;
   within = All-weaker (λ s. (s < 2 ^ 32) × (s < 2 ^ length first.names.variables)) (λ s. s < 2 ^ length first.names.variables) (λ s k. k.1) parts h.sets;
 }
 
 module _ (q : BodyView) (p : Pair) (parts : List ℕ) (ws : List CertificateView) (l : IsPair p) (pairs : Pairs q p) (fits : HasQuestionShape q (Contained parts ws)) where
-  of_pair : (P : Type 0) → ((first second : RegionView) (tries : List (List ℕ)) → q.verb ≡ Contain first second tries → IsPairOf q first second p → ArePartsOf first second parts → P) → P
+  of_pair : (P : Type 0) → ((first second : RegionView) (tries : List (List ℕ)) → q.verb ≡ Contain first second tries → IsPairOf q first second p → IsSubstitution first second parts → P) → P
   of_pair P f = by_verb q.verb refl
     where
       by_verb : (verb : VerbView) → q.verb ≡ verb → P
@@ -159,7 +159,7 @@ module _ (q : BodyView) (p : Pair) (parts : List ℕ) (ws : List CertificateView
   few_parts = of_pair (length parts ≤ 4) (λ first second tries e o h. omega (arith, h.count, o.parts, l.few_parts))
 
   pair_space : p.first.space ≡ space_of (problem_names q)
-  pair_space = of_pair (p.first.space ≡ space_of (problem_names q)) (λ first second tries e o h. o.first_space ∙ sym (ap (λ v. space_of (problem_names_by q.names v)) e))
+  pair_space = of_pair (p.first.space ≡ space_of (problem_names q)) (λ first second tries e o h. o.first_space ∙ sym (ap (λ v. space_of (names_under q.names v)) e))
 
   pub pair_problem : IsProblemOf q (problem_view p.first)
   pair_problem = record { space = pair_space; limits = l.problem; constraints = of_pair (AreStated p.first.space (question_demands q) p.first.constraints.items) (λ first second tries e o h. o.first) }

@@ -8,12 +8,12 @@ use Rattle.it_space.specs.declared.spaces.Space.{Space}
 use Rattle.it_space.specs.Answers.{AnswerView, CertificateView}
 use Rattle.it_space.specs.Answers.AnswerView.{Yes, No, Undecided, Region, Contained, Open}
 use Rattle.it_space.specs.Problems.{ProblemView, AreMet}
-use Rattle.it_space.specs.Rows.{Terms, map_of}
+use Rattle.it_space.specs.Rows.{Terms, point_of}
 use Rattle.it_space.specs.Spaces.{size_of}
 use Rattle.it_space.proofs.OptionLemmas.{some_same}
 use Rattle.it_polymatroid.specs.Certificates.{Form}
 use Rattle.it_polymatroid.specs.Polymatroid.{IsPolymatroid}
-use Rattle.it_syntax.specs.Meaning.{RelationView, multiple_of, side_at}
+use Rattle.it_syntax.specs.Meaning.{RelationView, common_denominator, side_at}
 use Rattle.it_question.specs.Limits.{IsQuestion}
 use Rattle.it_question.specs.Questions.{BodyView, QuestionView, RegionView, VerbView, Prove, Eliminate, Contain}
 use Rattle.it_question.proofs.FileReadings.{file_limits}
@@ -21,8 +21,8 @@ use Rattle.it_question.proofs.NumberLemmas.{QuestionHasSmallNumbers, file_has_sm
 use Rattle.it_demand.specs.Canonical.{form_of}
 use Rattle.it_demand.specs.Targets.{targets}
 use Rattle.it_demand.specs.LineDemands.{space_of}
-use Rattle.it_question.specs.Tables.{problem_names, problem_names_by, problem_lines, problem_lines_by}
-use Rattle.it_canon.specs.QuestionDemands.{variables_of, problem_of, terms_in, AreTrueAt, IsProblemOf}
+use Rattle.it_question.specs.ProblemLines.{problem_names, names_under, problem_lines, lines_under}
+use Rattle.it_canon.specs.QuestionDemands.{variable_count, problem_of, terms_in, AreTrueAt, IsProblemOf}
 use Rattle.it_canon.proofs.ExistenceLemmas.{question_poses, relation_rows}
 use Rattle.it_demand.proofs.MetLemmas.{targets_met}
 use Rattle.it_canon.proofs.ProblemLemmas.{question_met}
@@ -150,7 +150,7 @@ module _ (q : BodyView) (p : ProblemView) (is : IsProblemOf q p) where
 
   yes_true : (r : RelationView) (ts : List Terms) (ws : List CertificateView) → ArePulledRows p.space (targets variable_count r) ts → length ws ≡ length (targets (length q.names.variables) r) → proofs_verdict p ts ws ≡ Valid → IsClaimTrueBy q (Prove r) (Yes ws)
   yes_true r ts ws are l e m t =
-      (targets_met r.sign (side_at variable_count m (multiple_of r) r.left) (side_at variable_count m (multiple_of r) r.right) (form_of variable_count r) m refl).0
+      (targets_met r.sign (side_at variable_count m (common_denominator r) r.left) (side_at variable_count m (common_denominator r) r.right) (form_of variable_count r) m refl).0
       (all_hold m t.0 t.1 (targets variable_count r) ts ws are (l ∙ targets_counted (length q.names.variables) variable_count r) e)
 
   no_true : (r : RelationView) (ts : List Terms) (back : Bool) (values : List ℤ) → ArePulledRows p.space (targets variable_count r) ts → length values ≡ size_of p.space → place_named back < length ts
@@ -162,10 +162,10 @@ module _ (q : BodyView) (p : ProblemView) (is : IsProblemOf q p) where
       let t = get_or ts i [] in
       let refuted : RefutesRow p t values = ((valid_no_is p t values is.limits row.coordinates l).0 e).0 in (
         (
-          from_problem (λ s. IsPolymatroid s.variables (map_of values)) refuted.polymatroid,
-          from_problem (λ s. AreTrueAt s.variables (map_of values) (problem_lines q)) ((question_met q p.space p.constraints is.space is.constraints (map_of values) refl).0 refuted.met),
+          from_problem (λ s. IsPolymatroid s.variables (point_of values)) refuted.polymatroid,
+          from_problem (λ s. AreTrueAt s.variables (point_of values) (problem_lines q)) ((question_met q p.space p.constraints is.space is.constraints (point_of values) refl).0 refuted.met),
         ),
-        subst (λ (x : ℤ). x ≤ℤ neg_ℤ (pos 1)) (row.same (map_of values) refl) refuted.violated,
+        subst (λ (x : ℤ). x ≤ℤ neg_ℤ (pos 1)) (row.same (point_of values) refl) refuted.violated,
       )
 
   -- the first region's points are those of the problem
@@ -174,8 +174,8 @@ module _ (q : BodyView) (p : ProblemView) (is : IsProblemOf q p) where
   contained_true first second tries parts ts ws about k are fits e =
       obligations_contain q first second tries parts k about (parts_as_named first second parts ws fits)
       (λ m inside.
-      let polymatroid : IsPolymatroid variable_count m = subst (λ v. IsPolymatroid (length (problem_names_by q.names v).variables) m) (sym about) inside.polymatroid in
-      let lines : AreTrueAt variable_count m (problem_lines q) = subst (λ v. AreTrueAt (length (problem_names_by q.names v).variables) m (problem_lines_by q.lines v)) (sym about) inside.lines_hold in
+      let polymatroid : IsPolymatroid variable_count m = subst (λ v. IsPolymatroid (length (names_under q.names v).variables) m) (sym about) inside.polymatroid in
+      let lines : AreTrueAt variable_count m (problem_lines q) = subst (λ v. AreTrueAt (length (names_under q.names v).variables) m (lines_under q.lines v)) (sym about) inside.lines_hold in
       all_hold m polymatroid lines (obligations q first second parts) ts ws are (fits.obligations ∙ sym (obligations_counted q first second parts)) e)
 
 judged_true : (q : BodyView) (verb : VerbView) (a : AnswerView) → q.verb ≡ verb → IsQuestion q → QuestionHasSmallNumbers q → HasQuestionShape q a → verdict_of q a ≡ Some Valid → IsClaimTrueBy q verb a
@@ -185,16 +185,16 @@ judged_true q (Prove r) a about k small fits e =
     is : IsProblemOf q (problem_of q)
     is = question_poses q k small
 
-    are : ArePulledRows (space_of (problem_names q)) (targets (variables_of q) r) (map (terms_in q) (targets (variables_of q) r))
-    are = rows_as_pulled (space_of (problem_names q)) (targets (variables_of q) r) (map (terms_in q) (targets (variables_of q) r)) (relation_rows q k small r about)
+    are : ArePulledRows (space_of (problem_names q)) (targets (variable_count q) r) (map (terms_in q) (targets (variable_count q) r))
+    are = rows_as_pulled (space_of (problem_names q)) (targets (variable_count q) r) (map (terms_in q) (targets (variable_count q) r)) (relation_rows q k small r about)
 
-    by_answer : (a : AnswerView) → HasQuestionShape q a → answer_verdict (problem_of q) (map (terms_in q) (targets (variables_of q) r)) a ≡ Some Valid → IsClaimTrueBy q (Prove r) a
-    by_answer (Yes ws) fits e = yes_true q (problem_of q) is r (map (terms_in q) (targets (variables_of q) r)) ws are (verb_fits q (Yes ws) (Prove r) about fits).0
-        (some_same (proofs_verdict (problem_of q) (map (terms_in q) (targets (variables_of q) r)) ws) Valid e)
-    by_answer (No back values) fits e = no_true q (problem_of q) is r (map (terms_in q) (targets (variables_of q) r)) back values are
+    by_answer : (a : AnswerView) → HasQuestionShape q a → answer_verdict (problem_of q) (map (terms_in q) (targets (variable_count q) r)) a ≡ Some Valid → IsClaimTrueBy q (Prove r) a
+    by_answer (Yes ws) fits e = yes_true q (problem_of q) is r (map (terms_in q) (targets (variable_count q) r)) ws are (verb_fits q (Yes ws) (Prove r) about fits).0
+        (some_same (proofs_verdict (problem_of q) (map (terms_in q) (targets (variable_count q) r)) ws) Valid e)
+    by_answer (No back values) fits e = no_true q (problem_of q) is r (map (terms_in q) (targets (variable_count q) r)) back values are
         (point_is_complete q r about back values (space_of (problem_names q)) refl fits)
-        (target_is_there q r about back values (variables_of q) (map (terms_in q) (targets (variables_of q) r)) (length-map (targets (variables_of q) r) (terms_in q)) fits)
-        (some_same (point_verdict (problem_of q) (map (terms_in q) (targets (variables_of q) r)) back values) Valid e)
+        (target_is_there q r about back values (variable_count q) (map (terms_in q) (targets (variable_count q) r)) (length-map (targets (variable_count q) r) (terms_in q)) fits)
+        (some_same (point_verdict (problem_of q) (map (terms_in q) (targets (variable_count q) r)) back values) Valid e)
     by_answer (Undecided cause) fits e = tt
     by_answer (Region rows) fits e = tt
     by_answer (Contained parts proofs) fits e = tt

@@ -7,7 +7,7 @@ use Rattle.it_space.specs.Answers.AnswerView.{Yes, No, Contained}
 use Rattle.it_space.specs.Problems.{ProblemView}
 use Rattle.it_space.specs.Rows.{Terms}
 use Rattle.it_question.specs.Questions.{BodyView, QuestionView}
-use Rattle.it_question.specs.Tables.{problem_names}
+use Rattle.it_question.specs.ProblemLines.{problem_names}
 use Rattle.it_canon.specs.QuestionDemands.{problem_of, terms_in}
 use Rattle.it_region.specs.AnswerForms.{answer_forms}
 use Rattle.it_certificate.specs.Reports.{ReadsReport}

@@ -2,11 +2,11 @@
 use Rattle.std.specs.Prelude.{◌≡◌, ℕ, ℤ, pos, neg_ℤ, ◌≤ℤ◌, List, Bool, get_or, Ok}
 use Rattle.it_space.specs.Answers.{AnswerView}
 use Rattle.it_space.specs.Answers.AnswerView.{Yes, No, Contained}
-use Rattle.it_space.specs.Rows.{map_of}
+use Rattle.it_space.specs.Rows.{point_of}
 use Rattle.it_syntax.specs.Meaning.{Holds}
 use Rattle.it_syntax.specs.NamesViews.{NamesView}
 use Rattle.it_question.specs.Questions.{BodyView, QuestionView, VerbView, Prove, Contain}
-use Rattle.it_canon.specs.QuestionDemands.{variables_of, AreTrueTogether}
+use Rattle.it_canon.specs.QuestionDemands.{variable_count, AreTrueTogether}
 use Rattle.it_demand.specs.Targets.{targets}
 use Rattle.it_region.specs.Regions.{LiesIn}
 use Rattle.it_certificate.specs.Reports.{ReadsReport}
@@ -27,9 +27,9 @@ OneVerdict = (line : List ℕ) (v w : LineVerdict) → IsVerdict line v → IsVe
 -- question's lines true. A no: the values are such a place, and the target on its side is -1 or less there. A containment: the
 -- first region lies in the second. Other answers claim nothing.
 abbrev pub IsClaimTrueBy : BodyView → VerbView → AnswerView → Type 0
-IsClaimTrueBy q (Prove r) (Yes ws) = (p : ℕ → ℤ) → AreTrueTogether q p → Holds (variables_of q) p r
+IsClaimTrueBy q (Prove r) (Yes ws) = (p : ℕ → ℤ) → AreTrueTogether q p → Holds (variable_count q) p r
 IsClaimTrueBy q (Prove r) (No back values) =
-    AreTrueTogether q (map_of values) × (get_or (targets (variables_of q) r) (place_named back) (λ p. pos 0) (map_of values) ≤ℤ neg_ℤ (pos 1))
+    AreTrueTogether q (point_of values) × (get_or (targets (variable_count q) r) (place_named back) (λ p. pos 0) (point_of values) ≤ℤ neg_ℤ (pos 1))
 IsClaimTrueBy q (Contain first second tries) (Contained parts proofs) = LiesIn q first second
 IsClaimTrueBy q verb answer = Unit {0}
 

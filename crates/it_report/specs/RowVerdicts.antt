@@ -2,7 +2,7 @@
 use Rattle.std.specs.Prelude.{ℕ, ℤ, List, [], ◌∷◌, length, Bool, true, false, if◌then◌else◌, get_or}
 use Rattle.it_space.specs.Answers.{CertificateView}
 use Rattle.it_space.specs.Problems.{ProblemView}
-use Rattle.it_space.specs.Rows.{Terms, map_of}
+use Rattle.it_space.specs.Rows.{Terms, point_of}
 use Rattle.it_space.specs.Spaces.{size_of}
 use Rattle.it_polymatroid.specs.Elementals.{elementals}
 use Rattle.it_elemental.specs.Generators.{generators}
@@ -31,4 +31,4 @@ place_named back = if back then 1 else 0
 
 -- the verdict on a point against that target
 unfoldable pub point_verdict : ProblemView → List Terms → Bool → List ℤ → Verdict
-point_verdict p ts back values = no_verdict (length (elementals p.space.variables)) (generators p) (get_or ts (place_named back) []) (map_of values)
+point_verdict p ts back values = no_verdict (length (elementals p.space.variables)) (generators p) (get_or ts (place_named back) []) (point_of values)

@@ -2,7 +2,7 @@
 ghost use Rattle.std.specs.Prelude.{◌≡◌, ◌<◌, ◌+◌, length, map, All};
 ghost use Rattle.it_space.specs.Answers.{certificate_view};
 ghost use Rattle.it_space.specs.Problems.{IsProblem, problem_view};
-ghost use Rattle.it_space.specs.Rows.{IsUpTo};
+ghost use Rattle.it_space.specs.Rows.{IsOver};
 ghost use Rattle.it_space.specs.Spaces.{size_of};
 ghost use Rattle.it_report.specs.RowVerdicts.{proofs_verdict, point_verdict, proof_verdict, place_named, is_valid};
 ghost use Rattle.it_report.specs.Steps.{IsVerdictOver};
@@ -14,7 +14,7 @@ use it_space::{Certificate, Point, Problem, Row};
 #[tactic(auto, using(crate::proofs::VerdictLemmas::yes_over))]
 fn proof_verdict(problem: &Problem, row: &Row, certificate: &Certificate) -> Verdict
     requires problem { IsProblem (problem_view problem.now) }
-    requires row { IsUpTo (size_of problem.now.space) row.now }
+    requires row { IsOver (size_of problem.now.space) row.now }
     ensures verdict { result ≡ proof_verdict (problem_view problem.now) row.now (certificate_view certificate.now) }
     ensures over { IsVerdictOver (size_of problem.now.space + 1) result }
 {
@@ -31,7 +31,7 @@ pub fn is_valid(verdict: &Verdict) -> bool
 /// The first verdict that isn't `Valid`, of one certificate for each row in order, or `Valid`.
 pub fn proofs_verdict(problem: &Problem, rows: &[Row], proofs: &[Certificate]) -> Verdict
     requires problem { IsProblem (problem_view problem.now) }
-    requires rows { All (IsUpTo (size_of problem.now.space)) rows.now }
+    requires rows { All (IsOver (size_of problem.now.space)) rows.now }
     ensures verdict { result ≡ proofs_verdict (problem_view problem.now) rows.now (map certificate_view proofs.now) }
     ensures over { IsVerdictOver (size_of problem.now.space + 1) result }
 {
@@ -59,7 +59,7 @@ fn place_named(back: bool) -> usize
 #[tactic(auto, using(crate::proofs::VerdictLemmas::no_over), unfolding(crate::specs::RowVerdicts::point_verdict))]
 pub fn point_verdict(problem: &Problem, rows: &[Row], back: bool, point: &Point) -> Verdict
     requires problem { IsProblem (problem_view problem.now) }
-    requires rows { All (IsUpTo (size_of problem.now.space)) rows.now }
+    requires rows { All (IsOver (size_of problem.now.space)) rows.now }
     requires named { place_named back < length rows.now }
     requires complete { length point.now ≡ size_of problem.now.space }
     ensures verdict { result ≡ point_verdict (problem_view problem.now) rows.now back point.now }

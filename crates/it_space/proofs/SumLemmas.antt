@@ -7,7 +7,7 @@ use Rattle.std.proofs.lemmas.List.{get_or-set_other}
 use Rattle.std.proofs.lemmas.List.Elements.{All-cons, All-head, All-tail, All-set}
 use Rattle.std.proofs.Math.IntN.{+ℤ_idr}
 use Rattle.it_number.specs.Limit.{IsWithin}
-use Rattle.it_space.specs.Rows.{Terms, coefficient, Ascends, IsUpTo, single_term}
+use Rattle.it_space.specs.Rows.{Terms, coefficient, Ascends, IsOver, single_term}
 use Rattle.it_space.specs.Sums.{number_at, plus_at, IsAdded, terms_from}
 use Rattle.it_space.proofs.TermLemmas.{coefficient-append, coefficient-single_term, ascends-single_term}
 
@@ -66,11 +66,11 @@ terms_ascend first [] v = tt
 terms_ascend first (x ∷ xs) v = ascends-single_term first first x (terms_from (first + 1) xs) (omega arith) (All-head IsWithin x xs v) (terms_ascend (first + 1) xs (All-tail IsWithin x xs v))
 
 -- and their places are those of the list
-pub terms_up_to : (size first : ℕ) (xs : List ℤ) → 1 ≤ first → first + length xs ≤ size + 1 → IsUpTo size (terms_from first xs)
+pub terms_up_to : (size first : ℕ) (xs : List ℤ) → 1 ≤ first → first + length xs ≤ size + 1 → IsOver size (terms_from first xs)
 terms_up_to size first [] h k = λ i d l. absurd (omega arith)
 terms_up_to size first (x ∷ xs) h k = first_and_rest x (terms_up_to size (first + 1) xs (omega arith) (omega arith))
   where
-    first_and_rest : (y : ℤ) → IsUpTo size (terms_from (first + 1) xs) → IsUpTo size (single_term first y ++ terms_from (first + 1) xs)
+    first_and_rest : (y : ℤ) → IsOver size (terms_from (first + 1) xs) → IsOver size (single_term first y ++ terms_from (first + 1) xs)
     first_and_rest (pos zero) a = a
     first_and_rest (pos (suc y)) a = All-cons (λ t. (1 ≤ t.0) × (t.0 ≤ size)) (first, pos (suc y)) (terms_from (first + 1) xs) (h, omega arith) a
     first_and_rest (negsuc y) a = All-cons (λ t. (1 ≤ t.0) × (t.0 ≤ size)) (first, negsuc y) (terms_from (first + 1) xs) (h, omega arith) a
@@ -87,7 +87,7 @@ rest_within (x ∷ xs) v = All-tail IsWithin x xs v
 pub row_ascends : (xs : List ℤ) → All IsWithin xs → Ascends 0 (terms_from 1 (drop 1 xs))
 row_ascends xs v = ascends_from_zero (terms_from 1 (drop 1 xs)) (terms_ascend 1 (drop 1 xs) (rest_within xs v))
 
-pub row_up_to : (xs : List ℤ) (size : ℕ) → length xs ≡ size + 1 → IsUpTo size (terms_from 1 (drop 1 xs))
+pub row_up_to : (xs : List ℤ) (size : ℕ) → length xs ≡ size + 1 → IsOver size (terms_from 1 (drop 1 xs))
 row_up_to xs size e = terms_up_to size 1 (drop 1 xs) (omega arith) (omega (arith, rest_length xs e))
   where
     rest_length : (xs : List ℤ) → length xs ≡ size + 1 → length (drop 1 xs) ≡ size

@@ -11,7 +11,7 @@ use Rattle.it_space.proofs.OptionLemmas.{some_same}
 use Rattle.it_number.specs.Gcd.{lcm}
 use Rattle.it_number.proofs.Divisors.{gcd-one, lcm_is, lcm-pos, start_divides}
 use Rattle.it_syntax.specs.declared.types.Term.{Term}
-use Rattle.it_syntax.specs.Meaning.{RelationView, multiple_from, multiple_of}
+use Rattle.it_syntax.specs.Meaning.{RelationView, multiple_from, common_denominator}
 use Rattle.it_syntax.specs.Multiples.{most_multiple, multiple_with}
 
 -- a denominator 1 leaves the multiple
@@ -127,8 +127,8 @@ pub multiple_done : (first : ℕ) (ts : List Term) (i m : ℕ) → length ts ≤
 multiple_done first ts i m l s = sym (ap (multiple_from m) (drop_all i ts l)) ∙ s.same
 
 -- the denominators of a relation
-pub left_denominators : (r : RelationView) → IsMultiple (multiple_of r) → All (λ t. 1 ≤ t.denominator) r.left
+pub left_denominators : (r : RelationView) → IsMultiple (common_denominator r) → All (λ t. 1 ≤ t.denominator) r.left
 left_denominators r h = denominators_some 1 r.left (start_limited (multiple_from 1 r.left) r.right h)
 
-pub right_denominators : (r : RelationView) → IsMultiple (multiple_of r) → All (λ t. 1 ≤ t.denominator) r.right
+pub right_denominators : (r : RelationView) → IsMultiple (common_denominator r) → All (λ t. 1 ≤ t.denominator) r.right
 right_denominators r h = denominators_some (multiple_from 1 r.left) r.right h

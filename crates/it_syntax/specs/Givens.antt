@@ -6,7 +6,7 @@ use Rattle.it_syntax.specs.declared.types.Atom.{Atom}
 use Rattle.it_syntax.specs.declared.types.Atom.TheVariants.{Entropy, Mutual}
 use Rattle.it_syntax.specs.declared.types.Given.{Given}
 use Rattle.it_syntax.specs.declared.types.Given.TheVariants as givens
-use Rattle.it_syntax.specs.Meaning.{RelationView, relation_view, multiple_of, atom_at, Holds, IsAtomOf}
+use Rattle.it_syntax.specs.Meaning.{RelationView, relation_view, common_denominator, atom_at, Holds, IsAtomOf}
 
 -- a given as contracts compare it: each vector by the list of its items
 pub data GivenView : Type 0 where
@@ -39,16 +39,16 @@ links [] = []
 links (first ∷ sets) = links_from first sets
 
 -- the sum of the H(A|W) over the members A
-abbrev pub sum_given : ℕ → (ℕ → ℤ) → List ℕ → ℕ → ℤ
-sum_given n p [] given = pos 0
-sum_given n p (member ∷ members) given = atom_at n p (Entropy member given) +ℤ sum_given n p members given
+abbrev pub sum_of_conditionals : ℕ → (ℕ → ℤ) → List ℕ → ℕ → ℤ
+sum_of_conditionals n p [] given = pos 0
+sum_of_conditionals n p (member ∷ members) given = atom_at n p (Entropy member given) +ℤ sum_of_conditionals n p members given
 
 -- The condition is true of the map: each link of a chain is 0, the joint entropy of independent sets is the sum of theirs,
 -- a function has no entropy given its argument.
 abbrev pub IsTrueAt : ℕ → (ℕ → ℤ) → GivenView → Type 0
 IsTrueAt n p (Relation r) = Holds n p r
 IsTrueAt n p (Markov sets) = All (λ link. atom_at n p link ≡ pos 0) (links sets)
-IsTrueAt n p (Independent members given) = atom_at n p (Entropy (union_of members) given) ≡ sum_given n p members given
+IsTrueAt n p (Independent members given) = atom_at n p (Entropy (union_of members) given) ≡ sum_of_conditionals n p members given
 IsTrueAt n p (Function value argument) = atom_at n p (Entropy value argument) ≡ pos 0
 
 -- sets of n variables, rates among m, at most 256 terms, and denominators other than 0 with a least common multiple of at most 2 ^ 32
@@ -56,8 +56,8 @@ pub record IsRelationOf (n m : ℕ) (r : RelationView) : Type 0 where
   pub few : length r.left + length r.right ≤ 256
   pub left : All (λ t. IsAtomOf n m t.atom) r.left
   pub right : All (λ t. IsAtomOf n m t.atom) r.right
-  pub some_multiple : 1 ≤ multiple_of r
-  pub small_multiple : multiple_of r ≤ 2 ^ 32
+  pub some_multiple : 1 ≤ common_denominator r
+  pub small_multiple : common_denominator r ≤ 2 ^ 32
 
 -- so many sets of n variables
 pub record AreSetsOf (n least most : ℕ) (sets : List ℕ) : Type 0 where

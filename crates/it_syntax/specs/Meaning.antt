@@ -34,16 +34,16 @@ abbrev pub multiple_from : ℕ → List Term → ℕ
 multiple_from m ts = fold lcm m (map (λ t. t.denominator) ts)
 
 -- the least common multiple of the denominators of both sides
-abbrev pub multiple_of : RelationView → ℕ
-multiple_of r = multiple_from (multiple_from 1 r.left) r.right
+abbrev pub common_denominator : RelationView → ℕ
+common_denominator r = multiple_from (multiple_from 1 r.left) r.right
 
 -- how often a term counts its atom, where m times its fraction is a whole number: its number times m over its denominator
-abbrev pub times_of : ℕ → Term → ℕ
-times_of m t = t.number * (m / t.denominator)
+abbrev pub multiplicity : ℕ → Term → ℕ
+multiplicity m t = t.number * (m / t.denominator)
 
 -- m times the value of a term: its atom's, so often, with its sign
 abbrev pub term_at : ℕ → (ℕ → ℤ) → ℕ → Term → ℤ
-term_at n p m t = (if t.negative then neg_ℤ (pos (times_of m t)) else pos (times_of m t)) *ℤ atom_at n p t.atom
+term_at n p m t = (if t.negative then neg_ℤ (pos (multiplicity m t)) else pos (multiplicity m t)) *ℤ atom_at n p t.atom
 
 -- m times the sum of the terms
 abbrev pub side_at : ℕ → (ℕ → ℤ) → ℕ → List Term → ℤ
@@ -52,17 +52,17 @@ side_at n p m (t ∷ ts) = term_at n p m t +ℤ side_at n p m ts
 
 -- the left side less the right one, times the least common multiple of the denominators
 abbrev pub difference_at : ℕ → (ℕ → ℤ) → RelationView → ℤ
-difference_at n p r = side_at n p (multiple_of r) r.left -ℤ side_at n p (multiple_of r) r.right
+difference_at n p r = side_at n p (common_denominator r) r.left -ℤ side_at n p (common_denominator r) r.right
 
 -- two numbers compare as the sign says
-abbrev pub Compares : Sign → ℤ → ℤ → Type 0
-Compares AtLeast x y = y ≤ℤ x
-Compares AtMost x y = x ≤ℤ y
-Compares Equal x y = x ≡ y
+abbrev pub Relates : Sign → ℤ → ℤ → Type 0
+Relates AtLeast x y = y ≤ℤ x
+Relates AtMost x y = x ≤ℤ y
+Relates Equal x y = x ≡ y
 
 -- the relation is true of the map: both sides compare so, times the least common multiple of the denominators
 abbrev pub Holds : ℕ → (ℕ → ℤ) → RelationView → Type 0
-Holds n p r = Compares r.sign (side_at n p (multiple_of r) r.left) (side_at n p (multiple_of r) r.right)
+Holds n p r = Relates r.sign (side_at n p (common_denominator r) r.left) (side_at n p (common_denominator r) r.right)
 
 -- its sets are sets of n variables, and its rates are among m
 abbrev pub IsAtomOf : ℕ → ℕ → Atom → Type 0

@@ -2,7 +2,7 @@
 ghost use Rattle.std.specs.Prelude.{◌≡◌, ◌≤◌, ◌^◌, pos, IfOk, OkIff};
 ghost use Rattle.it_number.specs.Limit.{IsWithin};
 ghost use Rattle.it_number.specs.Gcd.{lcm};
-ghost use Rattle.it_syntax.specs.Meaning.{relation_view, multiple_from, multiple_of};
+ghost use Rattle.it_syntax.specs.Meaning.{relation_view, multiple_from, common_denominator};
 ghost use Rattle.it_syntax.specs.Multiples.{multiple_with};
 ghost use Rattle.it_forms.specs.Forms.{Take};
 ghost use Rattle.it_forms.specs.FormReading.{read};
@@ -66,10 +66,10 @@ pub fn denominator(multiple: u64, rest: &mut Rest<'_>) -> Result<(u64, u64), Sto
 }
 
 /// The least common multiple of the denominators of both sides of a relation.
-pub fn multiple_of(relation: &Relation) -> u64
-    requires some { 1 ≤ multiple_of (relation_view relation.now) }
-    requires small { multiple_of (relation_view relation.now) ≤ 2 ^ 32 }
-    ensures { result ≡ multiple_of (relation_view relation.now) }
+pub fn common_denominator(relation: &Relation) -> u64
+    requires some { 1 ≤ common_denominator (relation_view relation.now) }
+    requires small { common_denominator (relation_view relation.now) ≤ 2 ^ 32 }
+    ensures { result ≡ common_denominator (relation_view relation.now) }
 {
     let left = multiple_from(1, relation.left.terms.as_slice());
     multiple_from(left, relation.right.terms.as_slice())

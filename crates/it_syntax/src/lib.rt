@@ -23,7 +23,7 @@ mod terminals;
 pub mod types;
 
 pub use cutting::{line_tokens, tokens};
-pub use denominators::multiple_of;
+pub use denominators::common_denominator;
 pub use givens::given;
 pub use laws::{given_is_one, line_tokens_are_one, relation_is_one};
 pub use lists::is_measure;

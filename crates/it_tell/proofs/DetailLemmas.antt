@@ -10,7 +10,7 @@ use Rattle.it_space.specs.declared.answers.Mark.{Mark}
 use Rattle.it_polymatroid.specs.Certificates.{Form}
 use Rattle.it_syntax.specs.NamesViews.{NamesView}
 use Rattle.it_question.specs.Questions.{BodyView}
-use Rattle.it_question.specs.Tables.{problem_names}
+use Rattle.it_question.specs.ProblemLines.{problem_names}
 use Rattle.it_terms.specs.ProofSteps.{TellsSteps}
 use Rattle.it_tell.specs.Tellings.{AreDetails, AreProofTexts, IsMarkedRowText, IsPointText, IsProofText, indented_line, proof_lines, step_line}
 use Rattle.it_tell.specs.Steps.{AppendsDetails, AppendsEach, AppendsPoint, AppendsProof}

@@ -13,7 +13,7 @@ use Rattle.it_space.specs.Rows.{Terms}
 use Rattle.it_polymatroid.specs.Certificates.{Form}
 use Rattle.it_syntax.specs.NamesViews.{NamesView}
 use Rattle.it_question.specs.Questions.{BodyView, QuestionView, VerbView, Prove, Eliminate, Contain}
-use Rattle.it_question.specs.Tables.{problem_names}
+use Rattle.it_question.specs.ProblemLines.{problem_names}
 use Rattle.it_check.specs.declared.verdicts.Verdict.{Verdict}
 use Rattle.it_print.specs.Lines.{certificate_text, row_text, values_text}
 use Rattle.it_report.specs.Judging.{HasAnswer, IsVerdict, verdict_of}

@@ -16,7 +16,7 @@ use Rattle.it_space.specs.declared.answers.Mark.{Mark}
 use Rattle.it_space.specs.Answers.{AnswerView, CertificateView, answer_view, certificate_view}
 use Rattle.it_space.specs.Answers.AnswerView.{Yes, Contained}
 use Rattle.it_space.specs.Problems.{ProblemView}
-use Rattle.it_space.specs.Rows.{Terms, IsUpTo}
+use Rattle.it_space.specs.Rows.{Terms, IsOver}
 use Rattle.it_space.specs.Spaces.{size_of}
 use Rattle.it_space.proofs.OptionLemmas.{some_same}
 use Rattle.it_polymatroid.specs.Certificates.{Form, IsAllowed}
@@ -27,9 +27,9 @@ use Rattle.it_syntax.specs.Meaning.{RelationView}
 use Rattle.it_syntax.specs.NamesViews.{NamesView}
 use Rattle.it_question.specs.Limits.{IsQuestion, IsVerbOver}
 use Rattle.it_question.specs.Questions.{BodyView, RegionView, VerbView, Prove, Eliminate, Contain}
-use Rattle.it_question.specs.Tables.{problem_names, problem_names_by}
+use Rattle.it_question.specs.ProblemLines.{problem_names, names_under}
 use Rattle.it_demand.specs.LineDemands.{space_of}
-use Rattle.it_canon.specs.QuestionDemands.{IsProblemOf, question_demands, variables_of, problem_of, terms_in}
+use Rattle.it_canon.specs.QuestionDemands.{IsProblemOf, question_demands, variable_count, problem_of, terms_in}
 use Rattle.it_certificate.specs.AnswerShapes.{HasQuestionShape, HasVerbShape, IsCauseFor, IsRowIn}
 use Rattle.it_check.specs.declared.verdicts.Verdict.{Verdict}
 use Rattle.it_check.specs.declared.verdicts.Verdict.TheVariants.{Valid, BadScale, UnknownGenerator, NegativeWeight, Width, Mismatch, BrokenElemental, UnmetConstraint, NotViolated}
@@ -78,31 +78,31 @@ judged_valid q a (Judged names u) w judged is e = some_same w u (sym judged ∙ 
 -- ---- certificates
 
 module _ (q : BodyView) (p : ProblemView) (is : IsProblemOf q p) where
-  generators_counted : length (generators p) ≡ length (elementals (variables_of q)) + length (question_demands q)
+  generators_counted : length (generators p) ≡ length (elementals (variable_count q)) + length (question_demands q)
   generators_counted = length-listed p.space.variables p.constraints
       ∙ ap₂ (λ m n. m + n) (ap (λ s. length (elementals s.variables)) is.space) (few_constraints q p.space p.constraints is.constraints)
 
-  generators_there : (t : Terms) (c : Certificate) → IsUpTo (size_of p.space) t → proof_verdict p t (certificate_view c) ≡ Valid
-      → All (λ (w : ℕ × ℤ). w.0 < length (elementals (variables_of q)) + length (question_demands q)) c.weights.items
-  generators_there t c u e = All-weaker (IsAllowed (forms_of (generators p))) (λ (w : ℕ × ℤ). w.0 < length (elementals (variables_of q)) + length (question_demands q))
+  generators_there : (t : Terms) (c : Certificate) → IsOver (size_of p.space) t → proof_verdict p t (certificate_view c) ≡ Valid
+      → All (λ (w : ℕ × ℤ). w.0 < length (elementals (variable_count q)) + length (question_demands q)) c.weights.items
+  generators_there t c u e = All-weaker (IsAllowed (forms_of (generators p))) (λ (w : ℕ × ℤ). w.0 < length (elementals (variable_count q)) + length (question_demands q))
       (λ w a. omega (arith, a.0, generators_counted)) c.weights.items ((valid_yes_is p t (certificate_view c) is.limits u).0 e).0.allowed
 
   -- the generators of certificates, one for each row, are there
-  all_listed : (ts : List Terms) (cs : List Certificate) → All (IsUpTo (size_of p.space)) ts → length cs ≡ length ts → proofs_verdict p ts (map certificate_view cs) ≡ Valid → AreListed (variables_of q) (length (question_demands q)) cs
+  all_listed : (ts : List Terms) (cs : List Certificate) → All (IsOver (size_of p.space)) ts → length cs ≡ length ts → proofs_verdict p ts (map certificate_view cs) ≡ Valid → AreListed (variable_count q) (length (question_demands q)) cs
   unfolding proofs_verdict
-  all_listed ts [] u l e = All-nil (λ (c : Certificate). All (λ (w : ℕ × ℤ). w.0 < length (elementals (variables_of q)) + length (question_demands q)) c.weights.items)
+  all_listed ts [] u l e = All-nil (λ (c : Certificate). All (λ (w : ℕ × ℤ). w.0 < length (elementals (variable_count q)) + length (question_demands q)) c.weights.items)
   all_listed [] (c ∷ cs) u l e = absurd (omega (arith, l))
   all_listed (t ∷ ts) (c ∷ cs) u l e =
       let each = each_valid (proof_verdict p t (certificate_view c)) (proofs_verdict p ts (map certificate_view cs)) e in
-      All-cons (λ (c : Certificate). All (λ (w : ℕ × ℤ). w.0 < length (elementals (variables_of q)) + length (question_demands q)) c.weights.items) c cs
-      (generators_there t c (All-head (IsUpTo (size_of p.space)) t ts u) each.0) (all_listed ts cs (All-tail (IsUpTo (size_of p.space)) t ts u) (omega (arith, l)) each.1)
+      All-cons (λ (c : Certificate). All (λ (w : ℕ × ℤ). w.0 < length (elementals (variable_count q)) + length (question_demands q)) c.weights.items) c cs
+      (generators_there t c (All-head (IsOver (size_of p.space)) t ts u) each.0) (all_listed ts cs (All-tail (IsOver (size_of p.space)) t ts u) (omega (arith, l)) each.1)
 
-terms_up_to : (q : BodyView) (fs : List Form) → All (IsUpTo (size_of (space_of (problem_names q)))) (map (terms_in q) fs)
-terms_up_to q [] = All-nil (IsUpTo (size_of (space_of (problem_names q))))
-terms_up_to q (f ∷ fs) = All-cons (IsUpTo (size_of (space_of (problem_names q)))) (terms_in q f) (map (terms_in q) fs) (form_up_to (size_of (space_of (problem_names q))) f) (terms_up_to q fs)
+terms_up_to : (q : BodyView) (fs : List Form) → All (IsOver (size_of (space_of (problem_names q)))) (map (terms_in q) fs)
+terms_up_to q [] = All-nil (IsOver (size_of (space_of (problem_names q))))
+terms_up_to q (f ∷ fs) = All-cons (IsOver (size_of (space_of (problem_names q)))) (terms_in q f) (map (terms_in q) fs) (form_up_to (size_of (space_of (problem_names q))) f) (terms_up_to q fs)
 
 proofs_listed : (q : BodyView) → IsProblemOf q (problem_of q) → (fs : List Form) (cs : List Certificate) → length fs ≡ length (map certificate_view cs) → proofs_verdict (problem_of q) (map (terms_in q) fs) (map certificate_view cs) ≡ Valid
-    → AreListed (variables_of q) (length (question_demands q)) cs
+    → AreListed (variable_count q) (length (question_demands q)) cs
 proofs_listed q posed fs cs counted valid =
     all_listed q (problem_of q) posed (map (terms_in q) fs) cs (terms_up_to q fs) (sym (length-map cs certificate_view) ∙ sym counted ∙ sym (length-map fs (terms_in q))) valid
 
@@ -112,7 +112,7 @@ pub yes_counted : (q : BodyView) (ws : List CertificateView) → HasQuestionShap
 yes_counted q ws h = by_verb q.verb (verb_fits q (Yes ws) q.verb refl h)
   where
     by_verb : (verb : VerbView) → HasVerbShape q.names verb (Yes ws) → length (answer_forms_by q verb (Yes ws)) ≡ length ws
-    by_verb (Prove r) h = targets_counted (variables_of q) (length q.names.variables) r ∙ sym h.0
+    by_verb (Prove r) h = targets_counted (variable_count q) (length q.names.variables) r ∙ sym h.0
     by_verb (Eliminate rates) h = absurd h
     by_verb (Contain first second tries) h = absurd h
 
@@ -152,13 +152,13 @@ module _ (q : BodyView) (k : IsQuestion q) (posed : IsProblemOf q (problem_of q)
       let forms = answer_forms q (Yes ws) in
       proofs_listed q posed forms proofs.items (yes_counted q ws fits) (judged_valid q (Yes ws) v (proofs_verdict (problem_of q) (map (terms_in q) forms) ws) refl is accepted)
   printable_relation r (answers.No back point) about fits is h =
-      let own : problem_names q ≡ q.names = ap (problem_names_by q.names) about in
+      let own : problem_names q ≡ q.names = ap (names_under q.names) about in
       let size : length point ≡ size_of (space_of (problem_names q)) = subst (λ (ns : NamesView). length point ≡ size_of (space_of ns)) (sym own) h.0 in
       let few : length (problem_names q).variables ≤ 10 = subst (λ (ns : NamesView). length ns.variables ≤ 10) (sym own) k.few in
       let few_rates : length (problem_names q).rates ≤ 16 = subst (λ (ns : NamesView). length ns.rates ≤ 16) (sym own) k.few_rates in
-      (omega (arith, size, pow_pos (variables_of q)), omega (arith, size, pow_mono {i = variables_of q} {j = 10} few, few_rates))
+      (omega (arith, size, pow_pos (variable_count q)), omega (arith, size, pow_mono {i = variable_count q} {j = 10} few, few_rates))
   printable_relation r (answers.Undecided cause) about fits is h =
-      subst (λ (ns : NamesView). IsCauseOf (length ns.rates) cause) (sym (let own : problem_names q ≡ q.names = ap (problem_names_by q.names) about in own)) (cause_of_rates q.names cause h)
+      subst (λ (ns : NamesView). IsCauseOf (length ns.rates) cause) (sym (let own : problem_names q ≡ q.names = ap (names_under q.names) about in own)) (cause_of_rates q.names cause h)
   printable_relation r (answers.Region rows) about fits is h = absurd h
   printable_relation r (answers.Contained parts proofs) about fits is h = absurd h
   printable_relation r (answers.Open tried) about fits is h = absurd h
@@ -167,9 +167,9 @@ module _ (q : BodyView) (k : IsQuestion q) (posed : IsProblemOf q (problem_of q)
   printable_region rates (answers.Yes proofs) about h = absurd h
   printable_region rates (answers.No back point) about h = absurd h
   printable_region rates (answers.Undecided cause) about h =
-      subst (λ (ns : NamesView). IsCauseOf (length ns.rates) cause) (sym (let own : problem_names q ≡ q.names = ap (problem_names_by q.names) about in own)) (cause_of_rates q.names cause h)
+      subst (λ (ns : NamesView). IsCauseOf (length ns.rates) cause) (sym (let own : problem_names q ≡ q.names = ap (names_under q.names) about in own)) (cause_of_rates q.names cause h)
   printable_region rates (answers.Region rows) about h =
-      subst (λ (ns : NamesView). All (λ (row : Mark × Terms). IsRowOver ns row.1) rows.items) (sym (let own : problem_names q ≡ q.names = ap (problem_names_by q.names) about in own)) (rows_over q.names rows.items h)
+      subst (λ (ns : NamesView). All (λ (row : Mark × Terms). IsRowOver ns row.1) rows.items) (sym (let own : problem_names q ≡ q.names = ap (names_under q.names) about in own)) (rows_over q.names rows.items h)
   printable_region rates (answers.Contained parts proofs) about h = absurd h
   printable_region rates (answers.Open tried) about h = absurd h
 

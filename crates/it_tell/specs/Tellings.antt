@@ -13,7 +13,7 @@ use Rattle.it_space.specs.Rows.{Terms}
 use Rattle.it_polymatroid.specs.Certificates.{Form}
 use Rattle.it_syntax.specs.NamesViews.{NamesView}
 use Rattle.it_question.specs.Questions.{BodyView, QuestionView}
-use Rattle.it_question.specs.Tables.{problem_names}
+use Rattle.it_question.specs.ProblemLines.{problem_names}
 use Rattle.it_certificate.specs.Reports.{ReadsReport}
 use Rattle.it_print.specs.Lines.{certificate_text, contained_line, open_line, row_text, undecided_line, values_text, variable_names}
 use Rattle.it_terms.specs.Tells.{TellsRow}

@@ -8,8 +8,8 @@ ghost use Rattle.it_polymatroid.specs.Elementals.{elementals};
 ghost use Rattle.it_question.specs.Limits.{IsQuestion};
 ghost use Rattle.it_syntax.specs.Meaning.{relation_view};
 ghost use Rattle.it_question.specs.Questions.{Prove, question_body};
-ghost use Rattle.it_question.specs.Tables.{problem_names};
-ghost use Rattle.it_canon.specs.QuestionDemands.{variables_of};
+ghost use Rattle.it_question.specs.ProblemLines.{problem_names};
+ghost use Rattle.it_canon.specs.QuestionDemands.{variable_count};
 ghost use Rattle.it_certificate.specs.AnswerShapes.{HasQuestionShape};
 ghost use Rattle.it_print.specs.Lines.{AreListed, IsPrintable, IsRowOver, origins_of, row_text, values_text};
 ghost use Rattle.it_report.specs.Steps.{IsAboutRelation};
@@ -112,8 +112,8 @@ fn weights_text(
     constraints: &[Constraint],
     certificate: &Certificate,
 ) -> Result<Vec<u8>, AllocError>
-    requires some { 1 ≤ variables_of (question_body question.now) }
-    requires there { All (λ w. w.0 < length (elementals (variables_of (question_body question.now))) + length constraints.now) certificate.now.weights.items }
+    requires some { 1 ≤ variable_count (question_body question.now) }
+    requires there { All (λ w. w.0 < length (elementals (variable_count (question_body question.now))) + length constraints.now) certificate.now.weights.items }
     ensures { IfOk result (λ t. t.items ≡ weights_text (question_body question.now) (origins_of constraints.now) (certificate_view certificate.now)) }
 {
     let mut out = Vec::new(alloc);
@@ -182,9 +182,9 @@ fn row_proof(
     short: bool,
 ) -> Result<Vec<u8>, AllocError>
     requires question { IsQuestion (question_body question.now) }
-    requires some { 1 ≤ variables_of (question_body question.now) }
+    requires some { 1 ≤ variable_count (question_body question.now) }
     requires origins { origins_of constraints.now ≡ question_origins (question_body question.now) }
-    requires there { All (λ w. w.0 < length (elementals (variables_of (question_body question.now))) + length constraints.now) certificate.now.weights.items }
+    requires there { All (λ w. w.0 < length (elementals (variable_count (question_body question.now))) + length constraints.now) certificate.now.weights.items }
     ensures { IfOk result (λ t. IsProofText (question_body question.now) (form_with_proof row.now certificate.now) t.items) }
 {
     match told_form(alloc, question, row, certificate, short)? {
@@ -243,9 +243,9 @@ fn write_proof(
     certificate: &Certificate,
 ) -> Result<(), AllocError>
     requires question { IsQuestion (question_body question.now) }
-    requires some { 1 ≤ variables_of (question_body question.now) }
+    requires some { 1 ≤ variable_count (question_body question.now) }
     requires origins { origins_of constraints.now ≡ question_origins (question_body question.now) }
-    requires there { All (λ w. w.0 < length (elementals (variables_of (question_body question.now))) + length constraints.now) certificate.now.weights.items }
+    requires there { All (λ w. w.0 < length (elementals (variable_count (question_body question.now))) + length constraints.now) certificate.now.weights.items }
     ensures { OnOk result (AppendsProof (question_body question.now) options.steps (form_with_proof row.now certificate.now) out.old.items out.new.items) }
 {
     let text = row_proof(
@@ -272,9 +272,9 @@ fn write_proofs(
     proofs: &[Certificate],
 ) -> Result<(), AllocError>
     requires question { IsQuestion (question_body question.now) }
-    requires some { 1 ≤ variables_of (question_body question.now) }
+    requires some { 1 ≤ variable_count (question_body question.now) }
     requires origins { origins_of constraints.now ≡ question_origins (question_body question.now) }
-    requires there { AreListed (variables_of (question_body question.now)) (length constraints.now) proofs.now }
+    requires there { AreListed (variable_count (question_body question.now)) (length constraints.now) proofs.now }
     requires as_many { length rows.now ≡ length proofs.now }
     ensures { OnOk result (AppendsProofs (question_body question.now) options.steps rows.now (map certificate_view proofs.now) out.old.items out.new.items) }
 {
@@ -295,9 +295,9 @@ fn write_relation_proofs(
     proofs: &[Certificate],
 ) -> Result<(), AllocError>
     requires question { IsQuestion (question_body question.now) }
-    requires some { 1 ≤ variables_of (question_body question.now) }
+    requires some { 1 ≤ variable_count (question_body question.now) }
     requires origins { origins_of constraints.now ≡ question_origins (question_body question.now) }
-    requires there { AreListed (variables_of (question_body question.now)) (length constraints.now) proofs.now }
+    requires there { AreListed (variable_count (question_body question.now)) (length constraints.now) proofs.now }
     requires fits { HasQuestionShape (question_body question.now) (Yes (map certificate_view proofs.now)) }
     ensures { OnOk result (AppendsDetails (question_body question.now) options.steps (Yes (map certificate_view proofs.now)) out.old.items out.new.items) }
 {
@@ -324,9 +324,9 @@ fn write_obligations(
     proofs: &[Certificate],
 ) -> Result<(), AllocError>
     requires question { IsQuestion (question_body question.now) }
-    requires some { 1 ≤ variables_of (question_body question.now) }
+    requires some { 1 ≤ variable_count (question_body question.now) }
     requires origins { origins_of constraints.now ≡ question_origins (question_body question.now) }
-    requires there { AreListed (variables_of (question_body question.now)) (length constraints.now) proofs.now }
+    requires there { AreListed (variable_count (question_body question.now)) (length constraints.now) proofs.now }
     requires fits { HasQuestionShape (question_body question.now) (contained_by parts.now proofs.now) }
     ensures { OnOk result (AppendsDetails (question_body question.now) options.steps (contained_by parts.now proofs.now) out.old.items out.new.items) }
 {
@@ -344,7 +344,7 @@ fn write_obligations(
 
 /// A point as answers have it.
 fn values_of(alloc: Global, question: &Question, point: &Point) -> Result<Vec<u8>, AllocError>
-    requires there { length point.now < 2 ^ variables_of (question_body question.now) + length (problem_names (question_body question.now)).rates }
+    requires there { length point.now < 2 ^ variable_count (question_body question.now) + length (problem_names (question_body question.now)).rates }
     requires few { length point.now < 2 ^ 16 }
     ensures { IfOk result (λ t. t.items ≡ codes "as point " ++ values_text (problem_names (question_body question.now)) point.now) }
 {
@@ -359,7 +359,7 @@ fn values_of(alloc: Global, question: &Question, point: &Point) -> Result<Vec<u8
 #[tactic(auto, unfolding(crate::specs::Tellings::IsPointText))]
 fn any_point(alloc: Global, question: &Question, point: &Point) -> Result<Vec<u8>, AllocError>
     requires question { IsQuestion (question_body question.now) }
-    requires there { length point.now < 2 ^ variables_of (question_body question.now) + length (problem_names (question_body question.now)).rates }
+    requires there { length point.now < 2 ^ variable_count (question_body question.now) + length (problem_names (question_body question.now)).rates }
     requires few { length point.now < 2 ^ 16 }
     ensures { IfOk result (λ t. IsPointText (problem_names (question_body question.now)) point.now t.items) }
 {
@@ -377,7 +377,7 @@ fn write_point(
     point: &Point,
 ) -> Result<(), AllocError>
     requires question { IsQuestion (question_body question.now) }
-    requires there { length point.now < 2 ^ variables_of (question_body question.now) + length (problem_names (question_body question.now)).rates }
+    requires there { length point.now < 2 ^ variable_count (question_body question.now) + length (problem_names (question_body question.now)).rates }
     requires few { length point.now < 2 ^ 16 }
     ensures { OnOk result (AppendsPoint (problem_names (question_body question.now)) point.now out.old.items out.new.items) }
 {
@@ -396,7 +396,7 @@ pub fn write_details(
     answer: &Answer,
 ) -> Result<(), AllocError>
     requires question { IsQuestion (question_body question.now) }
-    requires some { 1 ≤ variables_of (question_body question.now) }
+    requires some { 1 ≤ variable_count (question_body question.now) }
     requires origins { origins_of constraints.now ≡ question_origins (question_body question.now) }
     requires fits { HasQuestionShape (question_body question.now) (answer_view answer.now) }
     requires printable { IsPrintable (question_body question.now) (length constraints.now) answer.now }

@@ -2,7 +2,7 @@
 ghost use Rattle.std.specs.Prelude.{◌≡◌, ◌≤◌, ◌++◌, length, codes, decimal, IfOk};
 ghost use Rattle.it_space.specs.Answers.{answer_view};
 ghost use Rattle.it_question.specs.Questions.{question_body};
-ghost use Rattle.it_canon.specs.QuestionDemands.{variables_of};
+ghost use Rattle.it_canon.specs.QuestionDemands.{variable_count};
 ghost use Rattle.it_print.specs.Lines.{IsPrintable};
 ghost use Rattle.it_report.specs.LineVerdicts.{numbered_line};
 ghost use Rattle.it_tell.specs.Tellings.{head_line};
@@ -44,7 +44,7 @@ pub fn head_line(
     constraints: &[Constraint],
     answer: &Answer,
 ) -> Result<Vec<u8>, AllocError>
-    requires some { 1 ≤ variables_of (question_body question.now) }
+    requires some { 1 ≤ variable_count (question_body question.now) }
     requires printable { IsPrintable (question_body question.now) (length constraints.now) answer.now }
     ensures { IfOk result (λ t. t.items ≡ head_line k (question_body question.now) (answer_view answer.now)) }
 {

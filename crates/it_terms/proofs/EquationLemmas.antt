@@ -10,7 +10,7 @@ use Rattle.it_space.specs.Rows.{Terms, value}
 use Rattle.it_polymatroid.specs.Certificates.{Form, Generators, IsAllowed, combination}
 use Rattle.it_elemental.specs.Generators.{forms_of, of_constraint}
 use Rattle.it_syntax.specs.declared.types.Sign.TheVariants.{Equal}
-use Rattle.it_syntax.specs.Meaning.{RelationView, difference_at, multiple_of, side_at}
+use Rattle.it_syntax.specs.Meaning.{RelationView, difference_at, common_denominator, side_at}
 use Rattle.it_syntax.specs.NamesViews.{NamesView}
 use Rattle.it_demand.specs.Canonical.{IsRowOf}
 use Rattle.it_demand.specs.Coefficients.{signed_by}
@@ -29,7 +29,7 @@ equation_told v text s r e is equality identity = record { is = is; equality = e
 -- a right side that is split after some of its terms
 pub split_proves : (s : Space) (r : RelationView) (target : Terms) (cs : List Constraint) (count : ℕ) (left rest : Terms) (scale : ℤ) (ws : List (ℕ × ℤ))
     → All (IsPlusShannon s.variables) (take count r.right) → All (IsAllowed (forms_of (map of_constraint cs))) ws → pos 1 ≤ℤ scale
-    → IsRowOf s (λ p. side_at s.variables p (multiple_of r) r.left) left → IsRowOf s (λ p. side_at s.variables p (multiple_of r) (drop count r.right)) rest
+    → IsRowOf s (λ p. side_at s.variables p (common_denominator r) r.left) left → IsRowOf s (λ p. side_at s.variables p (common_denominator r) (drop count r.right)) rest
     → AreSame (value left) (λ p. scale *ℤ value target p) → AreSame (value rest) (λ p. combination ws (constraint_value cs p))
     → IsProofOf s.variables r (value target) (forms_of (map of_constraint cs))
 split_proves s r target cs count left rest scale ws plus allowed one is_left is_rest multiple sum = record {

@@ -12,8 +12,8 @@ use Rattle.it_demand.specs.Demands.{LineDemand, States, AreStated}
 use Rattle.it_demand.proofs.ZipLemmas.{zip-length}
 use Rattle.it_syntax.specs.NamesViews.{NamesView}
 use Rattle.it_question.specs.Questions.{BodyView}
-use Rattle.it_question.specs.Tables.{problem_names}
-use Rattle.it_canon.specs.QuestionDemands.{question_demands, variables_of}
+use Rattle.it_question.specs.ProblemLines.{problem_names}
+use Rattle.it_canon.specs.QuestionDemands.{question_demands, variable_count}
 use Rattle.it_terms.specs.Proofs.{AreSame, IsProofOf, TellsForm, TellsProof, constraints_of, demand_at}
 
 -- as many constraints, each with the same form and of the same kind
@@ -67,5 +67,5 @@ told_by_lines items q v target s cs (Some x) e are h =
     let t = subst (λ (w : NamesView). TellsProof w target (forms_of (map of_constraint cs)) (items x)) e h in record {
       relation = t.relation;
       is = t.is;
-      proves = proof_of_same (variables_of q) t.relation target target (forms_of (map of_constraint cs)) (constraints_of (question_demands q)) (λ p z. refl) (stated_are_same s (question_demands q) cs are) t.proves;
+      proves = proof_of_same (variable_count q) t.relation target target (forms_of (map of_constraint cs)) (constraints_of (question_demands q)) (λ p z. refl) (stated_are_same s (question_demands q) cs are) t.proves;
     }

@@ -16,15 +16,15 @@ use Rattle.it_space.specs.Problems.{Meets}
 use Rattle.it_syntax.specs.declared.types.Atom.{Atom}
 use Rattle.it_syntax.specs.declared.types.Atom.TheVariants.{Nothing, Entropy, Mutual, Rate}
 use Rattle.it_syntax.specs.declared.types.Term.{Term}
-use Rattle.it_syntax.specs.Meaning.{atom_at, term_at, side_at, times_of, multiple_of}
+use Rattle.it_syntax.specs.Meaning.{atom_at, term_at, side_at, multiplicity, common_denominator}
 use Rattle.it_syntax.specs.NamesViews.{NamesView}
 use Rattle.it_elemental.specs.Generators.{is_equation}
 use Rattle.it_demand.specs.Demands.{LineDemand, equation}
 use Rattle.it_demand.specs.LineDemands.{given_demands, row_demands}
 use Rattle.it_demand.proofs.MetLemmas.{IsSatisfied, givens_satisfied, rows_satisfied}
 use Rattle.it_question.specs.Questions.{OwnLinesView}
-use Rattle.it_question.specs.Tables.{line_demands, problem_names, problem_lines}
-use Rattle.it_canon.specs.QuestionDemands.{AreTrueAt, question_demands, variables_of}
+use Rattle.it_question.specs.ProblemLines.{line_demands, problem_names, problem_lines}
+use Rattle.it_canon.specs.QuestionDemands.{AreTrueAt, question_demands, variable_count}
 use Rattle.it_terms.specs.Proofs.{IsShannon, IsPlusShannon, TellsProof, ToldProves, constraints_of, demand_at}
 
 weighted_least : (g : Generators) (v : ℕ → ℤ) → ((i : ℕ) → i < g.count → pos 0 ≤ℤ v i) → ((i : ℕ) → i < g.count → g.is_equation i ≡ true → v i ≡ pos 0)
@@ -73,8 +73,8 @@ terms_least n m p [] h s = omega (arith, ints)
 terms_least n m p (t ∷ ts) h s =
     let here : IsPlusShannon n t = All-head (IsPlusShannon n) t ts s in
     sum_least (term_at n p m t) (side_at n p m ts)
-    (subst (λ (b : Bool). pos 0 ≤ℤ ((if b then neg_ℤ (pos (times_of m t)) else pos (times_of m t)) *ℤ atom_at n p t.atom)) (sym here.0)
-    (product_least (pos (times_of m t)) (atom_at n p t.atom) (omega (arith, ints)) (atom_least n p t.atom h here.1)))
+    (subst (λ (b : Bool). pos 0 ≤ℤ ((if b then neg_ℤ (pos (multiplicity m t)) else pos (multiplicity m t)) *ℤ atom_at n p t.atom)) (sym here.0)
+    (product_least (pos (multiplicity m t)) (atom_at n p t.atom) (omega (arith, ints)) (atom_least n p t.atom h here.1)))
     (terms_least n m p ts h (All-tail (IsPlusShannon n) t ts s))
 
 side-append : (n m : ℕ) (p : ℕ → ℤ) (xs ys : List Term) → side_at n p m (xs ++ ys) ≡ side_at n p m xs +ℤ side_at n p m ys
@@ -87,7 +87,7 @@ proof_least : (v : NamesView) (target : Form) (g : Generators) (text : List ℕ)
     → ((i : ℕ) → i < g.count → pos 0 ≤ℤ g.form i p) → ((i : ℕ) → i < g.count → g.is_equation i ≡ true → g.form i p ≡ pos 0) → pos 0 ≤ℤ target p
 proof_least v target g text t p h least zeros =
     let n = length v.variables in
-    let m = multiple_of t.relation in
+    let m = common_denominator t.relation in
     let s = t.proves in
     let a : pos 0 ≤ℤ side_at n p m s.shannon = terms_least n m p s.shannon h s.plus in
     let b : pos 0 ≤ℤ side_at n p m s.rest = subst (λ (x : ℤ). pos 0 ≤ℤ x) (sym (s.constraints_are p h.empty)) (weighted_least g (λ i. g.form i p) least zeros s.weights s.allowed) in
@@ -116,7 +116,7 @@ met_zero Equation x e h = h
 pub told_proves : ToldProves
 told_proves q target text t p h =
     let ds : List LineDemand = question_demands q in
-    let all = lines_satisfied (variables_of q) (problem_lines q) p h.1 in
+    let all = lines_satisfied (variable_count q) (problem_lines q) p h.1 in
     proof_least (problem_names q) target (constraints_of ds) text t p h.0
     (λ i within. met_least (demand_at ds i).kind ((demand_at ds i).form p) (demand_satisfied p ds i within all))
     (λ i within e. met_zero (demand_at ds i).kind ((demand_at ds i).form p) e (demand_satisfied p ds i within all))

@@ -7,11 +7,11 @@ use Rattle.it_syntax.specs.declared.types.Atom.{Atom}
 use Rattle.it_syntax.specs.declared.types.Atom.TheVariants.{Nothing, Entropy, Mutual, Rate}
 use Rattle.it_syntax.specs.declared.types.Sign.TheVariants.{Equal}
 use Rattle.it_syntax.specs.declared.types.Term.{Term}
-use Rattle.it_syntax.specs.Meaning.{RelationView, multiple_of, side_at}
+use Rattle.it_syntax.specs.Meaning.{RelationView, common_denominator, side_at}
 use Rattle.it_syntax.specs.NamesViews.{NamesView}
 use Rattle.it_demand.specs.Demands.{Demand, LineDemand, equation}
 use Rattle.it_question.specs.Questions.{BodyView}
-use Rattle.it_question.specs.Tables.{problem_names}
+use Rattle.it_question.specs.ProblemLines.{problem_names}
 use Rattle.it_canon.specs.QuestionDemands.{AreTrueTogether, question_demands}
 use Rattle.it_terms.specs.Tells.{IsRelationText}
 
@@ -28,7 +28,7 @@ IsPlusShannon n t = (t.negative ≡ false) × IsShannon n t.atom
 
 -- a side of a relation of n variables as a form: so often as the least common multiple of the relation's denominators
 abbrev pub side_form : ℕ → RelationView → List Term → Form
-side_form n r side p = side_at n p (multiple_of r) side
+side_form n r side p = side_at n p (common_denominator r) side
 
 -- two forms have one value at each map that is 0 at the empty set
 abbrev pub AreSame : Form → Form → Type 0

@@ -13,7 +13,7 @@ use crate::equations::{equation, side_row};
 use crate::sums::{are_allowed, is_multiple, is_sum};
 use it_space::{Constraint, Row, Space};
 use it_syntax::types::{Atom, Relation, Term};
-use it_syntax::{Names, multiple_of};
+use it_syntax::{Names, common_denominator};
 use std::alloc::{AllocError, Global};
 
 /// A proof that is proposed: its text, how many terms of the right side are over sets, the weight of the target on the left,
@@ -73,7 +73,7 @@ fn is_proof(
     if !are_plus(shannon, space) || !are_allowed(constraints, weights) {
         return Ok(false);
     }
-    let multiple = multiple_of(relation);
+    let multiple = common_denominator(relation);
     let left = side_row(alloc, relation.left.terms.as_slice(), multiple, space)?;
     let is_target = is_multiple(alloc, space, &left, target, &proposal.target)?;
     drop(left);

@@ -5,7 +5,7 @@ use Rattle.std.specs.declared.alloc.AllocError.{AllocError}
 use Rattle.it_settings.specs.declared.types.Format.TheVariants.{Text, Proof}
 use Rattle.it_space.specs.Answers.{answer_view}
 use Rattle.it_question.specs.Questions.{question_view, question_body}
-use Rattle.it_question.specs.Tables.{problem_names}
+use Rattle.it_question.specs.ProblemLines.{problem_names}
 use Rattle.it_region.specs.AnswerForms.{answer_forms}
 use Rattle.it_print.specs.Lines.{answer_line, origins_of}
 use Rattle.it_print.specs.ProofLines.{generator_rows, proof_text}

@@ -1,7 +1,7 @@
 use Rattle.std.proofs.Common.{rules, ◌≡◌, ◌+◌, ◌<◌, ◌≤◌, ℕ, ℤ, pos, length, get_or, replicate, FitsSigned, to_z-of_z, sym, ap, subst, ◌∙◌, arith}
 use Rattle.std.proofs.lemmas.List.{get_or_default}
 use Rattle.std.proofs.Math.Pow.{pow_mono}
-use Rattle.it_space.specs.Rows.{Terms, IsUpTo}
+use Rattle.it_space.specs.Rows.{Terms, IsOver}
 use Rattle.it_space.specs.Spaces.{size_of}
 use Rattle.it_closure.proofs.Placing.{placing-start, collapse_is_wide, went_on, placing-end, place_in, sets_in}
 use Rattle.it_closure.proofs.row_places.placed_sums.Goals as goal
@@ -19,7 +19,7 @@ put-requires c =
     let i : ℕ = c.loop-coordinate.coordinate-index in
     let t : ℕ × ℤ = get_or items i (0, pos 0) in
     let below : i < length items = omega arith in
-    let last : t.0 ≤ size_of c.args.dependences.now.space = (subst (IsUpTo (size_of c.args.dependences.now.space)) (sym c.terms-coordinate-items.ensures.value) c.requires i (0, pos 0) below).1 in
+    let last : t.0 ≤ size_of c.args.dependences.now.space = (subst (IsOver (size_of c.args.dependences.now.space)) (sym c.terms-coordinate-items.ensures.value) c.requires i (0, pos 0) below).1 in
     let in' = place_in c.args.dependences.now t.0 (size_of c.args.dependences.now.space + 1) c.space.ensures.shape (sets_in c.args.dependences.now.space) (omega arith) in
     omega (arith, in', c.place.ensures, c.loop-coordinate.invariant.complete)
 

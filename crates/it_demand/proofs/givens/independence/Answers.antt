@@ -2,7 +2,7 @@ use Rattle.std.proofs.Common.{◌≡◌, ◌+◌, ◌*◌, ℕ, ℤ, negsuc, ◌
 use Rattle.std.proofs.lemmas.Int.{ints}
 use Rattle.it_syntax.specs.declared.types.Atom.TheVariants.{Entropy}
 use Rattle.it_syntax.specs.Meaning.{atom_at}
-use Rattle.it_syntax.specs.Givens.{sum_given}
+use Rattle.it_syntax.specs.Givens.{sum_of_conditionals}
 use Rattle.it_demand.specs.Demands.{independence_form}
 use Rattle.it_demand.proofs.ChainLemmas.{union_below}
 use Rattle.it_demand.proofs.RowLemmas.{row_of_sums}
@@ -15,7 +15,7 @@ add_atom-requires-clause-atom c = rw c.union_of.ensures (union_below c.args.spac
 pub returns : goal.returns
 returns c =
     let n : ℕ = c.args.space.variables in
-    let sum : (ℕ → ℤ) → ℤ = λ p. sum_given n p c.args.members.now c.args.given in
+    let sum : (ℕ → ℤ) → ℤ = λ p. sum_of_conditionals n p c.args.members.now c.args.given in
     let joint : (ℕ → ℤ) → ℤ = λ p. negsuc 0 *ℤ atom_at n p (Entropy c.union_of.result c.args.given) in
     row_of_sums c.args.space c.in_ok-sums.sums c.add_atom.new.self (4 * length c.args.members.now + 4) (independence_form n c.args.members.now c.args.given) c.into_row.result c.in_ok-sums.ensures.complete c.in_ok-sums.ensures.few c.in_ok-sums.ensures.small c.in_ok-sums.ensures.zero (omega (arith, c.requires.within.few))
     (added-same c.in_ok-sums.sums c.add_atom.new.self (4 * length c.args.members.now + 4) (4 * length c.args.members.now + 4) (λ p. sum p +ℤ joint p) (independence_form n c.args.members.now c.args.given) (omega arith)

@@ -1,5 +1,5 @@
 use Rattle.std.proofs.Common.{rules, ◌+◌, ◌<◌, ◌^◌, ◌∙◌, ap, arith, FitsSigned, to_z-of_z}
-use Rattle.it_space.specs.Rows.{map_of}
+use Rattle.it_space.specs.Rows.{point_of}
 use Rattle.it_polymatroid.proofs.Instances.{still_lacks, with_lt}
 use Rattle.it_elemental.proofs.ValueLemmas.{mutual_value}
 use Rattle.it_elemental.proofs.values.mutual_information.Goals as goal
@@ -34,7 +34,7 @@ returns c =
     let third : FitsSigned w128 c.at_set-3.result = search rules in
     let fourth : FitsSigned w128 c.at_set-4.result = search rules in
     let value = simp to_z-of_z at c.alternating_sum.ensures in
-    let h = map_of c.args.point.now in
+    let h = point_of c.args.point.now in
     mutual_value c.args.point.now c.args.n c.args.left c.args.right c.args.given c.alternating_sum.result c.at_set.result c.at_set-2.result c.at_set-3.result c.at_set-4.result c.at_set.ensures.within
     c.at_set.ensures.value (c.at_set-2.ensures.value ∙ ap h c.with_variable-with_left.ensures) (c.at_set-3.ensures.value ∙ ap h c.with_variable-with_right.ensures)
     (c.at_set-4.ensures.value ∙ ap h (c.with_variable-both.ensures ∙ ap (λ s. s + 2 ^ c.args.right) c.with_variable-with_left.ensures)) value

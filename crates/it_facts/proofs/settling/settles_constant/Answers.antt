@@ -1,6 +1,6 @@
 use Rattle.std.proofs.Common.{ℕ, ℤ, subst}
 use Rattle.std.proofs.lemmas.Bool.{OnTrue_at, OnTrue_from}
-use Rattle.it_space.specs.Rows.{map_of}
+use Rattle.it_space.specs.Rows.{point_of}
 use Rattle.it_facts.specs.Settling.{Settles}
 use Rattle.it_facts.specs.declared.facts.Fact.TheVariants.{Constant, Function}
 use Rattle.it_facts.proofs.PointLemmas.{constant_settles}
@@ -9,7 +9,7 @@ use Rattle.it_facts.proofs.settling.settles_constant.Goals as goal
 pub returns : goal.returns
 returns c =
     let n = c.args.n in
-    let p : ℕ → ℤ = map_of c.args.point.now in
+    let p : ℕ → ℤ = point_of c.args.point.now in
     let s : ℕ = c.args.set in
     let x = c.args.variable in
     OnTrue_from c.settles_function.result (Settles n p s (Constant x)) (λ e.

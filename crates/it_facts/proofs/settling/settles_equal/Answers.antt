@@ -1,7 +1,7 @@
 use Rattle.std.proofs.Common.{◌≡◌, ◌-◌, ◌+◌, ◌<◌, ℕ, ℤ, sym, subst, subst₂, ap, ◌∙◌, bit_and, bit_or}
 use Rattle.std.specs.Int.{bit_at}
 use Rattle.std.proofs.lemmas.Bool.{OnTrue_at, OnTrue_from}
-use Rattle.it_space.specs.Rows.{map_of}
+use Rattle.it_space.specs.Rows.{point_of}
 use Rattle.it_facts.specs.Settling.{Settles}
 use Rattle.it_facts.specs.declared.facts.Fact.TheVariants.{Equal}
 use Rattle.it_facts.proofs.PointLemmas.{equal_settles}
@@ -10,7 +10,7 @@ use Rattle.it_facts.proofs.settling.settles_equal.Goals as goal
 pub returns-then-number : goal.returns-then-number
 returns-then-number c =
     let n = c.args.n in
-    let p : ℕ → ℤ = map_of c.args.point.now in
+    let p : ℕ → ℤ = point_of c.args.point.now in
     let s : ℕ = c.args.set in
     let rest : ℕ = c.minus-rest.result in
     let exchanged : ℕ = c.union-exchanged.result in

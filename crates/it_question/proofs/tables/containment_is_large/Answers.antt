@@ -6,7 +6,7 @@ use Rattle.std.proofs.lemmas.List.{length-map}
 use Rattle.it_syntax.specs.Givens.{given_view, IsGivenOf, IsRelationOf}
 use Rattle.it_syntax.specs.Meaning.{relation_view}
 use Rattle.it_question.specs.Questions.{own_lines_view, region_view}
-use Rattle.it_question.specs.Tables.{lines_with}
+use Rattle.it_question.specs.ProblemLines.{lines_with}
 use Rattle.std.proofs.lemmas.List.Elements.{All-append}
 use Rattle.it_question.proofs.TableLemmas.{region_space, region_givens, region_rows, few_variables, lines_problem, space_flag}
 use Rattle.it_question.proofs.tables.containment_is_large.Goals as goal

@@ -4,7 +4,7 @@ use Rattle.it_space.specs.declared.spaces.Space.{Space}
 use Rattle.it_space.specs.Spaces.{IsSpace}
 use Rattle.it_syntax.specs.Givens.{IsGivenOf}
 use Rattle.it_question.specs.Questions.{own_lines_view}
-use Rattle.it_question.specs.Tables.{givens_alone}
+use Rattle.it_question.specs.ProblemLines.{givens_alone}
 use Rattle.it_question.proofs.TableLemmas.{few_variables, givens_stated, lines_problem, space_flag}
 use Rattle.it_question.proofs.tables.elimination_is_large.Goals as goal
 

@@ -2,7 +2,7 @@ use Rattle.std.proofs.Common.{◌≡◌, ◌<◌, ◌≤◌, ◌+◌, ◌-◌, �
 use Rattle.std.proofs.lemmas.List.{drop_all, length-drop, take_all}
 use Rattle.it_space.proofs.ListLemmas.{drop_item}
 use Rattle.it_space.specs.Problems.{problem_view}
-use Rattle.it_space.specs.Rows.{IsUpTo, Terms}
+use Rattle.it_space.specs.Rows.{IsOver, Terms}
 use Rattle.it_space.specs.Spaces.{size_of}
 use Rattle.it_prove.specs.ProofViews.{EndsWith}
 use Rattle.it_redundant.specs.Reduction.{with_rows, kept_rows, kept_view, dropped_view}
@@ -32,7 +32,7 @@ loop-i-preserved c =
     let below : i < length rows = search rules in
     let rest : take (length rows - (i + 1)) (drop (i + 1) rows) ≡ drop (i + 1) rows = take_all _ _ (simp length-drop (omega arith)) in record {
       under_way = under_way_more q c.args.budget size rows (kept_view c.loop-i.reduced) (kept_view c.visit.new.reduced) (dropped_view c.loop-i.reduced) (dropped_view c.visit.new.reduced) i row c.in_ok-visit.ensures.visited.outcome below
-          (drop_item rows i row below c.index-rows-i.is) (subst (IsUpTo size) (sym c.index-rows-i.is) (c.requires.rows i row below))
+          (drop_item rows i row below c.index-rows-i.is) (subst (IsOver size) (sym c.index-rows-i.is) (c.requires.rows i row below))
           (subst (λ xs. EndsWith (with_rows q (kept_rows (kept_view c.loop-i.reduced) ++ xs)) row c.args.budget c.in_ok-visit.ensures.visited.outcome) rest c.in_ok-visit.ensures.visited.ends)
           c.in_ok-visit.ensures.visited.kept c.in_ok-visit.ensures.visited.dropped c.loop-i.invariant.under_way;
       closed = c.in_ok-visit.ensures.closed;

@@ -5,7 +5,7 @@ use Rattle.it_syntax.specs.Meaning.{relation_view}
 use Rattle.it_demand.specs.LineDemands.{space_of}
 use Rattle.it_question.specs.Limits.{IsVerbOver}
 use Rattle.it_question.specs.Questions.{VerbView, question_body}
-use Rattle.it_question.specs.Tables.{problem_names_by}
+use Rattle.it_question.specs.ProblemLines.{names_under}
 use Rattle.it_report.proofs.JudgingLemmas.{target_rows_are, yes_is_about_relation}
 use Rattle.it_tell.specs.Steps.{AreFormRows}
 use Rattle.it_tell.proofs.details.relation_rows.Goals as goal
@@ -22,5 +22,5 @@ returns c =
     let q = question_body c.args.question.now in (
       c.space.result,
       target_rows_are q (relation_view c.relation_of-relation.result.now) c.relation_of-relation.ensures (Yes (map certificate_view c.args.proofs.now)) c.space.result c.in_ok-rows.rows.items
-          (c.space.ensures.counts ∙ ap (λ (v : VerbView). space_of (problem_names_by q.names v)) (sym c.relation_of-relation.ensures)) c.in_ok-rows.ensures,
+          (c.space.ensures.counts ∙ ap (λ (v : VerbView). space_of (names_under q.names v)) (sym c.relation_of-relation.ensures)) c.in_ok-rows.ensures,
     )

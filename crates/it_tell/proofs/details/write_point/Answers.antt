@@ -1,6 +1,6 @@
 use Rattle.std.proofs.lemmas.Result.{on_ok_weaker}
 use Rattle.it_question.specs.Questions.{question_body}
-use Rattle.it_question.specs.Tables.{problem_names}
+use Rattle.it_question.specs.ProblemLines.{problem_names}
 use Rattle.it_tell.proofs.DetailLemmas.{point_appended}
 use Rattle.it_tell.proofs.details.write_point.Goals as goal
 

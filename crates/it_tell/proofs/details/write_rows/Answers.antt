@@ -1,6 +1,6 @@
 use Rattle.std.proofs.Common.{◌++◌, sym, ap, ◌∙◌}
 use Rattle.it_question.specs.Questions.{question_body}
-use Rattle.it_question.specs.Tables.{problem_names}
+use Rattle.it_question.specs.ProblemLines.{problem_names}
 use Rattle.it_tell.specs.Tellings.{IsMarkedRowText, indented_line}
 use Rattle.it_tell.proofs.DetailLemmas.{all_appended, appended_more, none_appended}
 use Rattle.it_tell.proofs.details.write_rows.Goals as goal

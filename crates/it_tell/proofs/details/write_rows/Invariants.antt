@@ -1,5 +1,5 @@
 use Rattle.it_question.specs.Questions.{question_body}
-use Rattle.it_question.specs.Tables.{problem_names}
+use Rattle.it_question.specs.ProblemLines.{problem_names}
 use Rattle.it_tell.specs.Tellings.{IsMarkedRowText, indented_line}
 use Rattle.it_tell.proofs.DetailLemmas.{Appended}
 use Rattle.it_tell.proofs.details.write_rows.Given as goal

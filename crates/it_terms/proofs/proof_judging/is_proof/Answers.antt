@@ -41,7 +41,7 @@ returns c =
     (subst (λ (ts : List Term). All (IsPlusShannon n) ts) front c.if-not-are_plus.ensures)
     (subst (λ (us : List (ℕ × ℤ)). All (IsAllowed (forms_of (map of_constraint cs))) us) c.as_slice-weights.ensures.value c.if-not-are_allowed.ensures)
     one
-    (subst₂ (λ (m : ℕ) (ts : List Term). IsRowOf s (λ p. side_at n p m ts) c.in_ok-left.left) c.multiple_of-multiple.ensures c.as_slice.ensures.value c.in_ok-left.ensures)
-    (subst₂ (λ (m : ℕ) (ts : List Term). IsRowOf s (λ p. side_at n p m ts) c.in_ok-rest.rest) c.multiple_of-multiple.ensures back c.in_ok-rest.ensures)
+    (subst₂ (λ (m : ℕ) (ts : List Term). IsRowOf s (λ p. side_at n p m ts) c.in_ok-left.left) c.common_denominator-multiple.ensures c.as_slice.ensures.value c.in_ok-left.ensures)
+    (subst₂ (λ (m : ℕ) (ts : List Term). IsRowOf s (λ p. side_at n p m ts) c.in_ok-rest.rest) c.common_denominator-multiple.ensures back c.in_ok-rest.ensures)
     (OnTrue_at c.if-not-is_target.false c.in_ok-is_target.ensures)
     (subst (λ (us : List (ℕ × ℤ)). AreSame (value c.in_ok-rest.rest) (λ p. combination us (constraint_value cs p))) c.as_slice-weights.ensures.value (OnTrue_at e c.in_ok-is_rest.ensures)))

@@ -2,14 +2,14 @@ use Rattle.std.proofs.Common.{◌≡◌, ◌<◌, ◌+◌, ◌∙◌, ℕ, bit_o
 use Rattle.std.proofs.lemmas.List.{get_or_default}
 use Rattle.std.specs.Int.Bits.{or_zero_r}
 use Rattle.it_space.specs.Sets.{has_member}
-use Rattle.it_polymatroid.specs.Substitutions.{union_from, image}
+use Rattle.it_polymatroid.specs.Substitutions.{union_from, union_of_images}
 use Rattle.it_polymatroid.proofs.Images.{union-more, union-end}
-use Rattle.it_polymatroid.proofs.substitutions.image.Goals as goal
-use Rattle.it_polymatroid.proofs.substitutions.image.Goals.{then-has, else-has}
+use Rattle.it_polymatroid.proofs.substitutions.union_of_images.Goals as goal
+use Rattle.it_polymatroid.proofs.substitutions.union_of_images.Goals.{then-has, else-has}
 
 -- a step with the variable, or without it
-union_step : (sets : List ℕ) (s u v i x : ℕ) (b : Bool) → i < length sets → x ≡ get_or sets i x → has_member s i ≡ b → v ≡ bit_or u (cond b x 0) → bit_or u (union_from i (drop i sets) s) ≡ image sets s
-    → bit_or v (union_from (i + 1) (drop (i + 1) sets) s) ≡ image sets s
+union_step : (sets : List ℕ) (s u v i x : ℕ) (b : Bool) → i < length sets → x ≡ get_or sets i x → has_member s i ≡ b → v ≡ bit_or u (cond b x 0) → bit_or u (union_from i (drop i sets) s) ≡ union_of_images sets s
+    → bit_or v (union_from (i + 1) (drop (i + 1) sets) s) ≡ union_of_images sets s
 union_step sets s u v i x b h is has e inv =
     ap (λ n. bit_or n (union_from (i + 1) (drop (i + 1) sets) s)) (e ∙ ap (λ t. bit_or u (cond t x 0)) (sym has))
     ∙ sym (union-more sets s u i x h is)

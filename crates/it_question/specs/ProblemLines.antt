@@ -1,0 +1,42 @@
+-- The lines of the problem that a question poses, and what they demand.
+use Rattle.std.specs.Prelude.{ℕ, List, [], ◌++◌}
+use Rattle.it_syntax.specs.NamesViews.{NamesView}
+use Rattle.it_demand.specs.Demands.{LineDemand}
+use Rattle.it_demand.specs.LineDemands.{given_demands, row_demands}
+use Rattle.it_question.specs.Questions.{OwnLinesView, RegionView, VerbView, Prove, Eliminate, Contain, BodyView}
+
+-- what lines of n variables demand, from line number g of the givens and r of the rows on: the givens before the rows
+abbrev pub demands_from : ℕ → ℕ → ℕ → OwnLinesView → List LineDemand
+demands_from n g r own = given_demands n g own.givens ++ row_demands n r own.rows
+
+-- what all lines demand
+abbrev pub line_demands : ℕ → OwnLinesView → List LineDemand
+line_demands n own = demands_from n 1 1 own
+
+-- the givens alone
+abbrev pub givens_alone : OwnLinesView → OwnLinesView
+givens_alone own = record { givens = own.givens; rows = [] }
+
+-- lines, and after them a region's own
+abbrev pub lines_with : OwnLinesView → RegionView → OwnLinesView
+lines_with own r = record { givens = own.givens ++ r.lines.givens; rows = own.rows ++ r.lines.rows }
+
+-- the names of a question's problem: its own, or those of its first region
+abbrev pub names_under : NamesView → VerbView → NamesView
+names_under v (Prove r) = v
+names_under v (Eliminate rates) = v
+names_under v (Contain first second tries) = first.names
+
+-- the names of the problem that a question poses
+abbrev pub problem_names : BodyView → NamesView
+problem_names q = names_under q.names q.verb
+
+-- the lines of a question's problem: its own, its givens alone, or its own with those of its first region after them
+abbrev pub lines_under : OwnLinesView → VerbView → OwnLinesView
+lines_under own (Prove r) = own
+lines_under own (Eliminate rates) = givens_alone own
+lines_under own (Contain first second tries) = lines_with own first
+
+-- the lines of the problem that a question poses
+abbrev pub problem_lines : BodyView → OwnLinesView
+problem_lines q = lines_under q.lines q.verb
