@@ -1,8 +1,7 @@
 -- What reduced elimination of the rows of the text ends with is the one right answer.
-use Rattle.std.proofs.Common.{◌≡◌, inl, inr, ◌↔◌, ℕ, ◌+◌, ◌^◌, ℤ, pos, ◌*ℤ◌, ◌≤ℤ◌, refl, sym, ap, ap₂, subst, ◌∙◌, arith, List, [], ◌∷◌, ◌++◌, length, map, All}
+use Rattle.std.proofs.Common.{◌≡◌, inl, inr, ◌↔◌, ℕ, ◌+◌, ◌^◌, ℤ, pos, ◌*ℤ◌, ◌≤ℤ◌, refl, sym, ap, ap₂, subst, ◌∙◌, arith, List, [], ◌∷◌, ◌++◌, length, map, All, Contains}
 use Rattle.std.proofs.lemmas.Int.{ints}
 use Rattle.std.proofs.lemmas.Nat.{pow_pos}
-use Rattle.std.proofs.lemmas.List.Elements.{All-nil, All-cons, All-head, All-tail}
 use Rattle.it_space.specs.declared.answers.Cause.TheVariants.{Width}
 use Rattle.it_space.specs.declared.answers.Mark.{Mark}
 use Rattle.it_space.specs.declared.answers.Mark.TheVariants as marks
@@ -21,7 +20,7 @@ use Rattle.it_demand.specs.LineDemands.{space_of, system_forms, AreRowsOf, AreAt
 use Rattle.it_question.specs.ProblemLines.{problem_names, names_under, problem_lines, lines_under}
 use Rattle.it_demand.specs.RowsOfForms.{terms_of_form}
 use Rattle.it_demand.proofs.FormRows.{rows_are_terms_of_forms}
-use Rattle.it_eliminate.specs.Elimination.{Member}
+use Rattle.it_eliminate.proofs.MemberLemmas.{Member, member_of}
 use Rattle.it_eliminate.specs.Projections.{IsPointOf, LacksCoordinate, Extends}
 use Rattle.it_redundant.specs.Reduction.{NeedView, Needed, Unsettled, kept_rows}
 use Rattle.it_redundant.specs.ReducedElimination.{ProjectedView, ReducedEnds}
@@ -35,14 +34,6 @@ use Rattle.it_answer.specs.DueEliminations.{marked_rows, answer_of_end, IsDueEli
 
 -- ---- the rows of the text and its lines
 
-in_of : (rows : List Terms) (p : ℕ → ℤ) → AreAtLeastZero p rows → IsPointOf rows p
-in_of [] p a = tt
-in_of (r ∷ rows) p a = (All-head (λ (row : Terms). pos 0 ≤ℤ value row p) r rows a, in_of rows p (All-tail (λ (row : Terms). pos 0 ≤ℤ value row p) r rows a))
-
-of_in : (rows : List Terms) (p : ℕ → ℤ) → IsPointOf rows p → AreAtLeastZero p rows
-of_in [] p a = All-nil (λ (row : Terms). pos 0 ≤ℤ value row p)
-of_in (r ∷ rows) p a = All-cons (λ (row : Terms). pos 0 ≤ℤ value row p) r rows a.0 (of_in rows p a.1)
-
 abbrev coordinates_of : ℕ → List ℕ → List ℕ
 coordinates_of n rates = map (λ r. 2 ^ n + r) rates
 
@@ -54,13 +45,13 @@ not_zero n (r ∷ rs) (inr m) = not_zero n rs m
 
 module _ (n : ℕ) (rates : List ℕ) (lines : List RelationView) (rows : List Terms) (met : (p : ℕ → ℤ) → p 0 ≡ pos 0 → AreAtLeastZero p rows ↔ All (Holds n p) lines) where
   -- at 0 the extended point is 0 as well
-  zero_kept : (k : ℕ) (p q : ℕ → ℤ) → p 0 ≡ pos 0 → ((c : ℕ) → ¬ (Member c (coordinates_of n rates)) → q c ≡ pos k *ℤ p c) → q 0 ≡ pos 0
-  zero_kept k p q z f = f 0 (not_zero n rates) ∙ ap (λ x. pos k *ℤ x) z ∙ omega (arith, ints)
+  zero_kept : (k : ℕ) (p q : ℕ → ℤ) → p 0 ≡ pos 0 → ((c : ℕ) → ¬ (Contains (coordinates_of n rates) c) → q c ≡ pos k *ℤ p c) → q 0 ≡ pos 0
+  zero_kept k p q z f = f 0 (λ m. not_zero n rates (member_of (coordinates_of n rates) 0 m)) ∙ ap (λ x. pos k *ℤ x) z ∙ omega (arith, ints)
 
   lines_extend : (p : ℕ → ℤ) → p 0 ≡ pos 0 → Extends (coordinates_of n rates) rows p ↔ LinesExtend n rates lines p
   lines_extend p z = (
-    λ x. record { factor = x.factor; some = x.some; point = x.point; kept = x.kept; meets = (met x.point (zero_kept x.factor p x.point z x.kept)).0 (of_in rows x.point x.meets) },
-    λ x. record { factor = x.factor; some = x.some; point = x.point; kept = x.kept; meets = in_of rows x.point ((met x.point (zero_kept x.factor p x.point z x.kept)).1 x.meets) },
+    λ x. record { factor = x.factor; some = x.some; point = x.point; kept = x.kept; meets = (met x.point (zero_kept x.factor p x.point z x.kept)).0 x.meets },
+    λ x. record { factor = x.factor; some = x.some; point = x.point; kept = x.kept; meets = (met x.point (zero_kept x.factor p x.point z x.kept)).1 x.meets },
   )
 
 -- ---- the rows that stay and their marks

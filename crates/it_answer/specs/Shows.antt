@@ -1,6 +1,6 @@
 -- What an answer shows, by the meaning of the question's text alone, and what that means: nothing here speaks of a run, of an order
 -- of elimination or of a search.
-use Rattle.std.specs.Prelude.{◌≡◌, ◌↔◌, ℕ, ◌+◌, ◌≤◌, ◌^◌, ℤ, neg_ℤ, pos, ◌≤ℤ◌, ◌*ℤ◌, List, ◌∷◌, ◌++◌, length, map, Bool, true, false, All}
+use Rattle.std.specs.Prelude.{◌≡◌, ◌↔◌, ℕ, ◌+◌, ◌≤◌, ◌^◌, ℤ, neg_ℤ, pos, ◌≤ℤ◌, ◌*ℤ◌, List, ◌∷◌, ◌++◌, length, map, Bool, true, false, All, Contains}
 use Rattle.it_space.specs.declared.answers.Mark.{Mark}
 use Rattle.it_space.specs.declared.answers.Mark.TheVariants as marks
 use Rattle.it_space.specs.Answers.{AnswerView, CertificateView}
@@ -16,7 +16,6 @@ use Rattle.it_demand.specs.Targets.{targets}
 use Rattle.it_canon.specs.QuestionDemands.{variable_count, AreTrueAt, AreTrueTogether}
 use Rattle.it_demand.specs.LineDemands.{space_of}
 use Rattle.it_question.specs.ProblemLines.{problem_names, problem_lines}
-use Rattle.it_eliminate.specs.Elimination.{Member}
 use Rattle.it_eliminate.specs.Projections.{IsPointOf, LacksCoordinate}
 use Rattle.it_region.specs.Obligations.{IsSubstitution, obligations}
 use Rattle.it_region.specs.Regions.{LiesIn}
@@ -48,7 +47,7 @@ pub record LinesExtend (n : ℕ) (rates : List ℕ) (lines : List RelationView) 
   pub factor : ℕ
   pub some : 1 ≤ factor
   pub point : ℕ → ℤ
-  pub kept : (c : ℕ) → ¬ (Member c (map (λ r. 2 ^ n + r) rates)) → point c ≡ pos factor *ℤ p c
+  pub kept : (c : ℕ) → ¬ (Contains (map (λ r. 2 ^ n + r) rates) c) → point c ≡ pos factor *ℤ p c
   pub meets : All (Holds n point) lines
 
 -- a polymatroid and rates that make the givens true, at which the other rows hold and this one is -1 or less
@@ -68,7 +67,7 @@ MarkedRowsAreNeeded q rows = (before after : List (Mark × Terms)) (row : Terms)
 -- rates, exactly where this point extends to the eliminated rates; and none that is marked as needed follows from the others
 pub record ShowsRegion (q : BodyView) (rates : List ℕ) (rows : List (Mark × Terms)) : Type 0 where
   pub coordinates : All (IsOver (size_of (space_of q.names))) (region_rows rows)
-  pub free : (r : ℕ) → Member r rates → LacksCoordinate (2 ^ length q.names.variables + r) (region_rows rows)
+  pub free : (r : ℕ) → Contains rates r → LacksCoordinate (2 ^ length q.names.variables + r) (region_rows rows)
   pub exact : (p : ℕ → ℤ) → IsPolymatroid (length q.names.variables) p → All (IsTrueAt (length q.names.variables) p) q.lines.givens
       → IsPointOf (region_rows rows) p ↔ LinesExtend (length q.names.variables) rates q.lines.rows p
   pub needed : MarkedRowsAreNeeded q rows

@@ -37,7 +37,7 @@ use Rattle.it_canon.specs.QuestionDemands.{variable_count, question_demands, pro
 use Rattle.it_demand.specs.LineDemands.{space_of, system_forms}
 use Rattle.it_question.specs.ProblemLines.{problem_names, names_under}
 use Rattle.it_demand.proofs.ZipLemmas.{zip-length}
-use Rattle.it_eliminate.specs.Elimination.{Member}
+use Rattle.it_eliminate.proofs.MemberLemmas.{Member}
 use Rattle.it_redundant.specs.ReducedElimination.{ProjectedView}
 use Rattle.it_answer.specs.declared.types.Budgets.{Budgets}
 use Rattle.it_answer.specs.Forms.{all_demands, demand_of_elemental, CertifyAll, IsAllowedWeight}

@@ -3,7 +3,8 @@ use Rattle.std.proofs.Common.{◌≡◌, ℕ, inl, inr, List, [], ◌∷◌, Opt
 use Rattle.it_space.specs.Answers.{CertificateView}
 use Rattle.it_space.specs.Problems.{ProblemView}
 use Rattle.it_space.specs.Rows.{Terms}
-use Rattle.it_eliminate.specs.Elimination.{Member, EliminatedView, EliminationEnds}
+use Rattle.it_eliminate.specs.Elimination.{EliminatedView, EliminationEnds}
+use Rattle.it_eliminate.proofs.MemberLemmas.{Member}
 use Rattle.it_eliminate.specs.Elimination as elimination
 use Rattle.it_redundant.specs.Reduction.{NeedView, kept_rows}
 use Rattle.it_redundant.specs.ReducedElimination.{ProjectedView, Region, Rows, Wide, ReducedEnds}

@@ -28,13 +28,14 @@ use Rattle.it_question.specs.ProblemLines.{problem_names}
 use Rattle.it_canon.specs.QuestionDemands.{problem_of, terms_in, variable_count}
 use Rattle.it_eliminate.specs.Elimination.{EliminationEnds, PairsFit, with_row, with_lowest_rows, ordered_rows, results, next_list}
 use Rattle.it_eliminate.specs.Elimination as elimination
-use Rattle.it_eliminate.proofs.MemberLemmas.{every_member, member_every}
+use Rattle.it_eliminate.proofs.MemberLemmas.{contains_of, every_member, member_every}
+use Rattle.it_space.proofs.EveryLemmas.{every_of, all_of}
 use Rattle.it_eliminate.proofs.OrderLemmas.{every-with_row}
 use Rattle.it_eliminate.proofs.StepLemmas.{results_all}
 use Rattle.it_redundant.specs.Reduction.{NeedView, kept_rows}
 use Rattle.it_redundant.specs.ReducedElimination.{ProjectedView, ReducedEnds}
 use Rattle.it_redundant.specs.ReducedElimination as projections
-use Rattle.it_redundant.proofs.ReductionLemmas.{every_kept}
+use Rattle.it_redundant.proofs.ReductionLemmas.{all_kept}
 use Rattle.it_redundant.proofs.ProjectionLemmas.{same_list}
 use Rattle.it_answer.specs.declared.types.Budgets.{Budgets}
 use Rattle.it_answer.specs.Shows.{ShowsRegion, region_rows}
@@ -83,7 +84,7 @@ with_rows_canonical before (row ∷ rows) h k = with_rows_canonical (with_row be
 next_canonical : (at : ℕ) (rows : List Terms) → Every IsCanonical rows → PairsFit at rows → Every IsCanonical (next_list at rows)
 next_canonical at rows h fit = with_rows_canonical [] (results at rows) tt (member_every IsCanonical (results at rows) (results_all IsCanonical at rows
     (λ row m e. every_member IsCanonical rows row h m)
-    (λ up down m n p k. cancelled_canonical at up down p k (every_member IsCanonical rows up h m) (every_member IsCanonical rows down h n) (fit up down m n p k))))
+    (λ up down m n p k. cancelled_canonical at up down p k (every_member IsCanonical rows up h m) (every_member IsCanonical rows down h n) (fit up down (contains_of rows up m) (contains_of rows down n) p k))))
 
 -- the list that the step of a rate leaves
 step_canonical : (base most : ℕ) (rows : List Terms) (r : ℕ) (next : List Terms) → Every IsCanonical rows → EliminationEnds base most rows (r ∷ []) (elimination.Region next) → Every IsCanonical next
@@ -101,7 +102,7 @@ module _ (givens : ProblemView) (budget : Option ℕ) (most : ℕ) where
   kept_canonical rows last kept gone dropped [] h l is = subst (λ (ks : List (Terms × NeedView)). Every IsCanonical (kept_rows ks)) (sym (kept_same kept last dropped gone is)) l
   kept_canonical rows last kept gone dropped (r ∷ rates) h l (elimination.Region next, e, g) =
       let stay : Every IsCanonical (kept_rows g.0) =
-      every_kept givens budget IsCanonical [] next g.0 g.1 g.2 (step_canonical (2 ^ givens.space.variables) most (ordered_rows rows) r next (with_rows_canonical [] rows tt h) e) in
+      every_of IsCanonical (kept_rows g.0) (all_kept givens budget IsCanonical [] next g.0 g.1 g.2 (all_of IsCanonical next (step_canonical (2 ^ givens.space.variables) most (ordered_rows rows) r next (with_rows_canonical [] rows tt h) e))) in
       kept_canonical (kept_rows g.0) g.0 kept g.1 dropped rates stay stay g.3
   kept_canonical rows last kept gone dropped (r ∷ rates) h l (elimination.Rows rate, e, is) = absurd (cc)
   kept_canonical rows last kept gone dropped (r ∷ rates) h l (elimination.Wide rate, e, is) = absurd (cc)

@@ -5,7 +5,7 @@ use Rattle.it_number.proofs.Integers.{zring}
 use Rattle.it_number.proofs.Ring.{ring, v, plus, times, minus}
 use Rattle.it_number.proofs.IntegerRing.{ring_ℤ}
 use Rattle.it_number.proofs.SignLemmas.{sum_least, least_by_multiple, product_least}
-use Rattle.it_eliminate.specs.Elimination.{Member}
+use Rattle.it_eliminate.proofs.MemberLemmas.{Member}
 
 -- the row b bounds the rate from below at least as far as the row t
 abbrev pub Bounds : ℤ × ℤ → ℤ × ℤ → Type 0

@@ -6,7 +6,7 @@ use Rattle.it_space.proofs.ListLemmas.{drop_item}
 use Rattle.it_space.specs.Rows.{Terms, IsCanonical, coefficient}
 use Rattle.it_space.specs.Divisors.{lowest_terms}
 use Rattle.it_space.specs.Cancelling.{cancelled_row}
-use Rattle.it_eliminate.proofs.MemberLemmas.{every_member, member_every}
+use Rattle.it_eliminate.proofs.MemberLemmas.{member_of, contains_of, every_member, member_every}
 use Rattle.it_eliminate.proofs.StepLemmas.{test_from_zero}
 use Rattle.it_eliminate.specs.Elimination.{with_row, with_lowest_rows, is_positive_at, is_negative_at, is_zero_at, pairs_of, results, next_list, PairsFit}
 use Rattle.it_eliminate.specs.Gathering.{flat_of, pair_of, up_pairs, DownFits, UpFits, IsKeptList, Gathers}
@@ -89,10 +89,10 @@ gathers_flat most at row same old new e f g = subst (λ (b : Bool). Gathers most
 -- ---- the pairs
 
 pub pairs_fit : (at : ℕ) (rows : List Terms) → Every (UpFits at rows) rows → PairsFit at rows
-pairs_fit at rows f up down m n h k = every_member (DownFits at up) rows down (every_member (UpFits at rows) rows up f m h) n k
+pairs_fit at rows f up down m n h k = every_member (DownFits at up) rows down (every_member (UpFits at rows) rows up f (member_of rows up m) h) (member_of rows down n) k
 
 pub fit_pairs : (at : ℕ) (rows : List Terms) → PairsFit at rows → Every (UpFits at rows) rows
-fit_pairs at rows f = member_every (UpFits at rows) rows (λ up m h. member_every (DownFits at up) rows (λ down n k. f up down m n h k))
+fit_pairs at rows f = member_every (UpFits at rows) rows (λ up m h. member_every (DownFits at up) rows (λ down n k. f up down (contains_of rows up m) (contains_of rows down n) h k))
 
 pub wide_pair : {W : Type 0} (at : ℕ) (rows : List Terms) → (W → ¬ (Every (UpFits at rows) rows)) → W → ¬ (PairsFit at rows)
 wide_pair at rows f w p = f w (fit_pairs at rows p)

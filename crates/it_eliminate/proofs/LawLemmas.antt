@@ -8,7 +8,7 @@ use Rattle.it_space.specs.Spaces.{IsSpace, size_of}
 use Rattle.it_eliminate.specs.Elimination.{EliminatedView, Region, Rows, Wide, next_list, EliminationEnds, ordered_rows, list_after}
 use Rattle.it_eliminate.specs.Projections.{IsPointOf, Extends, LacksCoordinate, IsProjection}
 use Rattle.it_eliminate.specs.Laws.{OneEnd}
-use Rattle.it_eliminate.proofs.MemberLemmas.{member-map}
+use Rattle.it_eliminate.proofs.MemberLemmas.{member_of, member-map}
 use Rattle.it_eliminate.proofs.SpaceLemmas.{projection_up_to}
 use Rattle.it_eliminate.proofs.RateLemmas.{projection_exact, projection_lacks}
 
@@ -54,6 +54,6 @@ is_projection most system region rates h same e =
         rows = subst (λ (s : Space). All (IsOver (size_of s)) region.rows.items) (sym same) fits;
       };
       free = λ r m. subst (λ (rs : List Terms). LacksCoordinate (2 ^ system.space.variables + r) rs) (sym is)
-          (projection_lacks (2 ^ system.space.variables + r) ats system.rows.items (member-map (λ r. 2 ^ system.space.variables + r) r rates m));
+          (projection_lacks (2 ^ system.space.variables + r) ats system.rows.items (member-map (λ r. 2 ^ system.space.variables + r) r rates (member_of rates r m)));
       exact = λ p. subst (λ (rs : List Terms). IsPointOf rs p ↔ Extends ats system.rows.items p) (sym is) (projection_exact ats system.rows.items p);
     }

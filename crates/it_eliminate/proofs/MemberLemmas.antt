@@ -1,9 +1,25 @@
 -- Members of lists, and what holds of each item.
-use Rattle.std.proofs.Common.{◌≡◌, ◌⊎◌, inl, inr, ⊎_elim, refl, sym, ap, subst, ◌∙◌, List, [], ◌∷◌, ◌++◌, Bool, true, false, cond}
+use Rattle.std.proofs.Common.{◌≡◌, ℕ, zero, suc, length, get_or, arith, All, ◌⊎◌, inl, inr, ⊎_elim, refl, sym, ap, subst, ◌∙◌, List, [], ◌∷◌, ◌++◌, Bool, true, false, cond}
 use Rattle.std.specs.List.{flat_map, AllByRecursion as Every}
-use Rattle.std.specs.Prelude.{filter, map}
+use Rattle.std.specs.Prelude.{filter, map, Contains}
 use Rattle.std.proofs.lemmas.Bool.{false≢true}
-use Rattle.it_eliminate.specs.Elimination.{Member}
+use Rattle.std.proofs.lemmas.List.Elements.{All-contains, Contains-get_or}
+use Rattle.it_space.proofs.EveryLemmas.{every_of, all_of, every_front, every_back}
+
+-- x stands in a list, by recursion
+abbrev pub Member : {X : Type 0} → X → List X → Type 0
+Member x [] = ⊥
+Member x (y ∷ ys) = (x ≡ y) ⊎ Member x ys
+
+pub member_of : {X : Type 0} (xs : List X) (x : X) → Contains xs x → Member x xs
+member_of [] x (k, l, e) = absurd (omega arith)
+member_of (y ∷ ys) x (zero, l, e) = inl (sym e)
+member_of (y ∷ ys) x (suc k, l, e) = inr (member_of ys x (k, omega arith, e))
+
+pub contains_of : {X : Type 0} (xs : List X) (x : X) → Member x xs → Contains xs x
+contains_of [] x m = absurd m
+contains_of (y ∷ ys) x (inl e) = (0, omega arith, sym e)
+contains_of (y ∷ ys) x (inr m) = let c = contains_of ys x m in (suc c.0, omega (arith, c.1), c.2)
 
 -- ---- what holds of each item
 
@@ -15,6 +31,18 @@ every_member P (y ∷ xs) x a (inr m) = every_member P xs x a.1 m
 pub member_every : {X : Type 0} (P : X → Type 0) (xs : List X) → ((x : X) → Member x xs → P x) → Every P xs
 member_every P [] f = tt
 member_every P (x ∷ xs) f = (f x (inl refl), member_every P xs (λ y m. f y (inr m)))
+
+pub all_member : {X : Type 0} (P : X → Type 0) (xs : List X) (x : X) → All P xs → Member x xs → P x
+all_member P xs x a m = All-contains P xs x a (contains_of xs x m)
+
+pub member_all : {X : Type 0} (P : X → Type 0) (xs : List X) → ((x : X) → Member x xs → P x) → All P xs
+member_all P xs f k d below = f (get_or xs k d) (member_of xs (get_or xs k d) (Contains-get_or xs k d below))
+
+pub all_front : {X : Type 0} (P : X → Type 0) (xs ys : List X) → All P (xs ++ ys) → All P xs
+all_front P xs ys a = all_of P xs (every_front P xs ys (every_of P (xs ++ ys) a))
+
+pub all_back : {X : Type 0} (P : X → Type 0) (xs ys : List X) → All P (xs ++ ys) → All P ys
+all_back P xs ys a = all_of P ys (every_back P xs ys (every_of P (xs ++ ys) a))
 
 -- ---- members
 

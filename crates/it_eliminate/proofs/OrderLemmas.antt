@@ -3,16 +3,17 @@ use Rattle.std.proofs.Common.{◌≡◌, ◌⊎◌, inl, inr, ◌↔◌, ℕ, ze
 use Rattle.std.specs.List.{list_any, AllByRecursion as Every}
 use Rattle.std.specs.Ordering.{int_eq}
 use Rattle.std.proofs.lemmas.Int.{ints}
+use Rattle.std.proofs.lemmas.List.Elements.{All-nil, All-cons, All-head, All-tail, All-push}
 use Rattle.std.proofs.lemmas.Bool.{false≢true, eqb-true}
 use Rattle.it_number.specs.Division.{int_quotient}
 use Rattle.it_space.specs.Rows.{Terms, coefficient, value, HaveOneSign, one_at}
 use Rattle.it_space.specs.Divisors.{content, divided_terms, lowest_terms}
 use Rattle.it_space.proofs.Contents.{DividesAll, content_divides, divided_value, one_sign}
 use Rattle.it_space.proofs.TermLemmas.{value-one_at}
-use Rattle.it_eliminate.specs.Elimination.{is_same, with_row, with_lowest_rows, ordered_rows, Member}
+use Rattle.it_eliminate.specs.Elimination.{is_same, with_row, with_lowest_rows, ordered_rows}
 use Rattle.it_eliminate.specs.Projections.{IsPointOf, LacksCoordinate}
-use Rattle.it_eliminate.proofs.MemberLemmas.{every_member}
-use Rattle.it_space.proofs.EveryLemmas.{every-append, every_front, every_back}
+use Rattle.it_eliminate.proofs.MemberLemmas.{Member, all_member, all_front, all_back}
+use Rattle.it_space.proofs.EveryLemmas.{every-append, every_of, all_of}
 
 -- ---- lowest terms
 
@@ -78,31 +79,39 @@ found_member row (r ∷ rows) e = by_test (is_same row r) e (same_rows row r) (f
     by_test true h f g = inl (f refl)
     by_test false h f g = inr (g h)
 
+-- a row is at least 0 at a point
+abbrev pub RowHolds : (ℕ → ℤ) → Terms → Type 0
+RowHolds p row = pos 0 ≤ℤ value row p
+
 pub in-with_row : (rows : List Terms) (row : Terms) (p : ℕ → ℤ) → IsPointOf (with_row rows row) p ↔ (IsPointOf rows p × (pos 0 ≤ℤ value row p))
 in-with_row rows [] p = (λ a. (a, omega (arith, ints)), λ a. a.0)
 in-with_row rows (t ∷ ts) p = by_test (list_any (is_same (t ∷ ts)) rows) (found_member (t ∷ ts) rows)
   where
     by_test : (b : Bool) → (b ≡ true → Member (t ∷ ts) rows) → IsPointOf (if b then rows else rows ++ (t ∷ ts) ∷ []) p ↔ (IsPointOf rows p × (pos 0 ≤ℤ value (t ∷ ts) p))
-    by_test true f = (λ a. (a, every_member (λ (row : Terms). pos 0 ≤ℤ value row p) rows (t ∷ ts) a (f refl)), λ a. a.0)
+    by_test true f = (λ a. (a, all_member (RowHolds p) rows (t ∷ ts) a (f refl)), λ a. a.0)
     by_test false f = (
-      λ a. (every_front (λ (row : Terms). pos 0 ≤ℤ value row p) rows ((t ∷ ts) ∷ []) a, (every_back (λ (row : Terms). pos 0 ≤ℤ value row p) rows ((t ∷ ts) ∷ []) a).0),
-      λ a. every-append (λ (row : Terms). pos 0 ≤ℤ value row p) rows ((t ∷ ts) ∷ []) a.0 (a.1, tt),
+      λ a. (all_front (RowHolds p) rows ((t ∷ ts) ∷ []) a, All-head (RowHolds p) (t ∷ ts) [] (all_back (RowHolds p) rows ((t ∷ ts) ∷ []) a)),
+      λ a. All-push (RowHolds p) rows (t ∷ ts) a.0 a.1,
     )
 
 pub in-with_lowest_rows : (before rows : List Terms) (p : ℕ → ℤ) → IsPointOf (with_lowest_rows before rows) p ↔ (IsPointOf before p × IsPointOf rows p)
-in-with_lowest_rows before [] p = (λ a. (a, tt), λ a. a.0)
+in-with_lowest_rows before [] p = (λ a. (a, All-nil (RowHolds p)), λ a. a.0)
 in-with_lowest_rows before (row ∷ rows) p =
     let rest = in-with_lowest_rows (with_row before (lowest_terms row)) rows p in
     let one = in-with_row before (lowest_terms row) p in
     let signs = lowest_signs row p in (
-      λ a. let b = rest.0 a in let c = one.0 b.0 in (c.0, (signs.positive.1 c.1, b.1)),
-      λ a. rest.1 (one.1 (a.0, signs.positive.0 a.1.0), a.1.1),
+      λ a. let b = rest.0 a in let c = one.0 b.0 in (c.0, All-cons (RowHolds p) row rows (signs.positive.1 c.1) b.1),
+      λ a. rest.1 (one.1 (a.0, signs.positive.0 (All-head (RowHolds p) row rows a.1)), All-tail (RowHolds p) row rows a.1),
     )
 
 pub in-ordered_rows : (rows : List Terms) (p : ℕ → ℤ) → IsPointOf (ordered_rows rows) p ↔ IsPointOf rows p
-in-ordered_rows rows p = let both = in-with_lowest_rows [] rows p in (λ a. (both.0 a).1, λ a. both.1 (tt, a))
+in-ordered_rows rows p = let both = in-with_lowest_rows [] rows p in (λ a. (both.0 a).1, λ a. both.1 (All-nil (RowHolds p), a))
 
 -- ---- rows without a coordinate
+
+-- a row has 0 at a coordinate
+abbrev pub RowLacks : ℕ → Terms → Type 0
+RowLacks at row = coefficient row at ≡ pos 0
 
 pub lacks_lowest : (at : ℕ) (row : Terms) → coefficient row at ≡ pos 0 → coefficient (lowest_terms row) at ≡ pos 0
 lacks_lowest at row e =
@@ -113,7 +122,11 @@ lacks_lowest at row e =
     number_is_zero : (z : ℤ) → pos 0 ≤ℤ z → z ≤ℤ pos 0 → z ≡ pos 0
     number_is_zero z a b = omega (arith, ints)
 
-pub lacks-with_lowest_rows : (at : ℕ) (before rows : List Terms) → LacksCoordinate at before → LacksCoordinate at rows → LacksCoordinate at (with_lowest_rows before rows)
+lacks-with_lowest_rows : (at : ℕ) (before rows : List Terms) → LacksCoordinate at before → LacksCoordinate at rows → LacksCoordinate at (with_lowest_rows before rows)
 lacks-with_lowest_rows at before [] a b = a
 lacks-with_lowest_rows at before (row ∷ rows) a b = lacks-with_lowest_rows at (with_row before (lowest_terms row)) rows
-    (every-with_row (λ r. coefficient r at ≡ pos 0) before (lowest_terms row) (lacks_lowest at row b.0) a) b.1
+    (all_of (RowLacks at) (with_row before (lowest_terms row)) (every-with_row (RowLacks at) before (lowest_terms row) (lacks_lowest at row (All-head (RowLacks at) row rows b)) (every_of (RowLacks at) before a)))
+    (All-tail (RowLacks at) row rows b)
+
+pub lacks-ordered_rows : (at : ℕ) (rows : List Terms) → LacksCoordinate at rows → LacksCoordinate at (ordered_rows rows)
+lacks-ordered_rows at rows a = lacks-with_lowest_rows at [] rows (All-nil (RowLacks at)) a

@@ -1,16 +1,18 @@
 -- All listed rates: no row has one of them, and a point is kept exactly where it extends to them.
 use Rattle.std.proofs.Common.{◌≡◌, ◌≢◌, ◌⊎◌, inl, inr, ⊎_elim, ◌↔◌, ℕ, zero, suc, ◌*◌, ◌≤◌, ℤ, pos, ◌+ℤ◌, ◌*ℤ◌, ◌≤ℤ◌, refl, sym, ap, subst, ◌∙◌, arith, List, [], ◌∷◌, Bool, true, false, cond, nat_eq, ne_eqb}
+use Rattle.std.specs.Prelude.{Contains}
 use Rattle.std.proofs.lemmas.Int.{ints}
+use Rattle.std.proofs.lemmas.List.Elements.{All-nil, All-cons, All-head, All-tail}
 use Rattle.std.proofs.lemmas.Bool.{eqb-false, eqb-true}
 use Rattle.it_number.proofs.Integers.{mul_assoc, sum_of_multiples}
 use Rattle.it_number.proofs.SignLemmas.{least_by_multiple}
 use Rattle.it_space.specs.Rows.{Terms, coefficient, value}
 use Rattle.it_space.specs.Cancelling.{times_up, times_down}
 use Rattle.it_space.proofs.TermLemmas.{coefficient-cancelled_row}
-use Rattle.it_eliminate.proofs.OrderLemmas.{in-ordered_rows, lacks-with_lowest_rows}
-use Rattle.it_eliminate.proofs.MemberLemmas.{every_member, member_every}
+use Rattle.it_eliminate.proofs.OrderLemmas.{RowHolds, RowLacks, in-ordered_rows, lacks-ordered_rows}
+use Rattle.it_eliminate.proofs.MemberLemmas.{Member, member_of, contains_of, all_member, member_all}
 use Rattle.it_eliminate.proofs.StepLemmas.{results_all, next_lacks, step_exact}
-use Rattle.it_eliminate.specs.Elimination.{results, next_list, list_after, ordered_rows, Member}
+use Rattle.it_eliminate.specs.Elimination.{results, next_list, list_after, ordered_rows}
 use Rattle.it_eliminate.specs.Projections.{IsPointOf, Extends, LacksCoordinate}
 
 -- ---- eliminated coordinates stay away
@@ -19,10 +21,10 @@ mix_none : (a b : ℕ) (x y : ℤ) → x ≡ pos 0 → y ≡ pos 0 → pos a *�
 mix_none a b x y e f = ap (λ z. pos a *ℤ z +ℤ pos b *ℤ y) e ∙ ap (λ z. pos a *ℤ pos 0 +ℤ pos b *ℤ z) f ∙ omega (arith, ints)
 
 pub next_keeps_lacking : (c at : ℕ) (rows : List Terms) → LacksCoordinate c rows → LacksCoordinate c (next_list at rows)
-next_keeps_lacking c at rows a = lacks-with_lowest_rows c [] (results at rows) tt (member_every (λ (row : Terms). coefficient row c ≡ pos 0) (results at rows) (results_all (λ row. coefficient row c ≡ pos 0) at rows
-    (λ row m e. every_member (λ (r : Terms). coefficient r c ≡ pos 0) rows row a m)
+next_keeps_lacking c at rows a = lacks-ordered_rows c (results at rows) (member_all (RowLacks c) (results at rows) (results_all (λ row. coefficient row c ≡ pos 0) at rows
+    (λ row m e. all_member (RowLacks c) rows row a m)
     (λ up down m n h k. coefficient-cancelled_row at up down c
-    ∙ mix_none (times_up at up down) (times_down at up down) (coefficient up c) (coefficient down c) (every_member (λ (r : Terms). coefficient r c ≡ pos 0) rows up a m) (every_member (λ (r : Terms). coefficient r c ≡ pos 0) rows down a n))))
+    ∙ mix_none (times_up at up down) (times_down at up down) (coefficient up c) (coefficient down c) (all_member (RowLacks c) rows up a m) (all_member (RowLacks c) rows down a n))))
 
 pub after_keeps_lacking : (c : ℕ) (ats : List ℕ) (rows : List Terms) → LacksCoordinate c rows → LacksCoordinate c (list_after ats rows)
 after_keeps_lacking c [] rows a = a
@@ -47,12 +49,17 @@ extended_none : (rows : List Terms) (p : ℕ → ℤ) → Extends [] rows p → 
 extended_none rows p x = each_row_holds rows x.meets
   where
     each_row_holds : (rows : List Terms) → IsPointOf rows x.point → IsPointOf rows p
-    each_row_holds [] a = tt
-    each_row_holds (row ∷ rows) a = (
-      least_by_multiple (pos x.factor) (value row p) (omega (arith, ints, x.some))
-          (subst (λ (z : ℤ). pos 0 ≤ℤ z) (same_values row p x.point x.factor (λ c. x.kept c (λ m. m))) a.0),
-      each_row_holds rows a.1,
-    )
+    each_row_holds [] a = All-nil (RowHolds p)
+    each_row_holds (row ∷ rows) a = All-cons (RowHolds p) row rows
+        (least_by_multiple (pos x.factor) (value row p) (omega (arith, ints, x.some))
+        (subst (λ (z : ℤ). pos 0 ≤ℤ z) (same_values row p x.point x.factor (λ c. x.kept c (member_of [] c))) (All-head (RowHolds x.point) row rows a)))
+        (each_row_holds rows (All-tail (RowHolds x.point) row rows a))
+
+contains_first : (at : ℕ) (ats : List ℕ) (c : ℕ) → Contains (at ∷ []) c → Contains (at ∷ ats) c
+contains_first at ats c m = contains_of (at ∷ ats) c (⊎_elim (λ e. inl e) (λ k. absurd k) (member_of (at ∷ []) c m))
+
+contains_later : (at : ℕ) (ats : List ℕ) (c : ℕ) → Contains ats c → Contains (at ∷ ats) c
+contains_later at ats c m = contains_of (at ∷ ats) c (inr (member_of ats c m))
 
 -- two extensions, one after the other
 join_extensions : (at : ℕ) (ats : List ℕ) (rows : List Terms) (p : ℕ → ℤ) (y : Extends ats [] p) → Extends (at ∷ []) rows y.point → Extends (at ∷ ats) rows p
@@ -60,7 +67,7 @@ join_extensions at ats rows p y x = record {
   factor = x.factor * y.factor;
   some = product_is_positive x.factor y.factor x.some y.some;
   point = x.point;
-  kept = λ c n. x.kept c (λ m. n (⊎_elim (λ e. inl e) (λ k. absurd k) m)) ∙ ap (λ z. pos x.factor *ℤ z) (y.kept c (λ m. n (inr m))) ∙ multiple_of_multiple x.factor y.factor (p c);
+  kept = λ c n. x.kept c (λ m. n (contains_first at ats c m)) ∙ ap (λ z. pos x.factor *ℤ z) (y.kept c (λ m. n (contains_later at ats c m))) ∙ multiple_of_multiple x.factor y.factor (p c);
   meets = x.meets;
 }
   where
@@ -77,7 +84,7 @@ record Parts (at : ℕ) (ats : List ℕ) (rows : List Terms) (p : ℕ → ℤ) :
   factor : ℕ
   some : 1 ≤ factor
   point : ℕ → ℤ
-  kept : (c : ℕ) → ¬ (Member c ats) → point c ≡ pos factor *ℤ p c
+  kept : (c : ℕ) → ¬ (Contains ats c) → point c ≡ pos factor *ℤ p c
   first : Extends (at ∷ []) rows point
 
 member_number : (c : ℕ) (ats : List ℕ) → Member c ats ⊎ ¬ (Member c ats)
@@ -98,7 +105,7 @@ split_extension at ats rows p x = by_cases (member_number at ats)
       factor = x.factor;
       some = x.some;
       point = x.point;
-      kept = λ c n. x.kept c (λ k. ⊎_elim (λ e. n (subst (λ (d : ℕ). Member d ats) (sym e) m)) n k);
+      kept = λ c n. x.kept c (λ k. n (contains_of ats c (⊎_elim (λ e. subst (λ (d : ℕ). Member d ats) (sym e) m) (λ j. j) (member_of (at ∷ ats) c k))));
       first = record { factor = 1; some = omega arith; point = x.point; kept = λ c n. omega (arith, ints); meets = x.meets };
     }
     by_cases (inr away) = record {
@@ -106,15 +113,15 @@ split_extension at ats rows p x = by_cases (member_number at ats)
       some = x.some;
       point = later_point;
       kept = λ c n. by_test c n (nat_eq c at) refl;
-      first = record { factor = 1; some = omega arith; point = x.point; kept = λ c n. points_agree c (λ e. n (inl e)) ∙ omega (arith, ints); meets = x.meets };
+      first = record { factor = 1; some = omega arith; point = x.point; kept = λ c n. points_agree c (λ e. n (contains_of (at ∷ []) c (inl e))) ∙ omega (arith, ints); meets = x.meets };
     }
       where
         later_point : ℕ → ℤ
         later_point c = cond (nat_eq c at) (pos x.factor *ℤ p c) (x.point c)
 
-        by_test : (c : ℕ) → ¬ (Member c ats) → (b : Bool) → nat_eq c at ≡ b → cond b (pos x.factor *ℤ p c) (x.point c) ≡ pos x.factor *ℤ p c
+        by_test : (c : ℕ) → ¬ (Contains ats c) → (b : Bool) → nat_eq c at ≡ b → cond b (pos x.factor *ℤ p c) (x.point c) ≡ pos x.factor *ℤ p c
         by_test c n true e = refl
-        by_test c n false e = x.kept c (λ m. ⊎_elim (λ k. eqb-false c at e k) n m)
+        by_test c n false e = x.kept c (λ m. ⊎_elim (λ k. eqb-false c at e k) (λ k. n (contains_of ats c k)) (member_of (at ∷ ats) c m))
 
         points_agree : (c : ℕ) → c ≢ at → x.point c ≡ later_point c
         points_agree c n = sym (ap (λ b. cond b (pos x.factor *ℤ p c) (x.point c)) (ne_eqb c at n))
@@ -123,7 +130,7 @@ pub rates_exact : (ats : List ℕ) (rows : List Terms) (p : ℕ → ℤ) → IsP
 rates_exact [] rows p = (none_extended rows p, extended_none rows p)
 rates_exact (at ∷ ats) rows p =
     let later = rates_exact ats (next_list at rows) p in (
-      λ a. let y = later.0 a in join_extensions at ats rows p (record { factor = y.factor; some = y.some; point = y.point; kept = y.kept; meets = tt }) ((step_exact at rows y.point).0 y.meets),
+      λ a. let y = later.0 a in join_extensions at ats rows p (record { factor = y.factor; some = y.some; point = y.point; kept = y.kept; meets = All-nil (RowHolds y.point) }) ((step_exact at rows y.point).0 y.meets),
       λ x. let s = split_extension at ats rows p x in
           later.1 (record { factor = s.factor; some = s.some; point = s.point; kept = s.kept; meets = (step_exact at rows s.point).1 s.first }),
     )

@@ -1,6 +1,6 @@
 -- One rate: the rows after it are at least 0 exactly where the point extends to it.
 use Rattle.std.proofs.Common.{◌≡◌, ◌≢◌, inl, ⊎_elim, ◌↔◌, ℕ, ℤ, pos, negsuc, neg_ℤ, ◌+ℤ◌, ◌*ℤ◌, ◌≤ℤ◌, ◌<ℤ◌, refl, sym, ap, subst, ◌∙◌, arith, List, [], ◌∷◌, Bool, true, false, cond, nat_eq, ne_eqb, eq-eqb}
-use Rattle.std.specs.Prelude.{filter, map}
+use Rattle.std.specs.Prelude.{filter, map, Contains}
 use Rattle.std.specs.Ordering.{int_eq}
 use Rattle.std.specs.Int.Signed.{lt_z}
 use Rattle.std.proofs.lemmas.Int.{ints}
@@ -15,9 +15,9 @@ use Rattle.it_space.specs.Cancelling.{times_up, times_down, cancelled_row}
 use Rattle.it_eliminate.proofs.FurthestBounds.{extends}
 use Rattle.it_space.proofs.MixLemmas.{factors, cancelled_gone, multiple_of_sum}
 use Rattle.it_space.proofs.TermLemmas.{value-cancelled_row, coefficient-cancelled_row}
-use Rattle.it_eliminate.proofs.MemberLemmas.{every_member, member_every, member-front, member-back, member_either, member-map, member_mapped, member-filter, member_filtered, member-flat_map, member_flat_mapped}
-use Rattle.it_eliminate.proofs.OrderLemmas.{in-ordered_rows, lacks-with_lowest_rows}
-use Rattle.it_eliminate.specs.Elimination.{is_positive_at, is_negative_at, is_zero_at, pairs_of, cancelled_pairs, results, next_list, Member}
+use Rattle.it_eliminate.proofs.MemberLemmas.{Member, member_of, contains_of, all_member, member_all, member-front, member-back, member_either, member-map, member_mapped, member-filter, member_filtered, member-flat_map, member_flat_mapped}
+use Rattle.it_eliminate.proofs.OrderLemmas.{RowHolds, RowLacks, in-ordered_rows, lacks-ordered_rows}
+use Rattle.it_eliminate.specs.Elimination.{is_positive_at, is_negative_at, is_zero_at, pairs_of, cancelled_pairs, results, next_list}
 use Rattle.it_eliminate.specs.Projections.{IsPointOf, Extends, LacksCoordinate}
 
 -- ---- the tests
@@ -89,11 +89,11 @@ results_all P at rows f g row m = ⊎_elim flat_row (λ k. pair (member_flat_map
 
 -- no result has the coordinate
 pub results_lack : (at : ℕ) (rows : List Terms) → LacksCoordinate at (results at rows)
-results_lack at rows = member_every (λ (row : Terms). coefficient row at ≡ pos 0) (results at rows) (results_all (λ row. coefficient row at ≡ pos 0) at rows (λ row m e. e)
+results_lack at rows = member_all (RowLacks at) (results at rows) (results_all (λ row. coefficient row at ≡ pos 0) at rows (λ row m e. e)
     (λ up down m n h k. coefficient-cancelled_row at up down at ∙ cancelled_gone at up down h k))
 
 pub next_lacks : (at : ℕ) (rows : List Terms) → LacksCoordinate at (next_list at rows)
-next_lacks at rows = lacks-with_lowest_rows at [] (results at rows) tt (results_lack at rows)
+next_lacks at rows = lacks-ordered_rows at (results at rows) (results_lack at rows)
 
 -- ---- values with the coordinate apart
 
@@ -136,12 +136,12 @@ value_kept at k row p q f e =
 
 -- ---- the law of one rate
 
-one_only : (c at : ℕ) → c ≢ at → ¬ (Member c (at ∷ []))
-one_only c at n m = ⊎_elim (λ e. n e) (λ k. k) m
+one_only : (c at : ℕ) → c ≢ at → ¬ (Contains (at ∷ []) c)
+one_only c at n m = ⊎_elim (λ e. n e) (λ k. k) (member_of (at ∷ []) c m)
 
 -- where a point extends, every row after the rate is at least 0
 pub after_extending : (at : ℕ) (rows : List Terms) (p : ℕ → ℤ) → Extends (at ∷ []) rows p → IsPointOf (results at rows) p
-after_extending at rows p x = member_every (λ (row : Terms). pos 0 ≤ℤ value row p) (results at rows) (λ row m. least_by_multiple (pos x.factor) (value row p) (omega (arith, ints, x.some))
+after_extending at rows p x = member_all (RowHolds p) (results at rows) (λ row m. least_by_multiple (pos x.factor) (value row p) (omega (arith, ints, x.some))
     (subst (λ (z : ℤ). pos 0 ≤ℤ z) (value_kept at (pos x.factor) row p x.point (λ c n. x.kept c (one_only c at n)) (coefficient_is_zero row m)) (least row m)))
   where
     coefficient_is_zero : (row : Terms) → Member row (results at rows) → coefficient row at ≡ pos 0
@@ -151,9 +151,9 @@ after_extending at rows p x = member_every (λ (row : Terms). pos 0 ≤ℤ value
     sum_least a b x y h k = let f = product_least (pos a) x (omega (arith, ints)) h in let g = product_least (pos b) y (omega (arith, ints)) k in omega (arith, ints, f, g)
 
     least : (row : Terms) → Member row (results at rows) → pos 0 ≤ℤ value row x.point
-    least = results_all (λ row. pos 0 ≤ℤ value row x.point) at rows (λ row m e. every_member (λ (r : Terms). pos 0 ≤ℤ value r (x.point)) rows row x.meets m)
+    least = results_all (λ row. pos 0 ≤ℤ value row x.point) at rows (λ row m e. all_member (RowHolds x.point) rows row x.meets m)
         (λ up down m n h k. subst (λ (z : ℤ). pos 0 ≤ℤ z) (sym (value-cancelled_row at up down x.point))
-        (sum_least (times_up at up down) (times_down at up down) (value up x.point) (value down x.point) (every_member (λ (r : Terms). pos 0 ≤ℤ value r (x.point)) rows up x.meets m) (every_member (λ (r : Terms). pos 0 ≤ℤ value r (x.point)) rows down x.meets n)))
+        (sum_least (times_up at up down) (times_down at up down) (value up x.point) (value down x.point) (all_member (RowHolds x.point) rows up x.meets m) (all_member (RowHolds x.point) rows down x.meets n)))
 
 -- a row as the pair of its coefficient there and the value of its rest
 abbrev pub row_parts : ℕ → (ℕ → ℤ) → Terms → ℤ × ℤ
@@ -183,7 +183,7 @@ point_extends at rows p h = of_pair (extends (map (row_parts at p) rows) flat_ro
     flat_row t m e =
         let s = member_mapped (row_parts at p) t rows m in
         let none : coefficient s.0 at ≡ pos 0 = ap (λ (x : ℤ × ℤ). x.0) (sym s.2) ∙ e in
-        let whole = every_member (λ (r : Terms). pos 0 ≤ℤ value r p) (results at rows) s.0 h (flat_member at rows s.0 s.1 none) in
+        let whole = all_member (RowHolds p) (results at rows) s.0 h (flat_member at rows s.0 s.1 none) in
         let q : coefficient s.0 at *ℤ p at ≡ pos 0 *ℤ p at = ap (λ z. z *ℤ p at) none in
         let r : pos 0 ≤ℤ value s.0 (with_value at (pos 0) p) = omega (arith, ints, whole, q, value_apart at s.0 p) in
         subst (λ (x : ℤ × ℤ). pos 0 ≤ℤ x.1) (sym s.2) r
@@ -194,7 +194,7 @@ point_extends at rows p h = of_pair (extends (map (row_parts at p) rows) flat_ro
         let b = member_mapped (row_parts at p) t rows n in
         let ua : pos 0 <ℤ coefficient a.0 at = subst (λ (x : ℤ × ℤ). pos 0 <ℤ x.0) a.2 up in
         let db : coefficient b.0 at <ℤ pos 0 = subst (λ (x : ℤ × ℤ). x.0 <ℤ pos 0) b.2 down in
-        let whole = every_member (λ (r : Terms). pos 0 ≤ℤ value r p) (results at rows) (cancelled_row at a.0 b.0) h (pair_member at rows a.0 b.0 a.1 b.1 ua db) in
+        let whole = all_member (RowHolds p) (results at rows) (cancelled_row at a.0 b.0) h (pair_member at rows a.0 b.0 a.1 b.1 ua db) in
         subst (λ (y : ℤ × ℤ). pos 0 ≤ℤ (neg_ℤ y.0 *ℤ s.1 +ℤ s.0 *ℤ y.1)) (sym b.2)
         (subst (λ (x : ℤ × ℤ). pos 0 ≤ℤ (neg_ℤ (coefficient b.0 at) *ℤ x.1 +ℤ x.0 *ℤ value b.0 (with_value at (pos 0) p))) (sym a.2) (crossed_sum_least at a.0 b.0 p ua db whole))
 
@@ -207,8 +207,8 @@ point_extends at rows p h = of_pair (extends (map (row_parts at p) rows) flat_ro
           factor = k;
           some = omega (arith, ints);
           point = q;
-          kept = λ c n. off c (λ e. n (inl e));
-          meets = member_every (λ (r : Terms). pos 0 ≤ℤ value r q) rows (λ row m.
+          kept = λ c n. off c (λ e. n (contains_of (at ∷ []) c (inl e)));
+          meets = member_all (RowHolds q) rows (λ row m.
               let is : value row q ≡ coefficient row at *ℤ x +ℤ pos k *ℤ value row (with_value at (pos 0) p) =
               value_apart at row q ∙ ap (λ z. coefficient row at *ℤ z +ℤ value row (with_value at (pos 0) q)) on
               ∙ ap (λ z. coefficient row at *ℤ x +ℤ z) (value_rest at (pos k) row p q off) in

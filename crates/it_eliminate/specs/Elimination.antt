@@ -1,6 +1,6 @@
 -- Plain elimination (Fourier 1826, Motzkin 1936): the list of rows after each rate, over numbers without bounds, and what keeps
 -- it from its end.
-use Rattle.std.specs.Prelude.{◌≡◌, ◌⊎◌, ℕ, ◌+◌, ◌<◌, ◌≤◌, ℤ, pos, ◌<ℤ◌, List, [], ◌∷◌, ◌++◌, length, map, filter, Bool, ◌&&◌, nat_eq, if◌then◌else◌}
+use Rattle.std.specs.Prelude.{◌≡◌, ◌⊎◌, ℕ, ◌+◌, ◌<◌, ◌≤◌, ℤ, pos, ◌<ℤ◌, List, [], ◌∷◌, ◌++◌, length, map, filter, Bool, ◌&&◌, nat_eq, if◌then◌else◌, Contains}
 use Rattle.std.specs.List.{flat_map, list_any}
 use Rattle.std.specs.Cmp.Lexicographic.{pointwise}
 use Rattle.std.specs.Ordering.{int_eq}
@@ -8,11 +8,6 @@ use Rattle.std.specs.Int.Signed.{lt_z}
 use Rattle.it_space.specs.Rows.{Terms, coefficient}
 use Rattle.it_space.specs.Divisors.{lowest_terms}
 use Rattle.it_space.specs.Cancelling.{cancelled_row, CancelFits}
-
--- x stands in a list
-abbrev pub Member : {X : Type 0} → X → List X → Type 0
-Member x [] = ⊥
-Member x (y ∷ ys) = (x ≡ y) ⊎ Member x ys
 
 -- whether two rows are one
 abbrev pub is_same : Terms → Terms → Bool
@@ -67,7 +62,7 @@ list_after (at ∷ ats) rows = list_after ats (next_list at rows)
 
 -- no pair is wide
 abbrev pub PairsFit : ℕ → List Terms → Type 0
-PairsFit at rows = (up down : Terms) → Member up rows → Member down rows → pos 0 <ℤ coefficient up at → coefficient down at <ℤ pos 0 → CancelFits at up down
+PairsFit at rows = (up down : Terms) → Contains rows up → Contains rows down → pos 0 <ℤ coefficient up at → coefficient down at <ℤ pos 0 → CancelFits at up down
 
 -- the list after all rates; or a rate after which there are too many rows, or at which a pair is wide
 pub data EliminatedView : Type 0 where

@@ -7,8 +7,8 @@ use Rattle.std.proofs.lemmas.Int.{ints}
 use Rattle.std.proofs.lemmas.Bool.{false≢true}
 use Rattle.it_space.specs.Rows.{Terms}
 use Rattle.it_space.specs.Divisors.{lowest_terms}
-use Rattle.it_eliminate.specs.Elimination.{Member, is_same, with_row, with_lowest_rows, ordered_rows, results, next_list, PairsFit}
-use Rattle.it_eliminate.proofs.MemberLemmas.{member-front, member-back, member_either}
+use Rattle.it_eliminate.specs.Elimination.{is_same, with_row, with_lowest_rows, ordered_rows, results, next_list, PairsFit}
+use Rattle.it_eliminate.proofs.MemberLemmas.{Member, member_of, contains_of, member-front, member-back, member_either}
 use Rattle.it_eliminate.proofs.OrderLemmas.{found_member}
 use Rattle.it_eliminate.proofs.StepLemmas.{results_all, flat_member, pair_member}
 use Rattle.it_redundant.proofs.LowestLemmas.{lowest_again}
@@ -186,4 +186,4 @@ module _ (at : ℕ) (xs ys : List Terms) (p : IsPart xs ys) where
   next_list_no_longer = part_no_longer (next_list at xs) (next_list at ys) (no_doubles-ordered_rows (results at xs)) part-next_list
 
   pub pairs_fit_part : PairsFit at ys → PairsFit at xs
-  pairs_fit_part f up down m n h k = f up down (p up m) (p down n) h k
+  pairs_fit_part f up down m n h k = f up down (contains_of ys up (p up (member_of xs up m))) (contains_of ys down (p down (member_of xs down n))) h k

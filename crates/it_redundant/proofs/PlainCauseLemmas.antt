@@ -3,13 +3,13 @@ use Rattle.std.proofs.Common.{◌≡◌, inl, inr, ℕ, ◌+◌, ◌^◌, List, 
 use Rattle.it_space.specs.Answers.{CertificateView}
 use Rattle.it_space.specs.Problems.{ProblemView}
 use Rattle.it_space.specs.Rows.{Terms}
-use Rattle.it_eliminate.specs.Elimination.{Member, EliminatedView, EliminationEnds, ordered_rows, next_list, results}
-use Rattle.it_eliminate.proofs.MemberLemmas.{every_member, member_every}
+use Rattle.it_eliminate.specs.Elimination.{EliminatedView, EliminationEnds, ordered_rows, next_list, results}
+use Rattle.it_eliminate.proofs.MemberLemmas.{Member, all_member, member_all}
 use Rattle.it_redundant.specs.Reduction.{NeedView, Reduces, kept_rows}
 use Rattle.it_redundant.specs.ReducedElimination.{ProjectedView, Region, Rows, Wide, GoesOn, ReducedEnds}
 use Rattle.it_redundant.specs.PlainCauses.{ComesTo, IsPlainCause, CausesArePlain}
 use Rattle.it_redundant.proofs.PartLemmas.{IsPart, next_list_no_longer, pairs_fit_part, part-next_list, part-ordered}
-use Rattle.it_redundant.proofs.ReductionLemmas.{every_kept}
+use Rattle.it_redundant.proofs.ReductionLemmas.{all_kept}
 
 -- ---- plain elimination from the next list
 
@@ -30,7 +30,7 @@ module _ (base most : ℕ) (start : List Terms) (r : ℕ) (rs : List ℕ) where
 module _ (givens : ProblemView) (budget : Option ℕ) (most : ℕ) where
   -- the rows that stay are some of the rows
   kept_part : (rows : List Terms) (kept : List (Terms × NeedView)) (dropped : List (Terms × CertificateView)) → Reduces givens budget [] rows kept dropped → IsPart (kept_rows kept) rows
-  kept_part rows kept dropped red x m = every_member (λ y. Member y rows) (kept_rows kept) x (every_kept givens budget (λ y. Member y rows) [] rows kept dropped red (member_every (λ y. Member y rows) rows (λ y k. k))) m
+  kept_part rows kept dropped red x m = all_member (λ y. Member y rows) (kept_rows kept) x (all_kept givens budget (λ y. Member y rows) [] rows kept dropped red (member_all (λ y. Member y rows) rows (λ y k. k))) m
 
   module _ (base : ℕ) (r : ℕ) (rs : List ℕ) (part start : List Terms) (p : IsPart part start) (later : List (Terms × NeedView) → List (Terms × CertificateView) → Type 0) where
     -- the reduced list after a rate, in order, is a part of the plain one

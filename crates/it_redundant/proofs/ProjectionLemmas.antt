@@ -7,16 +7,15 @@ use Rattle.it_space.specs.Answers.{CertificateView}
 use Rattle.it_space.specs.Problems.{ProblemView, IsProblem, IsSystem}
 use Rattle.it_space.specs.Rows.{Terms, IsOver, coefficient}
 use Rattle.it_space.specs.Spaces.{IsSpace, size_of}
-use Rattle.it_space.proofs.EveryLemmas.{every_of, all_of}
-use Rattle.it_eliminate.specs.Elimination.{Member, EliminatedView, EliminationEnds, ordered_rows, next_list, list_after}
+use Rattle.it_eliminate.specs.Elimination.{EliminatedView, EliminationEnds, ordered_rows, next_list, list_after}
 use Rattle.it_eliminate.specs.Elimination as elimination
 use Rattle.it_eliminate.specs.Projections.{IsPointOf, Extends, LacksCoordinate}
 use Rattle.it_eliminate.specs.declared.types.Eliminated.{Eliminated}
 use Rattle.it_eliminate.specs.declared.types.Eliminated.TheVariants as elimination_ends
 use Rattle.it_eliminate.specs.Views.{eliminated_view}
 use Rattle.it_eliminate.proofs.LawLemmas.{one_end}
-use Rattle.it_eliminate.proofs.MemberLemmas.{member_mapped}
-use Rattle.it_eliminate.proofs.OrderLemmas.{lacks-with_lowest_rows}
+use Rattle.it_eliminate.proofs.MemberLemmas.{Member, member_of, contains_of, member_mapped}
+use Rattle.it_eliminate.proofs.OrderLemmas.{RowLacks, lacks-ordered_rows}
 use Rattle.it_eliminate.proofs.RateLemmas.{next_keeps_lacking, projection_exact, rates_exact}
 use Rattle.it_eliminate.proofs.SpaceLemmas.{projection_up_to}
 use Rattle.it_eliminate.proofs.StepLemmas.{next_lacks}
@@ -29,7 +28,7 @@ use Rattle.it_redundant.specs.ProjectionSteps.{HasRowsUpTo, IsAfterRate, IsNext,
 use Rattle.it_redundant.specs.Theorems.{MeetsGivens, HoldAlike, AreNeeded, SpeakOfSets, IsReducedRegion, RegionIsReduced, OneReducedEnd}
 use Rattle.it_redundant.proofs.MultipleLemmas.{multiple_meets}
 use Rattle.it_redundant.proofs.VisitLemmas.{rows_kept}
-use Rattle.it_redundant.proofs.ReductionLemmas.{every_kept, hold_alike, kept_are_needed, one_reduction}
+use Rattle.it_redundant.proofs.ReductionLemmas.{all_kept, hold_alike, kept_are_needed, one_reduction}
 
 -- ---- the step of a rate
 
@@ -57,8 +56,7 @@ list_up givens most rows r next up e = subst (λ (xs : List Terms). All (IsOver 
 
 pub kept_up : (givens : ProblemView) (budget : Option ℕ) (most : ℕ) (rows : List Terms) (r : ℕ) (next : List Terms) (mid : List (Terms × NeedView)) (dropped : List (Terms × CertificateView)) → All (IsOver (size_of givens.space)) rows
     → EliminationEnds (2 ^ givens.space.variables) most (ordered_rows rows) (r ∷ []) (elimination.Region next) → Reduces givens budget [] next mid dropped → All (IsOver (size_of givens.space)) (kept_rows mid)
-kept_up givens budget most rows r next mid dropped up e red = all_of (IsOver (size_of givens.space)) (kept_rows mid)
-    (every_kept givens budget (IsOver (size_of givens.space)) [] next mid dropped red (every_of (IsOver (size_of givens.space)) next (list_up givens most rows r next up e)))
+kept_up givens budget most rows r next mid dropped up e red = all_kept givens budget (IsOver (size_of givens.space)) [] next mid dropped red (list_up givens most rows r next up e)
 
 -- ---- rate after rate
 
@@ -116,7 +114,7 @@ module _ (givens : ProblemView) (budget : Option ℕ) (most : ℕ) (limits : IsP
 
   nothing_gone : (kept : List (Terms × NeedView)) → All (IsOver (size_of givens.space)) (kept_rows kept) → AreNeeded givens kept → Holds [] (kept_rows kept) kept
   nothing_gone kept up need = record {
-    region = record { coordinates = up; free = λ r m. absurd m; exact = λ p meets. rates_exact [] (kept_rows kept) p; needed = need };
+    region = record { coordinates = up; free = λ r m. absurd (member_of [] r m); exact = λ p meets. rates_exact [] (kept_rows kept) p; needed = need };
     keeps = λ c h. h;
   }
 
@@ -125,7 +123,7 @@ module _ (givens : ProblemView) (budget : Option ℕ) (most : ℕ) (limits : IsP
   no_set rates c below m = let x = member_mapped (λ r. 2 ^ givens.space.variables + r) c rates m in absurd (omega (arith, below, x.2))
 
   point_meets : (rates : List ℕ) (rows : List Terms) (p : ℕ → ℤ) (y : Extends (map (λ r. 2 ^ givens.space.variables + r) rates) rows p) → MeetsGivens givens p → MeetsGivens givens y.point
-  point_meets rates rows p y m = multiple_meets givens y.factor p y.point sets (λ c below. y.kept c (no_set rates c below)) m
+  point_meets rates rows p y m = multiple_meets givens y.factor p y.point sets (λ c below. y.kept c (λ k. no_set rates c below (member_of (map (λ r. 2 ^ givens.space.variables + r) rates) c k))) m
 
   -- points of two lists that hold alike extend alike
   extends_alike : (rates : List ℕ) (xs ys : List Terms) (p : ℕ → ℤ) → MeetsGivens givens p → ((q : ℕ → ℤ) → MeetsGivens givens q → IsPointOf xs q → IsPointOf ys q)
@@ -150,7 +148,7 @@ module _ (givens : ProblemView) (budget : Option ℕ) (most : ℕ) (limits : IsP
     mid_alike = hold_alike givens budget limits few next mid dropped (omega (arith, few_next, few_rows)) next_up red
 
     mid_lacks : (c : ℕ) → LacksCoordinate c next → LacksCoordinate c (kept_rows mid)
-    mid_lacks c h = every_kept givens budget (λ (row : Terms). coefficient row c ≡ pos 0) [] next mid dropped red h
+    mid_lacks c h = all_kept givens budget (RowLacks c) [] next mid dropped red h
 
     mid_needed : AreNeeded givens mid
     mid_needed = kept_are_needed givens budget limits few next mid dropped (omega (arith, few_next, few_rows)) next_up red
@@ -159,18 +157,18 @@ module _ (givens : ProblemView) (budget : Option ℕ) (most : ℕ) (limits : IsP
     one_more rs kept h = record {
       region = record {
         coordinates = h.region.coordinates;
-        free = λ s m. kept_lack_rates s m;
+        free = λ s m. kept_lack_rates s (member_of (r ∷ rs) s m);
         exact = λ p m. (to_rows p m, from_rows p m);
         needed = h.region.needed;
       };
-      keeps = λ c l. h.keeps c (mid_lacks c (subst (λ (xs : List Terms). LacksCoordinate c xs) (sym next_is) (next_keeps_lacking c (2 ^ givens.space.variables + r) (ordered_rows rows) (lacks-with_lowest_rows c [] rows tt l))));
+      keeps = λ c l. h.keeps c (mid_lacks c (subst (λ (xs : List Terms). LacksCoordinate c xs) (sym next_is) (next_keeps_lacking c (2 ^ givens.space.variables + r) (ordered_rows rows) (lacks-ordered_rows c rows l))));
     }
       where
         kept_lack_rates : (s : ℕ) → Member s (r ∷ rs) → LacksCoordinate (2 ^ givens.space.variables + s) (kept_rows kept)
         kept_lack_rates s (inl is) = h.keeps (2 ^ givens.space.variables + s) (mid_lacks (2 ^ givens.space.variables + s)
             (subst (λ (xs : List Terms). LacksCoordinate (2 ^ givens.space.variables + s) xs) (sym next_is)
             (subst (λ (x : ℕ). LacksCoordinate (2 ^ givens.space.variables + x) (next_list (2 ^ givens.space.variables + r) (ordered_rows rows))) (sym is) (next_lacks (2 ^ givens.space.variables + r) (ordered_rows rows)))))
-        kept_lack_rates s (inr m) = h.region.free s m
+        kept_lack_rates s (inr m) = h.region.free s (contains_of rs s m)
 
         to_rows : (p : ℕ → ℤ) → MeetsGivens givens p → IsPointOf (kept_rows kept) p → Extends ((2 ^ givens.space.variables + r) ∷ map (λ s. 2 ^ givens.space.variables + s) rs) rows p
         to_rows p m i =

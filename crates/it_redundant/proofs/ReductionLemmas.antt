@@ -1,45 +1,46 @@
 -- What reduction keeps, and that it has one end.
 use Rattle.std.proofs.Common.{◌≡◌, ℕ, suc, ◌+◌, ◌≤◌, ℤ, pos, ◌≤ℤ◌, List, [], ◌∷◌, ◌++◌, length, take, drop, get_or, Option, refl, sym, ap, subst, ◌∙◌, arith, append_assoc, append-nil, length-append, All}
-use Rattle.std.specs.List.{AllByRecursion as Every}
+use Rattle.std.proofs.lemmas.List.{map-append}
 use Rattle.std.proofs.lemmas.List.Elements.{All-nil, All-cons, All-head, All-tail, All-append}
 use Rattle.it_space.specs.Answers.{CertificateView}
-use Rattle.it_space.specs.Problems.{ProblemView, IsProblem}
+use Rattle.it_space.specs.Problems.{ProblemView, IsProblem, IsMet}
 use Rattle.it_space.specs.Rows.{Terms, IsOver, point_of, value}
 use Rattle.it_space.specs.Spaces.{size_of}
 use Rattle.it_eliminate.specs.Projections.{IsPointOf}
+use Rattle.it_eliminate.proofs.MemberLemmas.{all_front, all_back}
+use Rattle.it_eliminate.proofs.OrderLemmas.{RowHolds}
 use Rattle.it_check.proofs.Truth.{yes_is_true}
 use Rattle.it_prove.specs.ProofViews.{ProofView, Yes, No, Undecided, EndsWith}
 use Rattle.it_prove.proofs.ProofLemmas.{one_outcome}
 use Rattle.it_prove.proofs.RightLemmas.{ends_are_right}
 use Rattle.it_redundant.specs.Reduction.{NeedView, Needed, Unsettled, Reduces, with_rows, row_constraints, kept_by, dropped_by, kept_rows}
 use Rattle.it_redundant.specs.Theorems.{MeetsGivens, HoldAlike, SeparatesRow, IsNeeded, AreNeeded, OneReduction}
-use Rattle.it_redundant.proofs.RowLemmas.{met_rows_hold, front_is_met, rest_is_met, rows_append, rows_front, rows_rest, problem_is_met, problem_limits}
+use Rattle.it_redundant.proofs.RowLemmas.{met_rows_hold, problem_is_met, problem_limits}
+
+pub rows_of_parts : (ks ls : List (Terms × NeedView)) → kept_rows (ks ++ ls) ≡ kept_rows ks ++ kept_rows ls
+rows_of_parts ks ls = map-append (λ k. k.0) ks ls
+
+pub some_keep : (P : Terms → Type 0) (row : Terms) (o : ProofView) → P row → All P (kept_rows (kept_by row o))
+some_keep P row (Yes w) h = All-nil P
+some_keep P row (No values) h = All-cons P row [] h (All-nil P)
+some_keep P row (Undecided cause) h = All-cons P row [] h (All-nil P)
 
 module _ (givens : ProblemView) (budget : Option ℕ) where
   -- ---- the rows that stay are some of the rows
 
   module _ (P : Terms → Type 0) where
-    some_keep : (row : Terms) (o : ProofView) → P row → Every P (kept_rows (kept_by row o))
-    some_keep row (Yes w) h = tt
-    some_keep row (No values) h = (h, tt)
-    some_keep row (Undecided cause) h = (h, tt)
-
-    every_part : (ks ls : List (Terms × NeedView)) → Every P (kept_rows ks) → Every P (kept_rows ls) → Every P (kept_rows (ks ++ ls))
-    every_part [] ls h k = k
-    every_part (x ∷ ks) ls h k = (h.0, every_part ks ls h.1 k)
-
-    pub every_kept : (before rows : List Terms) (kept : List (Terms × NeedView)) (dropped : List (Terms × CertificateView)) → Reduces givens budget before rows kept dropped → Every P rows → Every P (kept_rows kept)
-    every_kept before [] kept dropped r h = subst (λ k. Every P (kept_rows k)) (sym r.0) tt
-    every_kept before (row ∷ rows) kept dropped (o, k, d, ends, e, f, r) h =
-        subst (λ k. Every P (kept_rows k)) (sym e) (every_part (kept_by row o) k (some_keep row o h.0) (every_kept (before ++ kept_rows (kept_by row o)) rows k d r h.1))
+    pub all_kept : (before rows : List Terms) (kept : List (Terms × NeedView)) (dropped : List (Terms × CertificateView)) → Reduces givens budget before rows kept dropped → All P rows → All P (kept_rows kept)
+    all_kept before [] kept dropped r h = subst (λ k. All P (kept_rows k)) (sym r.0) (All-nil P)
+    all_kept before (row ∷ rows) kept dropped (o, k, d, ends, e, f, r) h = subst (λ rs. All P rs) (sym (ap kept_rows e ∙ rows_of_parts (kept_by row o) k))
+        (All-append P (kept_rows (kept_by row o)) (kept_rows k) (some_keep P row o (All-head P row rows h)) (all_kept (before ++ kept_rows (kept_by row o)) rows k d r (All-tail P row rows h)))
 
   module _ (p : ℕ → ℤ) where
     parts_of_rows : (ks ls : List (Terms × NeedView)) → IsPointOf (kept_rows (ks ++ ls)) p → IsPointOf (kept_rows ks) p × IsPointOf (kept_rows ls) p
-    parts_of_rows [] ls h = (tt, h)
-    parts_of_rows (x ∷ ks) ls h = let both = parts_of_rows ks ls h.1 in ((h.0, both.0), both.1)
+    parts_of_rows ks ls h =
+        let both = subst (λ rs. IsPointOf rs p) (rows_of_parts ks ls) h in (all_front (RowHolds p) (kept_rows ks) (kept_rows ls) both, all_back (RowHolds p) (kept_rows ks) (kept_rows ls) both)
 
     pub kept_hold : (before rows : List Terms) (kept : List (Terms × NeedView)) (dropped : List (Terms × CertificateView)) → Reduces givens budget before rows kept dropped → IsPointOf rows p → IsPointOf (kept_rows kept) p
-    kept_hold before rows kept dropped r h = every_kept (λ row. pos 0 ≤ℤ value row p) before rows kept dropped r h
+    kept_hold before rows kept dropped r h = all_kept (RowHolds p) before rows kept dropped r h
 
   -- ---- they hold where all do
 
@@ -47,11 +48,6 @@ module _ (givens : ProblemView) (budget : Option ℕ) where
   few_kept row (Yes w) = omega arith
   few_kept row (No values) = omega arith
   few_kept row (Undecided cause) = omega arith
-
-  pub kept_up_to : (size : ℕ) (row : Terms) (o : ProofView) → IsOver size row → All (IsOver size) (kept_rows (kept_by row o))
-  kept_up_to size row (Yes w) h = All-nil (IsOver size)
-  kept_up_to size row (No values) h = All-cons (IsOver size) row [] h (All-nil (IsOver size))
-  kept_up_to size row (Undecided cause) h = All-cons (IsOver size) row [] h (All-nil (IsOver size))
 
   -- rows that stay and rows that are still to be visited, as the calls take them
   record AreTaken (before rows : List Terms) : Type 0 where
@@ -69,7 +65,7 @@ module _ (givens : ProblemView) (budget : Option ℕ) where
   taken_next : (before rows : List Terms) (row : Terms) (o : ProofView) → AreTaken before (row ∷ rows) → AreTaken (before ++ kept_rows (kept_by row o)) rows
   taken_next before rows row o t = record {
     count = omega (arith, t.count, length-append before (kept_rows (kept_by row o)), few_kept row o);
-    up = All-append (IsOver (size_of givens.space)) before (kept_rows (kept_by row o)) t.up (kept_up_to (size_of givens.space) row o (own_up before rows row t));
+    up = All-append (IsOver (size_of givens.space)) before (kept_rows (kept_by row o)) t.up (some_keep (IsOver (size_of givens.space)) row o (own_up before rows row t));
     ups = All-tail (IsOver (size_of givens.space)) row rows t.ups;
   }
 
@@ -83,15 +79,15 @@ module _ (givens : ProblemView) (budget : Option ℕ) where
           → EndsWith (with_rows givens others) row budget o → IsPointOf others p → IsPointOf (kept_rows (kept_by row o)) p → pos 0 ≤ℤ value row p
       row_holds others row (Yes w) problem own ends h k =
           yes_is_true (with_rows givens others) row w problem own (ends_are_right (with_rows givens others) row budget (Yes w) problem own ends).0 p meets.0 (problem_is_met p givens others meets.1 h)
-      row_holds others row (No values) problem own ends h k = k.0
-      row_holds others row (Undecided cause) problem own ends h k = k.0
+      row_holds others row (No values) problem own ends h k = All-head (RowHolds p) row [] k
+      row_holds others row (Undecided cause) problem own ends h k = All-head (RowHolds p) row [] k
 
       all_hold : (before rows : List Terms) (kept : List (Terms × NeedView)) (dropped : List (Terms × CertificateView)) → AreTaken before rows → Reduces givens budget before rows kept dropped → IsPointOf before p → IsPointOf (kept_rows kept) p → IsPointOf rows p
-      all_hold before [] kept dropped t r b h = tt
+      all_hold before [] kept dropped t r b h = All-nil (RowHolds p)
       all_hold before (row ∷ rows) kept dropped t (o, k, d, ends, e, f, r) b h =
           let parts = parts_of_rows p (kept_by row o) k (subst (λ k. IsPointOf (kept_rows k) p) e h) in
-          let hold : IsPointOf rows p = all_hold (before ++ kept_rows (kept_by row o)) rows k d (taken_next before rows row o t) r (rows_append p before (kept_rows (kept_by row o)) b parts.0) parts.1 in
-          (row_holds (before ++ rows) row o (taken_problem before rows row t) (own_up before rows row t) ends (rows_append p before rows b hold) parts.0, hold)
+          let hold : IsPointOf rows p = all_hold (before ++ kept_rows (kept_by row o)) rows k d (taken_next before rows row o t) r (All-append (RowHolds p) before (kept_rows (kept_by row o)) b parts.0) parts.1 in
+          All-cons (RowHolds p) row rows (row_holds (before ++ rows) row o (taken_problem before rows row t) (own_up before rows row t) ends (All-append (RowHolds p) before rows b hold) parts.0) hold
 
   taken_first : (rows : List Terms) → length rows ≤ 65535 → All (IsOver (size_of givens.space)) rows → AreTaken [] rows
   taken_first rows count ups = record { count = omega (arith, count); up = All-nil (IsOver (size_of givens.space)); ups = ups }
@@ -99,7 +95,7 @@ module _ (givens : ProblemView) (budget : Option ℕ) where
   pub hold_alike : IsProblem givens → length givens.constraints ≤ 65535 → (rows : List Terms) (kept : List (Terms × NeedView)) (dropped : List (Terms × CertificateView)) → length rows ≤ 65535
       → All (IsOver (size_of givens.space)) rows → Reduces givens budget [] rows kept dropped → HoldAlike givens rows (kept_rows kept)
   hold_alike limits few rows kept dropped count ups r p meets =
-      (λ h. kept_hold p [] rows kept dropped r h, λ h. all_hold limits few p meets [] rows kept dropped (taken_first rows count ups) r tt h)
+      (λ h. kept_hold p [] rows kept dropped r h, λ h. all_hold limits few p meets [] rows kept dropped (taken_first rows count ups) r (All-nil (RowHolds p)) h)
 
   -- ---- the point of a needed row separates it from the others that stay
 
@@ -107,8 +103,8 @@ module _ (givens : ProblemView) (budget : Option ℕ) where
   point_separates : (others : List Terms) (row : Terms) (values : List ℤ) → IsProblem (with_rows givens others) → IsOver (size_of givens.space) row → EndsWith (with_rows givens others) row budget (No values) → SeparatesRow givens others row values
   point_separates others row values problem own ends =
       let refutes = (ends_are_right (with_rows givens others) row budget (No values) problem own ends).0 in let p = point_of values in record {
-        meets = (refutes.polymatroid, front_is_met p givens.constraints (row_constraints 1 others) refutes.met);
-        others_hold = met_rows_hold p 1 others (rest_is_met p givens.constraints (row_constraints 1 others) refutes.met);
+        meets = (refutes.polymatroid, all_front (IsMet p) givens.constraints (row_constraints 1 others) refutes.met);
+        others_hold = met_rows_hold p 1 others (all_back (IsMet p) givens.constraints (row_constraints 1 others) refutes.met);
         violated = refutes.violated;
       }
 
@@ -119,7 +115,7 @@ module _ (givens : ProblemView) (budget : Option ℕ) where
   need_at before rows row (No values) kept dropped problem own ends r k e = subst (IsNeeded givens (before ++ kept_rows kept)) (ap (λ ks. get_or ks 0 k) e)
       (let apart = point_separates (before ++ rows) row values problem own ends in let p = point_of values in record {
         meets = apart.meets;
-        others_hold = rows_append p before (kept_rows kept) (rows_front p before rows apart.others_hold) (kept_hold p (before ++ row ∷ []) rows kept dropped r (rows_rest p before rows apart.others_hold));
+        others_hold = All-append (RowHolds p) before (kept_rows kept) (all_front (RowHolds p) before rows apart.others_hold) (kept_hold p (before ++ row ∷ []) rows kept dropped r (all_back (RowHolds p) before rows apart.others_hold));
         violated = apart.violated;
       })
   need_at before rows row (Undecided cause) kept dropped problem own ends r k e = subst (IsNeeded givens (before ++ kept_rows kept)) (ap (λ ks. get_or ks 0 k) e) tt

@@ -8,36 +8,17 @@ use Rattle.it_space.specs.Problems.{ProblemView, IsProblem, IsMet, AreMet}
 use Rattle.it_space.specs.Rows.{Terms, IsOver}
 use Rattle.it_space.specs.Spaces.{size_of}
 use Rattle.it_eliminate.specs.Projections.{IsPointOf}
+use Rattle.it_eliminate.proofs.OrderLemmas.{RowHolds}
 use Rattle.it_redundant.specs.Reduction.{row_constraints, with_rows}
 
 module _ (p : ℕ → ℤ) where
   pub rows_are_met : (line : ℕ) (rows : List Terms) → IsPointOf rows p → AreMet p (row_constraints line rows)
   rows_are_met line [] h = All-nil (IsMet p)
-  rows_are_met line (row ∷ rows) h = All-cons (IsMet p) _ (row_constraints (line + 1) rows) h.0 (rows_are_met (line + 1) rows h.1)
+  rows_are_met line (row ∷ rows) h = All-cons (IsMet p) _ (row_constraints (line + 1) rows) (All-head (RowHolds p) row rows h) (rows_are_met (line + 1) rows (All-tail (RowHolds p) row rows h))
 
   pub met_rows_hold : (line : ℕ) (rows : List Terms) → AreMet p (row_constraints line rows) → IsPointOf rows p
-  met_rows_hold line [] h = tt
-  met_rows_hold line (row ∷ rows) h = (All-head (IsMet p) _ (row_constraints (line + 1) rows) h, met_rows_hold (line + 1) rows (All-tail (IsMet p) _ (row_constraints (line + 1) rows) h))
-
-  pub front_is_met : (cs ds : List Constraint) → AreMet p (cs ++ ds) → AreMet p cs
-  front_is_met [] ds h = All-nil (IsMet p)
-  front_is_met (c ∷ cs) ds h = All-cons (IsMet p) c cs (All-head (IsMet p) c (cs ++ ds) h) (front_is_met cs ds (All-tail (IsMet p) c (cs ++ ds) h))
-
-  pub rest_is_met : (cs ds : List Constraint) → AreMet p (cs ++ ds) → AreMet p ds
-  rest_is_met [] ds h = h
-  rest_is_met (c ∷ cs) ds h = rest_is_met cs ds (All-tail (IsMet p) c (cs ++ ds) h)
-
-  pub rows_append : (xs ys : List Terms) → IsPointOf xs p → IsPointOf ys p → IsPointOf (xs ++ ys) p
-  rows_append [] ys h k = k
-  rows_append (x ∷ xs) ys h k = (h.0, rows_append xs ys h.1 k)
-
-  pub rows_front : (xs ys : List Terms) → IsPointOf (xs ++ ys) p → IsPointOf xs p
-  rows_front [] ys h = tt
-  rows_front (x ∷ xs) ys h = (h.0, rows_front xs ys h.1)
-
-  pub rows_rest : (xs ys : List Terms) → IsPointOf (xs ++ ys) p → IsPointOf ys p
-  rows_rest [] ys h = h
-  rows_rest (x ∷ xs) ys h = rows_rest xs ys h.1
+  met_rows_hold line [] h = All-nil (RowHolds p)
+  met_rows_hold line (row ∷ rows) h = All-cons (RowHolds p) row rows (All-head (IsMet p) _ (row_constraints (line + 1) rows) h) (met_rows_hold (line + 1) rows (All-tail (IsMet p) _ (row_constraints (line + 1) rows) h))
 
   -- what meets the givens and the rows meets the problem, and back
   pub problem_is_met : (givens : ProblemView) (rows : List Terms) → AreMet p givens.constraints → IsPointOf rows p → AreMet p (with_rows givens rows).constraints

@@ -14,17 +14,13 @@ use Rattle.it_redundant.specs.declared.types.Need.{Need}
 use Rattle.it_redundant.specs.Reduction.{NeedView, Reduces, kept_by, dropped_by, kept_rows, need_view, row_constraints, with_rows}
 use Rattle.it_redundant.specs.ReductionSteps.{AreRowsUpTo}
 use Rattle.it_redundant.proofs.RowLemmas.{problem_limits, row_count, row_parts}
-use Rattle.it_redundant.proofs.ReductionLemmas.{few_kept, kept_up_to}
+use Rattle.it_redundant.proofs.ReductionLemmas.{few_kept, rows_of_parts, some_keep}
 use Rattle.it_redundant.proofs.ClosedLemmas.{closed_after}
 
 -- the rows of what stays, by its needs as they are kept
 pub rows_kept : (ks : List (Terms × Need)) → kept_rows (map (λ k. (k.0, need_view k.1)) ks) ≡ map (λ k. k.0) ks
 rows_kept [] = refl
 rows_kept (k ∷ ks) = ap (λ xs. k.0 ∷ xs) (rows_kept ks)
-
-rows_of_parts : (ks ls : List (Terms × NeedView)) → kept_rows (ks ++ ls) ≡ kept_rows ks ++ kept_rows ls
-rows_of_parts [] ls = refl
-rows_of_parts (k ∷ ks) ls = ap (λ xs. k.0 ∷ xs) (rows_of_parts ks ls)
 
 -- The first i rows were visited: whatever the others end with, stands after what is there.
 pub record IsUnderWay (givens : ProblemView) (budget : Option ℕ) (size : ℕ) (rows : List Terms) (kept : List (Terms × NeedView)) (dropped : List (Terms × CertificateView)) (i : ℕ) : Type 0 where
@@ -44,7 +40,7 @@ module _ (givens : ProblemView) (budget : Option ℕ) (size : ℕ) (rows : List 
         (o, k, d, out, refl, refl, subst (λ x. Reduces givens budget x (drop (i + 1) rows) k d) (ap kept_rows e ∙ rows_of_parts kept (kept_by row o)) r))));
     few = let total : length (kept_rows new_kept) ≡ length (kept_rows kept) + length (kept_rows (kept_by row o))
         = ap (λ x. length (kept_rows x)) e ∙ ap length (rows_of_parts kept (kept_by row o)) ∙ length-append (kept_rows kept) (kept_rows (kept_by row o)) in omega (arith, total, few_kept givens budget row o, u.few);
-    up = subst (AreRowsUpTo size) (sym (ap kept_rows e ∙ rows_of_parts kept (kept_by row o))) (All-append (IsOver size) (kept_rows kept) (kept_rows (kept_by row o)) u.up (kept_up_to givens budget size row o own));
+    up = subst (AreRowsUpTo size) (sym (ap kept_rows e ∙ rows_of_parts kept (kept_by row o))) (All-append (IsOver size) (kept_rows kept) (kept_rows (kept_by row o)) u.up (some_keep (IsOver size) row o own));
   }
 
   pub under_way_end : (kept : List (Terms × NeedView)) (dropped : List (Terms × CertificateView)) (i : ℕ) → drop i rows ≡ [] → IsUnderWay givens budget size rows kept dropped i

@@ -1,11 +1,10 @@
 -- What reduction is good for.
-use Rattle.std.specs.Prelude.{◌≡◌, ◌↔◌, ℕ, ◌+◌, ◌-◌, ◌^◌, ℤ, neg_ℤ, pos, ◌≤ℤ◌, List, ◌++◌, ◌∷◌, map, All, Option}
+use Rattle.std.specs.Prelude.{◌≡◌, ◌↔◌, ℕ, ◌+◌, ◌-◌, ◌^◌, ℤ, neg_ℤ, pos, ◌≤ℤ◌, List, ◌++◌, ◌∷◌, map, All, Contains, Option}
 use Rattle.it_space.specs.Answers.{CertificateView}
 use Rattle.it_space.specs.Problems.{ProblemView, AreMet}
 use Rattle.it_space.specs.Rows.{Terms, IsOver, point_of, value}
 use Rattle.it_space.specs.Spaces.{size_of}
 use Rattle.it_polymatroid.specs.Polymatroid.{IsPolymatroid}
-use Rattle.it_eliminate.specs.Elimination.{Member}
 use Rattle.it_eliminate.specs.Projections.{IsPointOf, Extends, LacksCoordinate}
 use Rattle.it_redundant.specs.Reduction.{NeedView, Needed, Unsettled, Reduces, kept_rows}
 use Rattle.it_redundant.specs.ReducedElimination.{ProjectedView, Region, Rows, Wide, ReducedEnds}
@@ -47,7 +46,7 @@ SpeakOfSets givens = All (λ c. IsOver (2 ^ givens.space.variables - 1) c.row) g
 -- point extends to the eliminated rates; and each is needed or unsettled
 pub record IsReducedRegion (givens : ProblemView) (rates : List ℕ) (rows : List Terms) (kept : List (Terms × NeedView)) : Type 0 where
   pub coordinates : All (IsOver (size_of givens.space)) (kept_rows kept)
-  pub free : (r : ℕ) → Member r rates → LacksCoordinate (2 ^ givens.space.variables + r) (kept_rows kept)
+  pub free : (r : ℕ) → Contains rates r → LacksCoordinate (2 ^ givens.space.variables + r) (kept_rows kept)
   pub exact : (p : ℕ → ℤ) → MeetsGivens givens p → IsPointOf (kept_rows kept) p ↔ Extends (map (λ r. 2 ^ givens.space.variables + r) rates) rows p
   pub needed : AreNeeded givens kept
 
