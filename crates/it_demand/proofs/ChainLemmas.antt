@@ -12,7 +12,8 @@ use Rattle.it_syntax.specs.declared.types.Atom.{Atom}
 use Rattle.it_syntax.specs.declared.types.Atom.TheVariants.{Mutual}
 use Rattle.it_syntax.specs.Meaning.{atom_at}
 use Rattle.it_syntax.specs.Givens.{union_of, links, links_from}
-use Rattle.it_demand.specs.Demands.{Demand, equations, equation, States, AreStated, parts_from, AreParts}
+use Rattle.it_demand.specs.Demands.{Demand, equations, equation}
+use Rattle.it_demand.specs.Origins.{States, ComesFrom, AreStated, part_origins, AreParts}
 
 -- a union of sets of n variables is one
 pub union_below : (n : ℕ) (sets : List ℕ) → All (λ s. s < 2 ^ n) sets → union_of sets < 2 ^ n
@@ -49,7 +50,7 @@ chain-length n (s ∷ sets) = length-map (links_from s sets) (λ link. equation 
 
 -- one constraint for each demand, in order, as parts of a line from number `part` on
 abbrev pub ArePartsFrom : ℕ → Space → ℕ → ℕ → List Demand → List Constraint → Type 0
-ArePartsFrom part s line parts ds cs = AreStated s (parts_from part line parts ds) cs
+ArePartsFrom part s line parts ds cs = AreStated s (part_origins line parts part (length ds)) ds cs
 
 -- the equations of the links before place i are there: with those of the links from there on they are all
 pub record IsChained (space : Space) (line parts : ℕ) (sets : List ℕ) (past i : ℕ) (constraints : List Constraint) : Type 0 where
@@ -59,12 +60,12 @@ pub record IsChained (space : Space) (line parts : ℕ) (sets : List ℕ) (past 
 
 -- one link further
 pub chained-more : (space : Space) (line parts : ℕ) (sets : List ℕ) (past i here next : ℕ) (old new : List Constraint) (c : Constraint) → i + 1 < length sets → here ≡ get_or sets i here → next ≡ get_or sets (i + 1) next
-    → here < 2 ^ space.variables → States space (Given line i parts) (equation (λ p. atom_at space.variables p (Mutual past next here))) c → new ≡ old ++ c ∷ []
+    → here < 2 ^ space.variables → States space (equation (λ p. atom_at space.variables p (Mutual past next here))) c → ComesFrom (Given line i parts) c → new ≡ old ++ c ∷ []
     → IsChained space line parts sets past i old → IsChained space line parts sets (bit_or past here) (i + 1) new
-chained-more space line parts sets past i here next old new c h is was low states e u = record {
+chained-more space line parts sets past i here next old new c h is was low states comes e u = record {
   below = or_lt space.variables past here u.below low;
   all = λ more m. subst (λ (cs : List Constraint). ArePartsFrom 1 space line parts (equations space.variables (links sets)) cs) (sym (ap (λ (cs : List Constraint). cs ++ more) e ∙ append_assoc old (c ∷ []) more))
-      (u.all (c ∷ more) (subst (λ (ls : List Atom). ArePartsFrom i space line parts (equations space.variables ls) (c ∷ more)) (sym (links-more past sets i here next h is was)) (states, m)));
+      (u.all (c ∷ more) (subst (λ (ls : List Atom). ArePartsFrom i space line parts (equations space.variables ls) (c ∷ more)) (sym (links-more past sets i here next h is was)) (record { placed = (comes, m.placed); stated = (states, m.stated) })));
 }
 
 -- and after the last one
@@ -73,5 +74,5 @@ pub chained-end : (space : Space) (line parts : ℕ) (sets : List ℕ) (past i :
 chained-end space line parts sets past i constraints h e u =
     let count : parts ≡ length (equations space.variables (links sets)) = e ∙ sym (chain-length space.variables sets) in
     let whole : ArePartsFrom 1 space line parts (equations space.variables (links sets)) (constraints ++ []) =
-    u.all [] (subst (λ (ls : List Atom). ArePartsFrom i space line parts (equations space.variables ls) []) (sym (links-end past sets i h)) tt) in
+    u.all [] (subst (λ (ls : List Atom). ArePartsFrom i space line parts (equations space.variables ls) []) (sym (links-end past sets i h)) (record { placed = tt; stated = tt })) in
     subst (λ (n : ℕ). ArePartsFrom 1 space line n (equations space.variables (links sets)) constraints) count (subst (λ (cs : List Constraint). ArePartsFrom 1 space line parts (equations space.variables (links sets)) cs) (append-nil constraints) whole)

@@ -1,6 +1,6 @@
 -- A row is the terms of its form.
 use Rattle.std.proofs.Common.{◌≡◌, ◌⊎◌, inl, inr, ℕ, zero, suc, ◌+◌, ◌<◌, ◌≤◌, ℤ, pos, negsuc, refl, sym, ap, ap₂, subst, ◌∙◌, arith, List, [], ◌∷◌, ◌++◌, map}
-use Rattle.std.specs.List.{AllByRecursion as Every}
+use Rattle.std.specs.List.{AllZip, AllByRecursion as Every}
 use Rattle.std.proofs.lemmas.Bool.{cases_order}
 use Rattle.it_space.specs.declared.spaces.Space.{Space}
 use Rattle.it_space.specs.declared.problems.Kind.{Kind}
@@ -15,7 +15,8 @@ use Rattle.it_polymatroid.specs.Certificates.{Form}
 use Rattle.it_polymatroid.specs.Elementals.{span}
 use Rattle.it_polymatroid.proofs.Forms.{one_at-zero}
 use Rattle.it_demand.specs.Canonical.{IsRowOf}
-use Rattle.it_demand.specs.Demands.{AreStated, LineDemand}
+use Rattle.it_demand.specs.Demands.{Demand}
+use Rattle.it_demand.specs.Origins.{States}
 use Rattle.it_demand.specs.LineDemands.{AreRowsOf}
 use Rattle.it_demand.specs.RowsOfForms.{terms_of_form}
 
@@ -75,10 +76,10 @@ rows_are_terms_of_forms s [] (row ∷ rows) a = absurd a
 rows_are_terms_of_forms s (form ∷ forms) [] a = absurd a
 rows_are_terms_of_forms s (form ∷ forms) (row ∷ rows) a = ap₂ (λ (t : Terms) (ts : List Terms). t ∷ ts) (row_is_terms_of_form s form row a.0) (rows_are_terms_of_forms s forms rows a.1)
 
-pub stated_rows : (s : Space) (ds : List LineDemand) (cs : List Constraint) → AreStated s ds cs
-    → map (λ (c : Constraint). let x : Kind × Terms = (c.kind, c.row) in x) cs ≡ map (λ (d : LineDemand). let x : Kind × Terms = (d.demand.kind, terms_of_form (size_of s) d.demand.form) in x) ds
+pub stated_rows : (s : Space) (ds : List Demand) (cs : List Constraint) → AllZip (States s) ds cs
+    → map (λ (c : Constraint). let x : Kind × Terms = (c.kind, c.row) in x) cs ≡ map (λ (d : Demand). let x : Kind × Terms = (d.kind, terms_of_form (size_of s) d.form) in x) ds
 stated_rows s [] [] a = refl
 stated_rows s [] (c ∷ cs) a = absurd a
 stated_rows s (d ∷ ds) [] a = absurd a
 stated_rows s (d ∷ ds) (c ∷ cs) a = ap₂ (λ (x : Kind × Terms) (xs : List (Kind × Terms)). x ∷ xs)
-    (ap₂ (λ (k : Kind) (t : Terms). let x : Kind × Terms = (k, t) in x) a.0.kind (row_is_terms_of_form s d.demand.form c.row a.0.row)) (stated_rows s ds cs a.1)
+    (ap₂ (λ (k : Kind) (t : Terms). let x : Kind × Terms = (k, t) in x) a.0.kind (row_is_terms_of_form s d.form c.row a.0.row)) (stated_rows s ds cs a.1)

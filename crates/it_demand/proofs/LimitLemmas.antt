@@ -1,5 +1,6 @@
 -- Relations and constraints within the limits, of more variables and rates, and how many demands lines have.
-use Rattle.std.proofs.Common.{◌≡◌, ℕ, ◌+◌, ◌*◌, ◌<◌, ◌≤◌, ◌^◌, refl, arith, List, [], ◌∷◌, length, All, lit<, length-append}
+use Rattle.std.proofs.Common.{◌≡◌, ℕ, zero, suc, map, ◌+◌, ◌*◌, ◌<◌, ◌≤◌, ◌^◌, refl, arith, List, [], ◌∷◌, length, All, lit<, length-append}
+use Rattle.std.specs.List.{flat_map}
 use Rattle.std.proofs.Math.Nat.{pow-le-pow_right}
 use Rattle.std.proofs.lemmas.List.Elements.{All-head, All-tail, All-weaker}
 use Rattle.it_syntax.specs.declared.types.Atom.{Atom}
@@ -7,8 +8,8 @@ use Rattle.it_syntax.specs.declared.types.Atom.TheVariants.{Nothing, Entropy, Mu
 use Rattle.it_syntax.specs.declared.types.Term.{Term}
 use Rattle.it_syntax.specs.Meaning.{RelationView, IsAtomOf}
 use Rattle.it_syntax.specs.Givens.{GivenView, Relation, Markov, Independent, Function, IsRelationOf, AreSetsOf, IsGivenOf}
-use Rattle.it_demand.specs.Demands.{Demand, demands, parts_from, parts_of}
-use Rattle.it_demand.specs.LineDemands.{given_demands, row_demands}
+use Rattle.it_demand.specs.Demands.{demand_of, demands}
+use Rattle.it_demand.specs.Origins.{part_origins, line_parts, given_origins, row_origins}
 use Rattle.it_demand.proofs.ChainLemmas.{chain-length}
 
 -- sets of n variables are sets of more
@@ -62,15 +63,26 @@ parts-few n (Markov sets) a = omega (arith, chain-length n sets, a.few)
 parts-few n (Independent members given) a = omega arith
 parts-few n (Function value argument) a = omega arith
 
-parts-length : (part line parts : ℕ) (ds : List Demand) → length (parts_from part line parts ds) ≡ length ds
-parts-length part line parts [] = refl
-parts-length part line parts (d ∷ ds) = omega (arith, parts-length (part + 1) line parts ds)
+pub givens-few : (n : ℕ) (cs : List GivenView) → All (IsGivenOf n) cs → length (flat_map (demands n) cs) ≤ 14 * length cs
+givens-few n [] a = omega arith
+givens-few n (c ∷ cs) a =
+    omega (arith, length-append (demands n c) (flat_map (demands n) cs), parts-few n c (All-head (IsGivenOf n) c cs a), givens-few n cs (All-tail (IsGivenOf n) c cs a))
 
-pub givens-few : (n line : ℕ) (cs : List GivenView) → All (IsGivenOf n) cs → length (given_demands n line cs) ≤ 14 * length cs
-givens-few n line [] a = omega arith
-givens-few n line (c ∷ cs) a =
-    omega (arith, length-append (parts_of line (demands n c)) (given_demands n (line + 1) cs), parts-length 1 line (length (demands n c)) (demands n c), parts-few n c (All-head (IsGivenOf n) c cs a), givens-few n (line + 1) cs (All-tail (IsGivenOf n) c cs a))
+-- there is an origin for each demand
+parts-length : (line parts part count : ℕ) → length (part_origins line parts part count) ≡ count
+parts-length line parts part zero = refl
+parts-length line parts part (suc count) = omega (arith, parts-length line parts (part + 1) count)
 
-pub rows-length : (n line : ℕ) (rs : List RelationView) → length (row_demands n line rs) ≡ length rs
-rows-length n line [] = refl
-rows-length n line (r ∷ rs) = omega (arith, rows-length n (line + 1) rs)
+pub given_origins-length : (n line : ℕ) (cs : List GivenView) → length (given_origins n line cs) ≡ length (flat_map (demands n) cs)
+given_origins-length n line [] = refl
+given_origins-length n line (c ∷ cs) = omega (
+  arith,
+  length-append (line_parts line (demands n c)) (given_origins n (line + 1) cs),
+  parts-length line (length (demands n c)) 1 (length (demands n c)),
+  length-append (demands n c) (flat_map (demands n) cs),
+  given_origins-length n (line + 1) cs,
+)
+
+pub row_origins-length : (n line : ℕ) (rs : List RelationView) → length (row_origins line rs) ≡ length (map (demand_of n) rs)
+row_origins-length n line [] = refl
+row_origins-length n line (r ∷ rs) = omega (arith, row_origins-length n (line + 1) rs)

@@ -1,11 +1,11 @@
 -- Constraints are met where the lines that they state are true, and the rows of a system are at least 0 where its lines hold.
-use Rattle.std.proofs.Common.{◌≡◌, ◌↔◌, ℕ, ◌+◌, ℤ, pos, ◌-ℤ◌, ◌≤ℤ◌, refl, sym, subst, subst₂, arith, List, [], ◌∷◌, length, All}
+use Rattle.std.proofs.Common.{◌≡◌, ◌↔◌, ℕ, ◌+◌, ℤ, pos, ◌-ℤ◌, ◌≤ℤ◌, refl, sym, subst, subst₂, arith, List, [], ◌∷◌, map, All}
+use Rattle.std.specs.List.{flat_map}
 use Rattle.std.proofs.lemmas.Int.{ints}
 use Rattle.std.proofs.lemmas.List.Elements.{All-nil, All-cons, All-head, All-tail, All-append}
 use Rattle.it_space.specs.declared.spaces.Space.{Space}
 use Rattle.it_space.specs.declared.problems.Kind.{Kind}
 use Rattle.it_space.specs.declared.problems.Origin.{Origin}
-use Rattle.it_space.specs.declared.problems.Origin.TheVariants.{Given, Rate}
 use Rattle.it_space.specs.declared.problems.Constraint.{Constraint}
 use Rattle.it_space.specs.Problems.{Meets, IsMet, AreMet}
 use Rattle.it_space.specs.Rows.{Terms, value}
@@ -17,35 +17,25 @@ use Rattle.it_syntax.specs.Meaning.{RelationView, common_denominator, atom_at, s
 use Rattle.it_syntax.specs.Givens.{GivenView, Relation, Markov, Independent, Function, IsTrueAt, links, sum_of_conditionals, union_of}
 use Rattle.it_polymatroid.specs.Certificates.{Form}
 use Rattle.it_demand.specs.Canonical.{IsRowOf, form_of, signed_difference}
-use Rattle.it_demand.specs.Demands.{Demand, LineDemand, kind_of, equation, equations, demand_of, demands, States, AreStated, parts_from, parts_of, AreParts}
+use Rattle.it_demand.specs.Demands.{Demand, kind_of, equation, equations, demand_of, demands}
+use Rattle.it_demand.specs.Origins.{States, AreStated, line_parts, AreParts}
 use Rattle.it_demand.specs.Targets.{negation, targets, inequalities_of}
-use Rattle.it_demand.specs.LineDemands.{given_demands, row_demands, system_forms, AreRowsOf, AreAtLeastZero}
+use Rattle.it_demand.specs.LineDemands.{system_forms, AreRowsOf, AreAtLeastZero}
 use Rattle.it_demand.proofs.ZipLemmas.{zip-same, All-parts}
 
 -- a demand is met at a map
 abbrev pub IsSatisfied : (ℕ → ℤ) → Demand → Type 0
 IsSatisfied p d = Meets d.kind (d.form p)
 
-states_same : (s : Space) (place : Origin) (d : Demand) (c : Constraint) (p : ℕ → ℤ) → p 0 ≡ pos 0 → States s place d c → IsMet p c ↔ IsSatisfied p d
-states_same s place d c p z h = (
+states_same : (s : Space) (d : Demand) (c : Constraint) (p : ℕ → ℤ) → p 0 ≡ pos 0 → States s d c → IsMet p c ↔ IsSatisfied p d
+states_same s d c p z h = (
   λ m. subst₂ (λ (k : Kind) (x : ℤ). Meets k x) h.kind (h.row.same p z) m,
   λ m. subst₂ (λ (k : Kind) (x : ℤ). Meets k x) (sym h.kind) (sym (h.row.same p z)) m,
 )
 
 -- constraints are met where what they state is
-pub stated_met : (s : Space) (ds : List LineDemand) (cs : List Constraint) (p : ℕ → ℤ) → p 0 ≡ pos 0 → AreStated s ds cs → AreMet p cs ↔ All (λ d. IsSatisfied p d.demand) ds
-stated_met s ds cs p z h = zip-same (λ (d : LineDemand) (c : Constraint). States s d.origin d.demand c) (λ d. IsSatisfied p d.demand) (IsMet p) (λ d c t. states_same s d.origin d.demand c p z t) ds cs h
-
--- the parts of a line have a property where its demands have it
-pub parts_each : (P : Demand → Type 0) (part line parts : ℕ) (ds : List Demand) → All (λ d. P d.demand) (parts_from part line parts ds) ↔ All P ds
-parts_each P part line parts [] = (λ m. All-nil P, λ m. All-nil (λ (d : LineDemand). P d.demand))
-parts_each P part line parts (d ∷ ds) =
-    let one : LineDemand = record { origin = Given line part parts; demand = d } in
-    let others : List LineDemand = parts_from (part + 1) line parts ds in
-    let rest = parts_each P (part + 1) line parts ds in (
-      λ m. All-cons P d ds (All-head (λ (e : LineDemand). P e.demand) one others m) (rest.0 (All-tail (λ (e : LineDemand). P e.demand) one others m)),
-      λ m. All-cons (λ (e : LineDemand). P e.demand) one others (All-head P d ds m) (rest.1 (All-tail P d ds m)),
-    )
+pub stated_met : (s : Space) (places : List Origin) (ds : List Demand) (cs : List Constraint) (p : ℕ → ℤ) → p 0 ≡ pos 0 → AreStated s places ds cs → AreMet p cs ↔ All (IsSatisfied p) ds
+stated_met s places ds cs p z h = zip-same (States s) (IsSatisfied p) (IsMet p) (λ d c t. states_same s d c p z t) ds cs h.stated
 
 -- one demand alone
 one_demand_met : (p : ℕ → ℤ) (d : Demand) → All (IsSatisfied p) (d ∷ []) ↔ IsSatisfied p d
@@ -77,34 +67,28 @@ demands_satisfied n p (Markov sets) = links_met n p (links sets)
 demands_satisfied n p (Independent members given) = iff_trans (one_demand_met p _) (difference_is_zero (sum_of_conditionals n p members given) (atom_at n p (Entropy (union_of members) given)))
 demands_satisfied n p (Function value argument) = one_demand_met p _
 
--- the parts of a given, where it is true
-given_satisfied : (n line : ℕ) (c : GivenView) (p : ℕ → ℤ) → All (λ d. IsSatisfied p d.demand) (parts_of line (demands n c)) ↔ IsTrueAt n p c
-given_satisfied n line c p = iff_trans (parts_each (IsSatisfied p) 1 line (length (demands n c)) (demands n c)) (demands_satisfied n p c)
-
 pub given_met : (s : Space) (line : ℕ) (c : GivenView) (cs : List Constraint) → AreParts s line (demands s.variables c) cs → (p : ℕ → ℤ) → p 0 ≡ pos 0 → AreMet p cs ↔ IsTrueAt s.variables p c
-given_met s line c cs h p z = iff_trans (stated_met s (parts_of line (demands s.variables c)) cs p z h) (given_satisfied s.variables line c p)
+given_met s line c cs h p z = iff_trans (stated_met s (line_parts line (demands s.variables c)) (demands s.variables c) cs p z h) (demands_satisfied s.variables p c)
 
 -- those of several lines, where each is true
-pub givens_satisfied : (n line : ℕ) (cs : List GivenView) (p : ℕ → ℤ) → All (λ d. IsSatisfied p d.demand) (given_demands n line cs) ↔ All (IsTrueAt n p) cs
-givens_satisfied n line [] p = (λ m. All-nil (IsTrueAt n p), λ m. All-nil (λ (d : LineDemand). IsSatisfied p d.demand))
-givens_satisfied n line (c ∷ cs) p =
-    let parts = parts_of line (demands n c) in
-    let more = given_demands n (line + 1) cs in
-    let one = given_satisfied n line c p in
-    let rest = givens_satisfied n (line + 1) cs p in (
-      λ m. let each = All-parts (λ (d : LineDemand). IsSatisfied p d.demand) parts more m in All-cons (IsTrueAt n p) c cs (one.0 each.0) (rest.0 each.1),
-      λ m. All-append (λ (d : LineDemand). IsSatisfied p d.demand) parts more (one.1 (All-head (IsTrueAt n p) c cs m)) (rest.1 (All-tail (IsTrueAt n p) c cs m)),
+pub givens_satisfied : (n : ℕ) (cs : List GivenView) (p : ℕ → ℤ) → All (IsSatisfied p) (flat_map (demands n) cs) ↔ All (IsTrueAt n p) cs
+givens_satisfied n [] p = (λ m. All-nil (IsTrueAt n p), λ m. All-nil (IsSatisfied p))
+givens_satisfied n (c ∷ cs) p =
+    let more = flat_map (demands n) cs in
+    let one = demands_satisfied n p c in
+    let rest = givens_satisfied n cs p in (
+      λ m. let each = All-parts (IsSatisfied p) (demands n c) more m in All-cons (IsTrueAt n p) c cs (one.0 each.0) (rest.0 each.1),
+      λ m. All-append (IsSatisfied p) (demands n c) more (one.1 (All-head (IsTrueAt n p) c cs m)) (rest.1 (All-tail (IsTrueAt n p) c cs m)),
     )
 
-pub rows_satisfied : (n line : ℕ) (rs : List RelationView) (p : ℕ → ℤ) → All (λ d. IsSatisfied p d.demand) (row_demands n line rs) ↔ All (Holds n p) rs
-rows_satisfied n line [] p = (λ m. All-nil (Holds n p), λ m. All-nil (λ (d : LineDemand). IsSatisfied p d.demand))
-rows_satisfied n line (r ∷ rs) p =
-    let first : LineDemand = record { origin = Rate line; demand = demand_of n r } in
-    let more = row_demands n (line + 1) rs in
+pub rows_satisfied : (n : ℕ) (rs : List RelationView) (p : ℕ → ℤ) → All (IsSatisfied p) (map (demand_of n) rs) ↔ All (Holds n p) rs
+rows_satisfied n [] p = (λ m. All-nil (Holds n p), λ m. All-nil (IsSatisfied p))
+rows_satisfied n (r ∷ rs) p =
+    let more = map (demand_of n) rs in
     let one = demand_compares r.sign (side_at n p (common_denominator r) r.left) (side_at n p (common_denominator r) r.right) in
-    let rest = rows_satisfied n (line + 1) rs p in (
-      λ m. All-cons (Holds n p) r rs (one.0 (All-head (λ (d : LineDemand). IsSatisfied p d.demand) first more m)) (rest.0 (All-tail (λ (d : LineDemand). IsSatisfied p d.demand) first more m)),
-      λ m. All-cons (λ (d : LineDemand). IsSatisfied p d.demand) first more (one.1 (All-head (Holds n p) r rs m)) (rest.1 (All-tail (Holds n p) r rs m)),
+    let rest = rows_satisfied n rs p in (
+      λ m. All-cons (Holds n p) r rs (one.0 (All-head (IsSatisfied p) (demand_of n r) more m)) (rest.0 (All-tail (IsSatisfied p) (demand_of n r) more m)),
+      λ m. All-cons (IsSatisfied p) (demand_of n r) more (one.1 (All-head (Holds n p) r rs m)) (rest.1 (All-tail (Holds n p) r rs m)),
     )
 
 -- the rows of a relation are at least 0 where it holds

@@ -1,6 +1,6 @@
 -- Rows and constraints are told by what they state.
 use Rattle.std.proofs.Common.{◌≡◌, ℕ, zero, suc, ◌≤◌, ℤ, pos, [], ◌∷◌, List, refl, sym, ap, ap₂, ◌∙◌, arith}
-use Rattle.std.specs.List.{AllZip, AllByRecursion as Every}
+use Rattle.std.specs.List.{AllZip, zip, AllByRecursion as Every}
 use Rattle.it_space.specs.declared.problems.Kind.{Kind}
 use Rattle.it_space.specs.declared.problems.Origin.{Origin}
 use Rattle.it_space.specs.declared.problems.Constraint.{Constraint}
@@ -11,7 +11,9 @@ use Rattle.it_space.proofs.TermLemmas.{value-one_at}
 use Rattle.it_space.proofs.EveryLemmas.{every_of}
 use Rattle.it_polymatroid.proofs.Forms.{one_at-zero}
 use Rattle.it_demand.specs.Canonical.{IsRowOf}
-use Rattle.it_demand.specs.Demands.{LineDemand, States}
+use Rattle.it_demand.specs.Demands.{Demand}
+use Rattle.it_demand.specs.Origins.{ComesFrom, States}
+use Rattle.it_demand.proofs.ZipLemmas.{zip-both}
 use Rattle.it_demand.specs.Theorems.{OneRow, OneRowList, OneConstraintList}
 
 none_at_zero : (size : ℕ) (ts : Terms) → Every (λ (t : ℕ × ℤ). (1 ≤ t.0) × (t.0 ≤ size)) ts → coefficient ts 0 ≡ pos 0
@@ -52,5 +54,6 @@ same_constraint : (r t : Terms) (j k : Kind) (o p : Origin) → r ≡ t → j �
 same_constraint r t j k o p e f g = ap₂ (λ x y. constraint x y o) e f ∙ ap (constraint t k) g
 
 pub one_constraint_list : OneConstraintList
-one_constraint_list s demanded cs ds a b = zip-told (λ (d : LineDemand) (c : Constraint). States s d.origin d.demand c)
-    (λ d x y h k. same_constraint x.row y.row x.kind y.kind x.origin y.origin (one_row s d.demand.form x.row y.row h.row k.row) (h.kind ∙ sym k.kind) (h.origin ∙ sym k.origin)) demanded cs ds a b
+one_constraint_list s places ds cs others a b = zip-told (λ (d : Origin × Demand) (c : Constraint). ComesFrom d.0 c × States s d.1 c)
+    (λ d x y h k. same_constraint x.row y.row x.kind y.kind x.origin y.origin (one_row s d.1.form x.row y.row h.1.row k.1.row) (h.1.kind ∙ sym k.1.kind) (h.0 ∙ sym k.0)) (zip places ds) cs others
+    (zip-both ComesFrom (States s) places ds cs a.placed a.stated) (zip-both ComesFrom (States s) places ds others b.placed b.stated)

@@ -1,12 +1,7 @@
 -- What a given demands: that some forms are 0, or at least 0.
-use Rattle.std.specs.Prelude.{◌≡◌, ℕ, ◌+◌, ◌-ℤ◌, List, [], ◌∷◌, map, length}
-use Rattle.std.specs.List.{AllZip}
-use Rattle.it_space.specs.declared.spaces.Space.{Space}
+use Rattle.std.specs.Prelude.{ℕ, ◌-ℤ◌, List, [], ◌∷◌, map}
 use Rattle.it_space.specs.declared.problems.Kind.{Kind}
 use Rattle.it_space.specs.declared.problems.Kind.TheVariants.{Inequality, Equation}
-use Rattle.it_space.specs.declared.problems.Origin.{Origin}
-use Rattle.it_space.specs.declared.problems.Origin.TheVariants as origins
-use Rattle.it_space.specs.declared.problems.Constraint.{Constraint}
 use Rattle.it_polymatroid.specs.Certificates.{Form}
 use Rattle.it_syntax.specs.declared.types.Sign.{Sign}
 use Rattle.it_syntax.specs.declared.types.Sign.TheVariants.{AtLeast, AtMost, Equal}
@@ -14,7 +9,7 @@ use Rattle.it_syntax.specs.declared.types.Atom.{Atom}
 use Rattle.it_syntax.specs.declared.types.Atom.TheVariants.{Entropy}
 use Rattle.it_syntax.specs.Meaning.{RelationView, atom_at}
 use Rattle.it_syntax.specs.Givens.{GivenView, Relation, Markov, Independent, Function, union_of, links, sum_of_conditionals}
-use Rattle.it_demand.specs.Canonical.{IsRowOf, form_of}
+use Rattle.it_demand.specs.Canonical.{form_of}
 
 -- that a form is at least 0, or is 0
 pub record Demand : Type 0 where
@@ -49,31 +44,3 @@ demands n (Relation r) = demand_of n r ∷ []
 demands n (Markov sets) = equations n (links sets)
 demands n (Independent members given) = equation (independence_form n members given) ∷ []
 demands n (Function value argument) = equation (λ p. atom_at n p (Entropy value argument)) ∷ []
-
--- the constraint that states a demand
-pub record States (s : Space) (place : Origin) (d : Demand) (c : Constraint) : Type 0 where
-  pub row : IsRowOf s d.form c.row
-  pub kind : c.kind ≡ d.kind
-  pub origin : c.origin ≡ place
-
--- a demand, and where it comes from
-pub record LineDemand : Type 0 where
-  pub origin : Origin
-  pub demand : Demand
-
--- one constraint for each, in order
-abbrev pub AreStated : Space → List LineDemand → List Constraint → Type 0
-AreStated s demanded cs = AllZip (λ d c. States s d.origin d.demand c) demanded cs
-
--- demands as parts of a line, from number `part` on
-abbrev pub parts_from : ℕ → ℕ → ℕ → List Demand → List LineDemand
-parts_from part line parts [] = []
-parts_from part line parts (d ∷ ds) = record { origin = origins.Given line part parts; demand = d } ∷ parts_from (part + 1) line parts ds
-
--- the demands of a whole line
-abbrev pub parts_of : ℕ → List Demand → List LineDemand
-parts_of line ds = parts_from 1 line (length ds) ds
-
--- the constraints that state a line
-abbrev pub AreParts : Space → ℕ → List Demand → List Constraint → Type 0
-AreParts s line ds cs = AreStated s (parts_of line ds) cs

@@ -1,26 +1,13 @@
--- What lines demand, the rows of several forms, and the forms of `row` lines.
-use Rattle.std.specs.Prelude.{◌≡◌, ℕ, ◌+◌, ℤ, pos, ◌≤ℤ◌, List, [], ◌∷◌, ◌++◌, length, All}
+-- The rows of several forms, and the forms of `row` lines.
+use Rattle.std.specs.Prelude.{◌≡◌, ℕ, ℤ, pos, ◌≤ℤ◌, List, length, All}
 use Rattle.std.specs.List.{AllZip, flat_map}
 use Rattle.it_space.specs.declared.spaces.Space.{Space}
-use Rattle.it_space.specs.declared.problems.Origin.TheVariants.{Rate}
 use Rattle.it_space.specs.Rows.{Terms, value}
 use Rattle.it_polymatroid.specs.Certificates.{Form}
 use Rattle.it_syntax.specs.NamesViews.{NamesView}
 use Rattle.it_syntax.specs.Meaning.{RelationView}
-use Rattle.it_syntax.specs.Givens.{GivenView}
 use Rattle.it_demand.specs.Canonical.{IsRowOf}
 use Rattle.it_demand.specs.Targets.{targets}
-use Rattle.it_demand.specs.Demands.{LineDemand, demands, demand_of, parts_of}
-
--- what `given` lines demand, from line number `line` on
-abbrev pub given_demands : ℕ → ℕ → List GivenView → List LineDemand
-given_demands n line [] = []
-given_demands n line (c ∷ cs) = parts_of line (demands n c) ++ given_demands n (line + 1) cs
-
--- what `row` lines demand, from line number `line` on
-abbrev pub row_demands : ℕ → ℕ → List RelationView → List LineDemand
-row_demands n line [] = []
-row_demands n line (r ∷ rs) = record { origin = Rate line; demand = demand_of n r } ∷ row_demands n (line + 1) rs
 
 -- the targets of a question's `row` lines
 abbrev pub system_forms : ℕ → List RelationView → List Form

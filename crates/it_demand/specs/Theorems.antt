@@ -5,7 +5,9 @@ use Rattle.it_space.specs.declared.problems.Constraint.{Constraint}
 use Rattle.it_space.specs.Rows.{Terms}
 use Rattle.it_polymatroid.specs.Certificates.{Form}
 use Rattle.it_demand.specs.Canonical.{IsRowOf}
-use Rattle.it_demand.specs.Demands.{LineDemand, AreStated}
+use Rattle.it_space.specs.declared.problems.Origin.{Origin}
+use Rattle.it_demand.specs.Demands.{Demand}
+use Rattle.it_demand.specs.Origins.{AreStated}
 use Rattle.it_demand.specs.LineDemands.{AreRowsOf}
 
 -- a form has one row
@@ -16,6 +18,6 @@ OneRow = (s : Space) (form : Form) (r t : Terms) → IsRowOf s form r → IsRowO
 abbrev pub OneRowList : Type 0
 OneRowList = (s : Space) (forms : List Form) (rs ts : List Terms) → AreRowsOf s forms rs → AreRowsOf s forms ts → rs ≡ ts
 
--- demands have one list of constraints that states them
+-- demands have one list of constraints that states them, with given origins
 abbrev pub OneConstraintList : Type 0
-OneConstraintList = (s : Space) (demanded : List LineDemand) (cs ds : List Constraint) → AreStated s demanded cs → AreStated s demanded ds → cs ≡ ds
+OneConstraintList = (s : Space) (places : List Origin) (ds : List Demand) (cs others : List Constraint) → AreStated s places ds cs → AreStated s places ds others → cs ≡ others

@@ -5,7 +5,8 @@ ghost use Rattle.it_space.specs.Spaces.{IsSpace, size_of};
 ghost use Rattle.it_syntax.specs.Givens.{Markov, given_view, union_of, sum_of_conditionals, IsTrueAt, AreSetsOf, IsGivenOf};
 ghost use Rattle.it_syntax.specs.Meaning.{IsAtomOf, atom_at};
 ghost use Rattle.it_demand.specs.Canonical.{IsRowOf};
-ghost use Rattle.it_demand.specs.Demands.{AreParts, demands, independence_form, kind_of};
+ghost use Rattle.it_demand.specs.Demands.{demands, independence_form, kind_of};
+ghost use Rattle.it_demand.specs.Origins.{AreParts};
 ghost use Rattle.it_demand.specs.Coefficients.{IsFormAdded, largest};
 
 use crate::coefficients::Coefficients;

@@ -1,10 +1,10 @@
 //! The constraints of `given` and `row` lines.
-ghost use Rattle.std.specs.Prelude.{◌+◌, ◌<◌, ◌^◌, length, map, All, IfOk};
+ghost use Rattle.std.specs.Prelude.{◌+◌, ◌<◌, ◌^◌, flat_map, length, map, All, IfOk};
 ghost use Rattle.it_space.specs.Spaces.{IsSpace};
 ghost use Rattle.it_syntax.specs.Givens.{given_view, IsRelationOf, IsGivenOf};
 ghost use Rattle.it_syntax.specs.Meaning.{relation_view};
-ghost use Rattle.it_demand.specs.Demands.{AreStated};
-ghost use Rattle.it_demand.specs.LineDemands.{given_demands, row_demands};
+ghost use Rattle.it_demand.specs.Demands.{demand_of, demands};
+ghost use Rattle.it_demand.specs.Origins.{AreStated, given_origins, row_origins};
 
 use crate::givens::{canon_given, kind_of};
 use crate::relations::canon;
@@ -22,7 +22,7 @@ pub fn given_constraints(
     requires space { IsSpace space }
     requires within { All (IsGivenOf space.variables) (map given_view givens.now) }
     requires few { first + length givens.now < 2 ^ 16 }
-    ensures { IfOk result (λ v. AreStated space (given_demands space.variables first (map given_view givens.now)) v.items) }
+    ensures { IfOk result (λ v. AreStated space (given_origins space.variables first (map given_view givens.now)) (flat_map (demands space.variables) (map given_view givens.now)) v.items) }
 {
     let mut constraints = Vec::new(alloc);
     for (i, given) in givens.iter().enumerate() {
@@ -42,7 +42,7 @@ pub fn row_constraints(
     requires space { IsSpace space }
     requires within { All (IsRelationOf space.variables space.rates) (map relation_view rows.now) }
     requires few { first + length rows.now < 2 ^ 16 }
-    ensures { IfOk result (λ v. AreStated space (row_demands space.variables first (map relation_view rows.now)) v.items) }
+    ensures { IfOk result (λ v. AreStated space (row_origins first (map relation_view rows.now)) (map (demand_of space.variables) (map relation_view rows.now)) v.items) }
 {
     let mut constraints = Vec::new(alloc);
     for (i, relation) in rows.iter().enumerate() {

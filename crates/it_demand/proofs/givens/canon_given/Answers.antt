@@ -1,7 +1,8 @@
 use Rattle.std.proofs.Common.{◌≡◌, ◌↔◌, ℕ, ℤ, pos, Ok, Err, IfOk}
 use Rattle.it_space.specs.Problems.{AreMet}
 use Rattle.it_syntax.specs.Givens.{given_view, IsTrueAt}
-use Rattle.it_demand.specs.Demands.{AreParts, demands}
+use Rattle.it_demand.specs.Demands.{demands}
+use Rattle.it_demand.specs.Origins.{AreParts}
 use Rattle.it_demand.proofs.MetLemmas.{given_met}
 use Rattle.it_demand.proofs.givens.canon_given.Goals as goal
 

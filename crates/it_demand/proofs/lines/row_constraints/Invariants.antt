@@ -1,8 +1,5 @@
-use Rattle.std.proofs.Common.{}
-use Rattle.it_demand.specs.Demands.{States}
-use Rattle.it_demand.proofs.ZipLemmas.{AreMatched}
-use Rattle.it_demand.proofs.GeneratorLemmas.{rows_wanted}
+use Rattle.it_demand.proofs.GeneratorLemmas.{AreStatedSoFar, rows_wanted, row_origins_wanted}
 use Rattle.it_demand.proofs.lines.row_constraints.Given as goal
 
 abbrev pub invariant-loop-i : goal.invariant-loop-i
-invariant-loop-i l = AreMatched (λ d c. States l.space d.origin d.demand c) (rows_wanted l.space.variables l.first) l.rows l.i l.constraints.items
+invariant-loop-i l = AreStatedSoFar l.space (row_origins_wanted l.first) (rows_wanted l.space.variables) l.rows l.i l.constraints.items
