@@ -1,17 +1,12 @@
 -- The lines of the problem that a question poses, and what they demand.
-use Rattle.std.specs.Prelude.{ℕ, List, [], ◌++◌}
+use Rattle.std.specs.Prelude.{ℕ, List, [], ◌++◌, flat_map, map}
 use Rattle.it_syntax.specs.NamesViews.{NamesView}
-use Rattle.it_demand.specs.Demands.{LineDemand}
-use Rattle.it_demand.specs.LineDemands.{given_demands, row_demands}
+use Rattle.it_demand.specs.Demands.{Demand, demand_of, demands}
 use Rattle.it_question.specs.Questions.{OwnLinesView, RegionView, VerbView, Prove, Eliminate, Contain, BodyView}
 
--- what lines of n variables demand, from line number g of the givens and r of the rows on: the givens before the rows
-abbrev pub demands_from : ℕ → ℕ → ℕ → OwnLinesView → List LineDemand
-demands_from n g r own = given_demands n g own.givens ++ row_demands n r own.rows
-
--- what all lines demand
-abbrev pub line_demands : ℕ → OwnLinesView → List LineDemand
-line_demands n own = demands_from n 1 1 own
+-- what lines of n variables demand: the givens before the rows
+abbrev pub line_demands : ℕ → OwnLinesView → List Demand
+line_demands n own = flat_map (demands n) own.givens ++ map (demand_of n) own.rows
 
 -- the givens alone
 abbrev pub givens_alone : OwnLinesView → OwnLinesView

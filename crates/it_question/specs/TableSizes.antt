@@ -1,27 +1,29 @@
 -- The problem that a question's lines pose, and the size of its table, with which the run about it begins. `Large` stands against
 -- the word of a verb whose question's table is too large.
-use Rattle.std.specs.Prelude.{ℕ, ◌≤◌, nat_lt, length, map, Option, Some, None, if◌then◌else◌}
+use Rattle.std.specs.Prelude.{ℕ, ◌≤◌, nat_lt, length, map, zip, Option, Some, None, if◌then◌else◌}
 use Rattle.it_space.specs.declared.spaces.Space.{Space}
 use Rattle.it_space.specs.declared.problems.Constraint.{Constraint}
+use Rattle.it_space.specs.declared.problems.Origin.{Origin}
 use Rattle.it_space.specs.Problems.{ProblemView}
 use Rattle.it_space.specs.Spaces.{size_of}
 use Rattle.it_closure.specs.Sizes.{table_size}
 use Rattle.it_forms.specs.declared.types.Code.{Code}
 use Rattle.it_forms.specs.declared.types.Code.TheVariants as codes
 use Rattle.it_syntax.specs.NamesViews.{NamesView}
-use Rattle.it_demand.specs.Demands.{LineDemand}
+use Rattle.it_demand.specs.Demands.{Demand}
 use Rattle.it_demand.specs.LineDemands.{space_of}
 use Rattle.it_demand.specs.RowsOfForms.{terms_of_form}
+use Rattle.it_question.specs.LineOrigins.{line_origins}
 use Rattle.it_question.specs.ProblemLines.{line_demands, problem_names, problem_lines}
 use Rattle.it_question.specs.Questions.{OwnLinesView, BodyView}
 
--- the constraint that states a demand
-abbrev pub constraint_of : Space → LineDemand → Constraint
-constraint_of s d = record { row = terms_of_form (size_of s) d.demand.form; kind = d.demand.kind; origin = d.origin }
+-- the constraint that states a demand of an origin
+abbrev pub constraint_of : Space → Origin × Demand → Constraint
+constraint_of s (place, d) = record { row = terms_of_form (size_of s) d.form; kind = d.kind; origin = place }
 
 -- the problem that lines pose under names
 abbrev pub problem_of_lines : NamesView → OwnLinesView → ProblemView
-problem_of_lines v own = record { space = space_of v; constraints = map (constraint_of (space_of v)) (line_demands (length v.variables) own) }
+problem_of_lines v own = record { space = space_of v; constraints = map (constraint_of (space_of v)) (zip (line_origins (length v.variables) own) (line_demands (length v.variables) own)) }
 
 -- how many entries the table of a question has, at most
 abbrev pub most_entries : ℕ

@@ -5,12 +5,13 @@ ghost use Rattle.it_space.specs.Spaces.{IsSpace};
 ghost use Rattle.it_closure.specs.Sizes.{table_size};
 ghost use Rattle.it_syntax.specs.declared.rest.Stop.TheVariants.{Memory};
 ghost use Rattle.it_syntax.specs.Givens.{IsRelationOf, IsGivenOf};
-ghost use Rattle.it_demand.specs.Demands.{AreStated};
+ghost use Rattle.it_demand.specs.Origins.{AreStated};
 ghost use Rattle.it_demand.specs.LineDemands.{space_of};
 ghost use Rattle.it_question.specs.Limits.{AreLinesOver, IsRegionOf};
 ghost use Rattle.it_question.specs.Questions.{own_lines_view, region_view};
 ghost use Rattle.it_question.specs.QuestionLimits.{most_lines};
 ghost use Rattle.it_question.specs.ReaderSteps.{containment_flag, flag_if_large};
+ghost use Rattle.it_question.specs.LineOrigins.{line_origins};
 ghost use Rattle.it_question.specs.ProblemLines.{line_demands, givens_alone, lines_with};
 ghost use Rattle.it_question.specs.TableSizes.{most_entries, size_flag};
 
@@ -39,7 +40,7 @@ pub fn line_constraints(
     requires rows { All (IsRelationOf space.variables space.rates) (own_lines_view lines.now).rows }
     requires few_givens { length lines.now.givens.items ≤ most_lines }
     requires few_rows { length lines.now.rows.items ≤ most_lines }
-    ensures { IfOk result (λ v. AreStated space (line_demands space.variables (own_lines_view lines.now)) v.items) }
+    ensures { IfOk result (λ v. AreStated space (line_origins space.variables (own_lines_view lines.now)) (line_demands space.variables (own_lines_view lines.now)) v.items) }
 {
     let mut constraints = given_constraints(alloc, lines.givens.as_slice(), 1, space)?;
     let mut others = row_constraints(alloc, lines.rows.as_slice(), 1, space)?;
@@ -61,7 +62,7 @@ pub fn region_constraints(
     requires few_rows { length lines.now.rows.items ≤ most_lines }
     requires own { AreLinesOver region.now.names (region_view region.now).lines }
     requires names { space ≡ space_of region.now.names }
-    ensures { IfOk result (λ v. AreStated space (line_demands space.variables (lines_with (own_lines_view lines.now) (region_view region.now))) v.items) }
+    ensures { IfOk result (λ v. (let lines = lines_with (own_lines_view lines.now) (region_view region.now) in AreStated space (line_origins space.variables lines) (line_demands space.variables lines) v.items)) }
 {
     let own = &region.lines;
     let first_given = 1 + lines.givens.len() as u16;
