@@ -1,6 +1,6 @@
 -- The forms of a question's lines are values of few terms with small coefficients, so that they have their canonical rows.
-use Rattle.std.proofs.Common.{◌≡◌, ℕ, ◌+◌, ◌-◌, ◌*◌, ◌/◌, ◌<◌, ◌≤◌, ◌^◌, bit_or, ℤ, pos, neg_ℤ, ◌+ℤ◌, ◌-ℤ◌, ◌*ℤ◌, unsigned_abs, Bool, true, false, cond, List, [], ◌∷◌, length, refl, arith}
-use Rattle.std.specs.List.{AllByRecursion as Every}
+use Rattle.std.proofs.Common.{◌≡◌, ℕ, ◌+◌, ◌-◌, ◌*◌, ◌/◌, ◌<◌, ◌≤◌, ◌^◌, bit_or, ℤ, pos, neg_ℤ, ◌+ℤ◌, ◌-ℤ◌, ◌*ℤ◌, unsigned_abs, Bool, true, false, cond, List, [], ◌∷◌, map, length, refl, arith}
+use Rattle.std.specs.List.{AllByRecursion as Every, flat_map}
 use Rattle.std.proofs.Math.Nat.{div-le_self, mul-le-mul_left}
 use Rattle.std.proofs.lemmas.Int.{ints}
 use Rattle.std.proofs.lemmas.Nat.{or_lt, pow_pos}
@@ -17,8 +17,7 @@ use Rattle.it_syntax.specs.Meaning.{RelationView, IsAtomOf, common_denominator, 
 use Rattle.it_question.specs.Questions.{OwnLinesView}
 use Rattle.it_question.proofs.NumberLemmas.{HasSmallNumbers, GivenHasSmallNumbers, LinesHaveSmallNumbers}
 use Rattle.it_demand.specs.Canonical.{form_of, signed_difference}
-use Rattle.it_demand.specs.Demands.{Demand, LineDemand, demands, equations, independence_form, parts_from, parts_of, kind_of}
-use Rattle.it_demand.specs.LineDemands.{given_demands, row_demands}
+use Rattle.it_demand.specs.Demands.{Demand, demand_of, demands, equations, independence_form, kind_of}
 use Rattle.it_question.specs.ProblemLines.{line_demands}
 use Rattle.it_demand.specs.Targets.{negation, targets, inequalities_of}
 use Rattle.it_demand.proofs.ChainLemmas.{union_below}
@@ -172,22 +171,14 @@ module _ (n m : ℕ) where
 
   -- ---- lines
 
-  abbrev pub AreLineDemandsUpTo : List LineDemand → Type 0
-  AreLineDemandsUpTo ds = Every (λ (d : LineDemand). IsFormUpTo last_coordinate (2 ^ 106) d.demand.form) ds
+  pub given_lines_up_to : (gs : List GivenView) → Every (IsGivenOf n) gs → Every GivenHasSmallNumbers gs → AreDemandsUpTo (flat_map (demands n) gs)
+  given_lines_up_to [] h k = tt
+  given_lines_up_to (g ∷ gs) h k = every-append (λ (d : Demand). IsFormUpTo last_coordinate (2 ^ 106) d.form) (demands n g) (flat_map (demands n) gs) (given_up_to g h.0 k.0) (given_lines_up_to gs h.1 k.1)
 
-  parts_up_to : (part line parts : ℕ) (ds : List Demand) → AreDemandsUpTo ds → AreLineDemandsUpTo (parts_from part line parts ds)
-  parts_up_to part line parts [] h = tt
-  parts_up_to part line parts (d ∷ ds) h = (h.0, parts_up_to (part + 1) line parts ds h.1)
+  pub row_lines_up_to : (rs : List RelationView) → Every (IsRelationOf n m) rs → Every HasSmallNumbers rs → AreDemandsUpTo (map (demand_of n) rs)
+  row_lines_up_to [] h k = tt
+  row_lines_up_to (r ∷ rs) h k = (relation_up_to r h.0 k.0, row_lines_up_to rs h.1 k.1)
 
-  pub given_lines_up_to : (line : ℕ) (gs : List GivenView) → Every (IsGivenOf n) gs → Every GivenHasSmallNumbers gs → AreLineDemandsUpTo (given_demands n line gs)
-  given_lines_up_to line [] h k = tt
-  given_lines_up_to line (g ∷ gs) h k = every-append (λ (d : LineDemand). IsFormUpTo last_coordinate (2 ^ 106) d.demand.form) (parts_of line (demands n g)) (given_demands n (line + 1) gs)
-      (parts_up_to 1 line (length (demands n g)) (demands n g) (given_up_to g h.0 k.0)) (given_lines_up_to (line + 1) gs h.1 k.1)
-
-  pub row_lines_up_to : (line : ℕ) (rs : List RelationView) → Every (IsRelationOf n m) rs → Every HasSmallNumbers rs → AreLineDemandsUpTo (row_demands n line rs)
-  row_lines_up_to line [] h k = tt
-  row_lines_up_to line (r ∷ rs) h k = (relation_up_to r h.0 k.0, row_lines_up_to (line + 1) rs h.1 k.1)
-
-  pub lines_up_to : (own : OwnLinesView) → Every (IsGivenOf n) own.givens → Every (IsRelationOf n m) own.rows → LinesHaveSmallNumbers own → AreLineDemandsUpTo (line_demands n own)
-  lines_up_to own givens rows small = every-append (λ (d : LineDemand). IsFormUpTo last_coordinate (2 ^ 106) d.demand.form) (given_demands n 1 own.givens) (row_demands n 1 own.rows)
-      (given_lines_up_to 1 own.givens givens small.0) (row_lines_up_to 1 own.rows rows small.1)
+  pub lines_up_to : (own : OwnLinesView) → Every (IsGivenOf n) own.givens → Every (IsRelationOf n m) own.rows → LinesHaveSmallNumbers own → AreDemandsUpTo (line_demands n own)
+  lines_up_to own givens rows small = every-append (λ (d : Demand). IsFormUpTo last_coordinate (2 ^ 106) d.form) (flat_map (demands n) own.givens) (map (demand_of n) own.rows)
+      (given_lines_up_to own.givens givens small.0) (row_lines_up_to own.rows rows small.1)

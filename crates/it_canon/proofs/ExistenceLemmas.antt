@@ -1,8 +1,9 @@
 -- A question of a file poses a problem, and one about a relation the rows of its targets.
-use Rattle.std.proofs.Common.{◌≡◌, ℕ, ◌^◌, List, [], ◌∷◌, map, length, All, refl, sym, ap, subst}
+use Rattle.std.proofs.Common.{◌≡◌, ℕ, ◌^◌, List, [], ◌∷◌, map, length, length-append, flat_map, All, refl, sym, ap, subst, arith}
 use Rattle.std.specs.List.{AllByRecursion as Every}
 use Rattle.it_space.specs.declared.spaces.Space.{Space}
 use Rattle.it_space.specs.declared.problems.Constraint.{Constraint}
+use Rattle.it_space.specs.declared.problems.Origin.{Origin}
 use Rattle.it_space.specs.Problems.{ProblemView}
 use Rattle.it_space.specs.Rows.{Terms}
 use Rattle.it_space.specs.Spaces.{IsSpace, size_of}
@@ -13,32 +14,47 @@ use Rattle.it_syntax.specs.Meaning.{RelationView}
 use Rattle.it_syntax.specs.NamesViews.{NamesView}
 use Rattle.it_question.specs.Files.{IsFile}
 use Rattle.it_question.specs.Limits.{IsVerbOver, IsQuestion}
-use Rattle.it_question.specs.Questions.{VerbView, Prove, Eliminate, Contain, BodyView, QuestionView}
+use Rattle.it_question.specs.Questions.{OwnLinesView, VerbView, Prove, Eliminate, Contain, BodyView, QuestionView}
 use Rattle.it_question.proofs.FileReadings.{file_limits}
 use Rattle.it_question.proofs.NumberLemmas.{HasSmallNumbers, GivenHasSmallNumbers, VerbHasSmallNumbers, QuestionHasSmallNumbers, file_has_small_numbers}
-use Rattle.it_demand.specs.Demands.{LineDemand, AreStated}
+use Rattle.it_demand.specs.Demands.{Demand, demand_of, demands}
+use Rattle.it_demand.specs.Origins.{AreStated, given_origins, row_origins}
+use Rattle.it_demand.proofs.LimitLemmas.{given_origins-length, row_origins-length}
 use Rattle.it_demand.specs.LineDemands.{AreRowsOf, space_of, system_forms}
-use Rattle.it_question.specs.ProblemLines.{line_demands, givens_alone, lines_with, problem_names, names_under, lines_under}
-use Rattle.it_canon.specs.QuestionDemands.{variable_count, question_demands, problem_of, terms_in, IsProblemOf}
+use Rattle.it_question.specs.ProblemLines.{line_demands, givens_alone, lines_with, problem_names, problem_lines, names_under, lines_under}
+use Rattle.it_question.specs.LineOrigins.{line_origins}
+use Rattle.it_canon.specs.QuestionDemands.{variable_count, question_demands, question_origins, problem_of, terms_in, IsProblemOf}
 use Rattle.it_demand.specs.Targets.{targets}
 use Rattle.it_demand.proofs.FormRows.{rows_are_terms_of_forms}
 use Rattle.it_canon.specs.Theorems.{QuestionHasProblem, RelationHasRows}
-use Rattle.it_canon.proofs.DemandForms.{AreLineDemandsUpTo, lines_up_to, targets_up_to}
+use Rattle.it_canon.proofs.DemandForms.{AreDemandsUpTo, lines_up_to, targets_up_to}
 use Rattle.it_canon.proofs.PosesLemmas.{one_problem}
 use Rattle.it_canon.proofs.ProblemLemmas.{question_problem}
 use Rattle.it_canon.proofs.QuestionLemmas.{space_is, shared_givens, shared_rows}
 use Rattle.it_canon.proofs.SmallForms.{IsFormUpTo, row_there}
 
+-- there is an origin for each demand
+origins_length : (n : ℕ) (own : OwnLinesView) → length (line_origins n own) ≡ length (line_demands n own)
+origins_length n own = omega (
+  arith,
+  length-append (given_origins n 1 own.givens) (row_origins 1 own.rows),
+  length-append (flat_map (demands n) own.givens) (map (demand_of n) own.rows),
+  given_origins-length n 1 own.givens,
+  row_origins-length n 1 own.rows,
+)
+
 -- ---- constraints and rows
 
 module _ (s : Space) (k : IsSpace s) where
-  constraints_there : (ds : List LineDemand) → Every (λ (d : LineDemand). IsFormUpTo (size_of s) (2 ^ 106) d.demand.form) ds → (cs : List Constraint) × AreStated s ds cs
-  constraints_there [] h = ([], tt)
-  constraints_there (d ∷ ds) h =
-      let one = row_there s k d.demand.form h.0 in
-      let rest = constraints_there ds h.1 in
-      let c : Constraint = record { row = one.0; kind = d.demand.kind; origin = d.origin } in
-      (c ∷ rest.0, (record { row = one.1; kind = refl; origin = refl }, rest.1))
+  constraints_there : (places : List Origin) (ds : List Demand) → length places ≡ length ds → Every (λ (d : Demand). IsFormUpTo (size_of s) (2 ^ 106) d.form) ds → (cs : List Constraint) × AreStated s places ds cs
+  constraints_there [] [] e h = ([], record { placed = tt; stated = tt })
+  constraints_there [] (d ∷ ds) e h = absurd (omega (arith, e))
+  constraints_there (place ∷ places) [] e h = absurd (omega (arith, e))
+  constraints_there (place ∷ places) (d ∷ ds) e h =
+      let one = row_there s k d.form h.0 in
+      let rest = constraints_there places ds (omega (arith, e)) h.1 in
+      let c : Constraint = record { row = one.0; kind = d.kind; origin = place } in
+      (c ∷ rest.0, record { placed = (refl, rest.1.placed); stated = (record { row = one.1; kind = refl }, rest.1.stated) })
 
   pub rows_there : (fs : List Form) → Every (IsFormUpTo (size_of s) (2 ^ 106)) fs → (ts : List Terms) × AreRowsOf s fs ts
   rows_there [] h = ([], tt)
@@ -53,12 +69,12 @@ module _ (q : BodyView) (k : IsQuestion q) (small : QuestionHasSmallNumbers q) w
   abbrev own_space : Space
   own_space = space_of (problem_names q)
 
-  problem_up_to : AreLineDemandsUpTo own_space.variables own_space.rates (question_demands q)
+  problem_up_to : AreDemandsUpTo own_space.variables own_space.rates (question_demands q)
   problem_up_to = by_verb q.verb k.verb small.1 (shared_givens q own_space k refl) (shared_rows q own_space k refl)
     where
       by_verb : (verb : VerbView) → IsVerbOver q.names verb → VerbHasSmallNumbers verb → All (IsGivenOf (length (names_under q.names verb).variables)) q.lines.givens
           → All (IsRelationOf (length (names_under q.names verb).variables) (length (names_under q.names verb).rates)) q.lines.rows
-          → AreLineDemandsUpTo (length (names_under q.names verb).variables) (length (names_under q.names verb).rates) (line_demands (length (names_under q.names verb).variables) (lines_under q.lines verb))
+          → AreDemandsUpTo (length (names_under q.names verb).variables) (length (names_under q.names verb).rates) (line_demands (length (names_under q.names verb).variables) (lines_under q.lines verb))
       by_verb (Prove r) over counts givens rows = lines_up_to _ _ q.lines (every_of _ q.lines.givens givens) (every_of _ q.lines.rows rows) small.0
       by_verb (Eliminate rates) over counts givens rows = lines_up_to _ _ (givens_alone q.lines) (every_of _ q.lines.givens givens) tt (small.0.0, tt)
       by_verb (Contain first second tries) over counts givens rows =
@@ -71,7 +87,7 @@ module _ (q : BodyView) (k : IsQuestion q) (small : QuestionHasSmallNumbers q) w
 
   pub question_poses : IsProblemOf q (problem_of q)
   question_poses =
-      let cs = constraints_there own_space (space_is q k) (question_demands q) problem_up_to in
+      let cs = constraints_there own_space (space_is q k) (question_origins q) (question_demands q) (origins_length (variable_count q) (problem_lines q)) problem_up_to in
       let p : ProblemView = record { space = own_space; constraints = cs.0 } in
       let is : IsProblemOf q p = record { space = refl; limits = question_problem q p k refl cs.1; constraints = cs.1 } in
       subst (IsProblemOf q) (one_problem q p is) is

@@ -1,11 +1,12 @@
 -- The constraints of `given` lines are over the sets alone: no rate stands in their rows.
-use Rattle.std.proofs.Common.{◌≡◌, ◌⊎◌, inl, inr, ℕ, ◌+◌, ◌-◌, ◌<◌, ◌≤◌, ◌^◌, bit_or, ℤ, pos, neg_ℤ, ◌+ℤ◌, ◌-ℤ◌, ◌*ℤ◌, refl, sym, ap, ap₂, ◌∙◌, arith, List, [], ◌∷◌, length, cond, ne_eqb, All}
+use Rattle.std.proofs.Common.{◌≡◌, ◌⊎◌, inl, inr, ℕ, ◌+◌, ◌-◌, ◌<◌, ◌≤◌, ◌^◌, bit_or, ℤ, pos, neg_ℤ, ◌+ℤ◌, ◌-ℤ◌, ◌*ℤ◌, refl, sym, ap, ap₂, ◌∙◌, arith, List, [], ◌∷◌, flat_map, cond, ne_eqb, All}
 use Rattle.std.proofs.lemmas.Int.{ints}
 use Rattle.std.proofs.lemmas.Nat.{or_lt, pow_pos}
 use Rattle.std.proofs.lemmas.List.Elements.{All-nil, All-cons, All-head, All-tail, All-append}
 use Rattle.std.proofs.lemmas.Bool.{cases_lt}
 use Rattle.it_space.specs.declared.spaces.Space.{Space}
 use Rattle.it_space.specs.declared.problems.Constraint.{Constraint}
+use Rattle.it_space.specs.declared.problems.Origin.{Origin}
 use Rattle.it_space.specs.Rows.{Terms, Ascends, IsOver, coefficient, one_at}
 use Rattle.it_space.specs.Spaces.{size_of}
 use Rattle.it_space.proofs.CanonicalRows.{head_is, other_is}
@@ -20,10 +21,9 @@ use Rattle.it_syntax.specs.declared.types.Term.{Term}
 use Rattle.it_syntax.specs.Meaning.{RelationView, IsAtomOf, common_denominator, multiplicity, atom_at, side_at}
 use Rattle.it_syntax.specs.Givens.{GivenView, Relation, Markov, Independent, Function, union_of, links_from, sum_of_conditionals, IsRelationOf, IsGivenOf}
 use Rattle.it_demand.specs.Canonical.{IsRowOf, form_of, signed_difference}
-use Rattle.it_demand.specs.Demands.{Demand, LineDemand, equation, equations, demand_of, demands, independence_form, States, AreStated, parts_of}
-use Rattle.it_demand.specs.LineDemands.{given_demands}
+use Rattle.it_demand.specs.Demands.{Demand, equation, equations, demand_of, demands, independence_form}
+use Rattle.it_demand.specs.Origins.{States, AreStated}
 use Rattle.it_demand.proofs.ChainLemmas.{union_below}
-use Rattle.it_demand.proofs.MetLemmas.{parts_each}
 use Rattle.it_demand.proofs.ZipLemmas.{zip-passes}
 
 -- the form is 0 at the map that is 1 at one coordinate past the sets of n variables and 0 elsewhere
@@ -109,15 +109,12 @@ given_of_sets n (Markov (s ∷ sets)) k = links_of_sets n s sets (All-head (λ s
 given_of_sets n (Independent members given) k = one_of_sets n (equation (independence_form n members given)) (independence_of_sets n members given k.0.within k.1)
 given_of_sets n (Function value argument) k = one_of_sets n (equation (λ p. atom_at n p (Entropy value argument))) (atom_of_sets n (Entropy value argument) k)
 
-lines_of_sets : (n line : ℕ) (gs : List GivenView) → All (IsGivenOf n) gs → All (λ d. IsOfSets n d.demand.form) (given_demands n line gs)
-lines_of_sets n line [] a = All-nil (λ (d : LineDemand). IsOfSets n d.demand.form)
-lines_of_sets n line (g ∷ gs) a =
-    All-append (λ (d : LineDemand). IsOfSets n d.demand.form) (parts_of line (demands n g)) (given_demands n (line + 1) gs)
-    ((parts_each (λ (d : Demand). IsOfSets n d.form) 1 line (length (demands n g)) (demands n g)).1 (given_of_sets n g (All-head (IsGivenOf n) g gs a)))
-    (lines_of_sets n (line + 1) gs (All-tail (IsGivenOf n) g gs a))
+lines_of_sets : (n : ℕ) (gs : List GivenView) → All (IsGivenOf n) gs → All (λ d. IsOfSets n d.form) (flat_map (demands n) gs)
+lines_of_sets n [] a = All-nil (λ (d : Demand). IsOfSets n d.form)
+lines_of_sets n (g ∷ gs) a = All-append (λ (d : Demand). IsOfSets n d.form) (demands n g) (flat_map (demands n) gs) (given_of_sets n g (All-head (IsGivenOf n) g gs a)) (lines_of_sets n gs (All-tail (IsGivenOf n) g gs a))
 
 -- the rows of the constraints of `given` lines have no coordinate past the sets
-pub given_sets : (s : Space) (line : ℕ) (cs : List GivenView) (constraints : List Constraint) → All (IsGivenOf s.variables) cs → AreStated s (given_demands s.variables line cs) constraints
+pub given_sets : (s : Space) (places : List Origin) (cs : List GivenView) (constraints : List Constraint) → All (IsGivenOf s.variables) cs → AreStated s places (flat_map (demands s.variables) cs) constraints
     → All (λ c. IsOver (2 ^ s.variables - 1) c.row) constraints
-given_sets s line cs constraints a h = zip-passes (λ (d : LineDemand) (c : Constraint). States s d.origin d.demand c) (λ d. IsOfSets s.variables d.demand.form) (λ c. IsOver (2 ^ s.variables - 1) c.row)
-    (λ d c t f. row_of_sets s d.demand.form c.row f t.row) (given_demands s.variables line cs) constraints h (lines_of_sets s.variables line cs a)
+given_sets s places cs constraints a h = zip-passes (States s) (λ d. IsOfSets s.variables d.form) (λ c. IsOver (2 ^ s.variables - 1) c.row)
+    (λ d c t f. row_of_sets s d.form c.row f t.row) (flat_map (demands s.variables) cs) constraints h.stated (lines_of_sets s.variables cs a)

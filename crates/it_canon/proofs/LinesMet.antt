@@ -1,23 +1,24 @@
 -- Constraints are met where the lines that they state are true.
-use Rattle.std.proofs.Common.{◌≡◌, ◌↔◌, ℕ, ℤ, pos, List}
+use Rattle.std.proofs.Common.{◌≡◌, ◌↔◌, ℕ, ℤ, pos, List, flat_map, map}
 use Rattle.std.proofs.lemmas.List.Elements.{All-append}
 use Rattle.it_space.specs.declared.spaces.Space.{Space}
 use Rattle.it_space.specs.declared.problems.Constraint.{Constraint}
+use Rattle.it_space.specs.declared.problems.Origin.{Origin}
 use Rattle.it_space.specs.Problems.{AreMet}
 use Rattle.it_question.specs.Questions.{OwnLinesView}
-use Rattle.it_demand.specs.Demands.{LineDemand, AreStated}
-use Rattle.it_demand.specs.LineDemands.{given_demands, row_demands}
+use Rattle.it_demand.specs.Demands.{demand_of, demands}
+use Rattle.it_demand.specs.Origins.{AreStated}
 use Rattle.it_question.specs.ProblemLines.{line_demands}
 use Rattle.it_canon.specs.QuestionDemands.{AreTrueAt}
 use Rattle.it_demand.proofs.ZipLemmas.{All-parts}
 use Rattle.it_demand.proofs.MetLemmas.{IsSatisfied, stated_met, givens_satisfied, rows_satisfied}
 
-pub lines_met : (s : Space) (own : OwnLinesView) (cs : List Constraint) → AreStated s (line_demands s.variables own) cs → (p : ℕ → ℤ) → p 0 ≡ pos 0 → AreMet p cs ↔ AreTrueAt s.variables p own
-lines_met s own cs h p z =
+pub lines_met : (s : Space) (places : List Origin) (own : OwnLinesView) (cs : List Constraint) → AreStated s places (line_demands s.variables own) cs → (p : ℕ → ℤ) → p 0 ≡ pos 0 → AreMet p cs ↔ AreTrueAt s.variables p own
+lines_met s places own cs h p z =
     let n : ℕ = s.variables in
-    let all = stated_met s (line_demands n own) cs p z h in
-    let givens = givens_satisfied n 1 own.givens p in
-    let rows = rows_satisfied n 1 own.rows p in (
-      λ m. let each = All-parts (λ (d : LineDemand). IsSatisfied p d.demand) (given_demands n 1 own.givens) (row_demands n 1 own.rows) (all.0 m) in record { givens = givens.0 each.0; rows = rows.0 each.1 },
-      λ t. all.1 (All-append (λ (d : LineDemand). IsSatisfied p d.demand) (given_demands n 1 own.givens) (row_demands n 1 own.rows) (givens.1 t.givens) (rows.1 t.rows)),
+    let all = stated_met s places (line_demands n own) cs p z h in
+    let givens = givens_satisfied n own.givens p in
+    let rows = rows_satisfied n own.rows p in (
+      λ m. let each = All-parts (IsSatisfied p) (flat_map (demands n) own.givens) (map (demand_of n) own.rows) (all.0 m) in record { givens = givens.0 each.0; rows = rows.0 each.1 },
+      λ t. all.1 (All-append (IsSatisfied p) (flat_map (demands n) own.givens) (map (demand_of n) own.rows) (givens.1 t.givens) (rows.1 t.rows)),
     )

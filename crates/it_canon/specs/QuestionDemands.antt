@@ -7,19 +7,22 @@ use Rattle.it_polymatroid.specs.Certificates.{Form}
 use Rattle.it_polymatroid.specs.Polymatroid.{IsPolymatroid}
 use Rattle.it_demand.specs.LineDemands.{space_of}
 use Rattle.it_demand.specs.RowsOfForms.{terms_of_form}
+use Rattle.it_space.specs.declared.problems.Origin.{Origin}
+use Rattle.it_question.specs.LineOrigins.{line_origins}
 use Rattle.it_question.specs.ProblemLines.{line_demands, problem_names, problem_lines}
 use Rattle.it_question.specs.TableSizes.{problem_of_lines}
 use Rattle.it_syntax.specs.Meaning.{Holds}
 use Rattle.it_syntax.specs.Givens.{IsTrueAt}
 use Rattle.it_question.specs.Questions.{OwnLinesView, BodyView}
-use Rattle.it_demand.specs.Demands.{LineDemand, AreStated}
+use Rattle.it_demand.specs.Demands.{Demand}
+use Rattle.it_demand.specs.Origins.{AreStated}
 
 -- how many variables the problem has
 abbrev pub variable_count : BodyView → ℕ
 variable_count q = length (problem_names q).variables
 
 -- the demands of a question in generator order
-abbrev pub question_demands : BodyView → List LineDemand
+abbrev pub question_demands : BodyView → List Demand
 question_demands q = line_demands (variable_count q) (problem_lines q)
 
 -- each given is true of the map, and each row holds at it
@@ -39,8 +42,12 @@ problem_of q = problem_of_lines (problem_names q) (problem_lines q)
 abbrev pub terms_in : BodyView → Form → Terms
 terms_in q form = terms_of_form (size_of (space_of (problem_names q))) form
 
+-- the origins of a question's demands, in the same order
+abbrev pub question_origins : BodyView → List Origin
+question_origins q = line_origins (variable_count q) (problem_lines q)
+
 -- a problem whose constraints state what the question demands, within the limits: there is no other than `problem_of`
 pub record IsProblemOf (q : BodyView) (p : ProblemView) : Type 0 where
   pub space : p.space ≡ space_of (problem_names q)
   pub limits : IsProblem p
-  pub constraints : AreStated p.space (question_demands q) p.constraints
+  pub constraints : AreStated p.space (question_origins q) (question_demands q) p.constraints
