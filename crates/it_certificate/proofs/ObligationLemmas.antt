@@ -5,14 +5,13 @@ use Rattle.it_space.specs.declared.problems.Kind.{Kind}
 use Rattle.it_space.specs.declared.problems.Kind.TheVariants.{Inequality, Equation}
 use Rattle.it_polymatroid.specs.Certificates.{Form}
 use Rattle.it_syntax.specs.declared.types.Given.{Given}
-use Rattle.std.specs.List.{fold, sum_by}
+use Rattle.std.specs.List.{fold, sum_by, flat_map}
 use Rattle.it_space.proofs.ListLemmas.{drop_item}
 use Rattle.it_syntax.specs.declared.types.Atom.{Atom}
 use Rattle.it_syntax.specs.Meaning.{RelationView}
 use Rattle.it_syntax.specs.Givens.{GivenView, Relation, Markov, Independent, Function, given_view, links}
 use Rattle.it_question.specs.Questions.{RegionView}
-use Rattle.it_demand.specs.Demands.{Demand, LineDemand, demands, equations, kind_of, parts_from, parts_of}
-use Rattle.it_demand.specs.LineDemands.{given_demands, row_demands}
+use Rattle.it_demand.specs.Demands.{Demand, demand_of, demands, equations, kind_of}
 use Rattle.it_demand.specs.Canonical.{form_of}
 use Rattle.it_demand.specs.Targets.{inequalities_of, targets}
 use Rattle.it_question.specs.ProblemLines.{line_demands}
@@ -30,18 +29,14 @@ forms_counted Equation f = refl
 pub targets_counted : (n : ℕ) (r : RelationView) → length (targets n r) ≡ target_count r.sign
 targets_counted n r = forms_counted (kind_of r.sign) (form_of n r)
 
-abbrev line_forms : LineDemand → ℕ
-line_forms d = form_count d.demand.kind
+abbrev demand_forms : Demand → ℕ
+demand_forms d = form_count d.kind
 
 total_append : {A : Type 0} (f : A → ℕ) (a : ℕ) (xs ys : List A) → total f a (xs ++ ys) ≡ total f (total f a xs) ys
 total_append f a [] ys = refl
 total_append f a (x ∷ xs) ys = total_append f (a + f x) xs ys
 
-of_parts : (a part line parts : ℕ) (ds : List Demand) → total line_forms a (parts_from part line parts ds) ≡ total (λ d. form_count d.kind) a ds
-of_parts a part line parts [] = refl
-of_parts a part line parts (d ∷ ds) = of_parts (a + form_count d.kind) (part + 1) line parts ds
-
-of_equations : (n a : ℕ) (atoms : List Atom) → total (λ d. form_count d.kind) a (equations n atoms) ≡ a + 2 * length atoms
+of_equations : (n a : ℕ) (atoms : List Atom) → total demand_forms a (equations n atoms) ≡ a + 2 * length atoms
 of_equations n a [] = omega arith
 of_equations n a (x ∷ xs) = of_equations n (a + 2) xs ∙ omega arith
 
@@ -49,22 +44,22 @@ chain_length : (sets : List ℕ) → length (links sets) ≡ length sets - 2
 chain_length [] = refl
 chain_length (first ∷ sets) = let e = links-length first sets in omega (arith, e)
 
-of_given : (n a : ℕ) (g : GivenView) → total (λ d. form_count d.kind) a (demands n g) ≡ a + given_form_count g
+of_given : (n a : ℕ) (g : GivenView) → total demand_forms a (demands n g) ≡ a + given_form_count g
 of_given n a (Relation r) = refl
 of_given n a (Markov sets) = of_equations n a (links sets) ∙ ap (λ k. a + 2 * k) (chain_length sets)
 of_given n a (Independent members given) = refl
 of_given n a (Function value argument) = refl
 
-of_givens : (n a line : ℕ) (gs : List GivenView) → total line_forms a (given_demands n line gs) ≡ total given_form_count a gs
-of_givens n a line [] = refl
-of_givens n a line (g ∷ gs) =
-    total_append line_forms a (parts_of line (demands n g)) (given_demands n (line + 1) gs)
-    ∙ ap (λ b. total line_forms b (given_demands n (line + 1) gs)) (of_parts a 1 line (length (demands n g)) (demands n g) ∙ of_given n a g)
-    ∙ of_givens n (a + given_form_count g) (line + 1) gs
+of_givens : (n a : ℕ) (gs : List GivenView) → total demand_forms a (flat_map (demands n) gs) ≡ total given_form_count a gs
+of_givens n a [] = refl
+of_givens n a (g ∷ gs) =
+    total_append demand_forms a (demands n g) (flat_map (demands n) gs)
+    ∙ ap (λ b. total demand_forms b (flat_map (demands n) gs)) (of_given n a g)
+    ∙ of_givens n (a + given_form_count g) gs
 
-of_rows : (n a line : ℕ) (rs : List RelationView) → total line_forms a (row_demands n line rs) ≡ total relation_form_count a rs
-of_rows n a line [] = refl
-of_rows n a line (r ∷ rs) = of_rows n (a + relation_form_count r) (line + 1) rs
+of_rows : (n a : ℕ) (rs : List RelationView) → total demand_forms a (map (demand_of n) rs) ≡ total relation_form_count a rs
+of_rows n a [] = refl
+of_rows n a (r ∷ rs) = of_rows n (a + relation_form_count r) rs
 
 from_total : {A : Type 0} (f : A → ℕ) (a : ℕ) (xs : List A) → total f a xs ≡ a + total f 0 xs
 from_total f a [] = omega arith
@@ -77,11 +72,12 @@ region_forms : (r : RegionView) → sum_by given_form_count r.lines.givens + sum
 unfolding obligation_count
 region_forms r =
     let n = length r.names.variables in
-    sym (total_append line_forms 0 (given_demands n 1 r.lines.givens) (row_demands n 1 r.lines.rows)
-    ∙ of_rows n (total line_forms 0 (given_demands n 1 r.lines.givens)) 1 r.lines.rows
-    ∙ from_total relation_form_count (total line_forms 0 (given_demands n 1 r.lines.givens)) r.lines.rows
-    ∙ ap (λ k. k + total relation_form_count 0 r.lines.rows) (of_givens n 0 1 r.lines.givens))
-    ∙ ap (λ f. sum_by f (line_demands n r.lines)) (fun_ext (λ d. sym (forms_counted d.demand.kind d.demand.form)))
+    let of_own : List Demand = flat_map (demands n) r.lines.givens in
+    sym (total_append demand_forms 0 of_own (map (demand_of n) r.lines.rows)
+    ∙ of_rows n (total demand_forms 0 of_own) r.lines.rows
+    ∙ from_total relation_form_count (total demand_forms 0 of_own) r.lines.rows
+    ∙ ap (λ k. k + total relation_form_count 0 r.lines.rows) (of_givens n 0 r.lines.givens))
+    ∙ ap (λ f. sum_by f (line_demands n r.lines)) (fun_ext (λ d. sym (forms_counted d.kind d.form)))
 
 pub count_is : (r : RegionView) (a b : ℕ) → a ≡ sum_by given_form_count r.lines.givens → b ≡ sum_by relation_form_count r.lines.rows → a + b ≡ obligation_count r
 count_is r a b p q = ap (λ x. x + b) p ∙ ap (λ y. sum_by given_form_count r.lines.givens + y) q ∙ region_forms r

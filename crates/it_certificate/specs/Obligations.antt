@@ -6,4 +6,4 @@ use Rattle.it_question.specs.ProblemLines.{line_demands}
 
 -- how many forms a region's own lines say to be at least 0
 unfoldable pub obligation_count : RegionView → ℕ
-obligation_count r = sum_by (λ d. length (inequalities_of d.demand.kind d.demand.form)) (line_demands (length r.names.variables) r.lines)
+obligation_count r = sum_by (λ d. length (inequalities_of d.kind d.form)) (line_demands (length r.names.variables) r.lines)

@@ -18,7 +18,8 @@ use Rattle.it_elemental.proofs.PlaceLemmas.{is_elemental}
 use Rattle.it_elemental.proofs.RowLemmas.{canonical-row, value-row, within-row}
 use Rattle.it_polymatroid.proofs.Spans.{length-span}
 use Rattle.it_elemental.proofs.Spans.{map-map}
-use Rattle.it_demand.specs.Demands.{AreStated, LineDemand}
+use Rattle.it_demand.specs.Demands.{Demand}
+use Rattle.it_demand.specs.Origins.{States}
 use Rattle.it_demand.specs.RowsOfForms.{terms_of_form}
 use Rattle.it_demand.proofs.FormRows.{stated_rows, told_by_form}
 
@@ -37,18 +38,18 @@ elementals_are s [] h = refl
 elementals_are s (e ∷ es) h = ap₂ (λ (x : Generator) (xs : List Generator). x ∷ xs) (elemental_is s e h.0) (elementals_are s es h.1)
 
 -- a constraint's
-constraints_are : (s : Space) (ds : List LineDemand) (cs : List Constraint) → AreStated s ds cs
-    → map of_constraint cs ≡ map (λ (d : LineDemand). generator_of (size_of s) d.demand.kind d.demand.form) ds
+constraints_are : (s : Space) (ds : List Demand) (cs : List Constraint) → AllZip (States s) ds cs
+    → map of_constraint cs ≡ map (λ (d : Demand). generator_of (size_of s) d.kind d.form) ds
 constraints_are s ds cs a = sym (map-map of_pair (λ (c : Constraint). let x : Kind × Terms = (c.kind, c.row) in x) cs) ∙ ap (map of_pair) (stated_rows s ds cs a)
-    ∙ map-map of_pair (λ (d : LineDemand). let x : Kind × Terms = (d.demand.kind, terms_of_form (size_of s) d.demand.form) in x) ds
+    ∙ map-map of_pair (λ (d : Demand). let x : Kind × Terms = (d.kind, terms_of_form (size_of s) d.form) in x) ds
   where
     of_pair : Kind × Terms → Generator
     of_pair x = record { kind = x.0; row = x.1 }
 
 -- all of them
-pub generators_are : (s : Space) (ds : List LineDemand) (cs : List Constraint) → AreStated s ds cs
+pub generators_are : (s : Space) (ds : List Demand) (cs : List Constraint) → AllZip (States s) ds cs
     → generator_list s.variables cs
-    ≡ map (λ (e : Elemental). generator_of (size_of s) Inequality (λ p. elemental_value s.variables p e)) (elementals s.variables) ++ map (λ (d : LineDemand). generator_of (size_of s) d.demand.kind d.demand.form) ds
+    ≡ map (λ (e : Elemental). generator_of (size_of s) Inequality (λ p. elemental_value s.variables p e)) (elementals s.variables) ++ map (λ (d : Demand). generator_of (size_of s) d.kind d.form) ds
 unfolding generator_list
 generators_are s ds cs a = ap₂ (λ (xs ys : List Generator). xs ++ ys) (elementals_are s (elementals s.variables) (every_of (IsElemental s.variables) (elementals s.variables) each_is_elemental)) (constraints_are s ds cs a)
   where

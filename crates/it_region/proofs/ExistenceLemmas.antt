@@ -8,23 +8,22 @@ use Rattle.it_space.specs.declared.problems.Constraint.{Constraint}
 use Rattle.it_space.specs.declared.spaces.Space.{Space}
 use Rattle.it_space.specs.Rows.{IsOver, row_mass}
 use Rattle.it_space.specs.Spaces.{size_of}
-use Rattle.it_space.proofs.EveryLemmas.{every_of, every-append}
+use Rattle.it_space.proofs.EveryLemmas.{every_of}
 use Rattle.it_polymatroid.specs.Certificates.{Form}
 use Rattle.it_syntax.specs.Givens.{IsRelationOf, IsGivenOf}
 use Rattle.it_question.specs.Limits.{IsQuestion, IsVerbOver}
 use Rattle.it_question.specs.Questions.{BodyView, RegionView, Contain}
-use Rattle.it_question.specs.ProblemLines.{problem_names, names_under}
+use Rattle.it_question.specs.ProblemLines.{line_demands, problem_names, names_under}
 use Rattle.it_question.proofs.NumberLemmas.{VerbHasSmallNumbers, QuestionHasSmallNumbers}
-use Rattle.it_demand.specs.Demands.{LineDemand}
-use Rattle.it_demand.specs.LineDemands.{given_demands, row_demands, space_of}
+use Rattle.it_demand.specs.LineDemands.{space_of}
 use Rattle.it_demand.specs.RowsOfForms.{terms_of_form}
 use Rattle.it_demand.proofs.FormRows.{told_by_form}
 use Rattle.it_canon.specs.QuestionDemands.{terms_in}
-use Rattle.it_canon.proofs.DemandForms.{given_lines_up_to, row_lines_up_to}
+use Rattle.it_canon.proofs.DemandForms.{lines_up_to}
 use Rattle.it_canon.proofs.SmallForms.{IsFormUpTo, row, row_same, row_coordinates, row_is_canonical}
 use Rattle.it_region.specs.declared.types.Candidate.{Candidate}
 use Rattle.it_region.specs.declared.types.Pair.{Pair}
-use Rattle.it_region.specs.Obligations.{obligations, own_demands, IsSubstitution, IsPulledRow, ArePulledRows}
+use Rattle.it_region.specs.Obligations.{obligations, IsSubstitution, IsPulledRow, ArePulledRows}
 use Rattle.it_region.specs.Pairs.{IsPair, FitsPair, candidate_coordinate, candidate_sets, pair_obligations}
 use Rattle.it_region.specs.Pulling.{substituted_sets, pulled_coordinate}
 use Rattle.it_region.proofs.ObligationForms.{constraints_up_to, obligations_up_to}
@@ -73,9 +72,7 @@ module _ (q : BodyView) (k : IsQuestion q) (small : QuestionHasSmallNumbers q) (
       let n = length first.names.variables in
       let m = length second.names.variables in
       let rates = length second.names.rates in
-      let givens = given_lines_up_to m rates (1 + length q.lines.givens) second.lines.givens (every_of (IsGivenOf m) second.lines.givens r.lines.givens) counts.1.0 in
-      let lines = row_lines_up_to m rates (1 + length q.lines.rows) second.lines.rows (every_of (IsRelationOf m rates) second.lines.rows r.lines.rows) counts.1.1 in
-      let forms = every-append (λ (d : LineDemand). IsFormUpTo (2 ^ m - 1 + rates) (2 ^ 106) d.demand.form) (given_demands m (1 + length q.lines.givens) second.lines.givens) (row_demands m (1 + length q.lines.rows) second.lines.rows) givens lines in
+      let forms = lines_up_to m rates second.lines (every_of (IsGivenOf m) second.lines.givens r.lines.givens) (every_of (IsRelationOf m rates) second.lines.rows r.lines.rows) counts.1 in
       let sets = sets_within n (length q.names.variables) parts (omega (arith, ap length l.variables, length-append q.names.variables l.own)) h.within in
       let f : ℕ → ℕ = pulled_coordinate n m (substituted_sets (length q.names.variables) parts) in
       let within : (c : ℕ) → c ≤ 2 ^ m - 1 + rates → f c ≤ size_of (space_of first.names) =
@@ -83,4 +80,4 @@ module _ (q : BodyView) (k : IsQuestion q) (small : QuestionHasSmallNumbers q) (
       let fs : List Form = obligations q first second parts in
       let same : space_of first.names ≡ space_of (problem_names q) = sym (ap (λ v. space_of (names_under q.names v)) about) in
       subst (λ (s : Space). ArePulledRows s fs (map (terms_of_form (size_of s)) fs)) same
-      (rows_of_forms (space_of first.names) (2 ^ 106) (lit< tt) fs (obligations_up_to (2 ^ m - 1 + rates) (size_of (space_of first.names)) (2 ^ 106) f within (own_demands q second) forms))
+      (rows_of_forms (space_of first.names) (2 ^ 106) (lit< tt) fs (obligations_up_to (2 ^ m - 1 + rates) (size_of (space_of first.names)) (2 ^ 106) f within (line_demands m second.lines) forms))

@@ -8,7 +8,7 @@ use Rattle.it_space.specs.declared.problems.Kind.TheVariants.{Inequality, Equati
 use Rattle.it_space.specs.Rows.{Terms, IsOver, value, row_mass}
 use Rattle.it_space.proofs.EveryLemmas.{every_of, every-append}
 use Rattle.it_polymatroid.specs.Certificates.{Form}
-use Rattle.it_demand.specs.Demands.{LineDemand}
+use Rattle.it_demand.specs.Demands.{Demand}
 use Rattle.it_canon.proofs.SmallForms.{IsFormUpTo, form-negation}
 use Rattle.it_region.specs.Obligations.{pulled_form, demand_obligations, constraint_obligations}
 
@@ -52,10 +52,10 @@ module _ (n m a : ℕ) (f : ℕ → ℕ) (within : (c : ℕ) → c ≤ n → f c
   demanded_up_to Equation g x = (x, (form-negation m a g x, tt))
 
   -- the obligations that demands give
-  pub obligations_up_to : (ds : List LineDemand) → Every (λ (d : LineDemand). IsFormUpTo n a d.demand.form) ds → Every (IsFormUpTo m a) (demand_obligations f ds)
+  pub obligations_up_to : (ds : List Demand) → Every (λ (d : Demand). IsFormUpTo n a d.form) ds → Every (IsFormUpTo m a) (demand_obligations f ds)
   obligations_up_to [] h = tt
-  obligations_up_to (d ∷ ds) h = every-append (IsFormUpTo m a) (inequalities_of d.demand.kind (pulled_form f d.demand.form)) (demand_obligations f ds)
-      (demanded_up_to d.demand.kind (pulled_form f d.demand.form) (form_moved d.demand.form h.0)) (obligations_up_to ds h.1)
+  obligations_up_to (d ∷ ds) h = every-append (IsFormUpTo m a) (inequalities_of d.kind (pulled_form f d.form)) (demand_obligations f ds)
+      (demanded_up_to d.kind (pulled_form f d.form) (form_moved d.form h.0)) (obligations_up_to ds h.1)
 
   -- and those that constraints give
   pub constraints_up_to : (cs : List Constraint) → Every (λ (c : Constraint). IsOver n c.row) cs → Every (λ (c : Constraint). row_mass c.row ≤ a) cs → Every (IsFormUpTo m a) (constraint_obligations f cs)

@@ -11,12 +11,14 @@ use Rattle.it_space.specs.Spaces.{size_of}
 use Rattle.it_question.specs.Limits.{IsQuestion, IsVerbOver, IsRegionOf}
 use Rattle.it_question.specs.Questions.{RegionView, VerbView, Prove, Eliminate, Contain, BodyView}
 use Rattle.it_space.specs.Bounds.{IsSmall}
-use Rattle.it_demand.specs.Demands.{LineDemand, States, AreStated}
+use Rattle.it_demand.specs.Demands.{Demand}
+use Rattle.it_demand.specs.Origins.{States, AreStated}
 use Rattle.it_demand.specs.LineDemands.{space_of}
 use Rattle.it_demand.proofs.ZipLemmas.{zip-right}
 use Rattle.it_region.specs.declared.types.Pair.{Pair}
-use Rattle.it_region.specs.Obligations.{own_demands}
-use Rattle.it_region.specs.Pairs.{IsPair, IsPairOf, PairsBy, Pairs, FitsPair, candidate_sets}
+use Rattle.it_question.specs.ProblemLines.{line_demands}
+use Rattle.it_space.specs.declared.problems.Origin.{Origin}
+use Rattle.it_region.specs.Pairs.{IsPair, IsPairOf, PairsBy, Pairs, FitsPair, candidate_sets, own_origins}
 use Rattle.it_region.specs.PairSteps.{AreSetsFor}
 use Rattle.it_region.specs.declared.types.Candidate.{Candidate}
 use Rattle.it_region.proofs.PullingLemmas.{sets_within, length-sets}
@@ -33,11 +35,11 @@ mass_within (t ∷ ts) a =
 small_mass : (ts : Terms) → IsSmall ts → row_mass ts < 2 ^ 127
 small_mass ts k = let m = mass_within ts k.each in let few = k.few in omega (arith, m, few)
 
-pub stated_small : (s : Space) (ds : List LineDemand) (cs : List Constraint) → AreStated s ds cs → All (λ c. row_mass c.row < 2 ^ 127) cs
-stated_small s ds cs a = zip-right (λ (d : LineDemand) (c : Constraint). States s d.origin d.demand c) (λ c. row_mass c.row < 2 ^ 127) (λ d c t. small_mass c.row t.row.small) ds cs a
+pub stated_small : (s : Space) (places : List Origin) (ds : List Demand) (cs : List Constraint) → AreStated s places ds cs → All (λ c. row_mass c.row < 2 ^ 127) cs
+stated_small s places ds cs a = zip-right (States s) (λ c. row_mass c.row < 2 ^ 127) (λ d c t. small_mass c.row t.row.small) ds cs a.stated
 
-pub stated_rows : (s : Space) (ds : List LineDemand) (cs : List Constraint) → AreStated s ds cs → All (λ c. IsOver (size_of s) c.row) cs
-stated_rows s ds cs a = zip-right (λ (d : LineDemand) (c : Constraint). States s d.origin d.demand c) (λ c. IsOver (size_of s) c.row) (λ d c t. t.row.coordinates) ds cs a
+pub stated_rows : (s : Space) (places : List Origin) (ds : List Demand) (cs : List Constraint) → AreStated s places ds cs → All (λ c. IsOver (size_of s) c.row) cs
+stated_rows s places ds cs a = zip-right (States s) (λ c. IsOver (size_of s) c.row) (λ d c t. t.row.coordinates) ds cs a.stated
 
 pub region_wider : (q : BodyView) (r : RegionView) → IsRegionOf q.names r → length r.names.variables ≡ length q.names.variables + r.auxiliaries
 region_wider q r k = omega (arith, ap length k.variables, length-append q.names.variables k.own, k.counted)
@@ -55,8 +57,8 @@ pair_limits q a b p k l r problem o =
         few = omega (arith, m, r.few_variables);
         few_rates = omega (arith, ap (λ (s : Space). s.rates) o.second_space, ap length r.rates, k.few_rates);
       };
-      rows = stated_rows p.space (own_demands q b) p.own.items o.own;
-      small = stated_small p.space (own_demands q b) p.own.items o.own;
+      rows = stated_rows p.space (own_origins q b) (line_demands (length b.names.variables) b.lines) p.own.items o.own;
+      small = stated_small p.space (own_origins q b) (line_demands (length b.names.variables) b.lines) p.own.items o.own;
       few_parts = omega (arith, o.parts, r.counted, r.few);
       variables = omega (arith, o.common, o.parts, m, wide);
       common_first = omega (arith, o.common, n, region_wider q a l);

@@ -15,7 +15,9 @@ use Rattle.it_polymatroid.specs.Certificates.{Form}
 use Rattle.it_polymatroid.specs.Elementals.{span}
 use Rattle.it_polymatroid.proofs.Forms.{one_at-zero}
 use Rattle.it_question.specs.Questions.{BodyView, RegionView}
-use Rattle.it_demand.specs.Demands.{LineDemand, AreStated}
+use Rattle.it_demand.specs.Demands.{Demand}
+use Rattle.it_demand.specs.Origins.{States}
+use Rattle.it_question.specs.ProblemLines.{line_demands}
 use Rattle.it_demand.specs.LineDemands.{AreRowsOf}
 use Rattle.it_demand.specs.RowsOfForms.{terms_of_form}
 use Rattle.it_demand.proofs.FormRows.{told_by_form}
@@ -23,7 +25,7 @@ use Rattle.it_demand.proofs.UniqueRows.{told_by_values, zip-told}
 use Rattle.it_demand.proofs.ZipLemmas.{zip-append}
 use Rattle.it_region.specs.declared.types.Candidate.{Candidate}
 use Rattle.it_region.specs.declared.types.Pair.{Pair}
-use Rattle.it_region.specs.Obligations.{pulled_form, demand_obligations, constraint_obligations, own_demands, obligations, IsSubstitution, IsPulledRow, ArePulledRows}
+use Rattle.it_region.specs.Obligations.{pulled_form, demand_obligations, constraint_obligations, obligations, IsSubstitution, IsPulledRow, ArePulledRows}
 use Rattle.it_region.specs.Pairs.{IsPair, IsPairOf, FitsPair, candidate_coordinate, pair_obligations}
 use Rattle.it_region.specs.Pulling.{substituted_sets, pulled_coordinate}
 use Rattle.it_region.proofs.PullingLemmas.{coordinate_of_empty_set}
@@ -59,15 +61,15 @@ demanded_forms_same : (k : Kind) (f g : Form) → AreOne f g → AllZip AreOne (
 demanded_forms_same Inequality f g h = (h, tt)
 demanded_forms_same Equation f g h = (h, (λ p z. ap neg_ℤ (h p z), tt))
 
-forms_same : (s : Space) (f : ℕ → ℕ) (ds : List LineDemand) (cs : List Constraint) → f 0 ≡ 0 → AreStated s ds cs → AllZip AreOne (constraint_obligations f cs) (demand_obligations f ds)
+forms_same : (s : Space) (f : ℕ → ℕ) (ds : List Demand) (cs : List Constraint) → f 0 ≡ 0 → AllZip (States s) ds cs → AllZip AreOne (constraint_obligations f cs) (demand_obligations f ds)
 forms_same s f [] [] e a = tt
 forms_same s f [] (c ∷ cs) e a = absurd a
 forms_same s f (d ∷ ds) [] e a = absurd a
 forms_same s f (d ∷ ds) (c ∷ cs) e a =
-    let one : AllZip AreOne (inequalities_of d.demand.kind (pulled_form f (value c.row))) (inequalities_of d.demand.kind (pulled_form f d.demand.form)) =
-    demanded_forms_same d.demand.kind (pulled_form f (value c.row)) (pulled_form f d.demand.form) (λ p z. a.0.row.same (λ x. p (f x)) (ap p e ∙ z)) in
-    zip-append AreOne (inequalities_of c.kind (pulled_form f (value c.row))) (constraint_obligations f cs) (inequalities_of d.demand.kind (pulled_form f d.demand.form)) (demand_obligations f ds)
-    (subst (λ (k : Kind). AllZip AreOne (inequalities_of k (pulled_form f (value c.row))) (inequalities_of d.demand.kind (pulled_form f d.demand.form))) (sym a.0.kind) one) (forms_same s f ds cs e a.1)
+    let one : AllZip AreOne (inequalities_of d.kind (pulled_form f (value c.row))) (inequalities_of d.kind (pulled_form f d.form)) =
+    demanded_forms_same d.kind (pulled_form f (value c.row)) (pulled_form f d.form) (λ p z. a.0.row.same (λ x. p (f x)) (ap p e ∙ z)) in
+    zip-append AreOne (inequalities_of c.kind (pulled_form f (value c.row))) (constraint_obligations f cs) (inequalities_of d.kind (pulled_form f d.form)) (demand_obligations f ds)
+    (subst (λ (k : Kind). AllZip AreOne (inequalities_of k (pulled_form f (value c.row))) (inequalities_of d.kind (pulled_form f d.form))) (sym a.0.kind) one) (forms_same s f ds cs e a.1)
 
 rows_of_text : (s : Space) (fs gs : List Form) (rows : List Terms) → AllZip AreOne fs gs → ArePulledRows s fs rows → ArePulledRows s gs rows
 rows_of_text s [] [] [] h a = tt
@@ -95,6 +97,10 @@ abbrev pub candidate_parts : Candidate → List ℕ
 candidate_parts c = take c.count c.parts
 
 module _ (q : BodyView) (a b : RegionView) (p : Pair) (o : IsPairOf q a b p) where
+  -- what the second region's own lines demand
+  abbrev own : List Demand
+  own = line_demands (length b.names.variables) b.lines
+
   first_variables : p.first.space.variables ≡ length a.names.variables
   first_variables = ap (λ (s : Space). s.variables) o.first_space
 
@@ -108,15 +114,15 @@ module _ (q : BodyView) (a b : RegionView) (p : Pair) (o : IsPairOf q a b p) whe
 
   -- the rows of a candidate's obligations are those that the text has for its parts
   pub text_rows : (c : Candidate) (rows : List Terms) → ArePulledRows p.first.space (pair_obligations p c) rows → ArePulledRows p.first.space (obligations q a b (candidate_parts c)) rows
-  text_rows c rows r = subst (λ (f : ℕ → ℕ). ArePulledRows p.first.space (demand_obligations f (own_demands q b)) rows) (coordinate_is c)
-      (rows_of_text p.first.space (pair_obligations p c) (demand_obligations (candidate_coordinate p c) (own_demands q b)) rows
-      (forms_same p.space (candidate_coordinate p c) (own_demands q b) p.own.items (coordinate_of_empty_set p.first.space.variables p.space.variables p.common (candidate_parts c)) o.own) r)
+  text_rows c rows r = subst (λ (f : ℕ → ℕ). ArePulledRows p.first.space (demand_obligations f own) rows) (coordinate_is c)
+      (rows_of_text p.first.space (pair_obligations p c) (demand_obligations (candidate_coordinate p c) own) rows
+      (forms_same p.space (candidate_coordinate p c) own p.own.items (coordinate_of_empty_set p.first.space.variables p.space.variables p.common (candidate_parts c)) o.own.stated) r)
 
   -- and so are their terms
   pub text_terms : (size : ℕ) (c : Candidate) → map (terms_of_form size) (pair_obligations p c) ≡ map (terms_of_form size) (obligations q a b (candidate_parts c))
-  text_terms size c = terms_same size (pair_obligations p c) (demand_obligations (candidate_coordinate p c) (own_demands q b))
-      (forms_same p.space (candidate_coordinate p c) (own_demands q b) p.own.items (coordinate_of_empty_set p.first.space.variables p.space.variables p.common (candidate_parts c)) o.own)
-      ∙ ap (λ (f : ℕ → ℕ). map (terms_of_form size) (demand_obligations f (own_demands q b))) (coordinate_is c)
+  text_terms size c = terms_same size (pair_obligations p c) (demand_obligations (candidate_coordinate p c) own)
+      (forms_same p.space (candidate_coordinate p c) own p.own.items (coordinate_of_empty_set p.first.space.variables p.space.variables p.common (candidate_parts c)) o.own.stated)
+      ∙ ap (λ (f : ℕ → ℕ). map (terms_of_form size) (demand_obligations f own)) (coordinate_is c)
 
   -- the parts of a candidate that fits
   pub parts_are : (c : Candidate) → IsPair p → FitsPair p c → IsSubstitution a b (candidate_parts c)

@@ -1,5 +1,5 @@
 -- What is to be shown of a substitution: the second region's own constraints at the pulled-back map.
-use Rattle.std.specs.Prelude.{◌≡◌, ℕ, ◌+◌, ◌<◌, ◌^◌, ℤ, pos, ◌≤ℤ◌, List, [], ◌∷◌, ◌++◌, length, All}
+use Rattle.std.specs.Prelude.{◌≡◌, ℕ, ◌<◌, ◌^◌, ℤ, pos, ◌≤ℤ◌, List, [], ◌∷◌, ◌++◌, length, flat_map, All}
 use Rattle.std.specs.List.{AllZip}
 use Rattle.it_space.specs.declared.spaces.Space.{Space}
 use Rattle.it_space.specs.declared.problems.Constraint.{Constraint}
@@ -8,8 +8,8 @@ use Rattle.it_space.specs.Spaces.{size_of}
 use Rattle.it_polymatroid.specs.Certificates.{Form}
 use Rattle.it_question.specs.Questions.{RegionView, BodyView}
 use Rattle.it_demand.specs.Targets.{inequalities_of}
-use Rattle.it_demand.specs.Demands.{LineDemand}
-use Rattle.it_question.specs.ProblemLines.{demands_from}
+use Rattle.it_demand.specs.Demands.{Demand}
+use Rattle.it_question.specs.ProblemLines.{line_demands}
 use Rattle.it_region.specs.Pulling.{substituted_sets, pulled_coordinate}
 
 -- the form at a map pulled back, which has at each coordinate c the value at f c
@@ -17,22 +17,17 @@ abbrev pub pulled_form : (ℕ → ℕ) → Form → Form
 pulled_form f form p = form (λ c. p (f c))
 
 -- the obligations that demands give, in order
-abbrev pub demand_obligations : (ℕ → ℕ) → List LineDemand → List Form
-demand_obligations f [] = []
-demand_obligations f (d ∷ ds) = inequalities_of d.demand.kind (pulled_form f d.demand.form) ++ demand_obligations f ds
+abbrev pub demand_obligations : (ℕ → ℕ) → List Demand → List Form
+demand_obligations f ds = flat_map (λ d. inequalities_of d.kind (pulled_form f d.form)) ds
 
 -- and those that constraints give
 abbrev pub constraint_obligations : (ℕ → ℕ) → List Constraint → List Form
 constraint_obligations f [] = []
 constraint_obligations f (c ∷ cs) = inequalities_of c.kind (pulled_form f (value c.row)) ++ constraint_obligations f cs
 
--- what the second region's own lines demand; its lines are counted after the question's own
-abbrev pub own_demands : BodyView → RegionView → List LineDemand
-own_demands q b = demands_from (length b.names.variables) (1 + length q.lines.givens) (1 + length q.lines.rows) b.lines
-
--- the obligations where each auxiliary of region b stands for a part, by the meaning of the lines
+-- the obligations where each auxiliary of region b stands for a part, by the meaning of its own lines
 abbrev pub obligations : BodyView → RegionView → RegionView → List ℕ → List Form
-obligations q a b parts = demand_obligations (pulled_coordinate (length a.names.variables) (length b.names.variables) (substituted_sets (length q.names.variables) parts)) (own_demands q b)
+obligations q a b parts = demand_obligations (pulled_coordinate (length a.names.variables) (length b.names.variables) (substituted_sets (length q.names.variables) parts)) (line_demands (length b.names.variables) b.lines)
 
 -- each of the forms is at least 0 at p
 abbrev pub AreFormsAtLeastZero : (ℕ → ℤ) → List Form → Type 0

@@ -5,13 +5,16 @@ use Rattle.it_space.specs.Rows.{IsOver, row_mass}
 use Rattle.it_space.specs.Spaces.{IsSpace, size_of}
 use Rattle.it_polymatroid.specs.Certificates.{Form}
 use Rattle.it_question.specs.Questions.{RegionView, VerbView, Contain, BodyView}
-use Rattle.it_demand.specs.Demands.{AreStated}
-use Rattle.it_canon.specs.QuestionDemands.{question_demands}
+use Rattle.it_demand.specs.Origins.{AreStated}
+use Rattle.it_canon.specs.QuestionDemands.{question_demands, question_origins}
+use Rattle.it_question.specs.LineOrigins.{origins_from}
+use Rattle.it_question.specs.ProblemLines.{line_demands}
+use Rattle.it_space.specs.declared.problems.Origin.{Origin}
 use Rattle.it_demand.specs.LineDemands.{space_of}
 use Rattle.it_region.specs.declared.types.Pair.{Pair}
 use Rattle.it_region.specs.declared.types.Candidate.{Candidate}
 use Rattle.it_region.specs.Pulling.{substituted_sets, pulled_coordinate}
-use Rattle.it_region.specs.Obligations.{own_demands, constraint_obligations}
+use Rattle.it_region.specs.Obligations.{constraint_obligations}
 
 -- the pairs that calls take
 pub record IsPair (p : Pair) : Type 0 where
@@ -24,12 +27,16 @@ pub record IsPair (p : Pair) : Type 0 where
   pub common_first : p.common ≤ p.first.space.variables
   pub rates : p.space.rates ≡ p.first.space.rates
 
+-- the origins of what the second region's own lines demand, which are counted after the question's own
+abbrev pub own_origins : BodyView → RegionView → List Origin
+own_origins q b = origins_from (length b.names.variables) (1 + length q.lines.givens) (1 + length q.lines.rows) b.lines
+
 -- the pair of a question's regions
 pub record IsPairOf (q : BodyView) (a b : RegionView) (p : Pair) : Type 0 where
   pub first_space : p.first.space ≡ space_of a.names
-  pub first : AreStated p.first.space (question_demands q) p.first.constraints.items
+  pub first : AreStated p.first.space (question_origins q) (question_demands q) p.first.constraints.items
   pub second_space : p.space ≡ space_of b.names
-  pub own : AreStated p.space (own_demands q b) p.own.items
+  pub own : AreStated p.space (own_origins q b) (line_demands (length b.names.variables) b.lines) p.own.items
   pub common : p.common ≡ length q.names.variables
   pub parts : p.parts ≡ b.auxiliaries
 

@@ -15,11 +15,12 @@ use Rattle.it_syntax.specs.declared.types.Sign.TheVariants.{AtLeast, AtMost, Equ
 use Rattle.it_question.specs.Questions.{BodyView, QuestionView, RegionView, VerbView, Prove, Eliminate, Contain}
 use Rattle.it_demand.specs.Canonical.{form_of}
 use Rattle.it_elemental.specs.Generators.{is_equation}
-use Rattle.it_demand.specs.Demands.{AreStated, kind_of}
+use Rattle.it_demand.specs.Demands.{kind_of}
+use Rattle.it_demand.specs.Origins.{AreStated}
 use Rattle.it_demand.specs.Targets.{targets, inequalities_of}
 use Rattle.it_demand.specs.LineDemands.{AreRowsOf, space_of}
 use Rattle.it_question.specs.ProblemLines.{problem_names, names_under}
-use Rattle.it_canon.specs.QuestionDemands.{question_demands, IsProblemOf, terms_in}
+use Rattle.it_canon.specs.QuestionDemands.{question_demands, question_origins, IsProblemOf, terms_in}
 use Rattle.it_region.specs.declared.types.Candidate.{Candidate}
 use Rattle.it_region.specs.declared.types.Pair.{Pair}
 use Rattle.it_region.specs.Obligations.{obligations, IsSubstitution, ArePulledRows}
@@ -162,7 +163,7 @@ module _ (q : BodyView) (p : Pair) (parts : List ℕ) (ws : List CertificateView
   pair_space = of_pair (p.first.space ≡ space_of (problem_names q)) (λ first second tries e o h. o.first_space ∙ sym (ap (λ v. space_of (names_under q.names v)) e))
 
   pub pair_problem : IsProblemOf q (problem_view p.first)
-  pair_problem = record { space = pair_space; limits = l.problem; constraints = of_pair (AreStated p.first.space (question_demands q) p.first.constraints.items) (λ first second tries e o h. o.first) }
+  pair_problem = record { space = pair_space; limits = l.problem; constraints = of_pair (AreStated p.first.space (question_origins q) (question_demands q) p.first.constraints.items) (λ first second tries e o h. o.first) }
 
   pub candidate_fits : (c : Candidate) → length c.parts ≡ 4 → c.count ≡ length parts → take c.count c.parts ≡ parts → FitsPair p c
   candidate_fits c four count same = of_pair (FitsPair p c) (λ first second tries e o h. parts_fit q first second p o c parts four count same h)

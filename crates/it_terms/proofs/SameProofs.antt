@@ -8,7 +8,9 @@ use Rattle.it_space.specs.Rows.{value}
 use Rattle.it_polymatroid.specs.Certificates.{Form, Generators, IsAllowed, combination}
 use Rattle.it_elemental.specs.Generators.{forms_of, of_constraint, generator_at, is_equation}
 use Rattle.it_syntax.specs.Meaning.{RelationView}
-use Rattle.it_demand.specs.Demands.{LineDemand, States, AreStated}
+use Rattle.it_demand.specs.Demands.{Demand}
+use Rattle.it_demand.specs.Origins.{States}
+use Rattle.std.specs.List.{AllZip}
 use Rattle.it_demand.proofs.ZipLemmas.{zip-length}
 use Rattle.it_syntax.specs.NamesViews.{NamesView}
 use Rattle.it_question.specs.Questions.{BodyView}
@@ -42,7 +44,7 @@ proof_of_same n r f h g k e s t = record {
 }
 
 -- a constraint by its number is what states the demand of this number
-agreeing_at : (s : Space) (ds : List LineDemand) (cs : List Constraint) (i : ℕ) → i < length cs → AreStated s ds cs
+agreeing_at : (s : Space) (ds : List Demand) (cs : List Constraint) (i : ℕ) → i < length cs → AllZip (States s) ds cs
     → ((is_equation (generator_at (map of_constraint cs) i).kind) ≡ is_equation (demand_at ds i).kind) × AreSame (value (generator_at (map of_constraint cs) i).row) (demand_at ds i).form
 agreeing_at s [] [] i h a = absurd (omega arith)
 agreeing_at s [] (c ∷ cs) i h a = absurd a
@@ -51,17 +53,17 @@ agreeing_at s (d ∷ ds) (c ∷ cs) zero h a = (ap is_equation a.0.kind, a.0.row
 agreeing_at s (d ∷ ds) (c ∷ cs) (suc i) h a = agreeing_at s ds cs i (omega arith) a.1
 
 -- the constraints of a problem are what its lines demand
-pub stated_are_same : (s : Space) (ds : List LineDemand) (cs : List Constraint) → AreStated s ds cs → AreSameConstraints (forms_of (map of_constraint cs)) (constraints_of ds)
+pub stated_are_same : (s : Space) (ds : List Demand) (cs : List Constraint) → AllZip (States s) ds cs → AreSameConstraints (forms_of (map of_constraint cs)) (constraints_of ds)
 stated_are_same s ds cs a =
     let counted : length (map of_constraint cs) ≡ length cs = length-map cs of_constraint in record {
-      count = counted ∙ zip-length (λ (d : LineDemand) (c : Constraint). States s d.origin d.demand c) ds cs a;
+      count = counted ∙ zip-length (States s) ds cs a;
       kinds = λ i h. (agreeing_at s ds cs i (subst (λ (m : ℕ). i < m) counted h) a).0;
       forms = λ i h. (agreeing_at s ds cs i (subst (λ (m : ℕ). i < m) counted h) a).1;
     }
 
 -- a text that tells a proof from a problem's constraints tells it from the question's lines
 pub told_by_lines : {X : Type 0} (items : X → List ℕ) (q : BodyView) (v : NamesView) (target : Form) (s : Space) (cs : List Constraint) (o : Option X) → v ≡ problem_names q
-    → AreStated s (question_demands q) cs → IfSome o (λ x. TellsProof v target (forms_of (map of_constraint cs)) (items x)) → IfSome o (λ x. TellsForm q target (items x))
+    → AllZip (States s) (question_demands q) cs → IfSome o (λ x. TellsProof v target (forms_of (map of_constraint cs)) (items x)) → IfSome o (λ x. TellsForm q target (items x))
 told_by_lines items q v target s cs None e are h = tt
 told_by_lines items q v target s cs (Some x) e are h =
     let t = subst (λ (w : NamesView). TellsProof w target (forms_of (map of_constraint cs)) (items x)) e h in record {

@@ -1,9 +1,8 @@
 -- A told proof proves.
 use Rattle.std.proofs.Common.{◌≡◌, ℕ, ◌<◌, ◌^◌, ℤ, pos, neg_ℤ, ◌+ℤ◌, ◌*ℤ◌, ◌≤ℤ◌, Bool, true, false, if◌then◌else◌, bit_or, bit_and, List, [], ◌∷◌, ◌++◌, length, map, refl, sym, ap, ◌∙◌, subst, arith}
-use Rattle.std.specs.Prelude.{All}
+use Rattle.std.specs.Prelude.{All, flat_map}
 use Rattle.std.proofs.lemmas.Int.{ints}
-use Rattle.std.proofs.lemmas.List.Elements.{All-head, All-tail, All-append, All-map, All-get_or}
-use Rattle.std.proofs.lemmas.List.{length-map}
+use Rattle.std.proofs.lemmas.List.Elements.{All-head, All-tail, All-append, All-get_or}
 use Rattle.std.proofs.lemmas.Nat.{or_lt, and_le_l}
 use Rattle.std.proofs.lemmas.Nat.Bits.{same_from_bits, bit_at_or, bit_at_and}
 use Rattle.it_number.proofs.SignLemmas.{sum_least, product_least, least_by_multiple}
@@ -19,8 +18,7 @@ use Rattle.it_syntax.specs.declared.types.Term.{Term}
 use Rattle.it_syntax.specs.Meaning.{atom_at, term_at, side_at, multiplicity, common_denominator}
 use Rattle.it_syntax.specs.NamesViews.{NamesView}
 use Rattle.it_elemental.specs.Generators.{is_equation}
-use Rattle.it_demand.specs.Demands.{LineDemand, equation}
-use Rattle.it_demand.specs.LineDemands.{given_demands, row_demands}
+use Rattle.it_demand.specs.Demands.{Demand, demand_of, demands, equation}
 use Rattle.it_demand.proofs.MetLemmas.{IsSatisfied, givens_satisfied, rows_satisfied}
 use Rattle.it_question.specs.Questions.{OwnLinesView}
 use Rattle.it_question.specs.ProblemLines.{line_demands, problem_names, problem_lines}
@@ -96,14 +94,13 @@ proof_least v target g text t p h least zeros =
     least_by_multiple s.scale (target p) (let o = s.scale_from_one in omega (arith, ints, o)) (subst (λ (x : ℤ). pos 0 ≤ℤ x) (sym c) (sum_least (side_at n p m s.shannon) (side_at n p m s.rest) a b))
 
 -- what true lines demand is met
-lines_satisfied : (n : ℕ) (own : OwnLinesView) (p : ℕ → ℤ) → AreTrueAt n p own → All (λ d. IsSatisfied p d.demand) (line_demands n own)
-lines_satisfied n own p t = All-append (λ (d : LineDemand). IsSatisfied p d.demand) (given_demands n 1 own.givens) (row_demands n 1 own.rows)
-    ((givens_satisfied n 1 own.givens p).1 t.givens) ((rows_satisfied n 1 own.rows p).1 t.rows)
+lines_satisfied : (n : ℕ) (own : OwnLinesView) (p : ℕ → ℤ) → AreTrueAt n p own → All (IsSatisfied p) (line_demands n own)
+lines_satisfied n own p t = All-append (IsSatisfied p) (flat_map (demands n) own.givens) (map (demand_of n) own.rows)
+    ((givens_satisfied n own.givens p).1 t.givens) ((rows_satisfied n own.rows p).1 t.rows)
 
 -- one of them, by its number
-demand_satisfied : (p : ℕ → ℤ) (ds : List LineDemand) (i : ℕ) → i < length ds → All (λ d. IsSatisfied p d.demand) ds → IsSatisfied p (demand_at ds i)
-demand_satisfied p ds i within all = All-get_or (IsSatisfied p) (map (λ (d : LineDemand). d.demand) ds) i (equation (λ p. pos 0))
-    (let e = length-map ds (λ (d : LineDemand). d.demand) in omega (arith, e, within)) (All-map (IsSatisfied p) (λ (d : LineDemand). d.demand) ds all)
+demand_satisfied : (p : ℕ → ℤ) (ds : List Demand) (i : ℕ) → i < length ds → All (IsSatisfied p) ds → IsSatisfied p (demand_at ds i)
+demand_satisfied p ds i within all = All-get_or (IsSatisfied p) ds i (equation (λ p. pos 0)) within all
 
 met_least : (k : Kind) (x : ℤ) → Meets k x → pos 0 ≤ℤ x
 met_least Inequality x h = h
@@ -115,7 +112,7 @@ met_zero Equation x e h = h
 
 pub told_proves : ToldProves
 told_proves q target text t p h =
-    let ds : List LineDemand = question_demands q in
+    let ds : List Demand = question_demands q in
     let all = lines_satisfied (variable_count q) (problem_lines q) p h.1 in
     proof_least (problem_names q) target (constraints_of ds) text t p h.0
     (λ i within. met_least (demand_at ds i).kind ((demand_at ds i).form p) (demand_satisfied p ds i within all))

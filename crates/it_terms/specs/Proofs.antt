@@ -9,7 +9,7 @@ use Rattle.it_syntax.specs.declared.types.Sign.TheVariants.{Equal}
 use Rattle.it_syntax.specs.declared.types.Term.{Term}
 use Rattle.it_syntax.specs.Meaning.{RelationView, common_denominator, side_at}
 use Rattle.it_syntax.specs.NamesViews.{NamesView}
-use Rattle.it_demand.specs.Demands.{Demand, LineDemand, equation}
+use Rattle.it_demand.specs.Demands.{Demand, equation}
 use Rattle.it_question.specs.Questions.{BodyView}
 use Rattle.it_question.specs.ProblemLines.{problem_names}
 use Rattle.it_canon.specs.QuestionDemands.{AreTrueTogether, question_demands}
@@ -65,11 +65,11 @@ pub record TellsProof (v : NamesView) (target : Form) (g : Generators) (text : L
   pub proves : IsProofOf (length v.variables) relation target g
 
 -- the demand of a number, counted from 0
-abbrev pub demand_at : List LineDemand → ℕ → Demand
-demand_at ds i = get_or (map (λ d. d.demand) ds) i (equation (λ p. pos 0))
+abbrev pub demand_at : List Demand → ℕ → Demand
+demand_at ds i = get_or ds i (equation (λ p. pos 0))
 
 -- what lines demand, as what a proof may use
-abbrev pub constraints_of : List LineDemand → Generators
+abbrev pub constraints_of : List Demand → Generators
 constraints_of ds = record {
   count = length ds;
   form = λ i. (demand_at ds i).form;
