@@ -41,7 +41,8 @@ use Rattle.it_eliminate.proofs.MemberLemmas.{every_member}
 use Rattle.it_redundant.specs.ReducedElimination.{ProjectedView}
 use Rattle.it_redundant.specs.ReducedElimination as projections
 use Rattle.it_answer.specs.declared.types.Budgets.{Budgets}
-use Rattle.it_answer.specs.Shows.{ShowsBy, Refutes, region_rows}
+use Rattle.it_answer.specs.Shows.{ShowsBy, Refutes}
+use Rattle.it_answer.specs.Truth.{region_rows}
 use Rattle.it_answer.specs.DueEliminations.{IsDueElimination, answer_of_end}
 use Rattle.it_answer.specs.DueRelations.{CauseIsDue, IsDueRelation}
 use Rattle.it_answer.specs.Forms.{CertifyAll, IsAllowedWeight, all_demands}

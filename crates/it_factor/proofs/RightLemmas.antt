@@ -27,8 +27,9 @@ use Rattle.it_best.specs.BestViews.{BestView, Least, Never, Unbounded, Undecided
 use Rattle.it_best.specs.Factors.{IsRightBest, IsFactor, IsPoint, ground_of}
 use Rattle.it_best.proofs.CertificateLemmas.{linear-factor, linear-neg}
 use Rattle.it_factor.specs.Replies.{ReplyView, Found, Other}
-use Rattle.it_factor.specs.RightReplies.{IsRightFactor, IsRightReply, asked_by, at_least, question_ground}
+use Rattle.it_factor.specs.RightReplies.{IsRightFactor, IsRightReply, question_ground}
 use Rattle.it_factor.specs.RowReplies.{IsFoundByRows, IsReplyByRows}
+use Rattle.it_factor.specs.Truth.{asked_by, at_least}
 use Rattle.it_demand.specs.RowsOfForms.{terms_of_form}
 use Rattle.it_demand.proofs.FormRows.{row_is_terms_of_form}
 use Rattle.it_canon.proofs.PosesLemmas.{one_problem}
