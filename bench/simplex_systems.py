@@ -247,6 +247,11 @@ def tall():
     yield columns, target, lost + [None]
 
 
+def wide_ratios():
+    """A system at whose third step the ratio of a right side and an entry passes the limit, before any other number does."""
+    yield [[730424, 559829877149, 0], [0, 2478510918770994165, 3], [1, 0, 1]], [0, 3, 464282409129639], [2, None]
+
+
 def lines():
     """The systems, each with the budgets that are tried: None is none."""
     for columns, target, budget in systems():
@@ -255,6 +260,7 @@ def lines():
     for columns, target, budget, lost in takeovers():
         yield columns, target, [lost, budget, None]
     yield from tall()
+    yield from wide_ratios()
 
 
 # no run here makes more steps

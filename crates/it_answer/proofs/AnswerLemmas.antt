@@ -14,9 +14,9 @@ use Rattle.it_syntax.specs.Meaning.{RelationView}
 use Rattle.it_question.specs.declared.types.Question.{Question}
 use Rattle.it_question.specs.Questions.{BodyView, VerbView, Prove, Eliminate, question_body}
 use Rattle.it_demand.specs.Canonical.{IsRowOf}
-use Rattle.it_demand.specs.Demands.{AreStated}
+use Rattle.it_demand.specs.Origins.{AreStated}
 use Rattle.it_demand.specs.Targets.{negation, targets}
-use Rattle.it_canon.specs.QuestionDemands.{variable_count, question_demands as demanded, terms_in, AreTrueAt}
+use Rattle.it_canon.specs.QuestionDemands.{variable_count, question_demands as demanded, question_origins, terms_in, AreTrueAt}
 use Rattle.it_demand.specs.LineDemands.{space_of, AreRowsOf}
 use Rattle.it_question.specs.ProblemLines.{problem_names, problem_lines}
 use Rattle.it_demand.specs.RowsOfForms.{terms_of_form}
@@ -122,13 +122,13 @@ shown_targets q r (answer_views.Region rows) x = absurd x
 shown_targets q r (answer_views.Contained parts proofs) x = absurd x
 shown_targets q r (answer_views.Open tried) x = absurd x
 
-module _ (q : BodyView) (p : ProblemView) (e : p.space ≡ space_of (problem_names q)) (st : AreStated p.space (demanded q) p.constraints) (k : IsProblem p) where
+module _ (q : BodyView) (p : ProblemView) (e : p.space ≡ space_of (problem_names q)) (st : AreStated p.space (question_origins q) (demanded q) p.constraints) (k : IsProblem p) where
   to_question_space : (P : Space → Type 0) → P p.space → P (space_of (problem_names q))
   to_question_space P x = subst P e x
 
   pub show_certificate : (f : Form) (t : Terms) (w : CertificateView) → IsOver (size_of p.space) t → ((x : ℕ → ℤ) → x 0 ≡ pos 0 → value t x ≡ f x) → CertifiesRow p t w → CertifiesForm q f w
   show_certificate f t w up same c = to_question_space (λ s. Certifies (all_demands s.variables (demanded q)) f w)
-      (by_forms (all_demands p.space.variables (demanded q)) (generators p) (generators_speak p.space (demanded q) p.constraints st) (size_of p.space + 1) (value t) f same w c (rows_add_up p t w k up c))
+      (by_forms (all_demands p.space.variables (demanded q)) (generators p) (generators_speak p.space (demanded q) p.constraints st.stated) (size_of p.space + 1) (value t) f same w c (rows_add_up p t w k up c))
 
   show_point : (f : Form) (t : Terms) (values : List ℤ) → IsRowOf p.space f t → RefutesRow p t values → IsCounterexample q f values
   show_point f t values r c = record {

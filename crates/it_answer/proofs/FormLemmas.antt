@@ -18,7 +18,8 @@ use Rattle.it_polymatroid.proofs.Forms.{one_at-zero, value_linear}
 use Rattle.it_elemental.proofs.GeneratorLemmas.{rows_of_space}
 use Rattle.it_check.specs.Meaning.{CertifiesRow}
 use Rattle.it_elemental.proofs.RowLemmas.{value-row}
-use Rattle.it_demand.specs.Demands.{Demand, LineDemand, States, AreStated}
+use Rattle.it_demand.specs.Demands.{Demand}
+use Rattle.it_demand.specs.Origins.{States}
 use Rattle.it_demand.proofs.ZipLemmas.{zip-append, zip-length}
 use Rattle.it_elemental.specs.Generators.{Generator, of_elemental, of_constraint, generator_list, generators, generator_at, forms_of, is_equation}
 use Rattle.it_answer.specs.Forms.{demand_of_elemental, all_demands, demand_at, Certifies, IsAllowedWeight}
@@ -37,11 +38,11 @@ zip-maps : {X A B : Type 0} (R : A → B → Type 0) (f : X → A) (g : X → B)
 zip-maps R f g [] h = tt
 zip-maps R f g (x ∷ xs) h = (h x, zip-maps R f g xs h)
 
-zip-both : {X Y A B : Type 0} (S : X → Y → Type 0) (R : A → B → Type 0) (f : X → A) (g : Y → B) → ((x : X) (y : Y) → S x y → R (f x) (g y)) → (xs : List X) (ys : List Y) → AllZip S xs ys → AllZip R (map f xs) (map g ys)
-zip-both S R f g h [] [] a = tt
-zip-both S R f g h [] (y ∷ ys) a = absurd a
-zip-both S R f g h (x ∷ xs) [] a = absurd a
-zip-both S R f g h (x ∷ xs) (y ∷ ys) a = (h x y a.0, zip-both S R f g h xs ys a.1)
+zip-map : {X Y B : Type 0} (S : X → Y → Type 0) (R : X → B → Type 0) (g : Y → B) → ((x : X) (y : Y) → S x y → R x (g y)) → (xs : List X) (ys : List Y) → AllZip S xs ys → AllZip R xs (map g ys)
+zip-map S R g h [] [] a = tt
+zip-map S R g h [] (y ∷ ys) a = absurd a
+zip-map S R g h (x ∷ xs) [] a = absurd a
+zip-map S R g h (x ∷ xs) (y ∷ ys) a = (h x y a.0, zip-map S R g h xs ys a.1)
 
 zip-at : {A B : Type 0} (R : A → B → Type 0) (xs : List A) (ys : List B) (i : ℕ) (a : A) (b : B) → AllZip R xs ys → i < length ys → R (get_or xs i a) (get_or ys i b)
 zip-at R [] [] i a b z h = absurd (omega arith)
@@ -50,11 +51,11 @@ zip-at R (x ∷ xs) [] i a b z h = absurd z
 zip-at R (x ∷ xs) (y ∷ ys) zero a b z h = z.0
 zip-at R (x ∷ xs) (y ∷ ys) (suc i) a b z h = zip-at R xs ys i a b z.1 (omega arith)
 
-pub generators_speak : (s : Space) (ds : List LineDemand) (cs : List Constraint) → AreStated s ds cs → AllZip Speaks (all_demands s.variables ds) (generator_list s.variables cs)
+pub generators_speak : (s : Space) (ds : List Demand) (cs : List Constraint) → AllZip (States s) ds cs → AllZip Speaks (all_demands s.variables ds) (generator_list s.variables cs)
 unfolding all_demands generator_list
-generators_speak s ds cs h = zip-append Speaks (map (demand_of_elemental s.variables) (elementals s.variables)) (map (λ (d : LineDemand). d.demand) ds) (map (of_elemental s.variables) (elementals s.variables)) (map of_constraint cs)
+generators_speak s ds cs h = zip-append Speaks (map (demand_of_elemental s.variables) (elementals s.variables)) ds (map (of_elemental s.variables) (elementals s.variables)) (map of_constraint cs)
     (zip-maps Speaks (demand_of_elemental s.variables) (of_elemental s.variables) (elementals s.variables) (λ e. record { kind = refl; same = λ p z. value-row s.variables e p z }))
-    (zip-both (λ (d : LineDemand) (c : Constraint). States s d.origin d.demand c) Speaks (λ (d : LineDemand). d.demand) of_constraint (λ d c t. record { kind = t.kind; same = t.row.same }) ds cs h)
+    (zip-map (States s) Speaks of_constraint (λ d c t. record { kind = t.kind; same = t.row.same }) ds cs h)
 
 module _ (ds : List Demand) (gs : List Generator) (z : AllZip Speaks ds gs) where
   same_count : length gs ≡ length ds

@@ -29,7 +29,7 @@ use Rattle.it_redundant.specs.Theorems as theorems
 use Rattle.it_redundant.specs.Theorems.{IsReducedRegion, RegionIsReduced}
 use Rattle.it_redundant.proofs.ProjectionLemmas.{one_reduced_end}
 use Rattle.it_answer.specs.declared.types.Budgets.{Budgets}
-use Rattle.it_answer.specs.Shows.{ARegionIsTrue, DoesNotFollow, ShowsRegion, LinesExtend, MarkedRowsAreNeeded, NeededRowsAreNeeded, ShowsBy, region_rows}
+use Rattle.it_answer.specs.Truth.{DoesNotFollow, IsExactRegion, LinesExtend, MarkedRowsAreNeeded, region_rows}
 use Rattle.it_answer.specs.DueEliminations.{marked_rows, answer_of_end, IsDueElimination}
 
 -- ---- the rows of the text and its lines
@@ -129,7 +129,7 @@ module _ (q : BodyView) (rates : List ℕ) (givens : ProblemView) (rows : List T
       ap₂ (λ (xs ys : List Terms). xs ++ ys) (sym (rows_again b.kept_before) ∙ ap region_rows (sym b.before_is)) (sym (rows_again b.kept_after) ∙ ap region_rows (sym b.after_is)) in
       row_does_not_follow (kept_rows b.kept_before ++ kept_rows b.kept_after) (region_rows before ++ region_rows after) row b.values others (need b.kept_before b.kept_after (row, Needed b.values) b.is)
 
-  region_shown : (kept : List (Terms × NeedView)) → IsReducedRegion givens rates rows kept → ShowsRegion q rates (marked_rows kept)
+  region_shown : (kept : List (Terms × NeedView)) → IsReducedRegion givens rates rows kept → IsExactRegion q rates (marked_rows kept)
   region_shown kept x = record {
     coordinates = subst (λ (rs : List Terms). All (IsOver (size_of (space_of q.names))) rs) (sym (rows_again kept)) (subst (λ (s : Space). All (IsOver (size_of s)) (kept_rows kept)) same x.coordinates);
     free = λ r m. subst (λ (rs : List Terms). LacksCoordinate (2 ^ length q.names.variables + r) rs) (sym (rows_again kept)) (subst (λ (s : Space). LacksCoordinate (2 ^ s.variables + r) (kept_rows kept)) same (x.free r m));
@@ -174,17 +174,3 @@ pub not_width : (step : ℕ) (end : ProjectedView) → Undecided (Width step) �
 not_width step (projections.Region kept dropped) e = cc
 not_width step (projections.Rows rate) e = cc
 not_width step (projections.Wide rate) e = cc
-
-pub a_region_is_true : ARegionIsTrue
-a_region_is_true q rates rows is x p together =
-    let a : ShowsRegion q rates rows = subst (λ (v : VerbView). ShowsBy q v (Region rows)) is x in
-    let n_is : variable_count q ≡ length q.names.variables = ap (λ verb. length (names_under q.names verb).variables) is in
-    subst (λ (n : ℕ). IsPointOf (region_rows rows) p ↔ LinesExtend n rates q.lines.rows p) (sym n_is)
-    (a.exact p (subst (λ (n : ℕ). IsPolymatroid n p) n_is together.0) (subst (λ (n : ℕ). All (IsTrueAt n p) q.lines.givens) n_is (givens_of_lines together.1)))
-  where
-    givens_of_lines : AreTrueAt (variable_count q) p (problem_lines q) → All (IsTrueAt (variable_count q) p) q.lines.givens
-    givens_of_lines l = subst (λ (own : OwnLinesView). All (IsTrueAt (variable_count q) p) own.givens) (ap (lines_under q.lines) is) l.givens
-
-pub needed_rows_are_needed : NeededRowsAreNeeded
-needed_rows_are_needed q rates rows is x =
-    let a : ShowsRegion q rates rows = subst (λ (v : VerbView). ShowsBy q v (Region rows)) is x in a.needed

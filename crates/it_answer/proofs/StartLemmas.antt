@@ -10,7 +10,7 @@ use Rattle.it_polymatroid.specs.Certificates.{Form}
 use Rattle.it_question.specs.Limits.{IsQuestion}
 use Rattle.it_question.proofs.NumberLemmas.{QuestionHasSmallNumbers}
 use Rattle.it_question.specs.Questions.{BodyView, VerbView, Prove, Eliminate, Contain}
-use Rattle.it_demand.specs.Demands.{LineDemand, States}
+use Rattle.it_demand.specs.Origins.{States}
 use Rattle.it_demand.specs.Targets.{targets}
 use Rattle.it_demand.specs.LineDemands.{AreRowsOf}
 use Rattle.it_canon.specs.QuestionDemands.{question_demands, variable_count, problem_of, terms_in, IsProblemOf}
@@ -25,7 +25,7 @@ use Rattle.it_answer.specs.DueRelations.{CauseIsDue}
 use Rattle.it_answer.specs.RightAnswers.{IsDueBy, IsRightAnswer, NoStepIsZero}
 
 small_constraints : (q : BodyView) (p : ProblemView) → IsProblemOf q p → All (λ (c : Constraint). IsSmall c.row) p.constraints
-small_constraints q p is = zip-right (λ (d : LineDemand) (c : Constraint). States p.space d.origin d.demand c) (λ (c : Constraint). IsSmall c.row) (λ d c s. s.row.small) (question_demands q) p.constraints is.constraints
+small_constraints q p is = zip-right (States p.space) (λ (c : Constraint). IsSmall c.row) (λ d c s. s.row.small) (question_demands q) p.constraints is.constraints.stated
 
 not_before_start : (p : ProblemView) (budget : Option ℕ) (fs : List Form) (ts : List Terms) → IsProblem p → All (λ (c : Constraint). IsSmall c.row) p.constraints → AreRowsOf p.space fs ts → CauseIsDue p budget ts (Width 0) → ⊥
 not_before_start p budget [] [] k small a c = absurd c

@@ -1,33 +1,33 @@
--- What it means that an answer shows what it says.
-use Rattle.std.proofs.Common.{◌≡◌, ℕ, ℤ, pos, neg_ℤ, ◌≤ℤ◌, List, [], ◌∷◌, map, length, Bool, true, false, All, refl, sym, subst, arith}
+-- An answer that shows what it says is true.
+use Rattle.std.proofs.Common.{◌≡◌, ℕ, ℤ, pos, neg_ℤ, ◌≤ℤ◌, List, [], ◌∷◌, map, flat_map, length, Bool, true, false, All, refl, sym, subst, arith}
 use Rattle.std.specs.List.{AllByRecursion as Every}
 use Rattle.std.proofs.lemmas.Int.{ints}
 use Rattle.std.proofs.lemmas.List.Elements.{All-nil, All-cons, All-head, All-tail, All-append, All-weaker}
 use Rattle.it_number.proofs.SignLemmas.{least_by_multiple}
 use Rattle.it_space.specs.declared.problems.Kind.TheVariants.{Inequality}
 use Rattle.it_space.specs.Answers.{AnswerView, CertificateView}
-use Rattle.it_space.specs.Answers.AnswerView.{Yes, No, Contained}
+use Rattle.it_space.specs.Answers.AnswerView.{Yes, No, Undecided, Region, Contained, Open}
 use Rattle.it_space.specs.Rows.{point_of}
 use Rattle.it_space.proofs.EveryLemmas.{every_of, every-append, every-map}
 use Rattle.it_polymatroid.specs.Certificates.{Form, Generators, IsAllowed}
 use Rattle.it_polymatroid.specs.Elementals.{elementals, elemental_value}
 use Rattle.it_polymatroid.proofs.Certified.{weighted_least}
 use Rattle.it_polymatroid.proofs.Generate.{elementals_generate}
-use Rattle.it_syntax.specs.Meaning.{common_denominator, side_at}
+use Rattle.it_syntax.specs.Meaning.{RelationView, common_denominator, side_at, Holds}
 use Rattle.it_question.specs.Questions.{BodyView, VerbView, Prove, Eliminate, Contain}
 use Rattle.it_demand.specs.Canonical.{form_of}
-use Rattle.it_demand.specs.Demands.{Demand, LineDemand}
+use Rattle.it_demand.specs.Demands.{Demand, demand_of, demands}
 use Rattle.it_demand.specs.Targets.{targets}
 use Rattle.it_canon.specs.QuestionDemands.{question_demands, variable_count, AreTrueTogether}
 use Rattle.it_question.specs.ProblemLines.{problem_lines}
-use Rattle.it_demand.specs.LineDemands.{given_demands, row_demands}
 use Rattle.it_demand.proofs.MetLemmas.{IsSatisfied, givens_satisfied, rows_satisfied, targets_met}
 use Rattle.it_elemental.specs.Generators.{is_equation}
 use Rattle.it_elemental.proofs.GeneratorLemmas.{every_or}
 use Rattle.it_check.proofs.Truth.{at_least, is_zero}
 use Rattle.it_answer.specs.Forms.{CertifiesForm, CertifyAll, all_demands, demand_at, demand_of_elemental, IsAllowedWeight}
 use Rattle.it_answer.proofs.FormLemmas.{inequality_unless_equation}
-use Rattle.it_answer.specs.Shows.{AContainmentIsTrue, ANoIsTrue, AYesIsTrue, NeverYesAndNo, Shows, ShowsBy, Refutes}
+use Rattle.it_answer.specs.Shows.{Refutes, ShowsBy, WhatIsShownIsTrue}
+use Rattle.it_answer.specs.Truth.{IsTrueBy, NeverYesAndNo}
 
 -- ---- a certified form is at least 0
 
@@ -44,20 +44,20 @@ module _ (q : BodyView) (m : ℕ → ℤ) (together : AreTrueTogether q m) where
   ds = all_demands (variable_count q) (question_demands q)
 
   -- what the lines demand is met
-  lines_satisfied : All (λ d. IsSatisfied m d.demand) (question_demands q)
+  lines_satisfied : All (IsSatisfied m) (question_demands q)
   lines_satisfied =
       let n : ℕ = variable_count q in
       let own = problem_lines q in
-      All-append (λ (d : LineDemand). IsSatisfied m d.demand) (given_demands n 1 own.givens) (row_demands n 1 own.rows)
-      ((givens_satisfied n 1 own.givens m).1 together.1.givens) ((rows_satisfied n 1 own.rows m).1 together.1.rows)
+      All-append (IsSatisfied m) (flat_map (demands n) own.givens) (map (demand_of n) own.rows)
+      ((givens_satisfied n own.givens m).1 together.1.givens) ((rows_satisfied n own.rows m).1 together.1.rows)
 
   all_satisfied : Every (IsSatisfied m) (all_demands (variable_count q) (question_demands q))
   unfolding all_demands
   all_satisfied =
       let n : ℕ = variable_count q in
-      every-append (IsSatisfied m) (map (demand_of_elemental n) (elementals n)) (map (λ (d : LineDemand). d.demand) (question_demands q))
+      every-append (IsSatisfied m) (map (demand_of_elemental n) (elementals n)) (question_demands q)
       (every-map (IsSatisfied m) (demand_of_elemental n) (elementals n) (every_of (λ e. pos 0 ≤ℤ elemental_value n m e) (elementals n) ((elementals_generate n m together.0.empty).1 together.0)))
-      (every-map (IsSatisfied m) (λ (d : LineDemand). d.demand) (question_demands q) (every_of (λ (d : LineDemand). IsSatisfied m d.demand) (question_demands q) lines_satisfied))
+      (every_of (IsSatisfied m) (question_demands q) lines_satisfied)
 
   satisfied_at : (i : ℕ) → IsSatisfied m (demand_at ds i)
   satisfied_at i = every_or (IsSatisfied m) ds i (record { kind = Inequality; form = λ p. pos 0 }) all_satisfied (omega (arith, ints))
@@ -77,41 +77,63 @@ module _ (q : BodyView) (m : ℕ → ℤ) (together : AreTrueTogether q m) where
 
 -- ---- what each answer means
 
-shown_by : (q : BodyView) (verb : VerbView) (answer : AnswerView) → q.verb ≡ verb → Shows q answer → ShowsBy q verb answer
-shown_by q verb answer is x = subst (λ (v : VerbView). ShowsBy q v answer) is x
+module _ (q : BodyView) (r : RelationView) where
+  abbrev sides_at : (ℕ → ℤ) → ℤ × ℤ
+  sides_at p = (side_at (variable_count q) p (common_denominator r) r.left, side_at (variable_count q) p (common_denominator r) r.right)
 
-pub a_yes_is_true : AYesIsTrue
-a_yes_is_true q r ws is x m together =
-    (targets_met r.sign (side_at (variable_count q) m (common_denominator r) r.left) (side_at (variable_count q) m (common_denominator r) r.right) (form_of (variable_count q) r) m refl).0
-    (all_valid q m together (targets (variable_count q) r) ws (shown_by q (Prove r) (Yes ws) is x))
+  yes_is_true : (ws : List CertificateView) → CertifyAll q (targets (variable_count q) r) ws → (p : ℕ → ℤ) → AreTrueTogether q p → Holds (variable_count q) p r
+  yes_is_true ws c p together =
+      (targets_met r.sign (sides_at p).0 (sides_at p).1 (form_of (variable_count q) r) p refl).0 (all_valid q p together (targets (variable_count q) r) ws c)
 
-not_at_least_zero : (x : ℤ) → x ≤ℤ neg_ℤ (pos 1) → pos 0 ≤ℤ x → ⊥
-not_at_least_zero x h k = omega (arith, ints)
+  not_at_least_zero : (x : ℤ) → x ≤ℤ neg_ℤ (pos 1) → pos 0 ≤ℤ x → ⊥
+  not_at_least_zero x h k = omega (arith, ints)
 
--- the values are a polymatroid and rates at which the lines are true and some target is below 0
-violates : (q : BodyView) (fs : List Form) (is_back : Bool) (values : List ℤ) → Refutes q fs is_back values
-    → AreTrueTogether q (point_of values) × (All (λ (f : Form). pos 0 ≤ℤ f (point_of values)) fs → ⊥)
-violates q [] is_back values c = absurd c
-violates q (f ∷ fs) false values c =
-    ((c.polymatroid, c.lines_hold), λ all. not_at_least_zero (f (point_of values)) c.violated (All-head (λ (f : Form). pos 0 ≤ℤ f (point_of values)) f fs all))
-violates q (f ∷ []) true values c = absurd c
-violates q (f ∷ g ∷ fs) true values c =
-    ((c.1.polymatroid, c.1.lines_hold), λ all. not_at_least_zero (g (point_of values)) c.1.violated (All-head (λ (f : Form). pos 0 ≤ℤ f (point_of values)) g fs (All-tail (λ (f : Form). pos 0 ≤ℤ f (point_of values)) f (g ∷ fs) all)))
+  -- the values are a polymatroid and rates at which the lines are true and some target is below 0
+  violates : (fs : List Form) (is_back : Bool) (values : List ℤ) → Refutes q fs is_back values
+      → AreTrueTogether q (point_of values) × (All (λ (f : Form). pos 0 ≤ℤ f (point_of values)) fs → ⊥)
+  violates [] is_back values c = absurd c
+  violates (f ∷ fs) false values c =
+      ((c.polymatroid, c.lines_hold), λ all. not_at_least_zero (f (point_of values)) c.violated (All-head (λ (f : Form). pos 0 ≤ℤ f (point_of values)) f fs all))
+  violates (f ∷ []) true values c = absurd c
+  violates (f ∷ g ∷ fs) true values c =
+      ((c.1.polymatroid, c.1.lines_hold), λ all. not_at_least_zero (g (point_of values)) c.1.violated (All-head (λ (f : Form). pos 0 ≤ℤ f (point_of values)) g fs (All-tail (λ (f : Form). pos 0 ≤ℤ f (point_of values)) f (g ∷ fs) all)))
 
-pub a_no_is_true : ANoIsTrue
-a_no_is_true q r is_back values is x =
-    let v = violates q (targets (variable_count q) r) is_back values (shown_by q (Prove r) (No is_back values) is x) in
-    let p = point_of values in
-    (v.0, λ holds. v.1 ((targets_met r.sign (side_at (variable_count q) p (common_denominator r) r.left) (side_at (variable_count q) p (common_denominator r) r.right) (form_of (variable_count q) r) p refl).1 holds))
+  no_is_true : (is_back : Bool) (values : List ℤ) → Refutes q (targets (variable_count q) r) is_back values
+      → AreTrueTogether q (point_of values) × ¬ (Holds (variable_count q) (point_of values) r)
+  no_is_true is_back values c =
+      let v = violates (targets (variable_count q) r) is_back values c in
+      let p = point_of values in
+      (v.0, λ holds. v.1 ((targets_met r.sign (sides_at p).0 (sides_at p).1 (form_of (variable_count q) r) p refl).1 holds))
 
-both_by_verb : (q : BodyView) (verb : VerbView) (ws : List CertificateView) (is_back : Bool) (values : List ℤ) → q.verb ≡ verb → Shows q (Yes ws) → Shows q (No is_back values) → ⊥
-both_by_verb q (Prove r) ws is_back values is x y =
-    let refuted = a_no_is_true q r is_back values is y in refuted.1 (a_yes_is_true q r ws is x (point_of values) refuted.0)
-both_by_verb q (Eliminate rates) ws is_back values is x y = shown_by q (Eliminate rates) (Yes ws) is x
-both_by_verb q (Contain a b tries) ws is_back values is x y = shown_by q (Contain a b tries) (Yes ws) is x
+-- ---- by the table of verbs and answers
+
+true_by : (q : BodyView) (verb : VerbView) (answer : AnswerView) → ShowsBy q verb answer → IsTrueBy q verb answer
+true_by q (Prove r) (Yes ws) s = yes_is_true q r ws s
+true_by q (Prove r) (No is_back values) s = no_is_true q r is_back values s
+true_by q (Prove r) (Undecided cause) s = tt
+true_by q (Prove r) (Region rows) s = absurd s
+true_by q (Prove r) (Contained parts ws) s = absurd s
+true_by q (Prove r) (Open tried) s = absurd s
+true_by q (Eliminate rates) (Yes ws) s = absurd s
+true_by q (Eliminate rates) (No is_back values) s = absurd s
+true_by q (Eliminate rates) (Undecided cause) s = tt
+true_by q (Eliminate rates) (Region rows) s = s
+true_by q (Eliminate rates) (Contained parts ws) s = absurd s
+true_by q (Eliminate rates) (Open tried) s = absurd s
+true_by q (Contain a b tries) (Yes ws) s = absurd s
+true_by q (Contain a b tries) (No is_back values) s = absurd s
+true_by q (Contain a b tries) (Undecided cause) s = absurd s
+true_by q (Contain a b tries) (Region rows) s = absurd s
+true_by q (Contain a b tries) (Contained parts ws) s = s.lies
+true_by q (Contain a b tries) (Open tried) s = tt
+
+pub what_is_shown_is_true : WhatIsShownIsTrue
+what_is_shown_is_true q answer s = true_by q q.verb answer s
+
+never_both : (q : BodyView) (verb : VerbView) (ws : List CertificateView) (is_back : Bool) (values : List ℤ) → IsTrueBy q verb (Yes ws) → IsTrueBy q verb (No is_back values) → ⊥
+never_both q (Prove r) ws is_back values yes no = no.1 (yes (point_of values) no.0)
+never_both q (Eliminate rates) ws is_back values yes no = yes
+never_both q (Contain a b tries) ws is_back values yes no = yes
 
 pub never_yes_and_no : NeverYesAndNo
-never_yes_and_no q ws is_back values x y = both_by_verb q q.verb ws is_back values refl x y
-
-pub a_containment_is_true : AContainmentIsTrue
-a_containment_is_true q a b tries parts ws is x = let s = shown_by q (Contain a b tries) (Contained parts ws) is x in (s.lies, s.are_parts)
+never_yes_and_no q ws is_back values yes no = never_both q q.verb ws is_back values yes no

@@ -7,7 +7,7 @@ use Rattle.it_space.specs.Answers.{CertificateView}
 use Rattle.it_polymatroid.specs.Certificates.{Form, combination}
 use Rattle.it_polymatroid.specs.Elementals.{Elemental, elementals, elemental_value}
 use Rattle.it_question.specs.Questions.{BodyView}
-use Rattle.it_demand.specs.Demands.{Demand, LineDemand}
+use Rattle.it_demand.specs.Demands.{Demand}
 use Rattle.it_canon.specs.QuestionDemands.{question_demands, variable_count}
 
 -- an elemental inequality of n variables as a demand
@@ -15,8 +15,8 @@ abbrev pub demand_of_elemental : ℕ → Elemental → Demand
 demand_of_elemental n e = record { kind = Inequality; form = λ p. elemental_value n p e }
 
 -- the elemental inequalities of n variables as demands, then what the lines demand
-unfoldable pub all_demands : ℕ → List LineDemand → List Demand
-all_demands n ds = map (demand_of_elemental n) (elementals n) ++ map (λ d. d.demand) ds
+unfoldable pub all_demands : ℕ → List Demand → List Demand
+all_demands n ds = map (demand_of_elemental n) (elementals n) ++ ds
 
 -- the demand of a number, counted from 0
 abbrev pub demand_at : List Demand → ℕ → Demand

@@ -1,4 +1,5 @@
 pub mod Forms
+pub mod Truth
 pub mod Shows
 pub mod AnswerKinds
 pub mod Replies

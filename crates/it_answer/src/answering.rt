@@ -6,10 +6,10 @@ ghost use Rattle.it_syntax.specs.Meaning.{relation_view};
 ghost use Rattle.it_syntax.specs.Givens.{IsRelationOf};
 ghost use Rattle.it_question.specs.Limits.{IsQuestion};
 ghost use Rattle.it_question.specs.Questions.{question_body};
-ghost use Rattle.it_demand.specs.Demands.{AreStated};
+ghost use Rattle.it_demand.specs.Origins.{AreStated};
 ghost use Rattle.it_demand.specs.LineDemands.{space_of};
 ghost use Rattle.it_question.specs.ProblemLines.{problem_names};
-ghost use Rattle.it_canon.specs.QuestionDemands.{question_demands, IsProblemOf};
+ghost use Rattle.it_canon.specs.QuestionDemands.{question_demands, question_origins, IsProblemOf};
 ghost use Rattle.it_prove.specs.ProofViews.{proof_view};
 ghost use Rattle.it_answer.specs.RightAnswers.{IsAnswered};
 ghost use Rattle.it_answer.specs.RowAnswers.{AnswersEquality, AnswersInequality, AnswersRelation, answer_after_one, answer_after_two};
@@ -27,8 +27,8 @@ use it_space::{Answer, Certificate, Problem};
 use it_syntax::types::{Relation, Sign};
 use std::alloc::{AllocError, Global};
 
-/// A right answer to a question, within the budgets. The boxes propose what a containment tries after its `try` lines, and
-/// are told of each candidate that was tried: of one that was proved they know at later questions.
+/// A right answer to a question, within the budgets. The boxes propose what a containment tries after its `try` lines; what it
+/// finds they know at later questions.
 pub fn answer(
     alloc: Global,
     question: &Question,
@@ -37,7 +37,7 @@ pub fn answer(
 ) -> Result<AnsweredProblem, AllocError>
     requires limits { IsQuestion (question_body question.now) }
     ensures space { IfOk result (λ a. a.problem.space ≡ space_of (problem_names (question_body question.now))) }
-    ensures problem { IfOk result (λ a. AreStated a.problem.space (question_demands (question_body question.now)) a.problem.constraints.items) }
+    ensures problem { IfOk result (λ a. AreStated a.problem.space (question_origins (question_body question.now)) (question_demands (question_body question.now)) a.problem.constraints.items) }
     ensures answered { IfOk result (λ a. IsAnswered budgets (map plan boxes.old.items) question.now a.answer (map plan boxes.new.items)) }
 {
     let problem = problem(alloc, question)?;

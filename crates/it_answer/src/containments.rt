@@ -55,7 +55,7 @@ fn answer_of_search(alloc: Global, end: Contained) -> Result<Answer, AllocError>
 }
 
 /// The answer whether the first region lies in the second: the first candidate that is proved, of the `try` lines in order and then
-/// of the boxes in theirs, or how many were tried in vain. The boxes are told of each that was tried.
+/// of the boxes in theirs, or how many were tried in vain.
 pub fn containment(
     alloc: Global,
     question: &Question,

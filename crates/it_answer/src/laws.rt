@@ -1,18 +1,17 @@
 //! What right answers say, each theorem as the contract of a function.
 ghost use Rattle.it_answer.specs.RightAnswers.{AYesAscends, NoStepIsZero, OneRightAnswer};
-ghost use Rattle.it_answer.specs.Shows.{AContainmentIsTrue, ANoIsTrue, ARegionIsTrue, AYesIsTrue, NeededRowsAreNeeded, NeverYesAndNo};
+ghost use Rattle.it_answer.specs.Shows.{WhatIsShownIsTrue};
+ghost use Rattle.it_answer.specs.Truth.{NeverYesAndNo};
 
-/// Where a yes is shown the relation holds wherever the question's lines are true, where a no is shown its values are a
-/// polymatroid and rates at which the lines are true and the relation isn't; so no question has both. Where a region is shown, its
-/// rows hold exactly at the points that extend to the eliminated rates, and none that is marked as needed follows from the others.
-/// Where a containment is shown, the first region lies in the second.
-pub fn verdicts_are_true()
-    ensures yes { AYesIsTrue }
-    ensures no { ANoIsTrue }
-    ensures one { NeverYesAndNo }
-    ensures region { ARegionIsTrue }
-    ensures needed { NeededRowsAreNeeded }
-    ensures containment { AContainmentIsTrue }
+/// An answer that shows what it says is true, for every question and whatever answer is due: a yes wherever the question's lines are
+/// true, a no at its values, a region at exactly the points that extend to the eliminated rates, a containment of the two regions.
+pub fn shown_answers_are_true()
+    ensures { WhatIsShownIsTrue }
+{}
+
+/// No question has a yes and a no that are both true.
+pub fn never_yes_and_no()
+    ensures { NeverYesAndNo }
 {}
 
 /// A question has one right answer, whatever boxes propose by the same plans. Each certificate of a yes or of a containment lists

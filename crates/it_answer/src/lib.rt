@@ -11,6 +11,6 @@ mod targets;
 mod types;
 
 pub use answering::answer;
-pub use laws::{answers_are_determined, no_step_is_zero, verdicts_are_true};
+pub use laws::{answers_are_determined, never_yes_and_no, no_step_is_zero, shown_answers_are_true};
 pub use targets::target_rows;
 pub use types::{AnsweredProblem, Budgets};

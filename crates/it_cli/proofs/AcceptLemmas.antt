@@ -51,7 +51,8 @@ use Rattle.it_contain.specs.Proposals.{Plan}
 use Rattle.it_answer.specs.declared.types.Budgets.{Budgets}
 use Rattle.it_answer.specs.Forms.{all_demands, CertifiesForm, CertifyAll, Certifies}
 use Rattle.it_answer.specs.Replies.{Reply}
-use Rattle.it_answer.specs.Shows.{IsCounterexample, ShowsRegion, ShowsBy, ShowsContained, Refutes}
+use Rattle.it_answer.specs.Shows.{IsCounterexample, ShowsBy, ShowsContained, Refutes}
+use Rattle.it_answer.specs.Truth.{IsExactRegion}
 use Rattle.it_answer.specs.DueContainments.{IsDueContainment}
 use Rattle.it_answer.specs.DueEliminations.{IsDueElimination}
 use Rattle.it_answer.specs.DueRelations.{IsDueRelation, PointIsDue}
@@ -101,7 +102,7 @@ module _ (q : BodyView) (posed : IsProblemOf q (problem_of q)) (budget : Option 
   certifies_row : (f : Form) (t : Terms) (w : CertificateView) → IsRowOf (problem_of q).space f t → CertifiesForm q f w → CertifiesRow (problem_of q) t w
   certifies_row f t w row c =
       let p = problem_of q in
-      by_rows (all_demands p.space.variables (question_demands q)) (generators p) (generators_speak p.space (question_demands q) p.constraints posed.constraints) (size_of p.space + 1) (value t) f row.same w
+      by_rows (all_demands p.space.variables (question_demands q)) (generators p) (generators_speak p.space (question_demands q) p.constraints posed.constraints.stated) (size_of p.space + 1) (value t) f row.same w
       (to_problem (λ s. Certifies (all_demands s.variables (question_demands q)) f w) c)
 
   refutes_row : (f : Form) (t : Terms) (values : List ℤ) → IsRowOf (problem_of q).space f t → IsCounterexample q f values → RefutesRow (problem_of q) t values
@@ -226,10 +227,10 @@ module _ (back : ReadsBack) (q : QuestionView) (short : length q.text ≤ 104857
       let plain = undecided_plain q.text q.body.names text_is c (IsUtf8-from_ascii (step_or_rate_word q.body.names c) (step_or_rate_ascii q.body.names c question_ascii.rates cause)) in
       skipped_is_accepted (Undecided c) (line_of (Undecided c)) (clear_of (Undecided c) plain) refl (line_reads (Undecided c) fits plain)
 
-  region_accepted : (budgets : Budgets) (rates : List ℕ) (rows : List (Mark × Terms)) → IsQuestion q.body → q.body.verb ≡ Eliminate rates → ShowsRegion q.body rates rows → IsDueElimination budgets q.body rates (Region rows)
+  region_accepted : (budgets : Budgets) (rates : List ℕ) (rows : List (Mark × Terms)) → q.body.verb ≡ Eliminate rates → IsExactRegion q.body rates rows → IsDueElimination budgets q.body rates (Region rows)
       → IsAccepted (line_of (Region rows))
-  region_accepted budgets rates rows k about shown due =
-      let fits = right_region_fits budgets q.body rates rows k (system_rows q.body limits small) shown due in
+  region_accepted budgets rates rows about shown due =
+      let fits = right_region_fits budgets q.body rates rows limits (system_rows q.body limits small) shown due in
       let plain = region_plain q.text q.body.names text_is rows (λ i d l. (fits i d l).terms) in
       skipped_is_accepted (Region rows) (line_of (Region rows)) (clear_of (Region rows) plain) refl
       (line_reads (Region rows) (question_fits q.body (Region rows) (Eliminate rates) about fits) plain)
@@ -264,25 +265,25 @@ module _ (back : ReadsBack) (q : QuestionView) (short : length q.text ≤ 104857
     prove_accepted r (Contained parts proofs) about ascend shown due = absurd shown
     prove_accepted r (Open tried) about ascend shown due = absurd shown
 
-    eliminate_accepted : (rates : List ℕ) (a : AnswerView) → q.body.verb ≡ Eliminate rates → IsQuestion q.body → ShowsBy q.body (Eliminate rates) a → IsDueElimination budgets q.body rates a → IsAccepted (line_of a)
-    eliminate_accepted rates (Yes ws) about k shown due = absurd shown
-    eliminate_accepted rates (No is_back values) about k shown due = absurd shown
-    eliminate_accepted rates (Undecided c) about k shown due =
-        let within = (subst (IsVerbOver q.body.names) about k.verb).within in
+    eliminate_accepted : (rates : List ℕ) (a : AnswerView) → q.body.verb ≡ Eliminate rates → ShowsBy q.body (Eliminate rates) a → IsDueElimination budgets q.body rates a → IsAccepted (line_of a)
+    eliminate_accepted rates (Yes ws) about shown due = absurd shown
+    eliminate_accepted rates (No is_back values) about shown due = absurd shown
+    eliminate_accepted rates (Undecided c) about shown due =
+        let within = (subst (IsVerbOver q.body.names) about limits.verb).within in
         let fits = eliminated_cause_fits budgets q.body rates c (λ r m. rates_found q r file (every_member (λ i. i < length q.body.names.rates) rates r (every_of (λ i. i < length q.body.names.rates) rates within) m)) due in
         undecided_accepted c (question_fits q.body (Undecided c) (Eliminate rates) about fits) fits
-    eliminate_accepted rates (Region rows) about k shown due = region_accepted budgets rates rows k about shown due
-    eliminate_accepted rates (Contained parts proofs) about k shown due = absurd shown
-    eliminate_accepted rates (Open tried) about k shown due = absurd shown
+    eliminate_accepted rates (Region rows) about shown due = region_accepted budgets rates rows about shown due
+    eliminate_accepted rates (Contained parts proofs) about shown due = absurd shown
+    eliminate_accepted rates (Open tried) about shown due = absurd shown
 
-    contained_accepted : (plans : List Plan) (first second : RegionView) (tries : List (List ℕ)) (parts : List ℕ) (ws : List CertificateView) (found : List Candidate) → q.body.verb ≡ Contain first second tries → IsQuestion q.body
+    contained_accepted : (plans : List Plan) (first second : RegionView) (tries : List (List ℕ)) (parts : List ℕ) (ws : List CertificateView) (found : List Candidate) → q.body.verb ≡ Contain first second tries
         → ProofsAscend (Contained parts ws) → ShowsContained q.body first second parts ws → IsDueContainment budgets plans q.body first second tries (record { answer = Contained parts ws; found = found })
         → IsAccepted (line_of (Contained parts ws))
-    contained_accepted plans first second tries parts ws found about k ascend shown due =
+    contained_accepted plans first second tries parts ws found about ascend shown due =
         let a = Contained parts ws in
         let forms = obligations q.body first second parts in
         let rows = map (terms_in q.body) forms in
-        let fits = contained_fits q.body k posed first second tries about budgets plans parts ws found shown due in
+        let fits = contained_fits q.body limits posed first second tries about budgets plans parts ws found shown due in
         let plain = contained_plain q.text q.body.names text_is parts ws (All-weaker (λ s. (s < 2 ^ 32) × (s < 2 ^ length first.names.variables)) (λ s. s < 2 ^ 32) (λ s h. h.0) parts fits.sets) fits.numbers in
         let reads = line_reads a (question_fits q.body a (Contain first second tries) about fits) plain in
         let proofs : AreProofsOf (problem_of q.body) budgets.pivots rows ws =
@@ -301,24 +302,24 @@ module _ (back : ReadsBack) (q : QuestionView) (short : length q.text ≤ 104857
         skipped_is_accepted (Open tried) (line_of (Open tried)) (clear_of (Open tried) plain) refl
         (line_reads (Open tried) (question_fits q.body (Open tried) (Contain first second tries) about l) plain)
 
-    contain_accepted : (plans : List Plan) (first second : RegionView) (tries : List (List ℕ)) (a : AnswerView) (found : List Candidate) → budgets.tries < 2 ^ 32 → q.body.verb ≡ Contain first second tries → IsQuestion q.body
+    contain_accepted : (plans : List Plan) (first second : RegionView) (tries : List (List ℕ)) (a : AnswerView) (found : List Candidate) → budgets.tries < 2 ^ 32 → q.body.verb ≡ Contain first second tries
         → ProofsAscend a → ShowsBy q.body (Contain first second tries) a → IsDueContainment budgets plans q.body first second tries (record { answer = a; found = found }) → IsAccepted (line_of a)
-    contain_accepted plans first second tries (Yes ws) found short about k ascend shown due = absurd shown
-    contain_accepted plans first second tries (No is_back values) found short about k ascend shown due = absurd shown
-    contain_accepted plans first second tries (Undecided c) found short about k ascend shown due = absurd shown
-    contain_accepted plans first second tries (Region rows) found short about k ascend shown due = absurd shown
-    contain_accepted plans first second tries (Contained parts proofs) found short about k ascend shown due = contained_accepted plans first second tries parts proofs found about k ascend shown due
-    contain_accepted plans first second tries (Open tried) found short about k ascend shown due = open_accepted plans first second tries tried found short about due
+    contain_accepted plans first second tries (Yes ws) found short about ascend shown due = absurd shown
+    contain_accepted plans first second tries (No is_back values) found short about ascend shown due = absurd shown
+    contain_accepted plans first second tries (Undecided c) found short about ascend shown due = absurd shown
+    contain_accepted plans first second tries (Region rows) found short about ascend shown due = absurd shown
+    contain_accepted plans first second tries (Contained parts proofs) found short about ascend shown due = contained_accepted plans first second tries parts proofs found about ascend shown due
+    contain_accepted plans first second tries (Open tried) found short about ascend shown due = open_accepted plans first second tries tried found short about due
 
-    verb_accepted : (plans : List Plan) (verb : VerbView) (reply : Reply) → q.body.verb ≡ verb → budgets.tries < 2 ^ 32 → IsQuestion q.body → ProofsAscend reply.answer → ShowsBy q.body verb reply.answer
+    verb_accepted : (plans : List Plan) (verb : VerbView) (reply : Reply) → q.body.verb ≡ verb → budgets.tries < 2 ^ 32 → ProofsAscend reply.answer → ShowsBy q.body verb reply.answer
         → IsDueBy budgets plans q.body verb reply → IsAccepted (line_of reply.answer)
-    verb_accepted plans (Prove r) reply about short k ascend shown due = prove_accepted r reply.answer about ascend shown due.0
-    verb_accepted plans (Eliminate rates) reply about short k ascend shown due = eliminate_accepted rates reply.answer about k shown due.0
-    verb_accepted plans (Contain first second tries) reply about short k ascend shown due = contain_accepted plans first second tries reply.answer reply.found short about k ascend shown due
+    verb_accepted plans (Prove r) reply about short ascend shown due = prove_accepted r reply.answer about ascend shown due.0
+    verb_accepted plans (Eliminate rates) reply about short ascend shown due = eliminate_accepted rates reply.answer about shown due.0
+    verb_accepted plans (Contain first second tries) reply about short ascend shown due = contain_accepted plans first second tries reply.answer reply.found short about ascend shown due
 
 pub right_accepted : ReadsBack → (budgets : Budgets) (plans : List Plan) (q : QuestionView) (reply : Reply) → IfSome budgets.pivots (λ n. n < 2 ^ 32) → budgets.tries < 2 ^ 32 → length q.text ≤ 1048577 → IsFile q.text (q ∷ [])
-    → IsQuestion q.body → IsRightAnswer budgets plans q.body reply → IsAccepted (answer_text q.text q.body.names reply.answer)
-right_accepted back budgets plans q reply few tries short file k right = verb_accepted back q short file budgets few plans q.body.verb reply refl tries k (a_yes_ascends budgets plans q.body reply right) right.shows right.due
+    → IsRightAnswer budgets plans q.body reply → IsAccepted (answer_text q.text q.body.names reply.answer)
+right_accepted back budgets plans q reply few tries short file right = verb_accepted back q short file budgets few plans q.body.verb reply refl tries (a_yes_ascends budgets plans q.body reply right) right.shows right.due
 
 pub reports_are_accepted : ReadsBack → ReportsAreAccepted
-reports_are_accepted back budgets plans q reply few tries short file k right = (right_accepted back budgets plans q reply few tries short file k right).verdicts
+reports_are_accepted back budgets plans q reply few tries short file right = (right_accepted back budgets plans q reply few tries short file right).verdicts

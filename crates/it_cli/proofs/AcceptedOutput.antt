@@ -4,10 +4,8 @@ use Rattle.std.proofs.lemmas.List.Elements.{All-head, All-tail}
 use Rattle.std.specs.List.{list_any}
 use Rattle.it_settings.specs.declared.types.Format.TheVariants.{Json}
 use Rattle.it_question.specs.Files.{IsFile}
-use Rattle.it_question.specs.Limits.{IsQuestion}
 use Rattle.it_question.specs.Lines.{split_lines}
 use Rattle.it_question.specs.Questions.{QuestionView}
-use Rattle.it_question.proofs.FileReadings.{file_limits}
 use Rattle.it_question.proofs.TextLaws.{text_reads_back}
 use Rattle.it_answer.specs.Replies.{Reply}
 use Rattle.it_certificate.specs.Laws.{ReadsBack}
@@ -26,25 +24,24 @@ use Rattle.it_cli.proofs.ReplyLemmas.{RepliesFrom, any_more}
 use Rattle.it_cli.proofs.RightLemmas.{found_in}
 
 module _ (back : ReadsBack) (budgets : Budgets) (plans : List Plan) (few : IfSome budgets.pivots (λ n. n < 2 ^ 32)) (few_tries : budgets.tries < 2 ^ 32) (bytes : List ℕ) (short : length bytes ≤ 1048576) (whole : List QuestionView) (file : IsFile bytes whole) where
-  none_invalid : (k j : ℕ) (prefix qs : List QuestionView) (s t : List Reply) (before verdicts : List LineVerdict) (out told : List ℕ) → whole ≡ prefix ++ qs → All (λ q. IsQuestion q.body) qs → All (λ q. length q.text ≤ length bytes + 1) qs
+  none_invalid : (k j : ℕ) (prefix qs : List QuestionView) (s t : List Reply) (before verdicts : List LineVerdict) (out told : List ℕ) → whole ≡ prefix ++ qs → All (λ q. length q.text ≤ length bytes + 1) qs
       → RepliesFrom (answer_mode budgets plans Json) k s qs t out → list_any is_invalid before ≡ false → RepliesFrom check_mode j before (split_lines out) verdicts told
       → list_any is_invalid verdicts ≡ false
-  none_invalid k j prefix [] s t before verdicts out told e limits lengths g clean v =
+  none_invalid k j prefix [] s t before verdicts out told e lengths g clean v =
       ap (list_any is_invalid) (subst (λ (o : List ℕ). RepliesFrom check_mode j before (split_lines o) verdicts told) g.1 v).0 ∙ clean
-  none_invalid k j prefix (q ∷ qs) s t before verdicts out told e limits lengths g clean v =
+  none_invalid k j prefix (q ∷ qs) s t before verdicts out told e lengths g clean v =
       let long = All-head (λ (q : QuestionView). length q.text ≤ length bytes + 1) q qs lengths in
-      let limit = All-head (λ (q : QuestionView). IsQuestion q.body) q qs limits in
-      let fine = right_accepted back budgets (map (plan_after_all (found_in s)) plans) q g.0 few few_tries (omega (arith, long, short)) (text_reads_back bytes whole qs q prefix file e) limit g.2 in
+      let fine = right_accepted back budgets (map (plan_after_all (found_in s)) plans) q g.0 few few_tries (omega (arith, long, short)) (text_reads_back bytes whole qs q prefix file e) g.2 in
       let line = answer_text q.text q.body.names g.0.answer in
       let cut : split_lines out ≡ line ∷ split_lines g.1 = ap split_lines g.4 ∙ split_one line g.1 fine.clear in
       let w = subst (λ (ls : List (List ℕ)). RepliesFrom check_mode j before ls verdicts told) cut v in
       let ok = fine.verdicts w.0 w.2 in
       none_invalid (k + 1) (j + 1) (prefix ++ q ∷ []) qs (s ++ g.0 ∷ []) t (before ++ w.0 ∷ []) verdicts g.1 w.1 (e ∙ sym (append_assoc prefix (q ∷ []) qs))
-      (All-tail (λ (q : QuestionView). IsQuestion q.body) q qs limits) (All-tail (λ (q : QuestionView). length q.text ≤ length bytes + 1) q qs lengths) g.3
+      (All-tail (λ (q : QuestionView). length q.text ≤ length bytes + 1) q qs lengths) g.3
       (any_more is_invalid before w.0 ∙ ap₂ (λ x y. x || y) clean ok) w.3
 
 pub output_is_accepted : ReadsBack → OutputIsAccepted
 output_is_accepted back plans pivots rows tries bytes out told answered checked few few_tries short a c =
     let verdicts = subst (λ (lines : List (List ℕ)). Replies check_mode lines c.replies told) c.asked c.written in
-    let none = none_invalid back (budgets_of pivots rows tries) plans few few_tries bytes short a.items a.asked 1 1 [] a.items [] a.replies [] c.replies out told refl (file_limits bytes a.items a.asked) (texts_are_short bytes a.items a.asked) a.written refl verdicts in
+    let none = none_invalid back (budgets_of pivots rows tries) plans few few_tries bytes short a.items a.asked 1 1 [] a.items [] a.replies [] c.replies out told refl (texts_are_short bytes a.items a.asked) a.written refl verdicts in
     c.is ∙ ap verdict_status none

@@ -29,6 +29,6 @@ module _ (q : BodyView) (k : IsQuestion q) (posed : IsProblemOf q (problem_of q)
       record {
         each = shown.are_parts.count;
         sets = All-weaker (λ s. s < 2 ^ length first.names.variables) (λ s. (s < 2 ^ 32) × (s < 2 ^ length first.names.variables)) (λ s h. (small s h, h)) parts shown.are_parts.within;
-        obligations = all_counted q (problem_of q) posed.space posed.limits posed.constraints forms ws shown.certified ∙ obligations_counted q first second parts;
-        numbers = all_numbered q (problem_of q) posed.space posed.limits posed.constraints forms ws shown.certified scaled;
+        obligations = all_counted q (problem_of q) posed.space posed.limits posed.constraints.stated forms ws shown.certified ∙ obligations_counted q first second parts;
+        numbers = all_numbered q (problem_of q) posed.space posed.limits posed.constraints.stated forms ws shown.certified scaled;
       }

@@ -1,4 +1,4 @@
--- What mode `copy` writes, and what a yes with copies says.
+-- What mode `copy` writes.
 use Rattle.std.proofs.Common.{◌≡◌, ℕ, ◌<◌, ℤ, List, [], length, map, get_or, Option, Result, Ok, Err, IfOk, refl, sym, ap, subst, ◌∙◌, arith}
 use Rattle.std.specs.Global.{Vec}
 use Rattle.std.proofs.lemmas.List.{length-map, get_or-map}
@@ -42,19 +42,6 @@ pub misfit_text : {E : Type 0} (pivots : Option ℕ) (x : CopyQuestion) (k : ℕ
     → IfOk r (λ t. IsTextOf (copy_mode pivots) [] k x t.items)
 misfit_text pivots x k fault (Ok t) misfit told some = record { reply = Misfit fault; right = (some, misfit); is = told }
 misfit_text pivots x k fault (Err e) misfit told some = tt
-
--- ---- what a yes says
-
--- of a question about a relation, what holds wherever its problem's lines are true holds wherever its own are
-own_lines : (e : BodyView) (r : RelationView) (verb : VerbView) → verb ≡ Prove r
-    → ((p : ℕ → ℤ) → IsPolymatroid (length (names_under e.names verb).variables) p × AreTrueAt (length (names_under e.names verb).variables) p (lines_under e.lines verb) → Holds (length (names_under e.names verb).variables) p r)
-    → (p : ℕ → ℤ) → IsPolymatroid (length e.names.variables) p × AreTrueAt (length e.names.variables) p e.lines → Holds (length e.names.variables) p r
-own_lines e r verb is h = subst (λ (v : VerbView). (p : ℕ → ℤ) → IsPolymatroid (length (names_under e.names v).variables) p × AreTrueAt (length (names_under e.names v).variables) p (lines_under e.lines v) → Holds (length (names_under e.names v).variables) p r) is h
-
-pub yes_with_copies : AYesIsTrue → YesByCopies → AYesWithCopiesIsTrue
-yes_with_copies is_true by_copies q e cs r ws limits verb extension shows p copies =
-    let same : e.verb ≡ Prove r = subst (λ (x : BodyView). x.verb ≡ Prove r) (sym extension.is) verb in
-    by_copies q e cs r limits verb extension (λ image polymatroid lines. own_lines e r e.verb same (is_true e r ws same shows) image (polymatroid, lines)) p copies
 
 -- ---- the questions, one after the other
 

@@ -31,7 +31,9 @@ use Rattle.it_syntax.specs.Meaning.{RelationView}
 use Rattle.it_syntax.specs.NamesViews.{NamesView}
 use Rattle.it_question.specs.Questions.{BodyView, Prove}
 use Rattle.it_demand.specs.Canonical.{form_of}
-use Rattle.it_demand.specs.Demands.{Demand, States, AreStated, kind_of, LineDemand}
+use Rattle.it_demand.specs.Demands.{Demand, kind_of}
+use Rattle.it_demand.specs.Origins.{States}
+use Rattle.std.specs.List.{AllZip}
 use Rattle.it_demand.specs.Targets.{targets, inequalities_of}
 use Rattle.it_canon.specs.QuestionDemands.{variable_count, question_demands, problem_of, terms_in, IsProblemOf}
 use Rattle.it_demand.specs.LineDemands.{space_of, system_forms}
@@ -178,10 +180,10 @@ proofs_scaled p budget [] (w ∷ ws) d = absurd d
 proofs_scaled p budget (t ∷ ts) [] d = absurd d
 proofs_scaled p budget (t ∷ ts) (w ∷ ws) d = All-cons IsScaled w ws (scaled_by_end p t w d.0.end d.0.follows) (proofs_scaled p budget ts ws d.1)
 
-module _ (q : BodyView) (p : ProblemView) (space : p.space ≡ space_of (problem_names q)) (limits : IsProblem p) (stated : AreStated p.space (question_demands q) p.constraints) where
+module _ (q : BodyView) (p : ProblemView) (space : p.space ≡ space_of (problem_names q)) (limits : IsProblem p) (stated : AllZip (States p.space) (question_demands q) p.constraints) where
   demands_counted : length (question_demands q) ≤ 2 ^ 20
   demands_counted =
-      let same = zip-length (λ d c. States p.space d.origin d.demand c) (question_demands q) p.constraints stated in
+      let same = zip-length (States p.space) (question_demands q) p.constraints stated in
       omega (arith, same, limits.few)
 
   few_variables : variable_count q ≤ 10
@@ -192,12 +194,10 @@ module _ (q : BodyView) (p : ProblemView) (space : p.space ≡ space_of (problem
   few_generators =
       let n = variable_count q in
       let es = map (demand_of_elemental (variable_count q)) (elementals (variable_count q)) in
-      let ds = map (λ (d : LineDemand). d.demand) (question_demands q) in
-      let sum = length-append es ds in
+      let sum = length-append es (question_demands q) in
       let first = length-map (elementals (variable_count q)) (demand_of_elemental (variable_count q)) in
-      let second = length-map (question_demands q) (λ (d : LineDemand). d.demand) in
       let e : 20000 + 2 ^ 20 ≤ 2 ^ 32 = lit≤ tt in
-      omega (arith, sum, first, second, few_elementals (variable_count q) few_variables, demands_counted, e)
+      omega (arith, sum, first, few_elementals (variable_count q) few_variables, demands_counted, e)
 
   -- certificates by the text, of such a shape, are numbered
   pub all_numbered : (fs : List Form) (ws : List CertificateView) → CertifyAll q fs ws → All IsScaled ws → All IsNumbered ws
@@ -241,8 +241,8 @@ module _ (q : BodyView) (posed : IsProblemOf q (problem_of q)) where
 pub right_prove_fits : (budget : Option ℕ) (q : BodyView) (r : RelationView) (a : AnswerView) → IfSome budget (λ n. n < 2 ^ 32) → IsProblemOf q (problem_of q) → q.verb ≡ Prove r → ShowsBy q (Prove r) a → IsDueRelation budget q r a
     → HasVerbShape q.names (Prove r) a
 right_prove_fits budget q r (Yes ws) few posed verb shown due = (
-  all_counted q (problem_of q) posed.space posed.limits posed.constraints (targets (variable_count q) r) ws shown ∙ targets_counted (variable_count q) (length q.names.variables) r,
-  all_numbered q (problem_of q) posed.space posed.limits posed.constraints (targets (variable_count q) r) ws shown (proofs_scaled (problem_of q) budget (map (terms_in q) (targets (variable_count q) r)) ws due),
+  all_counted q (problem_of q) posed.space posed.limits posed.constraints.stated (targets (variable_count q) r) ws shown ∙ targets_counted (variable_count q) (length q.names.variables) r,
+  all_numbered q (problem_of q) posed.space posed.limits posed.constraints.stated (targets (variable_count q) r) ws shown (proofs_scaled (problem_of q) budget (map (terms_in q) (targets (variable_count q) r)) ws due),
 )
 right_prove_fits budget q r (No back values) few posed verb shown due =
     let own : space_of (problem_names q) ≡ space_of q.names = ap (λ (v : _). space_of (names_under q.names v)) verb in (

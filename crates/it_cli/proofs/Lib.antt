@@ -7,7 +7,6 @@ pub mod StepLemmas
 pub mod ProofLemmas
 pub mod EndLemmas
 pub mod LawLemmas
-pub mod ShownLemmas
 pub mod OutputLemmas
 pub mod PrefixLemmas
 pub mod CheckLemmas
@@ -22,4 +21,5 @@ pub mod FeedLemmas
 pub mod AcceptLemmas
 pub mod ShortTexts
 pub mod AcceptedOutput
-pub mod SharingVerdictLemmas
+pub mod TruthLemmas
+pub mod WrittenLemmas

@@ -28,8 +28,11 @@ use Rattle.it_question.specs.AsciiTexts.{IsAsciiQuestion}
 use Rattle.it_certificate.specs.Values.{IsWritable}
 use Rattle.it_question.specs.Limits.{IsQuestion, IsRegionOf, IsVerbOver}
 use Rattle.it_question.specs.Questions.{BodyView, QuestionView, RegionView, VerbView, Prove, Eliminate, Contain}
-use Rattle.it_demand.specs.Demands.{LineDemand, States, AreStated}
-use Rattle.it_canon.specs.QuestionDemands.{question_demands, problem_of, terms_in, variable_count}
+use Rattle.it_demand.specs.Demands.{Demand}
+use Rattle.it_demand.specs.Origins.{ComesFrom, States, AreStated}
+use Rattle.std.specs.List.{AllZip}
+use Rattle.it_space.specs.declared.problems.Origin.{Origin}
+use Rattle.it_canon.specs.QuestionDemands.{question_demands, question_origins, problem_of, terms_in, variable_count}
 use Rattle.it_question.specs.ProblemLines.{problem_names, names_under}
 use Rattle.it_demand.specs.LineDemands.{space_of, system_forms}
 use Rattle.it_demand.proofs.ZipLemmas.{zip-length}
@@ -41,7 +44,8 @@ use Rattle.it_eliminate.proofs.MemberLemmas.{every_member}
 use Rattle.it_redundant.specs.ReducedElimination.{ProjectedView}
 use Rattle.it_redundant.specs.ReducedElimination as projections
 use Rattle.it_answer.specs.declared.types.Budgets.{Budgets}
-use Rattle.it_answer.specs.Shows.{ShowsBy, Refutes, region_rows}
+use Rattle.it_answer.specs.Shows.{ShowsBy, Refutes}
+use Rattle.it_answer.specs.Truth.{region_rows}
 use Rattle.it_answer.specs.DueEliminations.{IsDueElimination, answer_of_end}
 use Rattle.it_answer.specs.DueRelations.{CauseIsDue, IsDueRelation}
 use Rattle.it_answer.specs.Forms.{CertifyAll, IsAllowedWeight, all_demands}
@@ -60,15 +64,15 @@ use Rattle.it_cli.proofs.ProofLemmas.{generator_rows_are}
 use Rattle.it_cli.proofs.RateLemmas.{IsEndOf, end_of_rates}
 use Rattle.it_print.proofs.RowLemmas.{row_over}
 
-length-demands : (n : ℕ) (ds : List LineDemand) → length (all_demands n ds) ≡ length (elementals n) + length ds
+length-demands : (n : ℕ) (ds : List Demand) → length (all_demands n ds) ≡ length (elementals n) + length ds
 unfolding all_demands
 length-demands n ds = simp (length-append, length-map)
 
-pub origins_same : (s : Space) (ds : List LineDemand) (cs : List Constraint) → AreStated s ds cs → origins_of cs ≡ map (λ d. d.origin) ds
-origins_same s [] [] h = refl
-origins_same s [] (c ∷ cs) h = absurd h
-origins_same s (d ∷ ds) [] h = absurd h
-origins_same s (d ∷ ds) (c ∷ cs) h = ap₂ (λ x xs. x ∷ xs) h.0.origin (origins_same s ds cs h.1)
+pub origins_same : (places : List Origin) (cs : List Constraint) → AllZip ComesFrom places cs → origins_of cs ≡ places
+origins_same [] [] h = refl
+origins_same [] (c ∷ cs) h = absurd h
+origins_same (place ∷ places) [] h = absurd h
+origins_same (place ∷ places) (c ∷ cs) h = ap₂ (λ x xs. x ∷ xs) h.0 (origins_same places cs h.1)
 
 certificates : (q : BodyView) (n m : ℕ) (fs : List Form) (cs : List Certificate) → n ≡ variable_count q → m ≡ length (question_demands q) → CertifyAll q fs (map certificate_view cs)
     → All (λ (c : Certificate). All (λ (w : ℕ × ℤ). w.0 < length (elementals n) + m) c.weights.items) cs
@@ -221,14 +225,14 @@ printable_is_writable q m (answers.Contained parts proofs) k ascii p = tt
 printable_is_writable q m (answers.Open tried) k ascii p = tt
 
 -- the lines in each format
-pub text_by_places : (q : QuestionView) (k : ℕ) (s : Space) (cs : List Constraint) (answer : AnswerView) (bytes : List ℕ) → AreStated s (question_demands q.body) cs
+pub text_by_places : (q : QuestionView) (k : ℕ) (s : Space) (cs : List Constraint) (answer : AnswerView) (bytes : List ℕ) → AreStated s (question_origins q.body) (question_demands q.body) cs
     → bytes ≡ answer_line k q.body (origins_of cs) answer → bytes ≡ answer_lines Text k q answer
-text_by_places q k s cs answer bytes stated is = is ∙ ap (λ xs. answer_line k q.body xs answer) (origins_same s (question_demands q.body) cs stated)
+text_by_places q k s cs answer bytes stated is = is ∙ ap (λ xs. answer_line k q.body xs answer) (origins_same (question_origins q.body) cs stated.placed)
 
-pub proof_by_places : (q : QuestionView) (k : ℕ) (s : Space) (cs : List Constraint) (answer : AnswerView) (bytes : List ℕ) → s ≡ space_of (problem_names q.body) → AreStated s (question_demands q.body) cs
+pub proof_by_places : (q : QuestionView) (k : ℕ) (s : Space) (cs : List Constraint) (answer : AnswerView) (bytes : List ℕ) → s ≡ space_of (problem_names q.body) → AreStated s (question_origins q.body) (question_demands q.body) cs
     → bytes ≡ proof_text k q.body (origins_of cs) (generator_rows (problem_names q.body) cs) (map (terms_in q.body) (answer_forms q.body answer)) answer → bytes ≡ answer_lines Proof k q answer
 proof_by_places q k s cs answer bytes space stated is = is ∙ ap₂ (λ xs rows. proof_text k q.body xs rows (map (terms_in q.body) (answer_forms q.body answer)) answer)
-    (origins_same s (question_demands q.body) cs stated) (generator_rows_are q.body cs (subst (λ (t : Space). AreStated t (question_demands q.body) cs) space stated))
+    (origins_same (question_origins q.body) cs stated.placed) (generator_rows_are q.body cs (subst (λ (t : Space). AllZip (States t) (question_demands q.body) cs) space stated.stated))
 
-pub few_constraints : (q : BodyView) (s : Space) (cs : List Constraint) → AreStated s (question_demands q) cs → length cs ≡ length (question_demands q)
-few_constraints q s cs h = zip-length (λ (d : LineDemand) (c : Constraint). States s d.origin d.demand c) (question_demands q) cs h
+pub few_constraints : (q : BodyView) (s : Space) (cs : List Constraint) → AreStated s (question_origins q) (question_demands q) cs → length cs ≡ length (question_demands q)
+few_constraints q s cs h = zip-length (States s) (question_demands q) cs h.stated

@@ -13,7 +13,10 @@ use Rattle.it_polymatroid.specs.Certificates.{Form}
 use Rattle.it_polymatroid.specs.Elementals.{elementals}
 use Rattle.it_elemental.specs.Generators.{Generator, generator_at, generator_list}
 use Rattle.it_question.specs.Questions.{BodyView}
-use Rattle.it_demand.specs.Demands.{AreStated, LineDemand}
+use Rattle.it_demand.specs.Demands.{Demand}
+use Rattle.it_demand.specs.Origins.{States}
+use Rattle.std.specs.List.{AllZip}
+use Rattle.it_demand.proofs.ZipLemmas.{zip-right}
 use Rattle.it_demand.specs.LineDemands.{space_of}
 use Rattle.it_question.specs.ProblemLines.{problem_names}
 use Rattle.it_canon.specs.QuestionDemands.{question_demands, terms_in, variable_count}
@@ -31,26 +34,20 @@ item_of_map g [] z y e i = e
 item_of_map g (b ∷ ys) z y e zero = refl
 item_of_map g (b ∷ ys) z y e (suc i) = item_of_map g ys z y e i
 
-generators_are_demands : (q : BodyView) (cs : List Constraint) → AreStated (space_of (problem_names q)) (question_demands q) cs
+generators_are_demands : (q : BodyView) (cs : List Constraint) → AllZip (States (space_of (problem_names q))) (question_demands q) cs
     → generator_list (variable_count q) cs ≡ map (row_of_demand q) (all_demands (variable_count q) (question_demands q))
 unfolding all_demands
 generators_are_demands q cs stated = generators_are (space_of (problem_names q)) (question_demands q) cs stated
-    ∙ ap₂ (λ (xs ys : List Generator). xs ++ ys) (sym (map-map (row_of_demand q) (demand_of_elemental (variable_count q)) (elementals (variable_count q)))) (sym (map-map (row_of_demand q) (λ (d : LineDemand). d.demand) (question_demands q)))
-    ∙ sym (map-append (row_of_demand q) (map (demand_of_elemental (variable_count q)) (elementals (variable_count q))) (map (λ (d : LineDemand). d.demand) (question_demands q)))
+    ∙ ap₂ (λ (xs ys : List Generator). xs ++ ys) (sym (map-map (row_of_demand q) (demand_of_elemental (variable_count q)) (elementals (variable_count q)))) refl
+    ∙ sym (map-append (row_of_demand q) (map (demand_of_elemental (variable_count q)) (elementals (variable_count q))) (question_demands q))
 
-pub generator_rows_are : (q : BodyView) (cs : List Constraint) → AreStated (space_of (problem_names q)) (question_demands q) cs → generator_rows (problem_names q) cs ≡ question_generators q
+pub generator_rows_are : (q : BodyView) (cs : List Constraint) → AllZip (States (space_of (problem_names q))) (question_demands q) cs → generator_rows (problem_names q) cs ≡ question_generators q
 generator_rows_are q cs stated = fun_ext (λ g. ap (λ (gs : List Generator). generator_at gs g) (generators_are_demands q cs stated)
     ∙ item_of_map (row_of_demand q) (all_demands (variable_count q) (question_demands q)) _ _ (ap (λ (t : Terms). let x : Generator = record { kind = Inequality; row = t } in x) (sym (no_terms (size_of (space_of (problem_names q)))))) g)
 
 -- the rows of the constraints, and those of which an answer has certificates, are over the question's coordinates
-stated_over : (q : BodyView) (ds : List LineDemand) (cs : List Constraint) → AreStated (space_of (problem_names q)) ds cs → All (λ (c : Constraint). IsRowOver (problem_names q) c.row) cs
-stated_over q [] [] a = All-nil (λ (c : Constraint). IsRowOver (problem_names q) c.row)
-stated_over q [] (c ∷ cs) a = absurd a
-stated_over q (d ∷ ds) [] a = absurd a
-stated_over q (d ∷ ds) (c ∷ cs) a = All-cons (λ (c : Constraint). IsRowOver (problem_names q) c.row) c cs (row_over (problem_names q) c.row a.0.row.coordinates) (stated_over q ds cs a.1)
-
-pub constraints_over : (q : BodyView) (s : Space) (cs : List Constraint) → s ≡ space_of (problem_names q) → AreStated s (question_demands q) cs → All (λ (c : Constraint). IsRowOver (problem_names q) c.row) cs
-constraints_over q s cs e a = stated_over q (question_demands q) cs (subst (λ (t : Space). AreStated t (question_demands q) cs) e a)
+pub constraints_over : (q : BodyView) (s : Space) (cs : List Constraint) → s ≡ space_of (problem_names q) → AllZip (States s) (question_demands q) cs → All (λ (c : Constraint). IsRowOver (problem_names q) c.row) cs
+constraints_over q s cs e a = zip-right (States (space_of (problem_names q))) (λ (c : Constraint). IsRowOver (problem_names q) c.row) (λ d c t. row_over (problem_names q) c.row t.row.coordinates) (question_demands q) cs (subst (λ (t : Space). AllZip (States t) (question_demands q) cs) e a)
 
 terms_over : (q : BodyView) (forms : List Form) → All (IsRowOver (problem_names q)) (map (terms_in q) forms)
 terms_over q [] = All-nil (IsRowOver (problem_names q))

@@ -38,7 +38,7 @@ use Rattle.it_redundant.specs.ReducedElimination as projections
 use Rattle.it_redundant.proofs.ReductionLemmas.{all_kept}
 use Rattle.it_redundant.proofs.ProjectionLemmas.{same_list}
 use Rattle.it_answer.specs.declared.types.Budgets.{Budgets}
-use Rattle.it_answer.specs.Shows.{ShowsRegion, region_rows}
+use Rattle.it_answer.specs.Truth.{IsExactRegion, region_rows}
 use Rattle.it_answer.specs.DueEliminations.{marked_rows, answer_of_end, IsDueElimination}
 use Rattle.it_certificate.specs.AnswerShapes.{IsNumberedAmount, IsRowIn}
 
@@ -151,6 +151,6 @@ rows_fit size (r ∷ rows) few up canonical =
 few_coordinates : (q : BodyView) → IsQuestion q → size_of (space_of q.names) < 2 ^ 32
 few_coordinates q k = omega (arith, pow_mono {i = length q.names.variables} {j = 10} k.few, k.few_rates)
 
-pub right_region_fits : (budgets : Budgets) (q : BodyView) (rates : List ℕ) (rows : List (Mark × Terms)) → IsQuestion q → HasSystemRows q → ShowsRegion q rates rows → IsDueElimination budgets q rates (Region rows)
+pub right_region_fits : (budgets : Budgets) (q : BodyView) (rates : List ℕ) (rows : List (Mark × Terms)) → IsQuestion q → HasSystemRows q → IsExactRegion q rates rows → IsDueElimination budgets q rates (Region rows)
     → All (IsRowIn (size_of (space_of q.names))) rows
 right_region_fits budgets q rates rows k are shown due = rows_fit (size_of (space_of q.names)) rows (few_coordinates q k) shown.coordinates (rows_canonical budgets q rates rows are due)

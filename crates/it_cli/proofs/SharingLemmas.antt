@@ -9,7 +9,7 @@ use Rattle.it_sharing.specs.Sharings.{SharingView, made_question, maximal_count,
 use Rattle.it_cli.specs.Copies.{IsRightProof}
 use Rattle.it_cli.specs.InnerEnds.{IsProofText, IsTextOf}
 use Rattle.it_cli.specs.Outputs.{best_mode, sharing_mode}
-use Rattle.it_cli.specs.Right.{question_origins}
+use Rattle.it_canon.specs.QuestionDemands.{question_origins}
 use Rattle.it_cli.specs.SharingReplies.{Answered, Factored, sharing_heading}
 
 -- a made question is about a relation

@@ -3,7 +3,6 @@ use Rattle.std.specs.Prelude.{◌≡◌, ℕ, ◌<◌, ◌≤◌, ◌^◌, List,
 use Rattle.it_settings.specs.declared.types.Format.TheVariants.{Json}
 use Rattle.it_settings.specs.declared.types.Settings.TheVariants.{Answer, Check}
 use Rattle.it_question.specs.Questions.{QuestionView}
-use Rattle.it_question.specs.Limits.{IsQuestion}
 use Rattle.it_question.specs.Files.{IsFile}
 use Rattle.it_certificate.specs.Values.{answer_text}
 use Rattle.it_contain.specs.Proposals.{Plan}
@@ -19,7 +18,7 @@ use Rattle.it_cli.specs.declared.status.Status.TheVariants.{Done}
 -- Each verdict on the line of a right answer is `valid` or `skipped`; the line's end isn't part of it.
 abbrev pub ReportsAreAccepted : Type 0
 ReportsAreAccepted = (budgets : Budgets) (plans : List Plan) (q : QuestionView) (reply : Reply) → IfSome budgets.pivots (λ n. n < 2 ^ 32) → budgets.tries < 2 ^ 32 → length q.text ≤ 1048577
-    → IsFile q.text (q ∷ []) → IsQuestion q.body → IsRightAnswer budgets plans q.body reply
+    → IsFile q.text (q ∷ []) → IsRightAnswer budgets plans q.body reply
     → (v : LineVerdict) → IsVerdict (answer_text q.text q.body.names reply.answer) v → is_invalid v ≡ false
 
 -- Where the whole output for a question file is checked as a report, the status is `Done`; the boxes had any plans.

@@ -1,21 +1,16 @@
 -- What mode `copy` replies to a question: a right answer to it with the copies that the file's head asks for, or why it can't have them.
-use Rattle.std.specs.Prelude.{◌≡◌, ℕ, ℤ, List, [], map, length, Option}
-use Rattle.it_space.specs.Answers.{AnswerView, CertificateView}
-use Rattle.it_space.specs.Answers.AnswerView.{Yes}
-use Rattle.it_syntax.specs.Meaning.{RelationView, Holds}
-use Rattle.it_question.specs.Limits.{IsQuestion}
-use Rattle.it_question.specs.Questions.{BodyView, QuestionView, Prove}
+use Rattle.std.specs.Prelude.{◌≡◌, ℕ, List, [], map, Option}
+use Rattle.it_space.specs.Answers.{AnswerView}
+use Rattle.it_question.specs.Questions.{BodyView, QuestionView}
 use Rattle.it_copy.specs.declared.types.CopyFault.{CopyFault}
 use Rattle.it_copy.specs.declared.types.CopyFault.TheVariants.{Memory}
 use Rattle.it_copy.specs.CopyLines.{CopyView}
 use Rattle.it_copy.specs.Extensions.{IsExtension, IsMisfit}
 use Rattle.it_copy.specs.Files.{IsCopyFile}
-use Rattle.it_copy.specs.Points.{HasCopies}
 use Rattle.it_print.specs.Lines.{answer_line}
 use Rattle.it_answer.specs.RightAnswers.{IsRightAnswer}
-use Rattle.it_answer.specs.Shows.{Shows}
 use Rattle.it_cli.specs.Misfits.{misfit_line}
-use Rattle.it_cli.specs.Right.{question_origins}
+use Rattle.it_canon.specs.QuestionDemands.{question_origins}
 
 -- a question and the copies that it is to have
 pub record CopyQuestion : Type 0 where
@@ -51,9 +46,3 @@ IsRightCopy pivots x (Extended e answer) = IsExtension x.question.body x.copies 
 abbrev pub copy_text : ℕ → CopyReply → List ℕ
 copy_text k (Misfit fault) = misfit_line k fault
 copy_text k (Extended e answer) = answer_line k e (question_origins e) answer
-
--- Where a yes is shown of the question with copies, the question's own relation holds at every polymatroid and rates that have such
--- copies.
-abbrev pub AYesWithCopiesIsTrue : Type 0
-AYesWithCopiesIsTrue = (q e : BodyView) (cs : List CopyView) (r : RelationView) (ws : List CertificateView) → IsQuestion q → q.verb ≡ Prove r → IsExtension q cs e → Shows e (Yes ws)
-    → (p : ℕ → ℤ) → HasCopies q e p → Holds (length q.names.variables) p r

@@ -6,7 +6,7 @@ use Rattle.it_outside.specs.Traffic.{Gains, TookPrefix}
 use Rattle.it_forms.specs.declared.types.Code.{Code}
 use Rattle.it_question.specs.declared.types.Question.{Question}
 use Rattle.it_question.specs.Questions.{BodyView, QuestionView, question_view}
-use Rattle.it_canon.specs.QuestionDemands.{terms_in}
+use Rattle.it_canon.specs.QuestionDemands.{terms_in, question_origins}
 use Rattle.it_copy.specs.declared.types.CopyLine.{CopyLine}
 use Rattle.it_copy.specs.CopyLines.{copy_view}
 use Rattle.it_settings.specs.declared.types.Settings.{Settings}
@@ -21,7 +21,7 @@ use Rattle.it_answer.specs.declared.types.AnsweredProblem.{AnsweredProblem}
 use Rattle.it_answer.specs.declared.types.Budgets.{Budgets}
 use Rattle.it_answer.specs.Replies.{Reply}
 use Rattle.it_answer.specs.RightAnswers.{IsRightAnswer}
-use Rattle.it_cli.specs.Right.{answer_lines, question_origins}
+use Rattle.it_cli.specs.Right.{answer_lines}
 use Rattle.it_cli.specs.Copies.{CopyQuestion, IsRightProof, with_copies}
 use Rattle.it_cli.specs.Ends.{Ends, call_of}
 use Rattle.it_cli.specs.Modes.{FirstOutput, Mode, OutputInPart, WholeOutput}

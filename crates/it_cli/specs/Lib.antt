@@ -6,11 +6,11 @@ pub mod Modes
 pub mod Misfits
 pub mod Copies
 pub mod SharingReplies
+pub mod Truth
 pub mod Outputs
 pub mod Ends
-pub mod Shown
+pub mod Written
 pub mod InnerEnds
 pub mod Laws
 pub mod Numbers
 pub mod Accepted
-pub mod SharingVerdicts

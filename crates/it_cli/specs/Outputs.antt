@@ -17,7 +17,8 @@ use Rattle.it_report.specs.Judging.{IsVerdict}
 use Rattle.it_report.specs.LineVerdicts.{LineVerdict, is_invalid, verdict_line}
 use Rattle.it_factor.specs.Lines.{reply_line}
 use Rattle.it_factor.specs.RightReplies.{IsRightReply}
-use Rattle.it_cli.specs.Right.{IsRightAfter, answer_lines, budgets_of, question_origins}
+use Rattle.it_cli.specs.Right.{IsRightAfter, answer_lines, budgets_of}
+use Rattle.it_canon.specs.QuestionDemands.{question_origins}
 use Rattle.it_cli.specs.Counts.{IsBenchLine}
 use Rattle.it_cli.specs.Copies.{AsksWithCopies, IsRightCopy, copy_text}
 use Rattle.it_sharing.specs.SharingFiles.{SharingFaultAt}

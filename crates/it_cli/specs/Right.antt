@@ -2,12 +2,11 @@
 use Rattle.std.specs.Prelude.{ℕ, List, ◌++◌, map, Option, codes}
 use Rattle.it_settings.specs.declared.types.Format.{Format}
 use Rattle.it_settings.specs.declared.types.Format.TheVariants.{Text, Json, Proof}
-use Rattle.it_space.specs.declared.problems.Origin.{Origin}
 use Rattle.it_space.specs.Answers.{AnswerView}
 use Rattle.it_elemental.specs.Generators.{Generator}
 use Rattle.it_question.specs.Questions.{BodyView, QuestionView}
 use Rattle.it_demand.specs.Demands.{Demand}
-use Rattle.it_canon.specs.QuestionDemands.{question_demands, terms_in, variable_count}
+use Rattle.it_canon.specs.QuestionDemands.{question_demands, question_origins, terms_in, variable_count}
 use Rattle.it_region.specs.declared.types.Candidate.{Candidate}
 use Rattle.it_contain.specs.Proposals.{Plan, plan_after_all}
 use Rattle.it_certificate.specs.Values.{answer_text}
@@ -28,10 +27,6 @@ abbrev pub IsRightAfter : Budgets → List Plan → List Candidate → QuestionV
 IsRightAfter budgets plans before q reply = IsRightAnswer budgets (map (plan_after_all before) plans) q.body reply
 
 -- ---- the lines of an answer
-
--- where the constraints of a question come from
-abbrev pub question_origins : BodyView → List Origin
-question_origins q = map (λ d. d.origin) (question_demands q)
 
 -- what a demand says, as a row
 abbrev pub row_of_demand : BodyView → Demand → Generator

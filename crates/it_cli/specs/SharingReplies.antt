@@ -9,7 +9,7 @@ use Rattle.it_question.specs.QuestionLimits.{most_lines}
 use Rattle.it_sharing.specs.SharingFiles.{IsSharingFile}
 use Rattle.it_sharing.specs.Sharings.{SharingView, made_question, maximal_count, minimal_count}
 use Rattle.it_cli.specs.Copies.{IsRightProof}
-use Rattle.it_cli.specs.Right.{question_origins}
+use Rattle.it_canon.specs.QuestionDemands.{question_origins}
 
 -- the bytes are a sharing file, which asks for one thing
 pub record AsksOfSharing (bytes : List ℕ) (items : List SharingView) : Type 0 where

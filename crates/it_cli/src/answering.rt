@@ -4,10 +4,10 @@ ghost use Rattle.it_space.specs.Answers.{answer_view};
 ghost use Rattle.it_question.specs.AsciiTexts.{IsAsciiQuestion};
 ghost use Rattle.it_question.specs.Limits.{IsQuestion};
 ghost use Rattle.it_question.specs.Questions.{question_view, question_body};
-ghost use Rattle.it_demand.specs.Demands.{AreStated};
+ghost use Rattle.it_demand.specs.Origins.{AreStated};
 ghost use Rattle.it_demand.specs.LineDemands.{space_of};
 ghost use Rattle.it_question.specs.ProblemLines.{problem_names};
-ghost use Rattle.it_canon.specs.QuestionDemands.{question_demands};
+ghost use Rattle.it_canon.specs.QuestionDemands.{question_demands, question_origins};
 ghost use Rattle.it_answer.specs.AnswerKinds.{IsAnswerTo};
 ghost use Rattle.it_print.specs.Lines.{IsPrintable};
 ghost use Rattle.it_certificate.specs.Values.{IsWritable, answer_text};
@@ -101,7 +101,7 @@ fn lines(
 ) -> Result<Vec<u8>, AllocError>
     requires limits { IsQuestion (question_body question.now) }
     requires ascii { IsAsciiQuestion (question_view question.now) }
-    requires stated { AreStated answered.now.problem.space (question_demands (question_body question.now)) answered.now.problem.constraints.items }
+    requires stated { AreStated answered.now.problem.space (question_origins (question_body question.now)) (question_demands (question_body question.now)) answered.now.problem.constraints.items }
     requires space { answered.now.problem.space ≡ space_of (problem_names (question_body question.now)) }
     requires fits { IsAnswerTo (question_body question.now) (answer_view answered.now.answer) }
     requires printable { IsPrintable (question_body question.now) (length answered.now.problem.constraints.items) answered.now.answer }
@@ -154,7 +154,7 @@ fn proof_lines(
     answered: &AnsweredProblem,
 ) -> Result<Vec<u8>, AllocError>
     requires limits { IsQuestion (question_body question.now) }
-    requires stated { AreStated answered.now.problem.space (question_demands (question_body question.now)) answered.now.problem.constraints.items }
+    requires stated { AreStated answered.now.problem.space (question_origins (question_body question.now)) (question_demands (question_body question.now)) answered.now.problem.constraints.items }
     requires space { answered.now.problem.space ≡ space_of (problem_names (question_body question.now)) }
     requires fits { IsAnswerTo (question_body question.now) (answer_view answered.now.answer) }
     requires printable { IsPrintable (question_body question.now) (length answered.now.problem.constraints.items) answered.now.answer }

@@ -1,21 +1,17 @@
 //! Theorems on how a call ends and on what it writes, each as the contract of a function.
-ghost use Rattle.it_answer.specs.Shows.{AContainmentIsTrue, ANoIsTrue, ARegionIsTrue, AYesIsTrue, NeededRowsAreNeeded, NeverYesAndNo};
 ghost use Rattle.it_answer.specs.RightAnswers.{AYesAscends, NoStepIsZero, OneRightAnswer};
-ghost use Rattle.it_factor.specs.RightReplies.{LeastIsTrue, NeverIsTrue, UnboundedIsTrue};
 ghost use Rattle.it_cli.specs.Accepted.{OutputIsAccepted, ReportsAreAccepted};
-ghost use Rattle.it_cli.specs.Copies.{AYesWithCopiesIsTrue};
 ghost use Rattle.it_cli.specs.Laws.{BenchReadsNothing, CountsAddUp, CountsArePrefix, CountsAreWritten, FaultIsDue, Headline, IsComplete, LongIsDue, ModesAreDetermined, NoLineIsOutOfSteps, OneOutput, SureEnds, UsageIsDue, VerdictsArePrefix, VerdictsAreWritten};
-ghost use Rattle.it_cli.specs.SharingVerdicts.{AYesHoldsWherePerfect, ANoSharesPerfectly, FactorsHoldWherePerfect};
-ghost use Rattle.it_cli.specs.Shown.{AnswersShow};
+ghost use Rattle.it_cli.specs.Written.{AnswersAreTrue, AnswersShow, CopiesAreTrue, FactorsAreTrue, SharingIsTrue};
 
-use it_answer::answers_are_determined;
+use it_answer::{answers_are_determined, shown_answers_are_true};
 use it_certificate::answers_read_back;
-use it_copy::{copies_are_determined, heads_are_one, yes_by_copies};
-use it_factor::replies_are_determined;
+use it_copy::{copied_questions_are_within, copies_are_determined, heads_are_one, yes_by_copies};
+use it_factor::{replies_are_determined, shown_factors_are_true};
 use it_gen::generated_is_file;
 use it_question::file_is_one;
 use it_report::{each_line_is_judged, verdict_is_one};
-use it_sharing::sharing_is_one;
+use it_sharing::{made_question_is_of_perfect_sharing, sharing_is_one, sharing_is_within};
 
 /// What a call that is done has written: in each mode with an input the whole output for all that the source gave; in mode `check` this
 /// is the verdict on each line. In mode `bench`: the counts of right answers to a generated file.
@@ -77,37 +73,46 @@ pub fn answers_show()
     ensures { AnswersShow }
 {}
 
-/// What an answer means that shows what it says. A yes: the relation holds at every polymatroid and rates that make the lines true.
-/// A no: its values are ones at which it doesn't; so no question has both. A region: its rows hold exactly at the points that extend
-/// to the eliminated rates, and no row that is marked as needed follows from the others. A containment: the first region lies in the
-/// second.
-pub fn verdicts_are_true()
-    ensures yes { AYesIsTrue }
-    ensures no { ANoIsTrue }
-    ensures one { NeverYesAndNo }
-    ensures region { ARegionIsTrue }
-    ensures needed { NeededRowsAreNeeded }
-    ensures contained { AContainmentIsTrue }
+/// Each answer whose lines are written after `Done` in mode `answer` is true of its question. A yes: the relation holds at every
+/// polymatroid and rates that make the lines true. A no: its values are ones at which it doesn't. A region: its rows hold exactly at
+/// the points that extend to the eliminated rates, and no row that is marked as needed follows from the others. A containment: the
+/// first region lies in the second.
+pub fn answers_are_true()
+    ensures { AnswersAreTrue }
 {
-    it_answer::verdicts_are_true();
+    shown_answers_are_true();
 }
 
-/// Where mode `copy` answers a question by a yes, the question's relation holds at every polymatroid and rates that have such copies.
+/// Each reply whose lines are written after `Done` in mode `copy` is true of its question. A yes: the question's relation holds at
+/// every polymatroid and rates that have such copies. Another answer is true of the question with the copies, and a misfit is why the
+/// question can't have them.
 pub fn copies_are_true()
-    ensures { AYesWithCopiesIsTrue }
+    ensures { CopiesAreTrue }
 {
-    it_answer::verdicts_are_true();
+    shown_answers_are_true();
     yes_by_copies();
+    copied_questions_are_within();
 }
 
-/// What a reply in mode `best` means that shows what it says. A least factor holds wherever the question's lines are true, and no
-/// smaller one does; where none is told, none holds; where no least one is told, the one that is told and all smaller ones hold.
+/// Each reply whose lines are written after `Done` in mode `best` is true of its question. A least factor holds wherever the question's
+/// lines are true, and no smaller one does; where none is told, none holds; where no least one is, the one that is told and all smaller
+/// ones hold.
 pub fn factors_are_true()
-    ensures least { LeastIsTrue }
-    ensures never { NeverIsTrue }
-    ensures unbounded { UnboundedIsTrue }
+    ensures { FactorsAreTrue }
 {
-    it_factor::factors_are_true();
+    shown_factors_are_true();
+}
+
+/// The reply whose lines are written after `Done` in mode `sharing` is true of the file. A yes: the relation holds wherever a
+/// polymatroid shares the secret perfectly. A no: its values are such a polymatroid at which it doesn't. What is said of factors is true
+/// of those that hold at all such polymatroids.
+pub fn sharing_is_true()
+    ensures { SharingIsTrue }
+{
+    shown_answers_are_true();
+    shown_factors_are_true();
+    made_question_is_of_perfect_sharing();
+    sharing_is_within();
 }
 
 /// For given budgets and boxes a question has one right answer, whose certificates list their generators in ascending order, and so
@@ -156,12 +161,3 @@ pub fn output_is_accepted()
 {
     answers_read_back();
 }
-
-/// What an answer to the question that is made of a sharing file means, where it shows what it says: by a yes the relation holds
-/// wherever a polymatroid shares the secret perfectly, and the values of a no are such a polymatroid at which it doesn't. A factor
-/// holds for that question exactly where it holds at all such polymatroids.
-pub fn sharing_verdicts_are_true()
-    ensures yes { AYesHoldsWherePerfect }
-    ensures no { ANoSharesPerfectly }
-    ensures factors { FactorsHoldWherePerfect }
-{}

@@ -25,8 +25,8 @@ struct Goal<'a> {
 
 /// Looks for a substitution that shows that the pair's first region lies in the second, by runs of at most the budget's
 /// steps, where there is a budget. All boxes are begun, and at most `tries` candidates are tried: those of `first`, then those
-/// of each box in order. A candidate that doesn't fit counts. Each box is told of each candidate that was tried. Where memory
-/// was wanted nothing is known of the boxes.
+/// of each box in order. A candidate that doesn't fit counts. What is found the boxes know at later questions; where nothing is,
+/// they plan as before. Where memory was wanted nothing is known of the boxes.
 pub fn contain(
     alloc: Global,
     pair: &Pair,

@@ -79,7 +79,9 @@ pub bodies_keep_limits : (bodies : List Body) (ls r : List Letter) → read file
 bodies_keep_limits bodies ls r e = from_map IsQuestion body_view bodies (All-weaker IsRead IsQuestion (λ q h. h.limits) (map body_view bodies) (file_limited ls r (map body_view bodies) e))
 
 -- with their texts too
+pub texts_keep_limits : (lines : List LineView) (ys : List BodyView) → All IsQuestion ys → All (λ (q : QuestionView). IsQuestion q.body) (with_texts lines ys)
+texts_keep_limits lines ys h = from_map IsQuestion (λ (q : QuestionView). q.body) (with_texts lines ys) (subst (All IsQuestion) (sym (body_again lines ys)) h)
+
 pub questions_keep_limits : (qs : List Question) (lines : List LineView) (ys : List BodyView) → All IsQuestion ys → map question_view qs ≡ with_texts lines ys → All (λ q. IsQuestion (question_body q)) qs
 questions_keep_limits qs lines ys h are =
-    from_map (λ (q : QuestionView). IsQuestion q.body) question_view qs (subst (All (λ (q : QuestionView). IsQuestion q.body)) (sym are)
-    (from_map IsQuestion (λ (q : QuestionView). q.body) (with_texts lines ys) (subst (All IsQuestion) (sym (body_again lines ys)) h)))
+    from_map (λ (q : QuestionView). IsQuestion q.body) question_view qs (subst (All (λ (q : QuestionView). IsQuestion q.body)) (sym are) (texts_keep_limits lines ys h))

@@ -11,3 +11,4 @@ pub mod CopyOutlines
 pub mod StartLemmas
 pub mod CopyFileLemmas
 pub mod HeadLemmas
+pub mod WithinLemmas

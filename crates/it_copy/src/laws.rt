@@ -1,5 +1,5 @@
 //! Theorems on copies, each as the contract of a function.
-ghost use Rattle.it_copy.specs.Files.{CopyFaultIsOne, CopyFileHasOne, CopyFileIsOne, CopyFileOrFault};
+ghost use Rattle.it_copy.specs.Files.{CopiedQuestionsAreWithin, CopyFaultIsOne, CopyFileHasOne, CopyFileIsOne, CopyFileOrFault};
 ghost use Rattle.it_copy.specs.Points.{ExtensionOrMisfit, OneExtension, OneMisfit, YesByCopies};
 
 /// What holds at every polymatroid that meets a question with copies holds wherever the question's own entropies have such copies.
@@ -24,4 +24,9 @@ pub fn heads_are_one()
 /// A file with a head has a reading or a first fault.
 pub fn heads_have_one()
     ensures { CopyFileHasOne }
+{}
+
+/// The questions of a file with a head are within the limits: what holds of such questions with copies holds of what a file asks.
+pub fn copied_questions_are_within()
+    ensures { CopiedQuestionsAreWithin }
 {}

@@ -15,7 +15,8 @@ use Rattle.it_syntax.specs.NamesViews.{NamesView}
 use Rattle.it_question.specs.Limits.{IsQuestion}
 use Rattle.it_question.specs.Questions.{BodyView, Prove}
 use Rattle.it_question.specs.ProblemLines.{problem_names, names_under}
-use Rattle.it_demand.specs.Demands.{LineDemand, States}
+use Rattle.it_demand.specs.Demands.{Demand}
+use Rattle.it_demand.specs.Origins.{States}
 use Rattle.it_demand.proofs.ZipLemmas.{zip-length}
 use Rattle.it_canon.specs.QuestionDemands.{IsProblemOf, question_demands, variable_count}
 use Rattle.it_answer.specs.Forms.{CertifiesForm, IsAllowedWeight, all_demands}
@@ -29,13 +30,13 @@ use Rattle.it_factor.specs.Lines.{AreValuesOf, IsBestPrintable, IsPrintable, IsT
 use Rattle.it_factor.specs.Replies.{reply_view}
 use Rattle.it_factor.specs.RightReplies.{IsRightReply, ShowsFactor, question_ground}
 
-length-demands : (n : ℕ) (ds : List LineDemand) → length (all_demands n ds) ≡ length (elementals n) + length ds
+length-demands : (n : ℕ) (ds : List Demand) → length (all_demands n ds) ≡ length (elementals n) + length ds
 unfolding all_demands
 length-demands n ds = simp (length-append, length-map)
 
 -- there is a constraint for each demand
 pub constraint_count : (q : BodyView) (p : ProblemView) → IsProblemOf q p → length p.constraints ≡ length (question_demands q)
-constraint_count q p posed = zip-length (λ (d : LineDemand) (c : Constraint). States p.space d.origin d.demand c) (question_demands q) p.constraints posed.constraints
+constraint_count q p posed = zip-length (States p.space) (question_demands q) p.constraints posed.constraints.stated
 
 module _ (q : BodyView) (m : ℕ) (count : m ≡ length (question_demands q)) where
   generators_there : (f : Form) (w : Certificate) → CertifiesForm q f (certificate_view w) → IsThere (variable_count q) m w

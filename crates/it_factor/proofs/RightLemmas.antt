@@ -27,8 +27,9 @@ use Rattle.it_best.specs.BestViews.{BestView, Least, Never, Unbounded, Undecided
 use Rattle.it_best.specs.Factors.{IsRightBest, IsFactor, IsPoint, ground_of}
 use Rattle.it_best.proofs.CertificateLemmas.{linear-factor, linear-neg}
 use Rattle.it_factor.specs.Replies.{ReplyView, Found, Other}
-use Rattle.it_factor.specs.RightReplies.{IsRightFactor, IsRightReply, asked_by, at_least, question_ground}
+use Rattle.it_factor.specs.RightReplies.{IsRightFactor, IsRightReply, question_ground}
 use Rattle.it_factor.specs.RowReplies.{IsFoundByRows, IsReplyByRows}
+use Rattle.it_factor.specs.Truth.{asked_by, at_least}
 use Rattle.it_demand.specs.RowsOfForms.{terms_of_form}
 use Rattle.it_demand.proofs.FormRows.{row_is_terms_of_form}
 use Rattle.it_canon.proofs.PosesLemmas.{one_problem}
@@ -49,7 +50,7 @@ module _ (q : BodyView) (p : ProblemView) (posed : IsProblemOf q p) where
 
   certificate_by_text : (f g : Form) (w : CertificateView) → ((x : ℕ → ℤ) → x 0 ≡ pos 0 → f x ≡ g x) → IsLinear (size_of p.space + 1) f → IsCertificate (size_of p.space + 1) (generators_of p) f w → CertifiesForm q g w
   certificate_by_text f g w same linear c = in_question_space (λ s. Certifies (all_demands s.variables (question_demands q)) g w)
-      (by_forms (all_demands p.space.variables (question_demands q)) (generators p) (generators_speak p.space (question_demands q) p.constraints posed.constraints) (size_of p.space + 1) f g same w c (adds_up_at f w linear c))
+      (by_forms (all_demands p.space.variables (question_demands q)) (generators p) (generators_speak p.space (question_demands q) p.constraints posed.constraints.stated) (size_of p.space + 1) f g same w c (adds_up_at f w linear c))
 
   point_by_text : (values : List ℤ) → IsPoint (ground_of p) values → IsPoint (question_ground q) values
   point_by_text values i = record {

@@ -1,5 +1,5 @@
--- What it means that a reply shows what it says.
-use Rattle.std.proofs.Common.{◌≡◌, ℤ, neg_ℤ, ◌≤ℤ◌, ◌*ℤ◌, ◌-ℤ◌}
+-- What shows what it says of the factors is true of them.
+use Rattle.std.proofs.Common.{ℤ, neg_ℤ, ◌*ℤ◌, ◌-ℤ◌, ◌↔◌}
 use Rattle.it_space.specs.Answers.{CertificateView}
 use Rattle.it_space.specs.Rows.{point_of}
 use Rattle.it_polymatroid.specs.Certificates.{Form}
@@ -7,28 +7,40 @@ use Rattle.it_question.specs.Questions.{BodyView}
 use Rattle.it_canon.specs.QuestionDemands.{variable_count}
 use Rattle.it_canon.specs.Sides.{left_form, right_form}
 use Rattle.it_answer.proofs.TruthLemmas.{form_at_least_zero}
+use Rattle.it_best.specs.BestViews.{BestView, Least, Never, Unbounded, Undecided}
 use Rattle.it_best.specs.Factors.{HoldsFactor, IsFactor}
 use Rattle.it_best.proofs.TheoremLemmas.{all_smaller, no_smaller, none_at_zero}
-use Rattle.it_factor.specs.RightReplies.{LeastIsTrue, NeverIsTrue, UnboundedIsTrue, question_ground}
+use Rattle.it_factor.specs.RightReplies.{WhatIsShownIsTrue, question_ground}
+use Rattle.it_factor.specs.Truth.{IsTrueBest}
 
 -- a certified factor holds
 certified_holds : (q : BodyView) (left right : Form) (num den : ℤ) (w : CertificateView) → IsFactor (question_ground q) left right num den w → HoldsFactor (question_ground q) left right num den
 certified_holds q left right num den w f p together = form_at_least_zero q p together (λ p. num *ℤ left p -ℤ den *ℤ right p) w f.certified
 
-pub least_is_true : LeastIsTrue
-least_is_true q r num den proof values s =
+pub what_is_shown_is_true : WhatIsShownIsTrue
+what_is_shown_is_true q r (Least num den proof values) s =
     let left = left_form (variable_count q) r in
     let right = right_form (variable_count q) r in (
+      s.factor.from_one,
       certified_holds q left right num den proof s.factor,
       λ a b one holds. no_smaller num den a b (left (point_of values)) (right (point_of values)) s.some s.factor.from_one s.equal (holds (point_of values) s.point.holds),
     )
-
-pub never_is_true : NeverIsTrue
-never_is_true q r values s a b one holds = none_at_zero a b (left_form (variable_count q) r (point_of values)) (right_form (variable_count q) r (point_of values)) s.zero s.above one (holds (point_of values) s.point.holds)
-
-pub unbounded_is_true : UnboundedIsTrue
-unbounded_is_true q r num den proof below s a b one smaller p together =
+what_is_shown_is_true q r (Never values) s =
     let left = left_form (variable_count q) r in
     let right = right_form (variable_count q) r in
-    all_smaller num den a b (left p) (right p) s.0.from_one one smaller (certified_holds q left right num den proof s.0 p together)
-    (form_at_least_zero q p together (λ x. neg_ℤ (left x)) below s.1)
+    λ a b one holds. none_at_zero a b (left (point_of values)) (right (point_of values)) s.zero s.above one (holds (point_of values) s.point.holds)
+what_is_shown_is_true q r (Unbounded num den proof below) s =
+    let left = left_form (variable_count q) r in
+    let right = right_form (variable_count q) r in (
+      s.0.from_one,
+      λ a b one smaller p together. all_smaller num den a b (left p) (right p) s.0.from_one one smaller (certified_holds q left right num den proof s.0 p together)
+          (form_at_least_zero q p together (λ x. neg_ℤ (left x)) below s.1),
+    )
+what_is_shown_is_true q r (Undecided cause) s = tt
+
+-- what is true of some factors is true of the same ones, said otherwise
+pub true_of_same : (P Q : ℤ → ℤ → Type 0) (best : BestView) → ((a b : ℤ) → P a b ↔ Q a b) → IsTrueBest P best → IsTrueBest Q best
+true_of_same P Q (Least num den proof values) same t = (t.0, (same num den).0 t.1, λ a b one holds. t.2 a b one ((same a b).1 holds))
+true_of_same P Q (Never values) same t = λ a b one holds. t a b one ((same a b).1 holds)
+true_of_same P Q (Unbounded num den proof below) same t = (t.0, λ a b one smaller. (same a b).0 (t.1 a b one smaller))
+true_of_same P Q (Undecided cause) same t = tt

@@ -1,4 +1,5 @@
 pub mod Replies
+pub mod Truth
 pub mod RightReplies
 pub mod RowReplies
 pub mod Lines

@@ -1,34 +1,22 @@
 -- Right replies to questions in mode `best`: they show what they say, by the meaning of the question's text alone, and they are due; and
 -- what follows from it.
-use Rattle.std.specs.Prelude.{◌≡◌, ℕ, ℤ, pos, ◌*ℤ◌, ◌≤ℤ◌, List, Option, Some, None}
-use Rattle.it_space.specs.Answers.{CertificateView}
+use Rattle.std.specs.Prelude.{◌≡◌, ℕ, Option, Some, None}
 use Rattle.it_space.specs.Spaces.{size_of}
 use Rattle.it_syntax.specs.Meaning.{RelationView}
-use Rattle.it_syntax.specs.declared.types.Sign.{Sign}
-use Rattle.it_syntax.specs.declared.types.Sign.TheVariants.{AtLeast}
-use Rattle.it_question.specs.Questions.{BodyView, VerbView, Prove}
+use Rattle.it_question.specs.Questions.{BodyView}
 use Rattle.it_question.specs.ProblemLines.{problem_names}
 use Rattle.it_demand.specs.LineDemands.{space_of}
 use Rattle.it_canon.specs.QuestionDemands.{AreTrueTogether, problem_of, terms_in, variable_count}
 use Rattle.it_canon.specs.Sides.{left_form, right_form}
 use Rattle.it_answer.specs.Forms.{CertifiesForm}
 use Rattle.it_best.specs.declared.types.BestCause.TheVariants.{Pivots}
-use Rattle.it_best.specs.BestViews.{BestView, Least, Never, Unbounded, Undecided}
+use Rattle.it_best.specs.BestViews.{BestView, Undecided}
 use Rattle.it_best.specs.Ends.{EndsWith}
-use Rattle.it_best.specs.Factors.{IsRightBest, Ground, HoldsFactor}
+use Rattle.it_best.specs.Factors.{IsRightBest, Ground}
 use Rattle.it_factor.specs.Replies.{ReplyView, Found, Other}
+use Rattle.it_factor.specs.Truth.{HoldsFor, IsTrueBest, asked_by}
 
 -- ---- by the text
-
--- a relation with the sign `>=`
-abbrev pub at_least : Sign → RelationView → Option RelationView
-at_least AtLeast r = Some r
-at_least sign r = None
-
--- the relation whose factors a question asks for: that of `prove E >= F`
-abbrev pub asked_by : VerbView → Option RelationView
-asked_by (Prove r) = at_least r.sign r
-asked_by verb = None
 
 -- where the sides of a question's relation are compared: at the polymatroids and rates that make its lines true, by certificates over
 -- the elemental inequalities and what its lines demand
@@ -42,10 +30,6 @@ question_ground q = record {
 -- what is found of the factors of the relation is right
 abbrev pub ShowsFactor : BodyView → RelationView → BestView → Type 0
 ShowsFactor q r best = IsRightBest (question_ground q) (left_form (variable_count q) r) (right_form (variable_count q) r) best
-
--- the factor num / den holds: num times the left side is at least den times the right one wherever the question's lines are true
-abbrev pub HoldsFor : BodyView → RelationView → ℤ → ℤ → Type 0
-HoldsFor q r num den = HoldsFactor (question_ground q) (left_form (variable_count q) r) (right_form (variable_count q) r) num den
 
 -- ---- by the runs
 
@@ -76,16 +60,6 @@ OneRightReply = (budget : Option ℕ) (q : BodyView) (a b : ReplyView) → IsRig
 abbrev pub NeverOutOfSteps : Type 0
 NeverOutOfSteps = (q : BodyView) (k phase : ℕ) → IsRightReply None q (Found (Undecided (Pivots k phase))) → ⊥
 
--- where a least factor is shown, it holds, and no smaller one does
-abbrev pub LeastIsTrue : Type 0
-LeastIsTrue = (q : BodyView) (r : RelationView) (num den : ℤ) (proof : CertificateView) (values : List ℤ) → ShowsFactor q r (Least num den proof values)
-    → HoldsFor q r num den × ((a b : ℤ) → pos 1 ≤ℤ b → HoldsFor q r a b → (num *ℤ b) ≤ℤ (a *ℤ den))
-
--- where a point is shown at which the left side is 0 and the right one above it, no factor holds
-abbrev pub NeverIsTrue : Type 0
-NeverIsTrue = (q : BodyView) (r : RelationView) (values : List ℤ) → ShowsFactor q r (Never values) → (a b : ℤ) → pos 1 ≤ℤ b → HoldsFor q r a b → ⊥
-
--- where it is shown that there is no least factor, the one that is told holds, and all smaller ones do
-abbrev pub UnboundedIsTrue : Type 0
-UnboundedIsTrue = (q : BodyView) (r : RelationView) (num den : ℤ) (proof below : CertificateView) → ShowsFactor q r (Unbounded num den proof below)
-    → (a b : ℤ) → pos 1 ≤ℤ b → (a *ℤ den) ≤ℤ (num *ℤ b) → HoldsFor q r a b
+-- what shows what it says of the factors is true of them
+abbrev pub WhatIsShownIsTrue : Type 0
+WhatIsShownIsTrue = (q : BodyView) (r : RelationView) (best : BestView) → ShowsFactor q r best → IsTrueBest (HoldsFor q r) best

@@ -9,7 +9,7 @@ use Rattle.it_best.specs.BestViews.{BestView}
 use Rattle.it_best.specs.Ends.{EndsWith}
 use Rattle.it_best.specs.Factors.{IsRightBest, ground_of}
 use Rattle.it_factor.specs.Replies.{ReplyView, Found, Other}
-use Rattle.it_factor.specs.RightReplies.{at_least}
+use Rattle.it_factor.specs.Truth.{at_least}
 
 -- the runs about rows of both sides under a problem end with it, and it is right of the rows
 pub record IsFoundByRows (p : ProblemView) (budget : Option ℕ) (r : RelationView) (best : BestView) : Type 0 where

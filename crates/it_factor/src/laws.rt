@@ -1,12 +1,11 @@
 //! What right replies say, each theorem as the contract of a function.
-ghost use Rattle.it_factor.specs.RightReplies.{LeastIsTrue, NeverIsTrue, NeverOutOfSteps, OneRightReply, UnboundedIsTrue};
+ghost use Rattle.it_factor.specs.RightReplies.{NeverOutOfSteps, OneRightReply, WhatIsShownIsTrue};
 
-/// Where a least factor is shown, it holds wherever the question's lines are true, and no smaller one does. Where none is shown, no
-/// factor holds; where it is shown that none is least, the one that is told holds, and each smaller one does.
-pub fn factors_are_true()
-    ensures least { LeastIsTrue }
-    ensures never { NeverIsTrue }
-    ensures unbounded { UnboundedIsTrue }
+/// What shows what it says of the factors is true of them, whatever reply is due: a least factor holds wherever the question's lines
+/// are true, and no smaller one does; where none is told, no factor holds; where no least one is, the one that is told holds, and each
+/// smaller one does.
+pub fn shown_factors_are_true()
+    ensures { WhatIsShownIsTrue }
 {}
 
 /// A question has one right reply for a budget, and without one it isn't undecided for want of steps.

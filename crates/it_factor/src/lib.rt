@@ -6,7 +6,7 @@ mod lines;
 mod replying;
 mod types;
 
-pub use laws::{factors_are_true, replies_are_determined};
+pub use laws::{replies_are_determined, shown_factors_are_true};
 pub use lines::reply_line;
 pub use replying::reply;
 pub use types::{RepliedProblem, Reply};

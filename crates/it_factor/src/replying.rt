@@ -6,9 +6,9 @@ ghost use Rattle.it_syntax.specs.Meaning.{relation_view};
 ghost use Rattle.it_question.specs.Limits.{IsQuestion};
 ghost use Rattle.it_question.specs.Questions.{question_body};
 ghost use Rattle.it_question.specs.ProblemLines.{problem_names};
-ghost use Rattle.it_demand.specs.Demands.{AreStated};
+ghost use Rattle.it_demand.specs.Origins.{AreStated};
 ghost use Rattle.it_demand.specs.LineDemands.{space_of};
-ghost use Rattle.it_canon.specs.QuestionDemands.{IsProblemOf, question_demands};
+ghost use Rattle.it_canon.specs.QuestionDemands.{IsProblemOf, question_demands, question_origins};
 ghost use Rattle.it_best.specs.BestViews.{best_view};
 ghost use Rattle.it_factor.specs.Lines.{IsPrintable};
 ghost use Rattle.it_factor.specs.Replies.{reply_view};
@@ -34,7 +34,7 @@ pub fn reply(
 ) -> Result<RepliedProblem, AllocError>
     requires limits { IsQuestion (question_body question.now) }
     ensures space { IfOk result (λ a. a.problem.space ≡ space_of (problem_names (question_body question.now))) }
-    ensures problem { IfOk result (λ a. AreStated a.problem.space (question_demands (question_body question.now)) a.problem.constraints.items) }
+    ensures problem { IfOk result (λ a. AreStated a.problem.space (question_origins (question_body question.now)) (question_demands (question_body question.now)) a.problem.constraints.items) }
     ensures right { IfOk result (λ a. IsRightReply pivots (question_body question.now) (reply_view a.reply)) }
     ensures printable { IfOk result (λ a. IsPrintable (question_body question.now) (length a.problem.constraints.items) a.reply) }
 {

@@ -19,14 +19,18 @@ sum_of_members (suc i) p set = cond (has_member set i) (p (2 ^ i)) (pos 0) +ℤ 
 abbrev pub IsFunction : (ℕ → ℤ) → ℕ → ℕ → Type 0
 IsFunction p x set = p (bit_or set (2 ^ x)) ≡ p set
 
--- the fact is about some of n variables and of so many rates
+-- the set is a set of some of n variables, and not the empty one
+abbrev pub IsSomeSet : ℕ → ℕ → Type 0
+IsSomeSet n set = (0 < set) × (set < 2 ^ n)
+
+-- the fact is about some of n variables and of so many rates, and about no empty set
 abbrev pub IsFactOver : ℕ → ℕ → Fact → Type 0
-IsFactOver n rates (Entropy set value) = set < 2 ^ n
+IsFactOver n rates (Entropy set value) = IsSomeSet n set
 IsFactOver n rates (Rate rate value) = rate < rates
 IsFactOver n rates (Constant x) = x < n
 IsFactOver n rates (Equal x y) = (x < n) × (y < n)
-IsFactOver n rates (Function x set) = (x < n) × (set < 2 ^ n)
-IsFactOver n rates (Independent set) = set < 2 ^ n
+IsFactOver n rates (Function x set) = (x < n) × IsSomeSet n set
+IsFactOver n rates (Independent set) = IsSomeSet n set
 
 -- the fact is true of a map, whose values at rates stand after those at sets of the n variables
 abbrev pub IsTrueOf : ℕ → (ℕ → ℤ) → Fact → Type 0

@@ -4,7 +4,7 @@ ghost use Rattle.std.specs.Bool.{OnFalse, OnTrue};
 ghost use Rattle.it_space.specs.Rows.{point_of};
 ghost use Rattle.it_space.specs.Sets.{has_member};
 ghost use Rattle.it_space.specs.Spaces.{IsSpace};
-ghost use Rattle.it_facts.specs.Points.{Determine, IsFunction, IsFactOver, IsTrueOf, sum_of_members};
+ghost use Rattle.it_facts.specs.Points.{Determine, IsFunction, IsFactOver, IsSomeSet, IsTrueOf, sum_of_members};
 ghost use Rattle.it_facts.specs.Settling.{Follows, IsFactOf, Settles, TellRate, TellsRate};
 ghost use Rattle.it_facts.specs.declared.facts.Fact.TheVariants as fact;
 
@@ -127,27 +127,28 @@ fn is_over(fact: &Fact, space: Space) -> bool
 {
     let n = space.variables;
     match fact {
-        Fact::Entropy { set, .. } => is_set_of(*set, n),
+        Fact::Entropy { set, .. } => is_some_set(*set, n),
         Fact::Rate { rate, .. } => *rate < space.rates,
         Fact::Constant { variable } => *variable < n,
         Fact::Equal { variable, other } => { if *variable < n { *other < n } else { false } }
         Fact::Function { variable, of } => {
             if *variable < n {
-                is_set_of(*of, n)
+                is_some_set(*of, n)
             } else {
                 false
             }
         }
-        Fact::Independent { set } => is_set_of(*set, n),
+        Fact::Independent { set } => is_some_set(*set, n),
     }
 }
 
-/// Whether a set is one of n variables.
-fn is_set_of(set: VarSet, n: u8) -> bool
+/// Whether a set is one of n variables and not the empty one.
+fn is_some_set(set: VarSet, n: u8) -> bool
     requires { n ≤ 10 }
-    ensures { OnTrue result (set < 2 ^ n) }
+    ensures { OnTrue result (IsSomeSet n set) }
 {
-    (set.number() as u32) < 1u32 << n
+    let number = set.number() as u32;
+    0 < number && number < 1u32 << n
 }
 
 /// Whether a fact is over a space and true of a point.

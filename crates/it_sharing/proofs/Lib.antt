@@ -9,3 +9,4 @@ pub mod SharingFileLemmas
 pub mod SharingLimits
 pub mod QuestionLimits
 pub mod SharingOutlines
+pub mod WithinLemmas

@@ -3,7 +3,7 @@ use Rattle.std.specs.Prelude.{◌≡◌, ℕ, List, ◌⊎◌}
 use Rattle.it_forms.specs.declared.types.Code.{Code}
 use Rattle.it_question.specs.declared.types.FileFault.{FileFault}
 use Rattle.it_question.specs.WholeForms.{SaysInForm, FormFaultAt, IsFirstFormFault}
-use Rattle.it_sharing.specs.Sharings.{SharingView}
+use Rattle.it_sharing.specs.Sharings.{SharingView, IsSharing, IsBoundWhereBest}
 use Rattle.it_sharing.specs.SharingForms.{sharing}
 
 -- the bytes say so
@@ -33,3 +33,7 @@ SharingOrFault = (bytes : List ℕ) (x : SharingView) (line column : ℕ) (c : C
 -- A file has a reading or a first fault.
 abbrev pub SharingHasOne : Type 0
 SharingHasOne = (bytes : List ℕ) → ((x : SharingView) × IsSharingFile bytes x) ⊎ ((line : ℕ) × (column : ℕ) × (c : Code) × SharingFaultAt bytes line column c)
+
+-- What a file says is within the limits.
+abbrev pub SharingIsWithin : Type 0
+SharingIsWithin = (bytes : List ℕ) (x : SharingView) → IsSharingFile bytes x → IsSharing x × IsBoundWhereBest x

@@ -1,6 +1,6 @@
 //! Laws of the definitions that the contracts cite.
 ghost use Rattle.it_sharing.specs.PerfectSharing.{MadeGivensArePerfect, MadeQuestionIsOfPerfectSharing};
-ghost use Rattle.it_sharing.specs.SharingFiles.{SharingIsOne, SharingFaultIsOne, SharingOrFault, SharingHasOne};
+ghost use Rattle.it_sharing.specs.SharingFiles.{SharingFaultIsOne, SharingHasOne, SharingIsOne, SharingIsWithin, SharingOrFault};
 
 /// At a polymatroid the givens that are made of the minimal qualified and the maximal unqualified sets hold exactly where
 /// each qualified set knows the secret and each other set of parties nothing of it.
@@ -24,4 +24,9 @@ pub fn sharing_is_one()
 /// A file has a reading or a first fault.
 pub fn sharing_has_one()
     ensures { SharingHasOne }
+{}
+
+/// What a file says is within the limits: what holds of what is within them holds of what a file says.
+pub fn sharing_is_within()
+    ensures { SharingIsWithin }
 {}

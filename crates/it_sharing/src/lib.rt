@@ -11,6 +11,7 @@ pub mod types;
 
 pub use laws::{
     made_givens_are_perfect, made_question_is_of_perfect_sharing, sharing_has_one, sharing_is_one,
+    sharing_is_within,
 };
 pub use making::made;
 pub use reading::sharing;

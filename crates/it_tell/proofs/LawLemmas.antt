@@ -26,7 +26,7 @@ use Rattle.it_report.proofs.TruthLemmas.{valid_is_true}
 use Rattle.it_certificate.proofs.OneLemmas.{one_reading}
 use Rattle.it_cli.specs.Ends.{Call}
 use Rattle.it_cli.specs.Modes.{WholeOutput}
-use Rattle.it_cli.specs.Right.{question_origins}
+use Rattle.it_canon.specs.QuestionDemands.{question_origins}
 use Rattle.it_cli.specs.declared.status.Status.{Status}
 use Rattle.it_cli.specs.declared.status.Status.TheVariants.{Done, Invalid}
 use Rattle.it_tell.specs.Tellings.{Answered, AreDetails, AreProofTexts, Each, IsMarkedRowText, IsPointText, IsProofText, IsRowText, IsTelling, ProofTexts, Telling, indented_line, mark_comment, proof_lines}

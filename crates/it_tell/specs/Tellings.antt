@@ -23,7 +23,7 @@ use Rattle.it_terms.specs.ProofSteps.{TellsSteps}
 use Rattle.it_report.specs.Judging.{IsVerdict}
 use Rattle.it_region.specs.AnswerForms.{answer_forms}
 use Rattle.it_report.specs.LineVerdicts.{LineVerdict, is_invalid, numbered_line, verdict_line}
-use Rattle.it_cli.specs.Right.{question_origins}
+use Rattle.it_canon.specs.QuestionDemands.{question_origins}
 
 -- ---- the lines below an answer's first one
 

@@ -9,11 +9,10 @@ ghost use Rattle.it_question.specs.Limits.{IsQuestion};
 ghost use Rattle.it_syntax.specs.Meaning.{relation_view};
 ghost use Rattle.it_question.specs.Questions.{Prove, question_body};
 ghost use Rattle.it_question.specs.ProblemLines.{problem_names};
-ghost use Rattle.it_canon.specs.QuestionDemands.{variable_count};
+ghost use Rattle.it_canon.specs.QuestionDemands.{variable_count, question_origins};
 ghost use Rattle.it_certificate.specs.AnswerShapes.{HasQuestionShape};
 ghost use Rattle.it_print.specs.Lines.{AreListed, IsPrintable, IsRowOver, origins_of, row_text, values_text};
 ghost use Rattle.it_report.specs.Steps.{IsAboutRelation};
-ghost use Rattle.it_cli.specs.Right.{question_origins};
 ghost use Rattle.it_tell.specs.Tellings.{IsMarkedRowText, IsPointText, IsProofText, IsRowText, indented_line, mark_comment, step_line, AreProofSteps, weights_text};
 ghost use Rattle.it_tell.specs.Steps.{AppendsDetails, AppendsEach, AppendsPoint, AppendsProof, AppendsProofs, AreFormRows, contained_by, form_with_proof};
 

@@ -1,10 +1,12 @@
-//! Tests of the libraries of bytes, of the language, and of containment, printing and drawn questions.
+//! Tests of the libraries of bytes, of the language with heads of files, and of containment, printing and drawn questions.
 #![tactic(auto)]
 
 #[cfg(test)]
 mod draws;
 #[cfg(test)]
 mod fixtures;
+#[cfg(test)]
+mod heads;
 #[cfg(test)]
 mod lines;
 #[cfg(test)]

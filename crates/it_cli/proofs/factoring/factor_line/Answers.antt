@@ -1,7 +1,7 @@
 use Rattle.std.proofs.Common.{◌≡◌, ap, ◌∙◌, []}
 use Rattle.it_run.proofs.AnswerLemmas.{if_ok}
 use Rattle.it_question.specs.Questions.{question_body, question_view}
-use Rattle.it_canon.specs.QuestionDemands.{question_demands}
+use Rattle.it_canon.specs.QuestionDemands.{question_origins}
 use Rattle.it_print.specs.Lines.{origins_of}
 use Rattle.it_factor.specs.Lines.{reply_line}
 use Rattle.it_factor.specs.Replies.{reply_view}
@@ -16,5 +16,5 @@ returns c = let q = question_body c.args.question.now in if_ok c.reply_line.resu
       reply = reply_view c.in_ok-replied.replied.reply;
       right = c.in_ok-replied.ensures.right;
       is = is ∙ ap (λ cs. reply_line c.args.k q (origins_of cs) (reply_view c.in_ok-replied.replied.reply)) c.as_slice.ensures.value ∙ ap (λ xs. reply_line c.args.k q xs (reply_view c.in_ok-replied.replied.reply))
-          (origins_same c.in_ok-replied.replied.problem.space (question_demands q) c.in_ok-replied.replied.problem.constraints.items c.in_ok-replied.ensures.problem);
+          (origins_same (question_origins q) c.in_ok-replied.replied.problem.constraints.items c.in_ok-replied.ensures.problem.placed);
     })

@@ -1,4 +1,4 @@
-use Rattle.it_cli.proofs.ShownLemmas as proof
+use Rattle.it_cli.proofs.WrittenLemmas as proof
 use Rattle.it_cli.proofs.laws.answers_show.Goals as goal
 
 pub returns : goal.returns

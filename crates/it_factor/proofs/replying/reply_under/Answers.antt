@@ -5,8 +5,9 @@ use Rattle.it_question.specs.Questions.{question_body, verb_view}
 use Rattle.it_run.proofs.AnswerLemmas.{if_ok}
 use Rattle.it_factor.specs.Lines.{IsPrintable}
 use Rattle.it_factor.specs.Replies.{reply_view}
-use Rattle.it_factor.specs.RightReplies.{IsRightReply, at_least}
+use Rattle.it_factor.specs.RightReplies.{IsRightReply}
 use Rattle.it_factor.specs.RowReplies.{IsReplyByRows}
+use Rattle.it_factor.specs.Truth.{at_least}
 use Rattle.it_factor.proofs.PrintLemmas.{constraint_count, reply_printable}
 use Rattle.it_factor.proofs.RightLemmas.{other_is_right, right_reply}
 use Rattle.it_factor.proofs.replying.reply_under.Goals as goal

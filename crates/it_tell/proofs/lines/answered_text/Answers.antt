@@ -1,7 +1,7 @@
 use Rattle.std.proofs.Common.{ℕ, length, ap, subst, sym, ◌∙◌}
 use Rattle.it_space.specs.Problems.{problem_view}
 use Rattle.it_question.specs.Questions.{question_body}
-use Rattle.it_canon.specs.QuestionDemands.{question_demands}
+use Rattle.it_canon.specs.QuestionDemands.{question_origins}
 use Rattle.it_print.specs.Lines.{IsPrintable, origins_of}
 use Rattle.it_cli.proofs.LineLemmas.{few_constraints, origins_same}
 use Rattle.it_tell.proofs.lines.answered_text.Goals as goal
@@ -16,7 +16,7 @@ pub write_details-requires-clause-origins : goal.write_details-requires-clause-o
 write_details-requires-clause-origins c =
     let q = question_body c.args.question.now in
     let p = problem_view c.in_ok-problem.problem in
-    ap origins_of c.as_slice-constraints.ensures.value ∙ origins_same p.space (question_demands q) p.constraints c.in_ok-problem.ensures.poses.constraints
+    ap origins_of c.as_slice-constraints.ensures.value ∙ origins_same (question_origins q) p.constraints c.in_ok-problem.ensures.poses.constraints.placed
 
 pub write_details-requires-clause-printable : goal.write_details-requires-clause-printable
 write_details-requires-clause-printable c =

@@ -1,0 +1,99 @@
+-- Right replies in modes `copy`, `best` and `sharing` are true.
+use Rattle.std.proofs.Common.{◌≡◌, ℕ, ℤ, ◌↔◌, length, Bool, true, List, Option, Some, refl, sym, ap, subst, ◌∙◌}
+use Rattle.it_space.specs.Answers.{AnswerView}
+use Rattle.it_space.specs.Answers.AnswerView.{Yes, No, Undecided, Region, Contained, Open}
+use Rattle.it_space.specs.Rows.{point_of}
+use Rattle.it_space.proofs.OptionLemmas.{none_is_not_some, some_same}
+use Rattle.it_polymatroid.specs.Polymatroid.{IsPolymatroid}
+use Rattle.it_syntax.specs.Meaning.{RelationView, Holds}
+use Rattle.it_question.specs.Limits.{IsQuestion}
+use Rattle.it_question.specs.ProblemLines.{lines_under, names_under}
+use Rattle.it_question.specs.Questions.{BodyView, VerbView, Prove, Eliminate, Contain}
+use Rattle.it_canon.specs.QuestionDemands.{AreTrueAt}
+use Rattle.it_copy.specs.CopyLines.{CopyView}
+use Rattle.it_copy.specs.Extensions.{IsExtension, IsProof}
+use Rattle.it_copy.specs.Points.{YesByCopies}
+use Rattle.it_sharing.specs.PerfectSharing.{MadeQuestionIsOfPerfectSharing}
+use Rattle.it_sharing.specs.Sharings.{SharingView, IsSharing, IsBoundWhereBest, made_question}
+use Rattle.it_answer.specs.Shows as answers
+use Rattle.it_answer.specs.Truth.{IsTrueAnswer, IsTrueBy}
+use Rattle.it_factor.specs.Replies.{ReplyView, Found, Other}
+use Rattle.it_factor.specs.RightReplies as factors
+use Rattle.it_factor.specs.RightReplies.{IsRightReply}
+use Rattle.it_factor.specs.Truth.{HoldsFor, IsTrueBest, IsTrueReply, asked_by, at_least}
+use Rattle.it_factor.proofs.TruthLemmas.{true_of_same}
+use Rattle.it_cli.specs.Copies.{CopyQuestion, CopyReply, IsRightCopy, Misfit, Extended}
+use Rattle.it_cli.specs.SharingReplies.{IsRightSharing, SharingReply, Many, Answered, Factored}
+use Rattle.it_cli.specs.Truth.{HoldsWherePerfect, IsTrueCopy, IsTrueOfSharing, IsTrueSharing, IsTrueWithCopies}
+
+-- ---- of a question with copies
+
+-- of a question about a relation, what holds wherever its problem's lines are true holds wherever its own are
+own_lines : (e : BodyView) (r : RelationView) (verb : VerbView) → verb ≡ Prove r
+    → ((p : ℕ → ℤ) → IsPolymatroid (length (names_under e.names verb).variables) p × AreTrueAt (length (names_under e.names verb).variables) p (lines_under e.lines verb) → Holds (length (names_under e.names verb).variables) p r)
+    → (p : ℕ → ℤ) → IsPolymatroid (length e.names.variables) p × AreTrueAt (length e.names.variables) p e.lines → Holds (length e.names.variables) p r
+own_lines e r verb is h = subst (λ (v : VerbView). (p : ℕ → ℤ) → IsPolymatroid (length (names_under e.names v).variables) p × AreTrueAt (length (names_under e.names v).variables) p (lines_under e.lines v) → Holds (length (names_under e.names v).variables) p r) is h
+
+module _ (shown_is_true : answers.WhatIsShownIsTrue) (by_copies : YesByCopies) where
+  true_with_copies : (q e : BodyView) (cs : List CopyView) (verb : VerbView) (a : AnswerView) → IsQuestion q → q.verb ≡ verb → IsExtension q cs e → IsTrueAnswer e a → IsTrueWithCopies q e verb a
+  true_with_copies q e cs (Prove r) (Yes ws) limits verb extension t =
+      let same : e.verb ≡ Prove r = subst (λ (x : BodyView). x.verb ≡ Prove r) (sym extension.is) verb in
+      by_copies q e cs r limits verb extension (λ image polymatroid lines. own_lines e r e.verb same (subst (λ (v : VerbView). IsTrueBy e v (Yes ws)) same t) image (polymatroid, lines))
+  true_with_copies q e cs (Prove r) (No is_back values) limits verb extension t = t
+  true_with_copies q e cs (Prove r) (Undecided cause) limits verb extension t = t
+  true_with_copies q e cs (Prove r) (Region rows) limits verb extension t = t
+  true_with_copies q e cs (Prove r) (Contained parts ws) limits verb extension t = t
+  true_with_copies q e cs (Prove r) (Open tried) limits verb extension t = t
+  true_with_copies q e cs (Eliminate rates) a limits verb extension t = absurd (subst IsProof verb extension.made.proof)
+  true_with_copies q e cs (Contain first second tries) a limits verb extension t = absurd (subst IsProof verb extension.made.proof)
+
+  pub right_copy_is_true : (pivots : Option ℕ) (x : CopyQuestion) (reply : CopyReply) → IsQuestion x.question.body → IsRightCopy pivots x reply → IsTrueCopy x reply
+  right_copy_is_true pivots x (Misfit fault) limits right = right
+  right_copy_is_true pivots x (Extended e a) limits right =
+      (right.0, true_with_copies x.question.body e x.copies x.question.body.verb a limits refl right.0 (shown_is_true e a right.1.shows))
+
+-- ---- of a question in mode `best`
+
+module _ (shown_is_true : factors.WhatIsShownIsTrue) where
+  pub right_reply_is_true : (pivots : Option ℕ) (q : BodyView) (reply : ReplyView) → IsRightReply pivots q reply → IsTrueReply q reply
+  right_reply_is_true pivots q (Found best) right = (right.0, right.1, shown_is_true q right.0 best right.2.shows)
+  right_reply_is_true pivots q Other right = right
+
+-- ---- of a sharing file
+
+module _ (is_perfect : MadeQuestionIsOfPerfectSharing) (x : SharingView) (within : IsSharing x) where
+  true_of_sharing : (a : AnswerView) → IsTrueAnswer (made_question x).body a → IsTrueOfSharing x a
+  unfolding made_question
+  true_of_sharing (Yes ws) t = λ h perfect. t h ((is_perfect x h within).1 perfect)
+  true_of_sharing (No is_back values) t = ((is_perfect x (point_of values) within).0 t.0, t.1)
+  true_of_sharing (Undecided cause) t = tt
+  true_of_sharing (Region rows) t = absurd t
+  true_of_sharing (Contained parts ws) t = absurd t
+  true_of_sharing (Open tried) t = absurd t
+
+  -- a factor holds for the made question exactly where it holds wherever the secret is shared perfectly
+  same_factors : (num den : ℤ) → HoldsFor (made_question x).body x.relation num den ↔ HoldsWherePerfect x num den
+  unfolding made_question
+  same_factors num den = (
+    (λ holds h perfect. holds h ((is_perfect x h within).1 perfect)),
+    (λ holds h lines. holds h ((is_perfect x h within).0 lines)),
+  )
+
+  module _ (bound : IsBoundWhereBest x) (asked : x.best ≡ true) where
+    -- the made question asks for the factors of the file's relation
+    asks_for : asked_by (made_question x).body.verb ≡ Some x.relation
+    unfolding made_question
+    asks_for = ap (λ sign. at_least sign x.relation) (bound asked)
+
+    true_factors : (reply : ReplyView) → IsTrueReply (made_question x).body reply → IsTrueSharing x (Factored reply)
+    true_factors (Found best) t =
+        let same : t.0 ≡ x.relation = some_same t.0 x.relation (sym t.1 ∙ asks_for) in
+        true_of_same (HoldsFor (made_question x).body x.relation) (HoldsWherePerfect x) best same_factors (subst (λ (r : RelationView). IsTrueBest (HoldsFor (made_question x).body r) best) same t.2)
+    true_factors Other t = absurd (none_is_not_some x.relation (sym t ∙ asks_for))
+
+pub right_sharing_is_true : answers.WhatIsShownIsTrue → factors.WhatIsShownIsTrue → MadeQuestionIsOfPerfectSharing → (pivots : Option ℕ) (x : SharingView) (reply : SharingReply) → IsSharing x × IsBoundWhereBest x
+    → IsRightSharing pivots x reply → IsTrueSharing x reply
+right_sharing_is_true shown_is_true shown_factors is_perfect pivots x Many within right = right
+right_sharing_is_true shown_is_true shown_factors is_perfect pivots x (Answered a) within right = true_of_sharing is_perfect x within.0 a (shown_is_true (made_question x).body a right.2.shows)
+right_sharing_is_true shown_is_true shown_factors is_perfect pivots x (Factored reply) within right =
+    true_factors is_perfect x within.0 within.1 right.1 reply (right_reply_is_true shown_factors pivots (made_question x).body reply right.2)

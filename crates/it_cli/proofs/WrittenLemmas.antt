@@ -1,0 +1,99 @@
+-- The lines that a call wrote are those of replies that are such, where right ones are.
+use Rattle.std.proofs.Common.{◌≡◌, ℕ, ◌+◌, inl, List, [], ◌∷◌, ◌++◌, map, All, Option, Some, refl, sym, ap, subst, ◌∙◌}
+use Rattle.std.proofs.lemmas.List.Elements.{All-nil, All-cons, All-head, All-tail, All-map}
+use Rattle.it_settings.specs.declared.types.Settings.{Settings}
+use Rattle.it_settings.specs.declared.types.Settings.TheVariants.{Answer, Copy, Best, Sharing}
+use Rattle.it_space.specs.Answers.{AnswerView}
+use Rattle.it_question.specs.Limits.{IsQuestion}
+use Rattle.it_question.specs.Questions.{QuestionView}
+use Rattle.it_contain.specs.Proposals.{Plan}
+use Rattle.it_copy.specs.Files.{CopiedQuestionsAreWithin}
+use Rattle.it_copy.specs.Points.{YesByCopies}
+use Rattle.it_sharing.specs.PerfectSharing.{MadeQuestionIsOfPerfectSharing}
+use Rattle.it_sharing.specs.SharingFiles.{SharingIsWithin}
+use Rattle.it_sharing.specs.Sharings.{SharingView, IsSharing, IsBoundWhereBest}
+use Rattle.it_answer.specs.Replies.{Reply}
+use Rattle.it_answer.specs.Shows as answers
+use Rattle.it_answer.specs.Shows.{Shows}
+use Rattle.it_answer.specs.Truth.{IsTrueAnswer}
+use Rattle.it_factor.specs.Lines.{reply_line}
+use Rattle.it_factor.specs.Replies.{ReplyView}
+use Rattle.it_factor.specs.RightReplies as factors
+use Rattle.it_factor.specs.Truth.{IsTrueReply}
+use Rattle.it_cli.specs.Copies.{AsksWithCopies, CopyQuestion, copy_text, with_copies}
+use Rattle.it_cli.specs.Modes.{Mode, WholeOutput}
+use Rattle.it_cli.specs.Outputs.{IsOutput, answer_mode, best_mode, copy_mode, most_bytes, sharing_mode}
+use Rattle.it_cli.specs.Right.{answer_lines, budgets_of}
+use Rattle.it_canon.specs.QuestionDemands.{question_origins}
+use Rattle.it_cli.specs.SharingReplies.{AsksOfSharing, sharing_text}
+use Rattle.it_cli.specs.Truth.{IsTrueCopy, IsTrueSharing}
+use Rattle.it_cli.specs.Written.{AnswersAreTrue, AnswersShow, AreLinesFor, AreReplyLines, CopiesAreTrue, FactorsAreTrue, SharingIsTrue, ShownAnswers, TrueAnswers, TrueCopies, TrueFactors, TrueSharing, WritesSuch}
+use Rattle.it_cli.specs.declared.status.Status.{Status}
+use Rattle.it_cli.specs.declared.status.Status.TheVariants.{Done}
+use Rattle.it_cli.proofs.LawLemmas.{headline}
+use Rattle.it_cli.proofs.ReplyLemmas.{RepliesFrom}
+use Rattle.it_cli.proofs.TruthLemmas.{right_copy_is_true, right_reply_is_true, right_sharing_is_true}
+
+-- ---- in any mode
+
+-- what is said of a right reply to an item that is within limits is such, and its lines tell it
+module _ (m : Mode) {Said : Type 0} (said : m.Reply → Said) (text : ℕ → m.Item → Said → List ℕ) (told : (k : ℕ) (x : m.Item) (reply : m.Reply) → m.text k x reply ≡ text k x (said reply))
+    (IsWithin : m.Item → Type 0) (IsSuch : m.Item → Said → Type 0) (such : (earlier : List m.Reply) (x : m.Item) (reply : m.Reply) → IsWithin x → m.IsRight earlier x reply → IsSuch x (said reply)) where
+  lines_from : (k : ℕ) (xs : List m.Item) (s t : List m.Reply) (out : List ℕ) → All IsWithin xs → RepliesFrom m k s xs t out → AreReplyLines IsSuch text k xs out
+  lines_from k [] s t out within a = a.1
+  lines_from k (x ∷ xs) s t out within (reply, rest, right, more, is) =
+      (said reply, rest, such s x reply (All-head IsWithin x xs within) right, lines_from (k + 1) xs (s ++ reply ∷ []) t rest (All-tail IsWithin x xs within) more, is ∙ ap (λ ys. ys ++ rest) (told k x reply))
+
+  lines_for : ((bytes : List ℕ) (items : List m.Item) → m.Asks bytes items → All IsWithin items) → (bytes out : List ℕ) (s : Status) → WholeOutput m bytes out s → AreLinesFor m.Asks IsSuch text bytes out
+  lines_for within bytes out s o = (o.items, o.asked, lines_from 1 o.items [] o.replies out (within bytes o.items o.asked) o.written)
+
+-- what is such of every whole output is such of what a call wrote that is done
+writes_such : (settings : Settings) (most : ℕ) (IsSuch : List ℕ → List ℕ → Type 0) → most_bytes settings ≡ Some most
+    → ((plans : List Plan) (bytes out : List ℕ) → IsOutput plans settings bytes out Done → IsSuch bytes out) → WritesSuch settings IsSuch
+writes_such settings most IsSuch limit such r bytes old new ends reading e taken taken_after =
+    let h = headline r Done settings most bytes old new ends (inl refl) reading limit e taken taken_after in
+    (h.0, such r.plans bytes h.0 h.1, h.2)
+
+-- ---- in each mode
+
+-- no limit is asked of an item
+abbrev Any : {X : Type 0} → X → Type 0
+Any x = Unit {0}
+
+pub answers_show : AnswersShow
+answers_show format pivots rows tries = writes_such (Answer format pivots rows tries) 1048576 (ShownAnswers format) refl (λ plans bytes out o.
+    lines_for (answer_mode (budgets_of pivots rows tries) plans format) (λ (reply : Reply). reply.answer) (answer_lines format) (λ k q reply. refl) Any (λ (q : QuestionView) (answer : AnswerView). Shows q.body answer) (λ earlier q reply any right. right.shows) (λ bytes qs asked i d l. tt) bytes out Done o)
+
+pub answers_are_true : answers.WhatIsShownIsTrue → AnswersAreTrue
+answers_are_true shown_is_true format pivots rows tries = writes_such (Answer format pivots rows tries) 1048576 (TrueAnswers format) refl (λ plans bytes out o.
+    lines_for (answer_mode (budgets_of pivots rows tries) plans format) (λ (reply : Reply). reply.answer) (answer_lines format) (λ k q reply. refl) Any (λ (q : QuestionView) (answer : AnswerView). IsTrueAnswer q.body answer)
+    (λ earlier q reply any right. shown_is_true q.body reply.answer right.shows) (λ bytes qs asked i d l. tt) bytes out Done o)
+
+-- the question keeps the limits
+abbrev IsWithinLimits : CopyQuestion → Type 0
+IsWithinLimits x = IsQuestion x.question.body
+
+copied_within : CopiedQuestionsAreWithin → (bytes : List ℕ) (items : List CopyQuestion) → AsksWithCopies bytes items → All IsWithinLimits items
+copied_within are_within bytes items asked =
+    subst (All IsWithinLimits) (sym asked.are) (All-map IsWithinLimits (with_copies asked.copies) asked.questions (are_within bytes asked.copies asked.questions asked.read))
+
+pub copies_are_true : answers.WhatIsShownIsTrue → YesByCopies → CopiedQuestionsAreWithin → CopiesAreTrue
+copies_are_true shown_is_true by_copies are_within pivots = writes_such (Copy pivots) 1048576 TrueCopies refl (λ plans bytes out o.
+    lines_for (copy_mode pivots) (λ reply. reply) (λ k x reply. copy_text k reply) (λ k x reply. refl) IsWithinLimits IsTrueCopy (λ earlier. right_copy_is_true shown_is_true by_copies pivots) (copied_within are_within) bytes out Done o)
+
+pub factors_are_true : factors.WhatIsShownIsTrue → FactorsAreTrue
+factors_are_true shown_is_true pivots = writes_such (Best pivots) 1048576 TrueFactors refl (λ plans bytes out o.
+    lines_for (best_mode pivots) (λ reply. reply) (λ k q reply. reply_line k q.body (question_origins q.body) reply) (λ k q reply. refl) Any (λ (q : QuestionView) (reply : ReplyView). IsTrueReply q.body reply)
+    (λ earlier q reply any. right_reply_is_true shown_is_true pivots q.body reply) (λ bytes qs asked i d l. tt) bytes out Done o)
+
+-- what the file says is within the limits
+abbrev IsWithinSharing : SharingView → Type 0
+IsWithinSharing x = IsSharing x × IsBoundWhereBest x
+
+sharing_within : SharingIsWithin → (bytes : List ℕ) (items : List SharingView) → AsksOfSharing bytes items → All IsWithinSharing items
+sharing_within is_within bytes items asked = subst (All IsWithinSharing) (sym asked.is) (All-cons IsWithinSharing asked.file [] (is_within bytes asked.file asked.read) (All-nil IsWithinSharing))
+
+pub sharing_is_true : answers.WhatIsShownIsTrue → factors.WhatIsShownIsTrue → MadeQuestionIsOfPerfectSharing → SharingIsWithin → SharingIsTrue
+sharing_is_true shown_is_true shown_factors is_perfect is_within pivots = writes_such (Sharing pivots) 1048576 TrueSharing refl (λ plans bytes out o.
+    lines_for (sharing_mode pivots) (λ reply. reply) (λ k x reply. sharing_text x reply) (λ k x reply. refl) IsWithinSharing IsTrueSharing
+    (λ earlier. right_sharing_is_true shown_is_true shown_factors is_perfect pivots) (sharing_within is_within) bytes out Done o)

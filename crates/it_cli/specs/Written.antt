@@ -1,0 +1,83 @@
+-- What a call that is done has written, whichever replies are due: lines of answers that show what they say, and in each mode that
+-- answers lines of replies that are true.
+use Rattle.std.specs.Prelude.{◌≡◌, ℕ, ◌+◌, List, [], ◌∷◌, ◌++◌, Option, Some}
+use Rattle.it_settings.specs.Settings.{settings_of}
+use Rattle.it_settings.specs.declared.types.Format.{Format}
+use Rattle.it_settings.specs.declared.types.Settings.{Settings}
+use Rattle.it_settings.specs.declared.types.Settings.TheVariants.{Answer, Copy, Best, Sharing}
+use Rattle.it_space.specs.Answers.{AnswerView}
+use Rattle.it_question.specs.Files.{IsFile}
+use Rattle.it_question.specs.Questions.{QuestionView}
+use Rattle.it_answer.specs.Shows.{Shows}
+use Rattle.it_answer.specs.Truth.{IsTrueAnswer}
+use Rattle.it_factor.specs.Lines.{reply_line}
+use Rattle.it_factor.specs.Replies.{ReplyView}
+use Rattle.it_factor.specs.Truth.{IsTrueReply}
+use Rattle.it_cli.specs.Right.{answer_lines}
+use Rattle.it_canon.specs.QuestionDemands.{question_origins}
+use Rattle.it_cli.specs.Copies.{AsksWithCopies, copy_text}
+use Rattle.it_cli.specs.SharingReplies.{AsksOfSharing, sharing_text}
+use Rattle.it_cli.specs.Truth.{IsTrueCopy, IsTrueSharing}
+use Rattle.it_cli.specs.Ends.{Call, Ends}
+use Rattle.it_cli.specs.declared.status.Status.TheVariants.{Done}
+
+-- ---- lines of such replies
+
+-- the lines of one reply to each of the items from number k on, each of which is such a reply to its item
+abbrev pub AreReplyLines : {Item Reply : Type 0} → (Item → Reply → Type 0) → (ℕ → Item → Reply → List ℕ) → ℕ → List Item → List ℕ → Type 0
+AreReplyLines IsSuch text k [] out = out ≡ []
+AreReplyLines {Item} {Reply} IsSuch text k (x ∷ xs) out =
+    (reply : Reply) × (rest : List ℕ) × IsSuch x reply × AreReplyLines IsSuch text (k + 1) xs rest × (out ≡ text k x reply ++ rest)
+
+-- those for all items that the bytes ask for
+abbrev pub AreLinesFor : {Item Reply : Type 0} → (List ℕ → List Item → Type 0) → (Item → Reply → Type 0) → (ℕ → Item → Reply → List ℕ) → List ℕ → List ℕ → Type 0
+AreLinesFor {Item} Asks IsSuch text bytes out = (items : List Item) × Asks bytes items × AreReplyLines IsSuch text 1 items out
+
+-- After `Done` under these settings, where source and sink tell their bytes, the sink gained such an output for all that the source gave.
+abbrev pub WritesSuch : Settings → (List ℕ → List ℕ → Type 0) → Type 0
+WritesSuch settings IsSuch = (r : Call) (bytes old new : List ℕ) → Ends r Done → settings_of r.words ≡ Some settings
+    → r.left ≡ Some bytes → r.taken ≡ Some old → r.taken_after ≡ Some new → (out : List ℕ) × IsSuch bytes out × (new ≡ old ++ out)
+
+-- ---- in each mode
+
+-- the lines of an answer to each of a file's questions, which shows what it says
+abbrev pub ShownAnswers : Format → List ℕ → List ℕ → Type 0
+ShownAnswers format = AreLinesFor IsFile (λ (q : QuestionView) (answer : AnswerView). Shows q.body answer) (answer_lines format)
+
+-- those of an answer that is true
+abbrev pub TrueAnswers : Format → List ℕ → List ℕ → Type 0
+TrueAnswers format = AreLinesFor IsFile (λ (q : QuestionView) (answer : AnswerView). IsTrueAnswer q.body answer) (answer_lines format)
+
+-- those of a true reply to each question of a file with a head
+abbrev pub TrueCopies : List ℕ → List ℕ → Type 0
+TrueCopies = AreLinesFor AsksWithCopies IsTrueCopy (λ k x reply. copy_text k reply)
+
+-- those of a true reply to each question of a file that asks for factors
+abbrev pub TrueFactors : List ℕ → List ℕ → Type 0
+TrueFactors = AreLinesFor IsFile (λ (q : QuestionView) (reply : ReplyView). IsTrueReply q.body reply) (λ k q reply. reply_line k q.body (question_origins q.body) reply)
+
+-- those of a true reply to what a sharing file asks
+abbrev pub TrueSharing : List ℕ → List ℕ → Type 0
+TrueSharing = AreLinesFor AsksOfSharing IsTrueSharing (λ k x reply. sharing_text x reply)
+
+-- ---- of the call
+
+-- in mode `answer` each answer that was written shows what it says
+abbrev pub AnswersShow : Type 0
+AnswersShow = (format : Format) (pivots : Option ℕ) (rows tries : ℕ) → WritesSuch (Answer format pivots rows tries) (ShownAnswers format)
+
+-- and each is true
+abbrev pub AnswersAreTrue : Type 0
+AnswersAreTrue = (format : Format) (pivots : Option ℕ) (rows tries : ℕ) → WritesSuch (Answer format pivots rows tries) (TrueAnswers format)
+
+-- in mode `copy` each reply that was written is true
+abbrev pub CopiesAreTrue : Type 0
+CopiesAreTrue = (pivots : Option ℕ) → WritesSuch (Copy pivots) TrueCopies
+
+-- in mode `best`
+abbrev pub FactorsAreTrue : Type 0
+FactorsAreTrue = (pivots : Option ℕ) → WritesSuch (Best pivots) TrueFactors
+
+-- and in mode `sharing`
+abbrev pub SharingIsTrue : Type 0
+SharingIsTrue = (pivots : Option ℕ) → WritesSuch (Sharing pivots) TrueSharing
