@@ -132,9 +132,9 @@ pub what_is_shown_is_true : WhatIsShownIsTrue
 what_is_shown_is_true q answer s = true_by q q.verb answer s
 
 never_both : (q : BodyView) (verb : VerbView) (ws : List CertificateView) (is_back : Bool) (values : List ℤ) → IsTrueBy q verb (Yes ws) → IsTrueBy q verb (No is_back values) → ⊥
-never_both q (Prove r) ws is_back values yes no = no.1 (yes (point_of values) no.0)
-never_both q (Eliminate rates) ws is_back values yes no = yes
-never_both q (Contain a b tries) ws is_back values yes no = yes
+never_both q (Prove r) ws is_back values holds fails = fails.1 (holds (point_of values) fails.0)
+never_both q (Eliminate rates) ws is_back values holds fails = holds
+never_both q (Contain a b tries) ws is_back values holds fails = holds
 
 pub never_yes_and_no : NeverYesAndNo
-never_yes_and_no q ws is_back values yes no = never_both q q.verb ws is_back values yes no
+never_yes_and_no q ws is_back values holds fails = never_both q q.verb ws is_back values holds fails
