@@ -1,5 +1,5 @@
 -- Reduced elimination rate after rate: where it leads, that it has one end, and what a region holds.
-use Rattle.std.proofs.Common.{◌≡◌, inl, inr, ℕ, ◌+◌, ◌<◌, ◌≤◌, ◌^◌, ℤ, pos, List, [], ◌∷◌, map, length, drop, get_or, Option, sym, ap, subst, ◌∙◌, arith, All, Result, Ok, Err, IfOk}
+use Rattle.std.proofs.Common.{◌≡◌, inl, inr, ℕ, ◌+◌, ◌<◌, ◌≤◌, ◌^◌, ℤ, pos, List, [], ◌∷◌, map, length, drop, get_or, Option, refl, sym, ap, subst, ◌∙◌, arith, All, Result, Ok, Err, IfOk}
 use Rattle.it_space.proofs.ListLemmas.{drop_item}
 use Rattle.it_space.specs.declared.problems.System.{System}
 use Rattle.it_space.specs.declared.spaces.Space.{Space}
@@ -221,6 +221,10 @@ module _ (givens : ProblemView) (budget : Option ℕ) (most : ℕ) (system : Sys
   over_givens : (e : EliminatedView) → eliminated_view end ≡ e → EliminationEnds (2 ^ givens.space.variables) most (ordered_rows system.rows.items) (rate ∷ []) e
   over_givens e is = subst (λ (s : Space). EliminationEnds (2 ^ s.variables) most (ordered_rows system.rows.items) (rate ∷ []) e) space
       (subst (λ (x : EliminatedView). EliminationEnds (2 ^ system.space.variables) most (ordered_rows system.rows.items) (rate ∷ []) x) is ends)
+
+  -- a cause of the step is the end
+  pub wide_ends : (other : ℕ) → end ≡ elimination_ends.Wide other → IsAfterRate givens budget most system.rows.items rate (Wide other)
+  wide_ends other is = (elimination.Wide other, over_givens (elimination.Wide other) (ap eliminated_view is), refl)
 
   module _ (next : System) (is : end ≡ elimination_ends.Region next) where
     pub region_up : (reduced : Reduced) → All (IsOver (size_of system.space)) system.rows.items → Reduces givens budget [] next.rows.items (kept_view reduced) (dropped_view reduced)
