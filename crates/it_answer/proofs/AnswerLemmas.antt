@@ -16,8 +16,10 @@ use Rattle.it_question.specs.Questions.{BodyView, VerbView, Prove, Eliminate, qu
 use Rattle.it_demand.specs.Canonical.{IsRowOf}
 use Rattle.it_demand.specs.Origins.{AreStated}
 use Rattle.it_demand.specs.Targets.{negation, targets}
-use Rattle.it_canon.specs.QuestionDemands.{variable_count, question_demands as demanded, question_origins, terms_in, AreTrueAt}
-use Rattle.it_demand.specs.LineDemands.{space_of, AreRowsOf}
+use Rattle.it_canon.specs.TrueLines.{variable_count, AreTrueAt}
+use Rattle.it_canon.specs.QuestionDemands.{question_demands as demanded, question_origins, terms_in}
+use Rattle.it_demand.specs.QuestionSpaces.{space_of}
+use Rattle.it_demand.specs.SystemForms.{AreRowsOf}
 use Rattle.it_question.specs.ProblemLines.{problem_names, problem_lines}
 use Rattle.it_demand.specs.RowsOfForms.{terms_of_form}
 use Rattle.it_demand.proofs.FormRows.{rows_are_terms_of_forms}

@@ -10,10 +10,12 @@ use Rattle.it_polymatroid.specs.Certificates.{Form}
 use Rattle.it_polymatroid.specs.Polymatroid.{IsPolymatroid}
 use Rattle.it_question.specs.Limits.{IsQuestion}
 use Rattle.it_question.specs.Questions.{OwnLinesView, RegionView, BodyView, Contain}
-use Rattle.it_canon.specs.QuestionDemands.{problem_of, terms_in, AreTrueAt}
+use Rattle.it_canon.specs.QuestionDemands.{problem_of, terms_in}
+use Rattle.it_canon.specs.TrueLines.{AreTrueAt}
 use Rattle.it_canon.proofs.PosesLemmas.{one_problem}
 use Rattle.it_demand.specs.RowsOfForms.{terms_of_form}
-use Rattle.it_demand.specs.LineDemands.{space_of, AreAtLeastZero}
+use Rattle.it_demand.specs.QuestionSpaces.{space_of}
+use Rattle.it_demand.specs.SystemForms.{AreAtLeastZero}
 use Rattle.it_question.specs.ProblemLines.{problem_names, names_under, problem_lines, lines_under}
 use Rattle.it_canon.proofs.ProblemLemmas.{question_met}
 use Rattle.it_check.proofs.Truth.{yes_is_true}

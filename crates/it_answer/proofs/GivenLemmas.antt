@@ -11,8 +11,9 @@ use Rattle.it_question.specs.Questions.{BodyView, OwnLinesView, VerbView, Elimin
 use Rattle.it_question.specs.Limits.{AreRatesOf, IsQuestion, IsVerbOver}
 use Rattle.it_demand.specs.Demands.{Demand, demands}
 use Rattle.it_demand.specs.Origins.{AreStated, States}
-use Rattle.it_demand.specs.LineDemands.{space_of}
-use Rattle.it_question.specs.ProblemLines.{line_demands, names_under, lines_under}
+use Rattle.it_demand.specs.QuestionSpaces.{space_of}
+use Rattle.it_question.specs.LineDemands.{line_demands}
+use Rattle.it_question.specs.ProblemLines.{names_under, lines_under}
 use Rattle.it_canon.specs.QuestionDemands.{IsProblemOf, question_origins}
 use Rattle.it_canon.proofs.GivenSets.{given_sets}
 use Rattle.it_canon.proofs.LinesMet.{lines_met}

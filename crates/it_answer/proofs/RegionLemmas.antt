@@ -15,8 +15,10 @@ use Rattle.it_polymatroid.specs.Polymatroid.{IsPolymatroid}
 use Rattle.it_syntax.specs.Givens.{IsTrueAt}
 use Rattle.it_syntax.specs.Meaning.{RelationView, Holds}
 use Rattle.it_question.specs.Questions.{BodyView, OwnLinesView, VerbView, Eliminate}
-use Rattle.it_canon.specs.QuestionDemands.{variable_count, problem_of, terms_in, AreTrueAt}
-use Rattle.it_demand.specs.LineDemands.{space_of, system_forms, AreRowsOf, AreAtLeastZero}
+use Rattle.it_canon.specs.TrueLines.{variable_count, AreTrueAt}
+use Rattle.it_canon.specs.QuestionDemands.{problem_of, terms_in}
+use Rattle.it_demand.specs.QuestionSpaces.{space_of}
+use Rattle.it_demand.specs.SystemForms.{system_forms, AreRowsOf, AreAtLeastZero}
 use Rattle.it_question.specs.ProblemLines.{problem_names, names_under, problem_lines, lines_under}
 use Rattle.it_demand.specs.RowsOfForms.{terms_of_form}
 use Rattle.it_demand.proofs.FormRows.{rows_are_terms_of_forms}

@@ -12,8 +12,9 @@ use Rattle.it_question.proofs.NumberLemmas.{QuestionHasSmallNumbers}
 use Rattle.it_question.specs.Questions.{BodyView, VerbView, Prove, Eliminate, Contain}
 use Rattle.it_demand.specs.Origins.{States}
 use Rattle.it_demand.specs.Targets.{targets}
-use Rattle.it_demand.specs.LineDemands.{AreRowsOf}
-use Rattle.it_canon.specs.QuestionDemands.{question_demands, variable_count, problem_of, terms_in, IsProblemOf}
+use Rattle.it_demand.specs.SystemForms.{AreRowsOf}
+use Rattle.it_canon.specs.QuestionDemands.{question_demands, problem_of, terms_in, IsProblemOf}
+use Rattle.it_canon.specs.TrueLines.{variable_count}
 use Rattle.it_canon.proofs.ExistenceLemmas.{each_question, question_poses, relation_rows}
 use Rattle.it_demand.proofs.ZipLemmas.{zip-right}
 use Rattle.it_prove.proofs.SmallLemmas.{never_at_start}

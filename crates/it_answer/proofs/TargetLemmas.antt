@@ -10,10 +10,12 @@ use Rattle.it_space.specs.Rows.{Terms}
 use Rattle.it_space.specs.Spaces.{size_of}
 use Rattle.it_syntax.specs.Meaning.{RelationView}
 use Rattle.it_question.specs.Questions.{BodyView, RegionView, Prove, Contain}
-use Rattle.it_demand.specs.LineDemands.{AreRowsOf, space_of}
+use Rattle.it_demand.specs.SystemForms.{AreRowsOf}
+use Rattle.it_demand.specs.QuestionSpaces.{space_of}
 use Rattle.it_question.specs.ProblemLines.{problem_names, names_under}
 use Rattle.it_demand.specs.RowsOfForms.{terms_of_form}
-use Rattle.it_canon.specs.QuestionDemands.{terms_in, variable_count}
+use Rattle.it_canon.specs.QuestionDemands.{terms_in}
+use Rattle.it_canon.specs.TrueLines.{variable_count}
 use Rattle.it_demand.specs.Targets.{targets}
 use Rattle.it_demand.proofs.FormRows.{rows_are_terms_of_forms}
 use Rattle.it_region.specs.declared.types.Candidate.{Candidate}

@@ -18,7 +18,8 @@ use Rattle.it_question.specs.Questions.{BodyView, VerbView, Prove, Eliminate, Co
 use Rattle.it_demand.specs.Canonical.{form_of}
 use Rattle.it_demand.specs.Demands.{Demand, demand_of, demands}
 use Rattle.it_demand.specs.Targets.{targets}
-use Rattle.it_canon.specs.QuestionDemands.{question_demands, variable_count, AreTrueTogether}
+use Rattle.it_canon.specs.QuestionDemands.{question_demands}
+use Rattle.it_canon.specs.TrueLines.{variable_count, AreTrueTogether}
 use Rattle.it_question.specs.ProblemLines.{problem_lines}
 use Rattle.it_demand.proofs.MetLemmas.{IsSatisfied, givens_satisfied, rows_satisfied, targets_met}
 use Rattle.it_elemental.specs.Generators.{is_equation}

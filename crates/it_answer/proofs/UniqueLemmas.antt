@@ -9,7 +9,8 @@ use Rattle.it_space.specs.Rows.{Terms, IsCanonical}
 use Rattle.it_syntax.specs.Meaning.{RelationView}
 use Rattle.it_question.specs.Questions.{BodyView, RegionView, VerbView, Prove, Eliminate, Contain}
 use Rattle.it_demand.specs.Targets.{targets}
-use Rattle.it_canon.specs.QuestionDemands.{variable_count, problem_of, terms_in}
+use Rattle.it_canon.specs.TrueLines.{variable_count}
+use Rattle.it_canon.specs.QuestionDemands.{problem_of, terms_in}
 use Rattle.it_redundant.specs.ReducedElimination.{ProjectedView}
 use Rattle.it_redundant.specs.ReducedElimination as projections
 use Rattle.it_prove.specs.ProofViews.{Yes, No, Undecided, AreProofsOf}

@@ -7,8 +7,9 @@ use Rattle.it_space.specs.Answers.{AnswerView}
 use Rattle.it_space.specs.Answers.AnswerView.{Undecided, Region}
 use Rattle.it_space.specs.Rows.{Terms}
 use Rattle.it_question.specs.Questions.{BodyView}
-use Rattle.it_demand.specs.LineDemands.{system_forms}
-use Rattle.it_canon.specs.QuestionDemands.{variable_count, problem_of, terms_in}
+use Rattle.it_demand.specs.SystemForms.{system_forms}
+use Rattle.it_canon.specs.TrueLines.{variable_count}
+use Rattle.it_canon.specs.QuestionDemands.{problem_of, terms_in}
 use Rattle.it_redundant.specs.Reduction.{NeedView, Needed, Unsettled}
 use Rattle.it_redundant.specs.ReducedElimination.{ProjectedView, ReducedEnds}
 use Rattle.it_redundant.specs.ReducedElimination as projections

@@ -8,7 +8,8 @@ use Rattle.it_polymatroid.specs.Certificates.{Form, combination}
 use Rattle.it_polymatroid.specs.Elementals.{Elemental, elementals, elemental_value}
 use Rattle.it_question.specs.Questions.{BodyView}
 use Rattle.it_demand.specs.Demands.{Demand}
-use Rattle.it_canon.specs.QuestionDemands.{question_demands, variable_count}
+use Rattle.it_canon.specs.QuestionDemands.{question_demands}
+use Rattle.it_canon.specs.TrueLines.{variable_count}
 
 -- an elemental inequality of n variables as a demand
 abbrev pub demand_of_elemental : ℕ → Elemental → Demand

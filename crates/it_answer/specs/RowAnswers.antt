@@ -9,9 +9,10 @@ use Rattle.it_polymatroid.specs.Certificates.{Form}
 use Rattle.it_syntax.specs.Meaning.{RelationView}
 use Rattle.it_question.specs.Questions.{BodyView, RegionView}
 use Rattle.it_demand.specs.Canonical.{form_of}
-use Rattle.it_demand.specs.LineDemands.{AreRowsOf}
+use Rattle.it_demand.specs.SystemForms.{AreRowsOf}
 use Rattle.it_demand.specs.Targets.{negation, targets}
-use Rattle.it_canon.specs.QuestionDemands.{terms_in, variable_count}
+use Rattle.it_canon.specs.QuestionDemands.{terms_in}
+use Rattle.it_canon.specs.TrueLines.{variable_count}
 use Rattle.it_region.specs.Obligations.{obligations}
 use Rattle.it_check.specs.Meaning.{CertifiesRow, RefutesRow}
 use Rattle.it_prove.specs.ProofViews.{ProofView}

@@ -9,8 +9,8 @@ use Rattle.it_polymatroid.specs.Polymatroid.{IsPolymatroid}
 use Rattle.it_polymatroid.specs.Certificates.{Form}
 use Rattle.it_question.specs.Questions.{BodyView, RegionView, VerbView, Prove, Eliminate, Contain}
 use Rattle.it_demand.specs.Targets.{targets}
-use Rattle.it_canon.specs.QuestionDemands.{variable_count, AreTrueAt}
-use Rattle.it_demand.specs.LineDemands.{space_of}
+use Rattle.it_canon.specs.TrueLines.{variable_count, AreTrueAt}
+use Rattle.it_demand.specs.QuestionSpaces.{space_of}
 use Rattle.it_question.specs.ProblemLines.{problem_names, problem_lines}
 use Rattle.it_region.specs.Obligations.{IsSubstitution, obligations}
 use Rattle.it_region.specs.Regions.{LiesIn}

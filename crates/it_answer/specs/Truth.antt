@@ -11,8 +11,8 @@ use Rattle.it_polymatroid.specs.Polymatroid.{IsPolymatroid}
 use Rattle.it_syntax.specs.Givens.{IsTrueAt}
 use Rattle.it_syntax.specs.Meaning.{RelationView, Holds}
 use Rattle.it_question.specs.Questions.{BodyView, VerbView, Prove, Eliminate, Contain}
-use Rattle.it_canon.specs.QuestionDemands.{variable_count, AreTrueTogether}
-use Rattle.it_demand.specs.LineDemands.{space_of}
+use Rattle.it_canon.specs.TrueLines.{variable_count, AreTrueTogether}
+use Rattle.it_demand.specs.QuestionSpaces.{space_of}
 use Rattle.it_eliminate.specs.Projections.{IsPointOf, LacksCoordinate}
 use Rattle.it_region.specs.Regions.{LiesIn}
 

@@ -18,7 +18,7 @@ use Rattle.it_question.specs.Questions.{OwnLinesView}
 use Rattle.it_question.proofs.NumberLemmas.{HasSmallNumbers, GivenHasSmallNumbers, LinesHaveSmallNumbers}
 use Rattle.it_demand.specs.Canonical.{form_of, signed_difference}
 use Rattle.it_demand.specs.Demands.{Demand, demand_of, demands, equations, independence_form, kind_of}
-use Rattle.it_question.specs.ProblemLines.{line_demands}
+use Rattle.it_question.specs.LineDemands.{line_demands}
 use Rattle.it_demand.specs.Targets.{negation, targets, inequalities_of}
 use Rattle.it_demand.proofs.ChainLemmas.{union_below}
 use Rattle.it_demand.proofs.LimitLemmas.{more_rates}

@@ -20,10 +20,13 @@ use Rattle.it_question.proofs.NumberLemmas.{HasSmallNumbers, GivenHasSmallNumber
 use Rattle.it_demand.specs.Demands.{Demand, demand_of, demands}
 use Rattle.it_demand.specs.Origins.{AreStated, given_origins, row_origins}
 use Rattle.it_demand.proofs.LimitLemmas.{given_origins-length, row_origins-length}
-use Rattle.it_demand.specs.LineDemands.{AreRowsOf, space_of, system_forms}
-use Rattle.it_question.specs.ProblemLines.{line_demands, givens_alone, lines_with, problem_names, problem_lines, names_under, lines_under}
+use Rattle.it_demand.specs.SystemForms.{AreRowsOf, system_forms}
+use Rattle.it_demand.specs.QuestionSpaces.{space_of}
+use Rattle.it_question.specs.LineDemands.{line_demands}
+use Rattle.it_question.specs.ProblemLines.{givens_alone, lines_with, problem_names, problem_lines, names_under, lines_under}
 use Rattle.it_question.specs.LineOrigins.{line_origins}
-use Rattle.it_canon.specs.QuestionDemands.{variable_count, question_demands, question_origins, problem_of, terms_in, IsProblemOf}
+use Rattle.it_canon.specs.TrueLines.{variable_count}
+use Rattle.it_canon.specs.QuestionDemands.{question_demands, question_origins, problem_of, terms_in, IsProblemOf}
 use Rattle.it_demand.specs.Targets.{targets}
 use Rattle.it_demand.proofs.FormRows.{rows_are_terms_of_forms}
 use Rattle.it_canon.specs.Theorems.{QuestionHasProblem, RelationHasRows}

@@ -8,8 +8,8 @@ use Rattle.it_space.specs.Problems.{AreMet}
 use Rattle.it_question.specs.Questions.{OwnLinesView}
 use Rattle.it_demand.specs.Demands.{demand_of, demands}
 use Rattle.it_demand.specs.Origins.{AreStated}
-use Rattle.it_question.specs.ProblemLines.{line_demands}
-use Rattle.it_canon.specs.QuestionDemands.{AreTrueAt}
+use Rattle.it_question.specs.LineDemands.{line_demands}
+use Rattle.it_canon.specs.TrueLines.{AreTrueAt}
 use Rattle.it_demand.proofs.ZipLemmas.{All-parts}
 use Rattle.it_demand.proofs.MetLemmas.{IsSatisfied, stated_met, givens_satisfied, rows_satisfied}
 

@@ -6,7 +6,8 @@ use Rattle.it_space.specs.Problems.{ProblemView}
 use Rattle.it_space.specs.Rows.{Terms}
 use Rattle.it_polymatroid.specs.Certificates.{Form}
 use Rattle.it_demand.specs.Origins.{AreStated}
-use Rattle.it_demand.specs.LineDemands.{AreRowsOf, space_of}
+use Rattle.it_demand.specs.SystemForms.{AreRowsOf}
+use Rattle.it_demand.specs.QuestionSpaces.{space_of}
 use Rattle.it_question.specs.ProblemLines.{problem_names}
 use Rattle.it_question.specs.TableSizes.{constraint_of}
 use Rattle.it_question.proofs.TableLemmas.{stated_are}

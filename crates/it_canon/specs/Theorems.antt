@@ -3,13 +3,15 @@ use Rattle.std.specs.Prelude.{◌≡◌, ℕ, ◌≤◌, List, map, All}
 use Rattle.it_space.specs.Problems.{ProblemView}
 use Rattle.it_closure.specs.Sizes.{table_size}
 use Rattle.it_syntax.specs.Meaning.{RelationView}
-use Rattle.it_demand.specs.LineDemands.{space_of, AreRowsOf}
+use Rattle.it_demand.specs.QuestionSpaces.{space_of}
+use Rattle.it_demand.specs.SystemForms.{AreRowsOf}
 use Rattle.it_demand.specs.Targets.{targets}
 use Rattle.it_question.specs.Files.{IsFile}
 use Rattle.it_question.specs.Questions.{BodyView, QuestionView, Prove}
 use Rattle.it_question.specs.ProblemLines.{problem_names}
 use Rattle.it_question.specs.TableSizes.{most_entries}
-use Rattle.it_canon.specs.QuestionDemands.{variable_count, problem_of, terms_in, IsProblemOf}
+use Rattle.it_canon.specs.TrueLines.{variable_count}
+use Rattle.it_canon.specs.QuestionDemands.{problem_of, terms_in, IsProblemOf}
 
 -- the constraints of the problem that a question of a file poses state what its lines demand, within the limits
 abbrev pub QuestionHasProblem : Type 0

@@ -14,7 +14,7 @@ use Rattle.it_question.specs.Questions.{RegionView}
 use Rattle.it_demand.specs.Demands.{Demand, demand_of, demands, equations, kind_of}
 use Rattle.it_demand.specs.Canonical.{form_of}
 use Rattle.it_demand.specs.Targets.{inequalities_of, targets}
-use Rattle.it_question.specs.ProblemLines.{line_demands}
+use Rattle.it_question.specs.LineDemands.{line_demands}
 use Rattle.it_demand.proofs.ChainLemmas.{links-length}
 use Rattle.it_certificate.specs.Obligations.{obligation_count}
 use Rattle.it_certificate.specs.ReportSteps.{form_count, target_count, given_form_count, relation_form_count}

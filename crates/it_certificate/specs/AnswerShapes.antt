@@ -12,7 +12,7 @@ use Rattle.it_syntax.specs.NamesViews.{NamesView, index_of}
 use Rattle.it_question.specs.Questions.{BodyView, RegionView, VerbView, Prove, Eliminate, Contain}
 use Rattle.it_elemental.specs.Generators.{is_equation}
 use Rattle.it_demand.specs.Demands.{kind_of}
-use Rattle.it_demand.specs.LineDemands.{space_of}
+use Rattle.it_demand.specs.QuestionSpaces.{space_of}
 use Rattle.it_demand.specs.Targets.{targets}
 use Rattle.it_certificate.specs.Numerals.{step_of}
 use Rattle.it_certificate.specs.Obligations.{obligation_count}

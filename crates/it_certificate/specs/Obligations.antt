@@ -2,7 +2,7 @@
 use Rattle.std.specs.Prelude.{ℕ, length, sum_by}
 use Rattle.it_question.specs.Questions.{RegionView}
 use Rattle.it_demand.specs.Targets.{inequalities_of}
-use Rattle.it_question.specs.ProblemLines.{line_demands}
+use Rattle.it_question.specs.LineDemands.{line_demands}
 
 -- how many forms a region's own lines say to be at least 0
 unfoldable pub obligation_count : RegionView → ℕ

@@ -9,7 +9,7 @@ use Rattle.it_space.specs.Spaces.{size_of}
 use Rattle.it_syntax.specs.NamesViews.{NamesView}
 use Rattle.it_question.specs.Questions.{QuestionView, VerbView, Prove, Eliminate, Contain, question_view}
 use Rattle.it_question.specs.Files.{IsFile}
-use Rattle.it_demand.specs.LineDemands.{space_of}
+use Rattle.it_demand.specs.QuestionSpaces.{space_of}
 use Rattle.it_demand.specs.Targets.{targets}
 use Rattle.it_certificate.specs.declared.keys.Key.{Key}
 use Rattle.it_certificate.specs.declared.keys.Key.TheVariants as keys

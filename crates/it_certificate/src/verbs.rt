@@ -2,7 +2,7 @@
 ghost use Rattle.serde_json.specs.View.{view};
 ghost use Rattle.it_space.specs.Answers.{answer_view};
 ghost use Rattle.it_space.specs.Spaces.{IsSpace};
-ghost use Rattle.it_demand.specs.LineDemands.{space_of};
+ghost use Rattle.it_demand.specs.QuestionSpaces.{space_of};
 ghost use Rattle.it_question.specs.Questions.{question_body, verb_view};
 ghost use Rattle.it_question.specs.Limits.{IsQuestion, IsVerbOver};
 ghost use Rattle.it_certificate.specs.Reports.{verb_answer};

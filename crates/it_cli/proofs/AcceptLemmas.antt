@@ -38,9 +38,11 @@ use Rattle.it_question.proofs.NumberLemmas.{QuestionHasSmallNumbers, file_has_sm
 use Rattle.it_question.proofs.AsciiLemmas.{texts_are_ascii}
 use Rattle.it_demand.specs.Canonical.{IsRowOf}
 use Rattle.it_demand.specs.Targets.{targets}
-use Rattle.it_demand.specs.LineDemands.{AreRowsOf, space_of}
+use Rattle.it_demand.specs.SystemForms.{AreRowsOf}
+use Rattle.it_demand.specs.QuestionSpaces.{space_of}
 use Rattle.it_question.specs.ProblemLines.{problem_names, problem_lines}
-use Rattle.it_canon.specs.QuestionDemands.{variable_count, question_demands, problem_of, terms_in, AreTrueAt, IsProblemOf}
+use Rattle.it_canon.specs.TrueLines.{variable_count, AreTrueAt}
+use Rattle.it_canon.specs.QuestionDemands.{question_demands, problem_of, terms_in, IsProblemOf}
 use Rattle.it_canon.proofs.ExistenceLemmas.{question_poses, relation_rows, system_rows}
 use Rattle.it_canon.proofs.ProblemLemmas.{question_met}
 use Rattle.it_region.specs.declared.types.Candidate.{Candidate}

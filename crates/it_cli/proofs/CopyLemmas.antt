@@ -8,7 +8,7 @@ use Rattle.it_syntax.specs.Meaning.{RelationView, Holds}
 use Rattle.it_question.specs.declared.types.Question.{Question}
 use Rattle.it_question.specs.Questions.{BodyView, question_view, VerbView, Prove, Eliminate, Contain}
 use Rattle.it_question.specs.ProblemLines.{lines_under, names_under}
-use Rattle.it_canon.specs.QuestionDemands.{AreTrueAt}
+use Rattle.it_canon.specs.TrueLines.{AreTrueAt}
 use Rattle.it_copy.specs.CopyLines.{CopyView}
 use Rattle.it_copy.specs.declared.types.CopyFault.{CopyFault}
 use Rattle.it_copy.specs.declared.types.CopyFault.TheVariants.{Memory}

@@ -35,8 +35,10 @@ use Rattle.it_demand.specs.Demands.{Demand, kind_of}
 use Rattle.it_demand.specs.Origins.{States}
 use Rattle.std.specs.List.{AllZip}
 use Rattle.it_demand.specs.Targets.{targets, inequalities_of}
-use Rattle.it_canon.specs.QuestionDemands.{variable_count, question_demands, problem_of, terms_in, IsProblemOf}
-use Rattle.it_demand.specs.LineDemands.{space_of, system_forms}
+use Rattle.it_canon.specs.TrueLines.{variable_count}
+use Rattle.it_canon.specs.QuestionDemands.{question_demands, problem_of, terms_in, IsProblemOf}
+use Rattle.it_demand.specs.QuestionSpaces.{space_of}
+use Rattle.it_demand.specs.SystemForms.{system_forms}
 use Rattle.it_question.specs.ProblemLines.{problem_names, names_under}
 use Rattle.it_demand.proofs.ZipLemmas.{zip-length}
 use Rattle.it_eliminate.proofs.MemberLemmas.{Member}

@@ -32,9 +32,11 @@ use Rattle.it_demand.specs.Demands.{Demand}
 use Rattle.it_demand.specs.Origins.{ComesFrom, States, AreStated}
 use Rattle.std.specs.List.{AllZip}
 use Rattle.it_space.specs.declared.problems.Origin.{Origin}
-use Rattle.it_canon.specs.QuestionDemands.{question_demands, question_origins, problem_of, terms_in, variable_count}
+use Rattle.it_canon.specs.QuestionDemands.{question_demands, question_origins, problem_of, terms_in}
+use Rattle.it_canon.specs.TrueLines.{variable_count}
 use Rattle.it_question.specs.ProblemLines.{problem_names, names_under}
-use Rattle.it_demand.specs.LineDemands.{space_of, system_forms}
+use Rattle.it_demand.specs.QuestionSpaces.{space_of}
+use Rattle.it_demand.specs.SystemForms.{system_forms}
 use Rattle.it_demand.proofs.ZipLemmas.{zip-length}
 use Rattle.it_run.specs.Runs.RunEndView.{Weights, Point, Pivots, Width}
 use Rattle.it_run.specs.Runs.{RunEndView}

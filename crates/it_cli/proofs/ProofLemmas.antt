@@ -17,9 +17,10 @@ use Rattle.it_demand.specs.Demands.{Demand}
 use Rattle.it_demand.specs.Origins.{States}
 use Rattle.std.specs.List.{AllZip}
 use Rattle.it_demand.proofs.ZipLemmas.{zip-right}
-use Rattle.it_demand.specs.LineDemands.{space_of}
+use Rattle.it_demand.specs.QuestionSpaces.{space_of}
 use Rattle.it_question.specs.ProblemLines.{problem_names}
-use Rattle.it_canon.specs.QuestionDemands.{question_demands, terms_in, variable_count}
+use Rattle.it_canon.specs.QuestionDemands.{question_demands, terms_in}
+use Rattle.it_canon.specs.TrueLines.{variable_count}
 use Rattle.it_demand.proofs.FormRows.{no_terms}
 use Rattle.it_print.specs.Lines.{IsRowOver}
 use Rattle.it_print.specs.ProofLines.{generator_rows}

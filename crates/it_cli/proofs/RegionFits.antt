@@ -23,9 +23,11 @@ use Rattle.it_space.proofs.TermLemmas.{rises-cancelled_row, coefficient-cancelle
 use Rattle.it_polymatroid.specs.Certificates.{Form}
 use Rattle.it_question.specs.Questions.{BodyView}
 use Rattle.it_question.specs.Limits.{IsQuestion}
-use Rattle.it_demand.specs.LineDemands.{AreRowsOf, space_of, system_forms}
+use Rattle.it_demand.specs.SystemForms.{AreRowsOf, system_forms}
+use Rattle.it_demand.specs.QuestionSpaces.{space_of}
 use Rattle.it_question.specs.ProblemLines.{problem_names}
-use Rattle.it_canon.specs.QuestionDemands.{problem_of, terms_in, variable_count}
+use Rattle.it_canon.specs.QuestionDemands.{problem_of, terms_in}
+use Rattle.it_canon.specs.TrueLines.{variable_count}
 use Rattle.it_eliminate.specs.Elimination.{EliminationEnds, PairsFit, with_row, with_lowest_rows, ordered_rows, results, next_list}
 use Rattle.it_eliminate.specs.Elimination as elimination
 use Rattle.it_eliminate.proofs.MemberLemmas.{contains_of, every_member, member_every}

@@ -6,7 +6,8 @@ use Rattle.it_space.specs.Problems.{ProblemView}
 use Rattle.it_space.specs.Rows.{Terms}
 use Rattle.it_question.specs.Questions.{BodyView, VerbView, Prove, Eliminate, Contain}
 use Rattle.it_demand.specs.Targets.{targets}
-use Rattle.it_canon.specs.QuestionDemands.{problem_of, terms_in, variable_count}
+use Rattle.it_canon.specs.QuestionDemands.{problem_of, terms_in}
+use Rattle.it_canon.specs.TrueLines.{variable_count}
 use Rattle.it_redundant.specs.ReducedElimination.{ProjectedView}
 use Rattle.it_redundant.specs.ReducedElimination as projections
 use Rattle.it_region.specs.declared.types.Candidate.{Candidate}

@@ -9,7 +9,7 @@ use Rattle.it_syntax.specs.Meaning.{RelationView, Holds}
 use Rattle.it_question.specs.Limits.{IsQuestion}
 use Rattle.it_question.specs.ProblemLines.{lines_under, names_under}
 use Rattle.it_question.specs.Questions.{BodyView, VerbView, Prove, Eliminate, Contain}
-use Rattle.it_canon.specs.QuestionDemands.{AreTrueAt}
+use Rattle.it_canon.specs.TrueLines.{AreTrueAt}
 use Rattle.it_copy.specs.CopyLines.{CopyView}
 use Rattle.it_copy.specs.Extensions.{IsExtension, IsProof}
 use Rattle.it_copy.specs.Points.{YesByCopies}

@@ -6,7 +6,8 @@ use Rattle.it_space.specs.Answers.{AnswerView}
 use Rattle.it_elemental.specs.Generators.{Generator}
 use Rattle.it_question.specs.Questions.{BodyView, QuestionView}
 use Rattle.it_demand.specs.Demands.{Demand}
-use Rattle.it_canon.specs.QuestionDemands.{question_demands, question_origins, terms_in, variable_count}
+use Rattle.it_canon.specs.QuestionDemands.{question_demands, question_origins, terms_in}
+use Rattle.it_canon.specs.TrueLines.{variable_count}
 use Rattle.it_region.specs.declared.types.Candidate.{Candidate}
 use Rattle.it_contain.specs.Proposals.{Plan, plan_after_all}
 use Rattle.it_certificate.specs.Values.{answer_text}

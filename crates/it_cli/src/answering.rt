@@ -5,7 +5,7 @@ ghost use Rattle.it_question.specs.AsciiTexts.{IsAsciiQuestion};
 ghost use Rattle.it_question.specs.Limits.{IsQuestion};
 ghost use Rattle.it_question.specs.Questions.{question_view, question_body};
 ghost use Rattle.it_demand.specs.Origins.{AreStated};
-ghost use Rattle.it_demand.specs.LineDemands.{space_of};
+ghost use Rattle.it_demand.specs.QuestionSpaces.{space_of};
 ghost use Rattle.it_question.specs.ProblemLines.{problem_names};
 ghost use Rattle.it_canon.specs.QuestionDemands.{question_demands, question_origins};
 ghost use Rattle.it_answer.specs.AnswerKinds.{IsAnswerTo};

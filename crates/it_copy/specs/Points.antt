@@ -4,7 +4,7 @@ use Rattle.it_polymatroid.specs.Polymatroid.{IsPolymatroid}
 use Rattle.it_syntax.specs.Meaning.{RelationView, Holds}
 use Rattle.it_question.specs.Questions.{BodyView, Prove}
 use Rattle.it_question.specs.Limits.{IsQuestion}
-use Rattle.it_canon.specs.QuestionDemands.{AreTrueAt}
+use Rattle.it_canon.specs.TrueLines.{AreTrueAt}
 use Rattle.it_canon.specs.Agreement.{AgreeOnCommon}
 use Rattle.it_copy.specs.declared.types.CopyFault.{CopyFault}
 use Rattle.it_copy.specs.declared.types.CopyFault.TheVariants.{Memory}

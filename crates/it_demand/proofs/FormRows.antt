@@ -17,7 +17,7 @@ use Rattle.it_polymatroid.proofs.Forms.{one_at-zero}
 use Rattle.it_demand.specs.Canonical.{IsRowOf}
 use Rattle.it_demand.specs.Demands.{Demand}
 use Rattle.it_demand.specs.Origins.{States}
-use Rattle.it_demand.specs.LineDemands.{AreRowsOf}
+use Rattle.it_demand.specs.SystemForms.{AreRowsOf}
 use Rattle.it_demand.specs.RowsOfForms.{terms_of_form}
 
 -- a row from a coordinate on, by its coefficients

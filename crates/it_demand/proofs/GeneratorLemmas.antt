@@ -13,7 +13,7 @@ use Rattle.it_syntax.specs.Meaning.{RelationView, relation_view}
 use Rattle.it_syntax.specs.Givens.{GivenView, given_view}
 use Rattle.it_demand.specs.Demands.{Demand, demand_of, demands}
 use Rattle.it_demand.specs.Origins.{States, ComesFrom, AreStated, line_parts, given_origins, row_origins}
-use Rattle.it_demand.specs.LineDemands.{system_forms}
+use Rattle.it_demand.specs.SystemForms.{system_forms}
 use Rattle.it_demand.proofs.ZipLemmas.{AreMatched, matched-more, matched-end, zip-append}
 
 -- ---- loops over lines

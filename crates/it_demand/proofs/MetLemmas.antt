@@ -20,7 +20,7 @@ use Rattle.it_demand.specs.Canonical.{IsRowOf, form_of, signed_difference}
 use Rattle.it_demand.specs.Demands.{Demand, kind_of, equation, equations, demand_of, demands}
 use Rattle.it_demand.specs.Origins.{States, AreStated, line_parts, AreParts}
 use Rattle.it_demand.specs.Targets.{negation, targets, inequalities_of}
-use Rattle.it_demand.specs.LineDemands.{system_forms, AreRowsOf, AreAtLeastZero}
+use Rattle.it_demand.specs.SystemForms.{system_forms, AreRowsOf, AreAtLeastZero}
 use Rattle.it_demand.proofs.ZipLemmas.{zip-same, All-parts}
 
 -- a demand is met at a map

@@ -3,6 +3,7 @@ pub mod Canonical
 pub mod Targets
 pub mod Demands
 pub mod Origins
-pub mod LineDemands
+pub mod QuestionSpaces
+pub mod SystemForms
 pub mod RowsOfForms
 pub mod Theorems

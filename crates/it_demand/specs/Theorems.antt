@@ -8,7 +8,7 @@ use Rattle.it_demand.specs.Canonical.{IsRowOf}
 use Rattle.it_space.specs.declared.problems.Origin.{Origin}
 use Rattle.it_demand.specs.Demands.{Demand}
 use Rattle.it_demand.specs.Origins.{AreStated}
-use Rattle.it_demand.specs.LineDemands.{AreRowsOf}
+use Rattle.it_demand.specs.SystemForms.{AreRowsOf}
 
 -- a form has one row
 abbrev pub OneRow : Type 0

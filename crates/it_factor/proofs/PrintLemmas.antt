@@ -18,7 +18,8 @@ use Rattle.it_question.specs.ProblemLines.{problem_names, names_under}
 use Rattle.it_demand.specs.Demands.{Demand}
 use Rattle.it_demand.specs.Origins.{States}
 use Rattle.it_demand.proofs.ZipLemmas.{zip-length}
-use Rattle.it_canon.specs.QuestionDemands.{IsProblemOf, question_demands, variable_count}
+use Rattle.it_canon.specs.QuestionDemands.{IsProblemOf, question_demands}
+use Rattle.it_canon.specs.TrueLines.{variable_count}
 use Rattle.it_answer.specs.Forms.{CertifiesForm, IsAllowedWeight, all_demands}
 use Rattle.it_best.specs.declared.types.Best.{Best}
 use Rattle.it_best.specs.declared.types.Best.TheVariants as answers

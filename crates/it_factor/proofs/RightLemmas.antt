@@ -17,8 +17,9 @@ use Rattle.it_syntax.specs.Meaning.{RelationView}
 use Rattle.it_question.specs.Questions.{BodyView, VerbView, Prove}
 use Rattle.it_question.specs.ProblemLines.{problem_lines, problem_names}
 use Rattle.it_demand.specs.Canonical.{IsRowOf}
-use Rattle.it_demand.specs.LineDemands.{space_of}
-use Rattle.it_canon.specs.QuestionDemands.{AreTrueAt, IsProblemOf, question_demands, variable_count, terms_in}
+use Rattle.it_demand.specs.QuestionSpaces.{space_of}
+use Rattle.it_canon.specs.TrueLines.{AreTrueAt, variable_count}
+use Rattle.it_canon.specs.QuestionDemands.{IsProblemOf, question_demands, terms_in}
 use Rattle.it_canon.specs.Sides.{left_form, right_form}
 use Rattle.it_canon.proofs.ProblemLemmas.{question_met}
 use Rattle.it_answer.specs.Forms.{Certifies, CertifiesForm, all_demands}

@@ -4,7 +4,7 @@ use Rattle.it_space.specs.Answers.{CertificateView}
 use Rattle.it_space.specs.Rows.{point_of}
 use Rattle.it_polymatroid.specs.Certificates.{Form}
 use Rattle.it_question.specs.Questions.{BodyView}
-use Rattle.it_canon.specs.QuestionDemands.{variable_count}
+use Rattle.it_canon.specs.TrueLines.{variable_count}
 use Rattle.it_canon.specs.Sides.{left_form, right_form}
 use Rattle.it_answer.proofs.TruthLemmas.{form_at_least_zero}
 use Rattle.it_best.specs.BestViews.{BestView, Least, Never, Unbounded, Undecided}

@@ -2,7 +2,8 @@
 use Rattle.std.proofs.Common.{◌≡◌, ℕ, Option, Some, None, refl, ap, sym, subst, ◌∙◌}
 use Rattle.it_syntax.specs.Meaning.{RelationView}
 use Rattle.it_question.specs.Questions.{BodyView}
-use Rattle.it_canon.specs.QuestionDemands.{problem_of, terms_in, variable_count}
+use Rattle.it_canon.specs.QuestionDemands.{problem_of, terms_in}
+use Rattle.it_canon.specs.TrueLines.{variable_count}
 use Rattle.it_canon.specs.Sides.{left_form, right_form}
 use Rattle.it_best.specs.BestViews.{BestView}
 use Rattle.it_best.proofs.EndLemmas.{best_never_out_of_steps, one_best}

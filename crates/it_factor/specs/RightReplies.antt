@@ -5,8 +5,9 @@ use Rattle.it_space.specs.Spaces.{size_of}
 use Rattle.it_syntax.specs.Meaning.{RelationView}
 use Rattle.it_question.specs.Questions.{BodyView}
 use Rattle.it_question.specs.ProblemLines.{problem_names}
-use Rattle.it_demand.specs.LineDemands.{space_of}
-use Rattle.it_canon.specs.QuestionDemands.{AreTrueTogether, problem_of, terms_in, variable_count}
+use Rattle.it_demand.specs.QuestionSpaces.{space_of}
+use Rattle.it_canon.specs.TrueLines.{AreTrueTogether, variable_count}
+use Rattle.it_canon.specs.QuestionDemands.{problem_of, terms_in}
 use Rattle.it_canon.specs.Sides.{left_form, right_form}
 use Rattle.it_answer.specs.Forms.{CertifiesForm}
 use Rattle.it_best.specs.declared.types.BestCause.TheVariants.{Pivots}

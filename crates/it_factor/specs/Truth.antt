@@ -5,7 +5,7 @@ use Rattle.it_syntax.specs.Meaning.{RelationView}
 use Rattle.it_syntax.specs.declared.types.Sign.{Sign}
 use Rattle.it_syntax.specs.declared.types.Sign.TheVariants.{AtLeast}
 use Rattle.it_question.specs.Questions.{BodyView, VerbView, Prove}
-use Rattle.it_canon.specs.QuestionDemands.{AreTrueTogether, variable_count}
+use Rattle.it_canon.specs.TrueLines.{AreTrueTogether, variable_count}
 use Rattle.it_canon.specs.Sides.{left_form, right_form}
 use Rattle.it_best.specs.BestViews.{BestView, Least, Never, Unbounded, Undecided}
 use Rattle.it_factor.specs.Replies.{ReplyView, Found, Other}

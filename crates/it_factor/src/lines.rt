@@ -3,7 +3,7 @@ ghost use Rattle.std.specs.Prelude.{◌≡◌, ◌≤◌, ◌++◌, length, code
 ghost use Rattle.std.specs.Fmt.{signed_decimal};
 ghost use Rattle.it_question.specs.Questions.{question_body};
 ghost use Rattle.it_question.specs.ProblemLines.{problem_names};
-ghost use Rattle.it_canon.specs.QuestionDemands.{variable_count};
+ghost use Rattle.it_canon.specs.TrueLines.{variable_count};
 ghost use Rattle.it_print.specs.Lines.{origins_of, values_text};
 ghost use Rattle.it_best.specs.BestViews.{best_view};
 ghost use Rattle.it_factor.specs.Lines.{AreValuesOf, IsBestPrintable, IsPrintable, IsThere, best_cause_text, best_line, reply_line};

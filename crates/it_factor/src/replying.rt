@@ -7,7 +7,7 @@ ghost use Rattle.it_question.specs.Limits.{IsQuestion};
 ghost use Rattle.it_question.specs.Questions.{question_body};
 ghost use Rattle.it_question.specs.ProblemLines.{problem_names};
 ghost use Rattle.it_demand.specs.Origins.{AreStated};
-ghost use Rattle.it_demand.specs.LineDemands.{space_of};
+ghost use Rattle.it_demand.specs.QuestionSpaces.{space_of};
 ghost use Rattle.it_canon.specs.QuestionDemands.{IsProblemOf, question_demands, question_origins};
 ghost use Rattle.it_best.specs.BestViews.{best_view};
 ghost use Rattle.it_factor.specs.Lines.{IsPrintable};

@@ -19,7 +19,7 @@ use Rattle.it_space.specs.declared.problems.Origin.TheVariants.{Given, Rate}
 use Rattle.it_polymatroid.specs.Elementals.{Elemental, Conditional, Mutual, elementals, elemental_at}
 use Rattle.it_syntax.specs.NamesViews.{NamesView}
 use Rattle.it_question.specs.Questions.{BodyView, VerbView, Contain}
-use Rattle.it_canon.specs.QuestionDemands.{variable_count}
+use Rattle.it_canon.specs.TrueLines.{variable_count}
 use Rattle.it_question.specs.ProblemLines.{problem_names}
 
 -- texts with a separator between them; `some`: one stands before them

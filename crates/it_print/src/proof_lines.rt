@@ -4,7 +4,7 @@ ghost use Rattle.it_space.specs.Answers.{answer_view, is_nonzero_weight};
 ghost use Rattle.it_polymatroid.specs.Elementals.{elementals};
 ghost use Rattle.it_question.specs.Questions.{question_body};
 ghost use Rattle.it_question.specs.ProblemLines.{problem_names};
-ghost use Rattle.it_canon.specs.QuestionDemands.{variable_count};
+ghost use Rattle.it_canon.specs.TrueLines.{variable_count};
 ghost use Rattle.it_print.specs.Lines.{AreListed, IsPrintable, IsRowOver, answer_line, row_text};
 ghost use Rattle.it_print.specs.ProofLines.{generator_rows, generator_row_text, proof_text_by, sum_line};
 ghost use Rattle.it_print.specs.ByConstraints.{certificate_lines_by, elemental_row_text, proof_lines_by, weight_line_by};

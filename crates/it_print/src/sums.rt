@@ -2,7 +2,7 @@
 ghost use Rattle.std.specs.Prelude.{◌≡◌, ◌≤◌, ◌<◌, ◌+◌, ◌++◌, length, OnOk, IfOk, All};
 ghost use Rattle.it_polymatroid.specs.Elementals.{elementals};
 ghost use Rattle.it_question.specs.Questions.{question_body};
-ghost use Rattle.it_canon.specs.QuestionDemands.{variable_count};
+ghost use Rattle.it_canon.specs.TrueLines.{variable_count};
 ghost use Rattle.it_print.specs.Lines.{AreListed, weight_text, origins_of, sum_text, variable_names};
 ghost use Rattle.it_print.specs.ByConstraints.{certificate_text_by, proofs_text_by};
 

@@ -8,7 +8,7 @@ use Rattle.std.proofs.lemmas.List.{length-map}
 use Rattle.std.proofs.lemmas.List.Elements.{All-nil, All-cons, All-head, All-tail, All-append, All-map}
 use Rattle.std.proofs.lemmas.List.Quantifiers.{position-Some}
 use Rattle.it_closure.specs.Sizes.{table_size}
-use Rattle.it_demand.specs.LineDemands.{space_of}
+use Rattle.it_demand.specs.QuestionSpaces.{space_of}
 use Rattle.it_space.specs.Spaces.{IsSpace}
 use Rattle.it_forms.specs.declared.types.Code.TheVariants as codes
 use Rattle.it_forms.specs.declared.types.Symbol.TheVariants.{Comma, Semicolon}

@@ -9,7 +9,7 @@ use Rattle.it_demand.specs.Demands.{demand_of, demands}
 use Rattle.it_demand.specs.Origins.{AreStated, given_origins, row_origins}
 use Rattle.it_demand.proofs.GeneratorLemmas.{givens-append, rows-append, stated-append}
 use Rattle.it_question.specs.LineOrigins.{line_origins}
-use Rattle.it_question.specs.ProblemLines.{line_demands}
+use Rattle.it_question.specs.LineDemands.{line_demands}
 
 -- givens and more givens, then rows and more rows
 pub region_stated : (s : Space) (n given row : ℕ) (gs more_gs : List GivenView) (rs more_rs : List RelationView) (a b c d ab abc all : List Constraint) → given ≡ 1 + length gs → row ≡ 1 + length rs

@@ -27,7 +27,7 @@ use Rattle.it_syntax.specs.Meaning.{RelationView}
 use Rattle.it_syntax.specs.NamesViews.{NamesView}
 use Rattle.it_demand.specs.Demands.{Demand, demand_of, demands}
 use Rattle.it_demand.specs.Origins.{ComesFrom, States, AreStated, given_origins}
-use Rattle.it_demand.specs.LineDemands.{space_of}
+use Rattle.it_demand.specs.QuestionSpaces.{space_of}
 use Rattle.it_demand.specs.RowsOfForms.{terms_of_form}
 use Rattle.it_demand.proofs.FormRows.{row_is_terms_of_form}
 use Rattle.it_demand.proofs.LimitLemmas.{wider_relation, wider_given, givens-few}
@@ -36,7 +36,7 @@ use Rattle.it_question.specs.Questions.{OwnLinesView, RegionView}
 use Rattle.it_question.specs.Limits.{IsRegionOf}
 use Rattle.it_question.specs.ReaderSteps.{flag_if_large}
 use Rattle.it_question.specs.LineOrigins.{line_origins}
-use Rattle.it_question.specs.ProblemLines.{line_demands}
+use Rattle.it_question.specs.LineDemands.{line_demands}
 use Rattle.it_question.specs.TableSizes.{constraint_of, problem_of_lines, most_entries, size_flag}
 
 abbrev constraint : Terms → Kind → Origin → Constraint

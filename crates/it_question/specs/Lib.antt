@@ -4,6 +4,7 @@ pub mod Cursors
 pub mod Bodies
 pub mod Questions
 pub mod ProblemLines
+pub mod LineDemands
 pub mod LineOrigins
 pub mod TableSizes
 pub mod NewNames

@@ -1,12 +1,7 @@
--- The lines of the problem that a question poses, and what they demand.
-use Rattle.std.specs.Prelude.{ℕ, List, [], ◌++◌, flat_map, map}
+-- The variables and lines of the problem that a question poses.
+use Rattle.std.specs.Prelude.{[], ◌++◌}
 use Rattle.it_syntax.specs.NamesViews.{NamesView}
-use Rattle.it_demand.specs.Demands.{Demand, demand_of, demands}
 use Rattle.it_question.specs.Questions.{OwnLinesView, RegionView, VerbView, Prove, Eliminate, Contain, BodyView}
-
--- what lines of n variables demand: the givens before the rows
-abbrev pub line_demands : ℕ → OwnLinesView → List Demand
-line_demands n own = flat_map (demands n) own.givens ++ map (demand_of n) own.rows
 
 -- the givens alone
 abbrev pub givens_alone : OwnLinesView → OwnLinesView

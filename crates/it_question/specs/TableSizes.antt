@@ -11,10 +11,11 @@ use Rattle.it_forms.specs.declared.types.Code.{Code}
 use Rattle.it_forms.specs.declared.types.Code.TheVariants as codes
 use Rattle.it_syntax.specs.NamesViews.{NamesView}
 use Rattle.it_demand.specs.Demands.{Demand}
-use Rattle.it_demand.specs.LineDemands.{space_of}
+use Rattle.it_demand.specs.QuestionSpaces.{space_of}
 use Rattle.it_demand.specs.RowsOfForms.{terms_of_form}
 use Rattle.it_question.specs.LineOrigins.{line_origins}
-use Rattle.it_question.specs.ProblemLines.{line_demands, problem_names, problem_lines}
+use Rattle.it_question.specs.LineDemands.{line_demands}
+use Rattle.it_question.specs.ProblemLines.{problem_names, problem_lines}
 use Rattle.it_question.specs.Questions.{OwnLinesView, BodyView}
 
 -- the constraint that states a demand of an origin

@@ -7,7 +7,7 @@ ghost use Rattle.it_forms.specs.Words as words;
 ghost use Rattle.it_syntax.specs.declared.rest.Stop.TheVariants.{Memory};
 ghost use Rattle.it_syntax.specs.RelationLines.{relation_line};
 ghost use Rattle.it_space.specs.Spaces.{IsSpace};
-ghost use Rattle.it_demand.specs.LineDemands.{space_of};
+ghost use Rattle.it_demand.specs.QuestionSpaces.{space_of};
 ghost use Rattle.it_syntax.specs.NamesViews.{index_of};
 ghost use Rattle.it_question.specs.Limits.{AreLinesOver};
 ghost use Rattle.it_question.specs.Bodies.{body_view};

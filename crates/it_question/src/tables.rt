@@ -6,13 +6,14 @@ ghost use Rattle.it_closure.specs.Sizes.{table_size};
 ghost use Rattle.it_syntax.specs.declared.rest.Stop.TheVariants.{Memory};
 ghost use Rattle.it_syntax.specs.Givens.{IsRelationOf, IsGivenOf};
 ghost use Rattle.it_demand.specs.Origins.{AreStated};
-ghost use Rattle.it_demand.specs.LineDemands.{space_of};
+ghost use Rattle.it_demand.specs.QuestionSpaces.{space_of};
 ghost use Rattle.it_question.specs.Limits.{AreLinesOver, IsRegionOf};
 ghost use Rattle.it_question.specs.Questions.{own_lines_view, region_view};
 ghost use Rattle.it_question.specs.QuestionLimits.{most_lines};
 ghost use Rattle.it_question.specs.ReaderSteps.{containment_flag, flag_if_large};
 ghost use Rattle.it_question.specs.LineOrigins.{line_origins};
-ghost use Rattle.it_question.specs.ProblemLines.{line_demands, givens_alone, lines_with};
+ghost use Rattle.it_question.specs.LineDemands.{line_demands};
+ghost use Rattle.it_question.specs.ProblemLines.{givens_alone, lines_with};
 ghost use Rattle.it_question.specs.TableSizes.{most_entries, size_flag};
 
 use crate::types::{OwnLines, Region};

@@ -13,9 +13,10 @@ use Rattle.it_polymatroid.specs.Certificates.{Form}
 use Rattle.it_syntax.specs.Givens.{IsRelationOf, IsGivenOf}
 use Rattle.it_question.specs.Limits.{IsQuestion, IsVerbOver}
 use Rattle.it_question.specs.Questions.{BodyView, RegionView, Contain}
-use Rattle.it_question.specs.ProblemLines.{line_demands, problem_names, names_under}
+use Rattle.it_question.specs.LineDemands.{line_demands}
+use Rattle.it_question.specs.ProblemLines.{problem_names, names_under}
 use Rattle.it_question.proofs.NumberLemmas.{VerbHasSmallNumbers, QuestionHasSmallNumbers}
-use Rattle.it_demand.specs.LineDemands.{space_of}
+use Rattle.it_demand.specs.QuestionSpaces.{space_of}
 use Rattle.it_demand.specs.RowsOfForms.{terms_of_form}
 use Rattle.it_demand.proofs.FormRows.{told_by_form}
 use Rattle.it_canon.specs.QuestionDemands.{terms_in}

@@ -13,10 +13,11 @@ use Rattle.it_question.specs.Questions.{RegionView, VerbView, Prove, Eliminate, 
 use Rattle.it_space.specs.Bounds.{IsSmall}
 use Rattle.it_demand.specs.Demands.{Demand}
 use Rattle.it_demand.specs.Origins.{States, AreStated}
-use Rattle.it_demand.specs.LineDemands.{space_of}
+use Rattle.it_demand.specs.QuestionSpaces.{space_of}
 use Rattle.it_demand.proofs.ZipLemmas.{zip-right}
 use Rattle.it_region.specs.declared.types.Pair.{Pair}
-use Rattle.it_question.specs.ProblemLines.{line_demands, names_under}
+use Rattle.it_question.specs.LineDemands.{line_demands}
+use Rattle.it_question.specs.ProblemLines.{names_under}
 use Rattle.it_question.specs.LineOrigins.{origins_from}
 use Rattle.it_canon.specs.QuestionDemands.{IsProblemOf}
 use Rattle.it_space.specs.declared.problems.Origin.{Origin}

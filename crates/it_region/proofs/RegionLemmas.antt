@@ -9,7 +9,7 @@ use Rattle.it_question.specs.Questions.{RegionView, Contain, BodyView}
 use Rattle.it_syntax.specs.Meaning.{Holds}
 use Rattle.it_syntax.specs.Givens.{IsTrueAt}
 use Rattle.it_demand.specs.Demands.{Demand, demand_of, demands}
-use Rattle.it_question.specs.ProblemLines.{line_demands}
+use Rattle.it_question.specs.LineDemands.{line_demands}
 use Rattle.std.specs.List.{flat_map}
 use Rattle.it_demand.proofs.MetLemmas.{IsSatisfied, givens_satisfied, rows_satisfied}
 use Rattle.it_demand.proofs.ZipLemmas.{All-parts}

@@ -14,7 +14,7 @@ use Rattle.it_space.specs.Problems.{Meets, IsMet, AreMet}
 use Rattle.it_space.specs.Rows.{Terms, IsCanonical, IsOver, value, row_mass}
 use Rattle.it_space.specs.Spaces.{size_of}
 use Rattle.it_polymatroid.specs.Certificates.{Form}
-use Rattle.it_demand.specs.LineDemands.{AreAtLeastZero}
+use Rattle.it_demand.specs.SystemForms.{AreAtLeastZero}
 use Rattle.it_demand.specs.Coefficients.{dense_form, largest, signed_by, IsFormAdded}
 use Rattle.it_demand.proofs.ZipLemmas.{All-parts, zip-same, zip-right}
 use Rattle.it_region.specs.Obligations.{pulled_form, constraint_obligations, IsPulledRow, ArePulledRows}

@@ -17,8 +17,8 @@ use Rattle.it_polymatroid.proofs.Forms.{one_at-zero}
 use Rattle.it_question.specs.Questions.{BodyView, RegionView}
 use Rattle.it_demand.specs.Demands.{Demand}
 use Rattle.it_demand.specs.Origins.{States}
-use Rattle.it_question.specs.ProblemLines.{line_demands}
-use Rattle.it_demand.specs.LineDemands.{AreRowsOf}
+use Rattle.it_question.specs.LineDemands.{line_demands}
+use Rattle.it_demand.specs.SystemForms.{AreRowsOf}
 use Rattle.it_demand.specs.RowsOfForms.{terms_of_form}
 use Rattle.it_demand.proofs.FormRows.{told_by_form}
 use Rattle.it_demand.proofs.UniqueRows.{told_by_values, zip-told}

@@ -5,7 +5,7 @@ use Rattle.it_space.specs.Answers.AnswerView.{Contained}
 use Rattle.it_polymatroid.specs.Certificates.{Form}
 use Rattle.it_question.specs.Questions.{BodyView, VerbView, Prove, Contain}
 use Rattle.it_demand.specs.Targets.{targets}
-use Rattle.it_canon.specs.QuestionDemands.{variable_count}
+use Rattle.it_canon.specs.TrueLines.{variable_count}
 use Rattle.it_region.specs.Obligations.{obligations}
 
 -- the targets of a relation, or the obligations of the sets that a containment names

@@ -9,7 +9,7 @@ use Rattle.it_polymatroid.specs.Certificates.{Form}
 use Rattle.it_question.specs.Questions.{RegionView, BodyView}
 use Rattle.it_demand.specs.Targets.{inequalities_of}
 use Rattle.it_demand.specs.Demands.{Demand}
-use Rattle.it_question.specs.ProblemLines.{line_demands}
+use Rattle.it_question.specs.LineDemands.{line_demands}
 use Rattle.it_region.specs.Pulling.{substituted_sets, pulled_coordinate}
 
 -- the form at a map pulled back, which has at each coordinate c the value at f c

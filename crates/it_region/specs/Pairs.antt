@@ -8,9 +8,9 @@ use Rattle.it_question.specs.Questions.{RegionView, VerbView, Contain, BodyView}
 use Rattle.it_demand.specs.Origins.{AreStated}
 use Rattle.it_canon.specs.QuestionDemands.{question_demands, question_origins}
 use Rattle.it_question.specs.LineOrigins.{origins_from}
-use Rattle.it_question.specs.ProblemLines.{line_demands}
+use Rattle.it_question.specs.LineDemands.{line_demands}
 use Rattle.it_space.specs.declared.problems.Origin.{Origin}
-use Rattle.it_demand.specs.LineDemands.{space_of}
+use Rattle.it_demand.specs.QuestionSpaces.{space_of}
 use Rattle.it_region.specs.declared.types.Pair.{Pair}
 use Rattle.it_region.specs.declared.types.Candidate.{Candidate}
 use Rattle.it_region.specs.Pulling.{substituted_sets, pulled_coordinate}

@@ -3,7 +3,7 @@ use Rattle.std.specs.Prelude.{ℕ, ℤ, length}
 use Rattle.it_polymatroid.specs.Polymatroid.{IsPolymatroid}
 use Rattle.it_question.specs.Questions.{OwnLinesView, RegionView, BodyView}
 use Rattle.it_canon.specs.Agreement.{AgreeOnCommon}
-use Rattle.it_canon.specs.QuestionDemands.{AreTrueAt}
+use Rattle.it_canon.specs.TrueLines.{AreTrueAt}
 use Rattle.it_question.specs.ProblemLines.{lines_with}
 
 -- entropies of the region's variables and values of the rates, as one map from coordinates, that meet all lines

@@ -3,7 +3,7 @@ ghost use Rattle.std.specs.Prelude.{◌≡◌, ◌+◌, ◌<◌, ◌≤◌, ◌^
 ghost use Rattle.it_space.specs.Problems.{AreMet};
 ghost use Rattle.it_space.specs.Rows.{IsOver, value, row_mass};
 ghost use Rattle.it_space.specs.Spaces.{size_of};
-ghost use Rattle.it_demand.specs.LineDemands.{AreAtLeastZero, AtMaps};
+ghost use Rattle.it_demand.specs.SystemForms.{AreAtLeastZero, AtMaps};
 ghost use Rattle.it_demand.specs.Coefficients.{largest, signed_by, IsFormAdded};
 ghost use Rattle.it_region.specs.Obligations.{constraint_obligations, ArePulledRows, IsPulledRow};
 ghost use Rattle.it_region.specs.Pulling.{singles};

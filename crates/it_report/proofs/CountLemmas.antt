@@ -7,7 +7,7 @@ use Rattle.it_polymatroid.specs.Certificates.{Form}
 use Rattle.it_syntax.specs.Meaning.{RelationView}
 use Rattle.it_question.specs.Questions.{BodyView, RegionView}
 use Rattle.it_demand.specs.Demands.{Demand, kind_of}
-use Rattle.it_question.specs.ProblemLines.{line_demands}
+use Rattle.it_question.specs.LineDemands.{line_demands}
 use Rattle.it_demand.specs.Canonical.{form_of}
 use Rattle.it_demand.specs.Targets.{inequalities_of, targets}
 use Rattle.it_region.specs.Obligations.{pulled_form, demand_obligations, obligations}

@@ -18,7 +18,8 @@ use Rattle.it_elemental.specs.Generators.{is_equation}
 use Rattle.it_demand.specs.Demands.{kind_of}
 use Rattle.it_demand.specs.Origins.{AreStated}
 use Rattle.it_demand.specs.Targets.{targets, inequalities_of}
-use Rattle.it_demand.specs.LineDemands.{AreRowsOf, space_of}
+use Rattle.it_demand.specs.SystemForms.{AreRowsOf}
+use Rattle.it_demand.specs.QuestionSpaces.{space_of}
 use Rattle.it_question.specs.ProblemLines.{problem_names, names_under}
 use Rattle.it_canon.specs.QuestionDemands.{question_demands, question_origins, IsProblemOf, terms_in}
 use Rattle.it_region.specs.declared.types.Candidate.{Candidate}

@@ -20,9 +20,10 @@ use Rattle.it_question.proofs.FileReadings.{file_limits}
 use Rattle.it_question.proofs.NumberLemmas.{QuestionHasSmallNumbers, file_has_small_numbers}
 use Rattle.it_demand.specs.Canonical.{form_of}
 use Rattle.it_demand.specs.Targets.{targets}
-use Rattle.it_demand.specs.LineDemands.{space_of}
+use Rattle.it_demand.specs.QuestionSpaces.{space_of}
 use Rattle.it_question.specs.ProblemLines.{problem_names, names_under, problem_lines, lines_under}
-use Rattle.it_canon.specs.QuestionDemands.{variable_count, problem_of, terms_in, AreTrueAt, IsProblemOf}
+use Rattle.it_canon.specs.TrueLines.{variable_count, AreTrueAt}
+use Rattle.it_canon.specs.QuestionDemands.{problem_of, terms_in, IsProblemOf}
 use Rattle.it_canon.proofs.ExistenceLemmas.{question_poses, relation_rows}
 use Rattle.it_demand.proofs.MetLemmas.{targets_met}
 use Rattle.it_canon.proofs.ProblemLemmas.{question_met}

@@ -6,7 +6,7 @@ use Rattle.it_space.specs.Rows.{point_of}
 use Rattle.it_syntax.specs.Meaning.{Holds}
 use Rattle.it_syntax.specs.NamesViews.{NamesView}
 use Rattle.it_question.specs.Questions.{BodyView, QuestionView, VerbView, Prove, Contain}
-use Rattle.it_canon.specs.QuestionDemands.{variable_count, AreTrueTogether}
+use Rattle.it_canon.specs.TrueLines.{variable_count, AreTrueTogether}
 use Rattle.it_demand.specs.Targets.{targets}
 use Rattle.it_region.specs.Regions.{LiesIn}
 use Rattle.it_certificate.specs.Reports.{ReadsReport}

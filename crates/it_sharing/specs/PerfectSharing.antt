@@ -4,7 +4,7 @@ use Rattle.it_polymatroid.specs.Polymatroid.{IsPolymatroid}
 use Rattle.it_syntax.specs.declared.types.Atom.TheVariants.{Entropy, Mutual}
 use Rattle.it_syntax.specs.Meaning.{atom_at}
 use Rattle.it_syntax.specs.Givens.{IsTrueAt}
-use Rattle.it_canon.specs.QuestionDemands.{AreTrueTogether}
+use Rattle.it_canon.specs.TrueLines.{AreTrueTogether}
 use Rattle.it_sharing.specs.AccessStructures.{secret, IsPartySet, is_qualified}
 use Rattle.it_sharing.specs.Sharings.{SharingView, IsSharing, made_givens, made_question}
 

@@ -15,7 +15,8 @@ use Rattle.it_demand.proofs.ZipLemmas.{zip-length}
 use Rattle.it_syntax.specs.NamesViews.{NamesView}
 use Rattle.it_question.specs.Questions.{BodyView}
 use Rattle.it_question.specs.ProblemLines.{problem_names}
-use Rattle.it_canon.specs.QuestionDemands.{question_demands, variable_count}
+use Rattle.it_canon.specs.QuestionDemands.{question_demands}
+use Rattle.it_canon.specs.TrueLines.{variable_count}
 use Rattle.it_terms.specs.Proofs.{AreSame, IsProofOf, TellsForm, TellsProof, constraints_of, demand_at}
 
 -- as many constraints, each with the same form and of the same kind

@@ -21,8 +21,10 @@ use Rattle.it_elemental.specs.Generators.{is_equation}
 use Rattle.it_demand.specs.Demands.{Demand, demand_of, demands, equation}
 use Rattle.it_demand.proofs.MetLemmas.{IsSatisfied, givens_satisfied, rows_satisfied}
 use Rattle.it_question.specs.Questions.{OwnLinesView}
-use Rattle.it_question.specs.ProblemLines.{line_demands, problem_names, problem_lines}
-use Rattle.it_canon.specs.QuestionDemands.{AreTrueAt, question_demands, variable_count}
+use Rattle.it_question.specs.LineDemands.{line_demands}
+use Rattle.it_question.specs.ProblemLines.{problem_names, problem_lines}
+use Rattle.it_canon.specs.TrueLines.{AreTrueAt, variable_count}
+use Rattle.it_canon.specs.QuestionDemands.{question_demands}
 use Rattle.it_terms.specs.Proofs.{IsShannon, IsPlusShannon, TellsProof, ToldProves, constraints_of, demand_at}
 
 weighted_least : (g : Generators) (v : ℕ → ℤ) → ((i : ℕ) → i < g.count → pos 0 ≤ℤ v i) → ((i : ℕ) → i < g.count → g.is_equation i ≡ true → v i ≡ pos 0)

@@ -12,7 +12,8 @@ use Rattle.it_syntax.specs.NamesViews.{NamesView}
 use Rattle.it_demand.specs.Demands.{Demand, equation}
 use Rattle.it_question.specs.Questions.{BodyView}
 use Rattle.it_question.specs.ProblemLines.{problem_names}
-use Rattle.it_canon.specs.QuestionDemands.{AreTrueTogether, question_demands}
+use Rattle.it_canon.specs.TrueLines.{AreTrueTogether}
+use Rattle.it_canon.specs.QuestionDemands.{question_demands}
 use Rattle.it_terms.specs.Tells.{IsRelationText}
 
 -- H(A|C) or I(A;B|C) of sets of n variables, or nothing

@@ -2,7 +2,7 @@ use Rattle.std.proofs.Common.{map, ap, subst, sym, ◌∙◌}
 use Rattle.it_space.specs.Answers.{certificate_view}
 use Rattle.it_space.specs.Answers.AnswerView.{Yes}
 use Rattle.it_syntax.specs.Meaning.{relation_view}
-use Rattle.it_demand.specs.LineDemands.{space_of}
+use Rattle.it_demand.specs.QuestionSpaces.{space_of}
 use Rattle.it_question.specs.Limits.{IsVerbOver}
 use Rattle.it_question.specs.Questions.{VerbView, question_body}
 use Rattle.it_question.specs.ProblemLines.{names_under}

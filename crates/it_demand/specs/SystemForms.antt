@@ -1,10 +1,9 @@
 -- The rows of several forms, and the forms of `row` lines.
-use Rattle.std.specs.Prelude.{◌≡◌, ℕ, ℤ, pos, ◌≤ℤ◌, List, length, All}
+use Rattle.std.specs.Prelude.{◌≡◌, ℕ, ℤ, pos, ◌≤ℤ◌, List, All}
 use Rattle.std.specs.List.{AllZip, flat_map}
 use Rattle.it_space.specs.declared.spaces.Space.{Space}
 use Rattle.it_space.specs.Rows.{Terms, value}
 use Rattle.it_polymatroid.specs.Certificates.{Form}
-use Rattle.it_syntax.specs.NamesViews.{NamesView}
 use Rattle.it_syntax.specs.Meaning.{RelationView}
 use Rattle.it_demand.specs.Canonical.{IsRowOf}
 use Rattle.it_demand.specs.Targets.{targets}
@@ -24,7 +23,3 @@ AreAtLeastZero p rows = All (λ row. pos 0 ≤ℤ value row p) rows
 -- it is so at each map that is 0 at the empty set
 abbrev pub AtMaps : ((ℕ → ℤ) → Type 0) → Type 0
 AtMaps P = (p : ℕ → ℤ) → p 0 ≡ pos 0 → P p
-
--- the space of as many variables and rates
-abbrev pub space_of : NamesView → Space
-space_of v = record { variables = length v.variables; rates = length v.rates }

@@ -1,0 +1,8 @@
+-- What lines demand.
+use Rattle.std.specs.Prelude.{ℕ, List, ◌++◌, flat_map, map}
+use Rattle.it_demand.specs.Demands.{Demand, demand_of, demands}
+use Rattle.it_question.specs.Questions.{OwnLinesView}
+
+-- what lines of n variables demand: the givens before the rows
+abbrev pub line_demands : ℕ → OwnLinesView → List Demand
+line_demands n own = flat_map (demands n) own.givens ++ map (demand_of n) own.rows
