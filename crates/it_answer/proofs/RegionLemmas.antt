@@ -1,5 +1,5 @@
 -- What reduced elimination of the rows of the text ends with is the one right answer.
-use Rattle.std.proofs.Common.{◌≡◌, inl, inr, ◌↔◌, ℕ, ◌+◌, ◌^◌, ℤ, pos, ◌*ℤ◌, ◌≤ℤ◌, refl, sym, ap, ap₂, subst, ◌∙◌, arith, List, [], ◌∷◌, ◌++◌, length, map, All, Contains}
+use Rattle.std.proofs.Common.{◌≡◌, inl, inr, ◌↔◌, ℕ, ◌+◌, ◌^◌, ℤ, pos, ◌*ℤ◌, refl, sym, ap, ap₂, subst, ◌∙◌, arith, List, [], ◌∷◌, ◌++◌, length, map, All, Contains}
 use Rattle.std.proofs.lemmas.Int.{ints}
 use Rattle.std.proofs.lemmas.Nat.{pow_pos}
 use Rattle.it_space.specs.declared.answers.Cause.TheVariants.{Width}
@@ -9,17 +9,17 @@ use Rattle.it_space.specs.declared.spaces.Space.{Space}
 use Rattle.it_space.specs.Answers.{AnswerView}
 use Rattle.it_space.specs.Answers.AnswerView.{Undecided, Region}
 use Rattle.it_space.specs.Problems.{ProblemView, AreMet}
-use Rattle.it_space.specs.Rows.{Terms, IsOver, point_of, value}
+use Rattle.it_space.specs.Rows.{Terms, IsOver, point_of}
 use Rattle.it_space.specs.Spaces.{size_of}
 use Rattle.it_polymatroid.specs.Polymatroid.{IsPolymatroid}
 use Rattle.it_syntax.specs.Givens.{IsTrueAt}
 use Rattle.it_syntax.specs.Meaning.{RelationView, Holds}
-use Rattle.it_question.specs.Questions.{BodyView, OwnLinesView, VerbView, Eliminate}
-use Rattle.it_canon.specs.TrueLines.{variable_count, AreTrueAt}
+use Rattle.it_question.specs.Questions.{BodyView, Eliminate}
+use Rattle.it_canon.specs.TrueLines.{variable_count}
 use Rattle.it_canon.specs.QuestionDemands.{problem_of, terms_in}
 use Rattle.it_demand.specs.QuestionSpaces.{space_of}
 use Rattle.it_demand.specs.SystemForms.{system_forms, AreRowsOf, AreAtLeastZero}
-use Rattle.it_question.specs.ProblemLines.{problem_names, names_under, problem_lines, lines_under}
+use Rattle.it_question.specs.ProblemLines.{problem_names}
 use Rattle.it_demand.specs.RowsOfForms.{terms_of_form}
 use Rattle.it_demand.proofs.FormRows.{rows_are_terms_of_forms}
 use Rattle.it_eliminate.proofs.MemberLemmas.{Member, member_of}

@@ -13,7 +13,6 @@ use Rattle.it_polymatroid.specs.Certificates.{Form}
 use Rattle.it_polymatroid.specs.Elementals.{elementals}
 use Rattle.it_elemental.specs.Generators.{Generator, generator_at, generator_list}
 use Rattle.it_question.specs.Questions.{BodyView}
-use Rattle.it_demand.specs.Demands.{Demand}
 use Rattle.it_demand.specs.Origins.{States}
 use Rattle.std.specs.List.{AllZip}
 use Rattle.it_demand.proofs.ZipLemmas.{zip-right}

@@ -5,7 +5,6 @@ use Rattle.std.proofs.lemmas.List.Elements.{All-weaker}
 use Rattle.std.proofs.lemmas.Nat.{pow_pos}
 use Rattle.std.proofs.Math.Pow.{pow_mono}
 use Rattle.it_space.specs.declared.answers.Certificate.{Certificate}
-use Rattle.it_space.specs.declared.problems.Constraint.{Constraint}
 use Rattle.it_space.specs.Answers.{certificate_view}
 use Rattle.it_space.specs.Problems.{ProblemView}
 use Rattle.it_polymatroid.specs.Certificates.{Form}

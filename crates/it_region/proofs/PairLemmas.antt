@@ -1,5 +1,5 @@
 -- The pair of a question's regions keeps the limits.
-use Rattle.std.proofs.Common.{◌≡◌, ℕ, ℤ, ◌+◌, ◌*◌, [], ◌∷◌, unsigned_abs, ◌<◌, ◌≤◌, ◌^◌, List, length, length-append, sym, ap, subst, ◌∙◌, arith, All, take, Result, Ok, Err, IfOk, ◌↔◌, true, nat_lt, rules}
+use Rattle.std.proofs.Common.{◌≡◌, ℕ, ℤ, ◌+◌, ◌*◌, [], ◌∷◌, unsigned_abs, ◌<◌, ◌≤◌, ◌^◌, List, length, length-append, sym, ap, subst, subst₂, ◌∙◌, arith, All, take, Result, Ok, Err, IfOk, ◌↔◌, true, nat_lt, rules}
 use Rattle.std.specs.List.{list_all}
 use Rattle.std.proofs.lemmas.List.Elements.{All-head, All-tail, All-weaker}
 use Rattle.std.proofs.lemmas.List.Sums.{AllPass-from_list_all, list_all-from_AllPass}
@@ -17,6 +17,9 @@ use Rattle.it_demand.specs.QuestionSpaces.{space_of}
 use Rattle.it_demand.proofs.ZipLemmas.{zip-right}
 use Rattle.it_region.specs.declared.types.Pair.{Pair}
 use Rattle.it_question.specs.LineDemands.{line_demands}
+use Rattle.it_question.specs.ProblemLines.{names_under}
+use Rattle.it_question.specs.LineOrigins.{origins_from}
+use Rattle.it_canon.specs.QuestionDemands.{IsProblemOf}
 use Rattle.it_space.specs.declared.problems.Origin.{Origin}
 use Rattle.it_region.specs.Pairs.{IsPair, IsPairOf, PairsBy, Pairs, FitsPair, candidate_sets, own_origins}
 use Rattle.it_region.specs.PairSteps.{AreSetsFor}
@@ -92,3 +95,17 @@ all_below k xs = (
 -- the pair of a verb's two regions
 pub pair_of_verb : (q : BodyView) (first second : RegionView) (tries : List (List ℕ)) (p : Pair) → q.verb ≡ Contain first second tries → Pairs q p → IsPairOf q first second p
 pair_of_verb q first second tries p is h = subst (λ (m : VerbView). PairsBy q m p) is h
+
+-- what problem and second region's own constraints make a pair of a question's regions
+pub pair_by : (q : BodyView) (a b : RegionView) (tries : List (List ℕ)) (p : Pair) (given row : ℕ) → q.verb ≡ Contain a b tries → IsProblemOf q (problem_view p.first) → p.space ≡ space_of b.names
+    → given ≡ 1 + length q.lines.givens → row ≡ 1 + length q.lines.rows → AreStated p.space (origins_from p.space.variables given row b.lines) (line_demands p.space.variables b.lines) p.own.items
+    → p.common ≡ length q.names.variables → p.parts ≡ b.auxiliaries → Pairs q p
+pair_by q a b tries p given row is posed second e f own common parts = subst (λ (v : VerbView). PairsBy q v p) (sym is) (record {
+  first_space = posed.space ∙ ap (λ (v : VerbView). space_of (names_under q.names v)) is;
+  first = posed.constraints;
+  second_space = second;
+  own = subst₂ (λ (g r : ℕ). AreStated p.space (origins_from (length b.names.variables) g r b.lines) (line_demands (length b.names.variables) b.lines) p.own.items) e f
+      (subst (λ (n : ℕ). AreStated p.space (origins_from n given row b.lines) (line_demands n b.lines) p.own.items) (ap (λ (s : Space). s.variables) second) own);
+  common = common;
+  parts = parts;
+})

@@ -1,6 +1,6 @@
 -- Texts that tell a proof: an equation between a multiple of the target and a sum of terms that are never negative and of
 -- multiples of constraints (Yeung 1997, "A Framework for Linear Information Inequalities").
-use Rattle.std.specs.Prelude.{◌≡◌, ◌<◌, ◌^◌, ℕ, ℤ, pos, ◌*ℤ◌, ◌≤ℤ◌, false, List, ◌++◌, length, map, get_or, All}
+use Rattle.std.specs.Prelude.{◌≡◌, ◌<◌, ◌^◌, ℕ, ℤ, pos, ◌*ℤ◌, ◌≤ℤ◌, false, List, ◌++◌, length, get_or, All}
 use Rattle.it_polymatroid.specs.Certificates.{Form, Generators, IsAllowed, combination}
 use Rattle.it_elemental.specs.Generators.{is_equation}
 use Rattle.it_syntax.specs.declared.types.Atom.{Atom}
