@@ -26,7 +26,7 @@ make_beside() {
 
 # the sum of standard input
 sum() {
-    sha256sum | cut -c 1-64
+    sha256sum | { read -r sum _ && echo "$sum"; }
 }
 
 # FILE: its sum, nothing where it can't be read
@@ -41,7 +41,7 @@ sum_of_sources() {
 
 # WORD: what dist/built-from, or the other file, says of it
 noted() {
-    sed -n "s/^$1 //p" "${2:-$dist/built-from}"
+    while read -r word value; do [ "$word" != "$1" ] || echo "$value"; done <"${2:-$dist/built-from}"
 }
 
 sums_of_dist() {
@@ -69,7 +69,7 @@ find_lack() {
         lack='dist/ has no programs yet'
         return
     fi
-    for tool in cut find gzip sed sha256sum sort uname xargs; do
+    for tool in find gzip sha256sum sort uname xargs; do
         command -v "$tool" >/dev/null || lack="the programs of dist/ can't be used, since $tool isn't on the path"
     done
     [ -z "$lack" ] || return
@@ -124,6 +124,6 @@ take_built() {
     [ -z "$lack" ] || return
     built=$dist/out/$1
     { [ -x "$built" ] && [ "$(sum_of "$built")" = "$(noted "$1")" ]; } || unpack "$@" || return
-    rm -rf "$beside"
+    [ -z "$beside" ] || rm -rf "$beside"
     beside=
 }
