@@ -120,7 +120,8 @@ unpack() {
 # NAME, the words with which it answers nothing: the program of dist/, unpacked, as $built. Fails where there is none of these sources for this
 # machine; $lack says why.
 take_built() {
-    find_lack
+    # (one look is enough for a call)
+    [ -n "${lack+looked}" ] || find_lack
     [ -z "$lack" ] || return
     built=$dist/out/$1
     { [ -x "$built" ] && [ "$(sum_of "$built")" = "$(noted "$1")" ]; } || unpack "$@" || return
