@@ -150,8 +150,11 @@ class Programs(WithPrograms):
                 read(asked.asked, line, Itip())
         with self.assertRaisesRegex(Forged, "another question"):
             prove(H(Y) >= 0, program=self.program(f"print({yes.report!r})\n"))
-        with self.assertRaisesRegex(Forged, "another file"):
-            ask("vars X\nprove H(X) >= 0\n" * 2, program=self.program(f"print({yes.report!r})\n"))
+        lost = self.program(f"print({yes.report!r})\n")
+        with self.assertRaisesRegex(ProgramFailed, "2 questions got 1 answers"):
+            ask("vars X\nprove H(X) >= 0\n" * 2, program=lost)
+        with self.assertRaisesRegex(Forged, "another question"):
+            ask("vars Y\nprove H(Y) >= 0\n", program=lost)
 
     def test_tampered(self):
         """The forgery of docs/answers.md."""

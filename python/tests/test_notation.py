@@ -86,7 +86,7 @@ class Notation(unittest.TestCase):
     def test_question(self):
         """A question is written again as it was read."""
         for text in [
-            "vars X, Y\nrates R, S\ngiven indep X; Y\nrow R <= H(X)\nrow S >= 1/2 R\nprove R + S <= H(X,Y)\n",
+            "vars X, Y\nrates R, S\ngiven indep X; Y\nrow R <= H(X)\nrow 2 S >= R\nprove R + S <= H(X,Y)\n",
             "vars X\nrates R, S\nrow R + S <= H(X)\neliminate S\n",
             "vars X, Y\nrates R\nregion\nrow R <= I(X;Y)\nregion\naux U, V\ngiven markov U -> X -> Y\nrow R <= I(U;Y|V)\n"
             "try U := X,Y; V := 0\ncontain\n",

@@ -2,13 +2,14 @@
 
 from __future__ import annotations
 
+import re
 from collections.abc import Iterable
 from typing import Any, Optional, Union
 
 from .answers import Answer, read
-from .errors import Forged
+from .errors import ProgramFailed
 from .notation import Relation, Sum
-from .program import Budget, Itip, decoded, default
+from .program import Budget, Itip, default
 from .questions import Given, Prove, as_relation, listed, parse, question
 
 
@@ -53,13 +54,14 @@ def ask(text: str, *, pivots: Budget = "usual", program: Optional[Itip] = None) 
     """
     at = program or default()
     lines = at.file_report(text, pivots)
-    answers = [read(parse(str(decoded(line)["question"])), line, at) for line in lines]
-    if "".join(answer.question for answer in answers) != _plain(text):
-        raise Forged("the report answers another file")
-    return answers
+    questions = _questions(text)
+    if len(lines) != len(questions):
+        raise ProgramFailed(f"{len(questions)} questions got {len(lines)} answers")
+    return [read(parse(one), line, at) for one, line in zip(questions, lines)]
 
 
-def _plain(text: str) -> str:
-    """A file's lines as reports have them: without comments, and without blanks at their ends."""
+def _questions(text: str) -> list[str]:
+    """The questions of a file as reports have them: without comments, and without blanks at the ends of lines."""
     lines = (line.partition("#")[0].replace("\t", " ").strip(" \r") for line in text.split("\n"))
-    return "".join(line + "\n" for line in lines if line)
+    plain = "".join(line + "\n" for line in lines if line)
+    return re.split(r"(?m)^(?=vars\b)", plain)[1:]

@@ -33,7 +33,7 @@ class Style:
     """How names, numbers and signs are written."""
 
     name: Callable[[str], str]
-    number: Callable[[Fraction], str]
+    fraction: str
     times: str
     bar: str
     words: Mapping[str, str]
@@ -51,12 +51,8 @@ def latex_name(name: str) -> str:
     return body + ("_{" + index.replace("_", r"\_") + "}" if index else "")
 
 
-def _latex_number(number: Fraction) -> str:
-    return str(number) if number.denominator == 1 else rf"\tfrac{{{number.numerator}}}{{{number.denominator}}}"
-
-
-TEXT = Style(str, str, " ", "|", {"<=": "<=", ">=": ">=", "=": "="})
-LATEX = Style(latex_name, _latex_number, r"\,", r"\mid ", {"<=": r"\le", ">=": r"\ge", "=": "="})
+TEXT = Style(str, "{}/{}", " ", "|", {"<=": "<=", ">=": ">=", "=": "="})
+LATEX = Style(latex_name, r"\tfrac{{{}}}{{{}}}", r"\,", r"\mid ", {"<=": r"\le", ">=": r"\ge", "=": "="})
 
 
 class Written:
@@ -81,7 +77,7 @@ class Written:
 # Variables, and what stands in the brackets of H and I
 
 
-class Inside(Written):
+class Inside:
     """A part of what stands in brackets: `X + Y` lists variables, `&` stands for the semicolon, `|` before a condition.
 
     Python takes `X, Y & Z | W` for X, (Y & Z) | W. Read from left to right that is the paper's X, Y; Z | W, wherever the commas are,
@@ -91,33 +87,26 @@ class Inside(Written):
     def tokens(self) -> tuple[Variable | str, ...]:
         raise NotImplementedError
 
-    def _joined(self, sign: Names, other: object) -> Inside:
+    def _joined(self, sign: str, other: object) -> Inside:
         if not isinstance(other, Inside):
             raise NotationError(f"variables alone are joined here, as in H(X + Y), I(X & Y | Z), not {other!r}")
-        return Listed(self.tokens() + sign + other.tokens())
+        return Listed((*self.tokens(), sign, *other.tokens()))
 
     def __add__(self, other: Inside) -> Inside:
-        return self._joined((), other)
+        return self._joined("+", other)
 
     def __and__(self, other: Inside) -> Inside:
-        return self._joined(("&",), other)
+        return self._joined("&", other)
 
     def __or__(self, other: Inside) -> Inside:
-        return self._joined(("|",), other)
+        return self._joined("|", other)
 
-    def write(self, style: Style) -> str:
-        signs = {"&": " & ", "|": " | "}
-        out = ""
-        for token in self.tokens():
-            if isinstance(token, str):
-                out += signs[token]
-            else:
-                out += (" + " if out and out[-1] != " " else "") + style.name(token.name)
-        return out
+    def __repr__(self) -> str:
+        return " ".join(token if isinstance(token, str) else token.name for token in self.tokens())
 
 
 @dataclass(frozen=True, repr=False)
-class Variable(Inside):
+class Variable(Inside, Written):
     """A random variable; two with the same name are the same."""
 
     name: str
@@ -127,6 +116,9 @@ class Variable(Inside):
 
     def tokens(self) -> tuple[Variable | str, ...]:
         return (self,)
+
+    def write(self, style: Style) -> str:
+        return style.name(self.name)
 
 
 @dataclass(frozen=True, repr=False)
@@ -144,13 +136,13 @@ Variables = Union[Inside, Sequence[Inside]]
 
 def names_of(what: Variables) -> Names:
     """The names of a variable, of X + Y, or of (X, Y)."""
-    parts = [what] if isinstance(what, Inside) else what
     names = []
-    for part in parts:
+    for part in [what] if isinstance(what, Inside) else what:
         for token in part.tokens() if isinstance(part, Inside) else (part,):
-            if not isinstance(token, Variable):
+            if isinstance(token, Variable):
+                names.append(token.name)
+            elif token != "+":
                 raise NotationError(f"variables alone stand here, as X or X + Y, not {token!r}")
-            names.append(token.name)
     return tuple(names)
 
 
@@ -293,12 +285,13 @@ class Sum(Written):
         return not (self - other).joint()
 
     def write(self, style: Style) -> str:
-        out = ""
+        parts: list[str] = []
         for number, atom in self.terms:
-            sign = "-" if number < 0 else "+" if out else ""
-            size = "" if abs(number) == 1 else style.number(abs(number)) + style.times
-            out += (f" {sign} " if out else f"{sign} " if sign else "") + size + atom.write(style)
-        return out or "0"
+            above, below = abs(number.numerator), number.denominator
+            sign = "- " if number.numerator < 0 else "+ " if parts else ""
+            size = str(above) if below == 1 else style.fraction.format(above, below)
+            parts.append(sign + ("" if size == "1" else size + style.times) + atom.write(style))
+        return " ".join(parts) or "0"
 
 
 def _number(value: object) -> Optional[Fraction]:
@@ -340,12 +333,11 @@ def _in_brackets(items: Sequence[Inside], sides: int, what_it_is: str) -> Sum:
         for token in item.tokens():
             if isinstance(token, Variable):
                 part.append(token.name)
-                continue
-            if is_conditioned:
+            elif is_conditioned and token != "+":
                 raise NotationError(what_it_is)
-            if token == "|":
+            elif token == "|":
                 is_conditioned, part = True, condition
-            else:
+            elif token == "&":
                 part = []
                 before.append(part)
     if len(before) != sides or not all(before) or (is_conditioned and not condition):

@@ -137,7 +137,7 @@ class Itip:
 
     def _settled(self, line: str, words: Sequence[str]) -> str:
         """The answer to the same question without a budget."""
-        lines = self._judged(str(decoded(line)["question"]), None, words)
+        lines = self._judged(str(decoded(line).get("question")), None, words)
         if len(lines) != 1:
             raise ProgramFailed(f"one question got {len(lines)} answers")
         return lines[0]

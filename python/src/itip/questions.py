@@ -4,6 +4,7 @@ from __future__ import annotations
 
 from collections.abc import Iterable, Mapping, Sequence
 from dataclasses import dataclass
+from functools import cached_property
 from typing import Optional, Union
 
 from .errors import NotationError
@@ -68,8 +69,10 @@ class Question:
 
     def text(self) -> str:
         """As it was given, or as a file has it."""
-        if self.source is not None:
-            return self.source
+        return self._written if self.source is None else self.source
+
+    @cached_property
+    def _written(self) -> str:
         rates = ["rates " + ", ".join(self.rates)] if self.rates else []
         lines = ["vars " + ", ".join(self.variables), *rates, *_assumed(self.given, self.rows), *self.goal.lines()]
         return "\n".join(lines) + "\n"
@@ -132,13 +135,13 @@ def question(goal: Union[Prove, Eliminate], given: Sequence[Assumption], about: 
 
 
 def parse(source: str) -> Question:
-    """Reads one question of a file that the program has read."""
+    """Reads one question of a file that the program has read; its relations have whole coefficients."""
     variables, rates = (), ()  # type: Names, Names
     sides = [Side()]  # what stands before the regions, then the regions
     tries: list[dict[str, Names]] = []
     goal: Union[Prove, Eliminate, None] = None
     for line in source.splitlines():
-        reader = Reader(line.split("#")[0].strip())
+        reader = Reader(line.partition("#")[0].strip(), is_whole=True)
         word = reader.look() and reader.take()
         side = sides[-1]
         if word == "vars":

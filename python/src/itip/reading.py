@@ -4,6 +4,7 @@ from __future__ import annotations
 
 import re
 from fractions import Fraction
+from math import lcm
 from typing import NoReturn
 
 from .errors import NotationError
@@ -14,10 +15,16 @@ BETWEEN = {"markov": "->", "indep": ";", "func": "of"}
 
 
 class Reader:
-    """A text as tokens, taken one after the other."""
+    """A text as tokens, taken one after the other.
 
-    def __init__(self, text: str) -> None:
+    With `is_whole` a relation is read as what it means with whole coefficients: times the least common multiple of its denominators, as
+    they are written.
+    """
+
+    def __init__(self, text: str, is_whole: bool = False) -> None:
         self.text = text
+        self.is_whole = is_whole
+        self.multiple = 1  # of the denominators up to here
         self.at = 0
         self._skip()
 
@@ -85,8 +92,9 @@ class Reader:
             return [(Fraction(1), self.atom())]
         number = Fraction(self.number())
         if self.takes("/"):
-            divisor = self.number()
-            number = number / divisor if divisor else self.fault("nothing is divided by 0")
+            divisor = self.number() or self.fault("nothing is divided by 0")
+            self.multiple = lcm(self.multiple, divisor)
+            number /= divisor
         elif not number and not self.look()[:1].isalpha():
             return []
         return [(number, self.atom())]
@@ -102,7 +110,8 @@ class Reader:
     def relation(self) -> Relation:
         left = self.sum()
         sign = self.takes(*TEXT.words) or self.fault("a relation has one of the signs <=, >= and = here")
-        return Relation(left, sign, self.sum())
+        right = self.sum()
+        return Relation(self.multiple * left, sign, self.multiple * right) if self.is_whole else Relation(left, sign, right)
 
     def assumption(self) -> Assumption:
         begin = self.at
