@@ -1,0 +1,67 @@
+"""What asks the program: one relation, many, or a file."""
+
+from __future__ import annotations
+
+import re
+from collections.abc import Iterable
+from typing import Any, Optional, Union
+
+from .answers import Answer, read
+from .errors import ProgramFailed
+from .notation import Relation, Sum
+from .program import Budget, Itip, default
+from .questions import Given, Prove, as_relation, listed, parse, question
+
+
+def prove(relation: Union[str, Relation], given: Given = None, **settings: Any) -> Answer:
+    """Asks whether a relation holds wherever what is given does; the settings are those of `prove_all`.
+
+    >>> from itip import *
+    >>> X, Y, Z = rv("X Y Z")
+    >>> prove(I(X & Z) <= I(X & Y), given=markov(X, Y, Z))
+    yes 1 : 1 I(X;Y|Z) + -1 given 1
+    """
+    return prove_all([relation], given, **settings)[0]
+
+
+def prove_all(
+    relations: Iterable[Union[str, Relation]],
+    given: Given = None,
+    *,
+    about: Iterable[Sum] = (),
+    pivots: Budget = "usual",
+    program: Optional[Itip] = None,
+) -> list[Answer]:
+    """Asks of each relation whether it holds wherever what is given does, all in one call of the program.
+
+    Relations and assumptions are objects, or texts in the notation of question files. `about` are sums whose variables and rates each
+    question has, whether or not its relation names them; `pivots` is the budget of steps, None for none.
+    """
+    at = program or default()
+    assumed, about = listed(given), tuple(about)
+    goals = [Prove(as_relation(relation)) for relation in relations]
+    asked = [question(goal, assumed, [goal.relation, *about]) for goal in goals]
+    lines = at.report([one.text() for one in asked], pivots)
+    return [read(one, line, at) for one, line in zip(asked, lines)]
+
+
+def ask(text: str, *, pivots: Budget = "usual", program: Optional[Itip] = None) -> list[Answer]:
+    """Answers a question file, given as text. A file at fault is `Refused` as a whole, with the place.
+
+    >>> from itip import ask
+    >>> ask("vars X, Y\\nprove H(X) >= H(X|Y)")
+    [yes 1 : 1 I(X;Y)]
+    """
+    at = program or default()
+    lines = at.file_report(text, pivots)
+    questions = _questions(text)
+    if len(lines) != len(questions):
+        raise ProgramFailed(f"{len(questions)} questions got {len(lines)} answers")
+    return [read(parse(one), line, at) for one, line in zip(questions, lines)]
+
+
+def _questions(text: str) -> list[str]:
+    """The questions of a file as reports have them: without comments, and without blanks at the ends of lines."""
+    lines = (line.partition("#")[0].replace("\t", " ").strip(" \r") for line in text.split("\n"))
+    plain = "".join(line + "\n" for line in lines if line)
+    return re.split(r"(?m)^(?=vars\b)", plain)[1:]

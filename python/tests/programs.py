@@ -1,0 +1,26 @@
+"""Programs that fail, hang, lie, or answer something else, as small scripts in the place of `itip`."""
+
+import stat
+import sys
+import tempfile
+import unittest
+from pathlib import Path
+
+from itip import Itip
+from itip.program import default
+
+
+class WithPrograms(unittest.TestCase):
+    def program(self, body, **settings):
+        """A program that does what the body says; there, `honest()` calls the true one with the same words and input."""
+        folder = tempfile.TemporaryDirectory()
+        self.addCleanup(folder.cleanup)
+        path = Path(folder.name) / "itip"
+        head = (
+            f"#!{sys.executable}\nimport os, subprocess, sys, time\n"
+            "def honest(*more):\n"
+            f"    return subprocess.call([{str(default().prover_path())!r}, *sys.argv[1:], *more])\n"
+        )
+        path.write_text(head + body)
+        path.chmod(path.stat().st_mode | stat.S_IXUSR)
+        return Itip(prover=path, **settings)
