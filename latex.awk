@@ -174,6 +174,21 @@ function sentence(line, below,    word, count, i, pair, text) {
     return "\\paragraph{" word[1] ".} " text
 }
 
+# A comment as lines of its own, broken at its commas.
+function comment_tex(text,    part, count, i, used, out, line) {
+    count = split(text, part, ", ")
+    for (i = 1; i <= count; i++) {
+        if (line != "" && used + length(part[i]) > WIDTH) {
+            out = out " \\\\\n  &\\quad\\text{" line ",}"
+            line = ""
+            used = 0
+        }
+        line = line (line == "" ? "" : ", ") escaped(part[i])
+        used += length(part[i]) + 2
+    }
+    return out " \\\\\n  &\\quad\\text{" line "}"
+}
+
 # Writes the relations that wait, as one align*.
 function close_relations(    i, wide, text) {
     if (!relations) return
@@ -181,7 +196,8 @@ function close_relations(    i, wide, text) {
     print "\\begin{align*}"
     for (i = 1; i <= relations; i++) {
         text = relation_tex(relation[i], wide > LEFT ? 0 : wide + 1)
-        if (comment[i] != "") text = text " && \\text{" escaped(comment[i]) "}"
+        if (comment[i] ~ /, /) text = text comment_tex(comment[i])
+        else if (comment[i] != "") text = text " && \\text{" escaped(comment[i]) "}"
         print "  " text (i < relations ? " \\\\" : "")
     }
     print "\\end{align*}"
