@@ -1,25 +1,19 @@
 -- What mode `copy` writes.
-use Rattle.std.proofs.Common.{◌≡◌, ℕ, ◌<◌, ℤ, List, [], length, map, get_or, Option, Result, Ok, Err, IfOk, refl, sym, ap, subst, ◌∙◌, arith}
+use Rattle.std.proofs.Common.{◌≡◌, ℕ, ◌<◌, List, [], length, map, get_or, Option, Result, Ok, Err, IfOk, refl, ap, ◌∙◌, arith}
 use Rattle.std.specs.Global.{Vec}
 use Rattle.std.proofs.lemmas.List.{length-map, get_or-map}
 use Rattle.it_space.specs.Answers.{AnswerView}
-use Rattle.it_polymatroid.specs.Polymatroid.{IsPolymatroid}
-use Rattle.it_syntax.specs.Meaning.{RelationView, Holds}
 use Rattle.it_question.specs.declared.types.Question.{Question}
 use Rattle.it_question.specs.Questions.{BodyView, question_view, VerbView, Prove, Eliminate, Contain}
-use Rattle.it_question.specs.ProblemLines.{lines_under, names_under}
-use Rattle.it_canon.specs.TrueLines.{AreTrueAt}
 use Rattle.it_copy.specs.CopyLines.{CopyView}
 use Rattle.it_copy.specs.declared.types.CopyFault.{CopyFault}
 use Rattle.it_copy.specs.declared.types.CopyFault.TheVariants.{Memory}
 use Rattle.it_copy.specs.Extensions.{IsMisfit, IsProof}
-use Rattle.it_copy.specs.Points.{YesByCopies}
 use Rattle.it_region.specs.declared.types.Candidate.{Candidate}
 use Rattle.it_contain.specs.Proposals.{Plan}
 use Rattle.it_answer.specs.declared.types.Budgets.{Budgets}
 use Rattle.it_answer.specs.RightAnswers.{IsDueBy, IsRightAnswer}
-use Rattle.it_answer.specs.Shows.{AYesIsTrue}
-use Rattle.it_cli.specs.Copies.{AYesWithCopiesIsTrue, CopyQuestion, IsRightProof, Misfit, with_copies}
+use Rattle.it_cli.specs.Copies.{CopyQuestion, IsRightProof, Misfit, with_copies}
 use Rattle.it_cli.specs.InnerEnds.{IsTextOf}
 use Rattle.it_cli.specs.Misfits.{misfit_line}
 use Rattle.it_cli.specs.Outputs.{copy_mode}

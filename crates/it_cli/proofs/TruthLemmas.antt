@@ -1,5 +1,5 @@
 -- Right replies in modes `copy`, `best` and `sharing` are true.
-use Rattle.std.proofs.Common.{◌≡◌, ℕ, ℤ, ◌↔◌, length, Bool, true, List, Option, Some, refl, sym, ap, subst, ◌∙◌}
+use Rattle.std.proofs.Common.{◌≡◌, ℕ, ℤ, ◌↔◌, length, true, List, Option, Some, refl, sym, ap, subst, ◌∙◌}
 use Rattle.it_space.specs.Answers.{AnswerView}
 use Rattle.it_space.specs.Answers.AnswerView.{Yes, No, Undecided, Region, Contained, Open}
 use Rattle.it_space.specs.Rows.{point_of}

@@ -1,5 +1,5 @@
 -- The questions of a file with a head are within the limits.
-use Rattle.std.proofs.Common.{◌≡◌, ℕ, List, [], length, drop, All, Ok, Err, refl, subst}
+use Rattle.std.proofs.Common.{◌≡◌, List, [], length, drop, All, Ok, Err, refl, subst}
 use Rattle.std.proofs.lemmas.List.Elements.{All-weaker}
 use Rattle.it_forms.specs.FormReading.{read}
 use Rattle.it_forms.specs.Letters.{Letter}
