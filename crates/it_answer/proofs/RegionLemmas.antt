@@ -31,6 +31,7 @@ use Rattle.it_redundant.specs.Theorems as theorems
 use Rattle.it_redundant.specs.Theorems.{IsReducedRegion, RegionIsReduced}
 use Rattle.it_redundant.proofs.ProjectionLemmas.{one_reduced_end}
 use Rattle.it_answer.specs.declared.types.Budgets.{Budgets}
+use Rattle.it_answer.specs.Shows.{ShowsBy}
 use Rattle.it_answer.specs.Truth.{DoesNotFollow, IsExactRegion, LinesExtend, MarkedRowsAreNeeded, region_rows}
 use Rattle.it_answer.specs.DueEliminations.{marked_rows, answer_of_end, IsDueElimination}
 
