@@ -1,4 +1,4 @@
-//! Rows of the inverse of a basis: whole numbers in 32 bits over one denominator, in lowest terms.
+//! Rows of the inverse of a basis: whole numbers in 32 bits over one denominator.
 //!
 //! A row has a number at each place of the program. At place 0 stands 0, at place `RIGHT` the row's value at the right side.
 ghost use Rattle.std.specs.Prelude.{◌≡◌};
@@ -17,6 +17,11 @@ pub const RIGHT: usize = 1;
 
 /// No number of a row is larger.
 const LIMIT: u64 = (1 << 31) - 1;
+
+/// A row is put in lowest terms once its denominator or its numbers are larger: to go through a whole row for that is dear.
+const LARGE_BOTTOM: u64 = 1 << 12;
+
+const LARGE: u64 = 1 << 20;
 
 /// The sum of the squares, modulo 2^64.
 fn sum_of_squares(numbers: &[i32]) -> u64 {
@@ -129,8 +134,8 @@ impl InverseRow {
         self.squares
     }
 
-    /// The row after another one has left, with this entry in the column that enters. False where a number becomes too large: then
-    /// the row is of no use.
+    /// The row after another one has left, with this entry in the column that enters. False where a number would be too large: then
+    /// the row stays.
     pub fn update(&mut self, leaving: &LeavingRow, entry: i64) -> bool {
         if leaving.pivot < 1 || entry == i64::MIN || self.numbers.len() != leaving.numbers.len() {
             return false;
@@ -153,19 +158,23 @@ impl InverseRow {
             return false;
         };
         self.most = most;
-        self.put_over(bottom);
+        self.bottom = bottom;
+        if bottom > LARGE_BOTTOM || most > LARGE {
+            self.put_in_lowest_terms();
+        }
         self.squares = sum_of_squares(self.numbers.as_slice());
         true
     }
 
-    /// Puts the numbers over a denominator, in lowest terms.
-    fn put_over(&mut self, bottom: u64) {
-        match shorten(self.numbers.as_mut_slice(), bottom) {
+    /// Divides the numbers and the denominator by what all have in common. False where that is nothing.
+    pub fn put_in_lowest_terms(&mut self) -> bool {
+        match shorten(self.numbers.as_mut_slice(), self.bottom) {
             Some(smaller) => {
                 self.bottom = smaller;
                 self.most = greatest_size(self.numbers.as_slice());
+                true
             }
-            None => self.bottom = bottom,
+            None => false,
         }
     }
 

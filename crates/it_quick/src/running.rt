@@ -4,6 +4,7 @@ use crate::numbers::at;
 use crate::pricing::{Entering, Prices};
 use crate::programs::Program;
 use crate::rows::{InverseRow, LeavingRow, RIGHT};
+use it_vectors::lowest_terms;
 use it_vectors::narrow_numbers::STRETCH;
 use std::alloc::{AllocError, Global};
 
@@ -22,7 +23,7 @@ pub enum End {
 #[derive(Clone, Copy)]
 pub struct ColumnWeight {
     pub column: usize,
-    pub number: i32,
+    pub number: i64,
     pub bottom: u64,
 }
 
@@ -89,19 +90,27 @@ fn steepest(rows: &[InverseRow]) -> Option<Faulty> {
     best
 }
 
+/// The weight of a column that is basic in a row, in lowest terms. None where no column is, or its weight is 0.
+fn weight(row: &InverseRow) -> Option<ColumnWeight> {
+    let column = row.basic()?;
+    let bottom = i64::try_from(row.bottom()).ok()?;
+    if bottom < 1 || row.right() == 0 {
+        return None;
+    }
+    let (bottom, number) = lowest_terms(bottom, i64::from(row.right()));
+    Some(ColumnWeight {
+        column,
+        number,
+        bottom: bottom.unsigned_abs(),
+    })
+}
+
 /// The weights of the columns that are basic.
 fn weights(alloc: Global, rows: &[InverseRow]) -> Result<End, AllocError> {
     let mut weights = Vec::new(alloc);
     for row in rows {
-        if let Some(column) = row.basic() {
-            let (number, bottom) = (row.right(), row.bottom());
-            if number != 0 {
-                weights.push(ColumnWeight {
-                    column,
-                    number,
-                    bottom,
-                })?;
-            }
+        if let Some(weight) = weight(row) {
+            weights.push(weight)?;
         }
     }
     Ok(End::Weights(weights))
@@ -191,7 +200,10 @@ fn update(
         return false;
     };
     let entry = program.entry(column, row.numbers());
-    entry == 0 || row.update(leaving, entry)
+    if entry == 0 || row.update(leaving, entry) {
+        return true;
+    }
+    row.put_in_lowest_terms() && row.update(leaving, program.entry(column, row.numbers()))
 }
 
 /// How the run ends within so many steps.
