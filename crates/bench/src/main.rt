@@ -25,6 +25,7 @@ mod reductions;
 mod runs;
 mod searches;
 mod systems;
+mod targets;
 
 use crate::output::Output;
 use it_outside::{StdSource, read_all};
@@ -72,13 +73,18 @@ fn reading(alloc: Global, out: &mut Output, file: &[u8], task: &Task<'_>)
 fn write_all(
     alloc: Global,
     out: &mut Output,
+    kernel: &str,
     questions: &[Question],
     task: &Task<'_>,
 ) -> Result<(), AllocError>
     requires { All (λ q. IsQuestion (question_body q)) questions.now }
 {
     for question in questions {
-        readings::write(alloc, out, question, task)?;
+        if kernel == "targets" {
+            targets::write(alloc, out, question, task)?;
+        } else {
+            readings::write(alloc, out, question, task)?;
+        }
     }
     Ok(())
 }
@@ -115,8 +121,8 @@ fn on_questions(
     requires { length file.now ≤ 1048577 }
 {
     match questions(alloc, file) {
-        Ok(questions) if kernel == "questions" => {
-            write_all(alloc, out, questions.as_slice(), task)
+        Ok(questions) if kernel == "questions" || kernel == "targets" => {
+            write_all(alloc, out, kernel, questions.as_slice(), task)
         }
         Ok(questions) if !questions.is_empty() => {
             asking(alloc, out, kernel, &questions.as_slice()[0], task)

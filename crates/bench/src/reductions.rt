@@ -10,9 +10,9 @@ ghost use Rattle.it_space.specs.Rows.{IsOver};
 
 use crate::Task;
 use crate::output::Output;
+use crate::targets::Asking;
 use it_canon::{problem, system};
 use it_eliminate::{Eliminated, step};
-use it_prove::{Proof, prove};
 use it_question::types::{Question, Verb};
 use it_redundant::{kept_system, reduce};
 use it_simplex::Budget;
@@ -122,24 +122,27 @@ fn follows(
     before: &[Row],
     row: &Row,
     after: &[Row],
+    asking: &mut Asking,
 ) -> Result<bool, AllocError> {
     let problem = problem_around(alloc, givens, before, after)?;
     if !is_problem(&problem) || !is_up_to(row, problem.space.size()) {
         return Ok(false);
     }
-    match prove(alloc, &problem, row, Budget::none())? {
-        Proof::Yes(_) => Ok(true),
-        _ => Ok(false),
-    }
+    asking.proves(alloc, &problem, row)
 }
 
 /// A list without the rows that the others give, each by a call of its own.
-fn reduction_anew(alloc: Global, list: &System, givens: &Problem) -> Result<System, AllocError> {
+fn reduction_anew(
+    alloc: Global,
+    list: &System,
+    givens: &Problem,
+    asking: &mut Asking,
+) -> Result<System, AllocError> {
     let mut kept = Vec::new(alloc);
     let rows = list.rows.as_slice();
     for i in 0..rows.len() {
         let row = &rows[i];
-        if !follows(alloc, givens, kept.as_slice(), row, &rows[i + 1..])? {
+        if !follows(alloc, givens, kept.as_slice(), row, &rows[i + 1..], asking)? {
             kept.push(row.copy(alloc)?)?;
         }
     }
@@ -150,7 +153,13 @@ fn reduction_anew(alloc: Global, list: &System, givens: &Problem) -> Result<Syst
 }
 
 /// A list without the rows that the others give, in one of the ways.
-fn reduction(alloc: Global, list: System, givens: &Problem, way: &str) -> Result<System, AllocError>
+fn reduction(
+    alloc: Global,
+    list: System,
+    givens: &Problem,
+    way: &str,
+    asking: &mut Asking,
+) -> Result<System, AllocError>
     requires under { IsSystemUnder (problem_view givens.now) list }
     requires few { length list.rows.items ≤ 65535 }
 {
@@ -159,7 +168,7 @@ fn reduction(alloc: Global, list: System, givens: &Problem, way: &str) -> Result
             let reduced = reduce(alloc, &list, givens, Budget::none())?;
             kept_system(alloc, list.space, &reduced)
         }
-        "anew" => reduction_anew(alloc, &list, givens),
+        "anew" => reduction_anew(alloc, &list, givens, asking),
         _ => Ok(list),
     }
 }
@@ -199,6 +208,7 @@ fn reduced_after(
     givens: &Problem,
     rate: u8,
     way: &str,
+    asking: &mut Asking,
 ) -> Result<Option<(System, usize)>, AllocError> {
     let Some(after) = after(alloc, list, givens, rate)? else {
         return Ok(None);
@@ -207,7 +217,7 @@ fn reduced_after(
         return Ok(None);
     }
     let asked = if way == "plain" { 0 } else { after.rows.len() };
-    Ok(Some((reduction(alloc, after, givens, way)?, asked)))
+    Ok(Some((reduction(alloc, after, givens, way, asking)?, asked)))
 }
 
 /// The rows of a question, and what they are under.
@@ -219,18 +229,19 @@ fn rows_and_givens(alloc: Global, question: &Question) -> Result<(System, Proble
 }
 
 /// How many rows each rate leaves, up to a rate that has no list, and how often the solver was called.
-fn elimination(
+pub fn elimination(
     alloc: Global,
     question: &Question,
     rates: &[u8],
     way: &str,
+    asking: &mut Asking,
 ) -> Result<(Vec<usize>, usize), AllocError>
     requires { IsQuestion (question_body question.now) }
 {
     let (mut list, givens) = rows_and_givens(alloc, question)?;
     let (mut counts, mut calls) = (Vec::new(alloc), 0usize);
     for rate in rates {
-        let Some((after, asked)) = reduced_after(alloc, &list, &givens, *rate, way)? else {
+        let Some((after, asked)) = reduced_after(alloc, &list, &givens, *rate, way, asking)? else {
             return Ok((counts, calls));
         };
         calls = calls.wrapping_add(asked);
@@ -262,10 +273,11 @@ fn eliminate(
 ) -> Result<(), AllocError>
     requires { IsQuestion (question_body question.now) }
 {
+    let mut asking = Asking::defined();
     for _ in 1..task.turns {
-        elimination(alloc, question, rates, task.way)?;
+        elimination(alloc, question, rates, task.way, &mut asking)?;
     }
-    let (counts, calls) = elimination(alloc, question, rates, task.way)?;
+    let (counts, calls) = elimination(alloc, question, rates, task.way, &mut asking)?;
     write_counts(out, counts.as_slice(), calls);
     Ok(())
 }

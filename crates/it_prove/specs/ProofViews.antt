@@ -114,3 +114,28 @@ NeverOutOfSteps = (q : ProblemView) (target : Terms) (k : ℕ) → EndsWith q ta
 -- the size of a problem's table is that of the run's start: its coordinates times its columns, with an artificial one for each coordinate
 abbrev pub SizeIsOfStart : Type 0
 SizeIsOfStart = (q : ProblemView) → table_size q ≡ length (closed_places q) * (length (columns (closed_generators q)) + length (closed_places q))
+
+-- ---- with a quick run first
+
+-- a certificate of the target that ascends, or a point that refutes it; whichever run it comes from
+abbrev pub IsSettled : ProblemView → Terms → ProofView → Type 0
+IsSettled q target (Yes w) = IsRightProof q target (Yes w) × IsCanonical w.weights
+IsSettled q target (No values) = IsRightProof q target (No values)
+IsSettled q target (Undecided cause) = ⊥
+
+-- Where a quick run comes first an outcome is settled, or it is that of the defined run. So where the target is left open, that run leaves it open.
+abbrev pub AnswersQuickly : ProblemView → Terms → Option ℕ → ProofView → Type 0
+AnswersQuickly q target budget o = IsSettled q target o ⊎ EndsWith q target budget o
+
+-- what a quick answer says is right
+abbrev pub QuickAnswersAreRight : Type 0
+QuickAnswersAreRight = (q : ProblemView) (target : Terms) (budget : Option ℕ) (o : ProofView) → IsProblem q → IsOver (size_of q.space) target → AnswersQuickly q target budget o → IsRightProof q target o
+
+-- each outcome of the defined run is a quick answer
+abbrev pub EndsAreQuickAnswers : Type 0
+EndsAreQuickAnswers = (q : ProblemView) (target : Terms) (budget : Option ℕ) (o : ProofView) → EndsWith q target budget o → AnswersQuickly q target budget o
+
+-- no two quick answers say the opposite
+abbrev pub QuickAnswersAgree : Type 0
+QuickAnswersAgree = (q : ProblemView) (target : Terms) (w : CertificateView) (values : List ℤ) → IsProblem q → IsOver (size_of q.space) target
+    → IsRightProof q target (Yes w) → IsRightProof q target (No values) → ⊥

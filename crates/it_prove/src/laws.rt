@@ -1,5 +1,5 @@
 //! What the outcomes say, each theorem as the contract of a function.
-ghost use Rattle.it_prove.specs.ProofViews.{EndsAreRight, NeverAtStart, NeverOutOfSteps, OneProofView, ProvenAscends, SizeIsOfStart};
+ghost use Rattle.it_prove.specs.ProofViews.{EndsAreQuickAnswers, EndsAreRight, NeverAtStart, NeverOutOfSteps, OneProofView, ProvenAscends, QuickAnswersAgree, QuickAnswersAreRight, SizeIsOfStart};
 
 /// What a run ends with is right: a certificate certifies the target, and a point refutes it.
 pub fn ends_are_right()
@@ -31,4 +31,19 @@ pub fn never_out_of_steps()
 #[tactic(auto, using(crate::proofs::SizeLemmas::size_of_start))]
 pub fn size_is_of_start()
     ensures { SizeIsOfStart }
+{}
+
+/// What a quick answer says is right.
+pub fn quick_answers_are_right()
+    ensures { QuickAnswersAreRight }
+{}
+
+/// Each outcome of the defined run is a quick answer.
+pub fn ends_are_quick_answers()
+    ensures { EndsAreQuickAnswers }
+{}
+
+/// No two quick answers say the opposite.
+pub fn quick_answers_agree()
+    ensures { QuickAnswersAgree }
 {}

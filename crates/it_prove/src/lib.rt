@@ -1,7 +1,8 @@
 //! Whether a target is at least 0 wherever a polymatroid and rates meet the constraints of a problem: by a certificate over
 //! the elemental inequalities and the constraints, or by a point that refutes it (Yeung 1997). The run of the simplex
 //! method works on the sets that are closed under the problem's functional dependences; its weights are lifted back to
-//! all sets, and its point is spread out over them.
+//! all sets, and its point is spread out over them. A quick run may come first: what it proposes is the answer where the check
+//! finds it valid.
 #![tactic(auto)]
 
 mod certificates;
@@ -10,13 +11,15 @@ mod columns;
 mod laws;
 mod points;
 mod proving;
+mod quick;
 mod scaling;
 mod types;
 
 pub use closed::ClosedProblem;
 pub use laws::{
-    ends_are_right, never_at_start, never_out_of_steps, one_outcome, proven_ascends,
-    size_is_of_start,
+    ends_are_quick_answers, ends_are_right, never_at_start, never_out_of_steps, one_outcome,
+    proven_ascends, quick_answers_agree, quick_answers_are_right, size_is_of_start,
 };
 pub use proving::prove;
+pub use quick::{quick_prove, settle};
 pub use types::Proof;

@@ -1,0 +1,216 @@
+//! The linear program about a target, over closed sets.
+ghost use Rattle.it_space.specs.Problems.{IsProblem, problem_view};
+
+use crate::closures::{Closures, Companions, with, without};
+use crate::places::Places;
+use crate::programs::{Column, Entry, Inequality, Program};
+use it_closure::Dependences;
+use it_elemental::{Elemental, count, parts};
+use it_space::{Constraint, Kind, Problem, Row, VarSet};
+use std::alloc::{AllocError, Global};
+
+/// The cost of the column of a constraint, and what the costs of inequalities are multiples of, each with a few bits more.
+const CONSTRAINT_COST: i64 = 256;
+
+const INEQUALITY_COST: i64 = 1024;
+
+/// No number of a constraint or a target is larger.
+const MOST: u128 = 1 << 15;
+
+/// Six bits of a number, such that hardly two columns cost the same.
+fn mixed(number: usize) -> i64 {
+    let bits = (number as u64).wrapping_mul(0x9E37_79B9_7F4A_7C15) >> 58;
+    i64::from(bits as u8)
+}
+
+/// The number in 32 bits, where it is small.
+fn small(number: i128) -> Option<i32> {
+    if number.unsigned_abs() <= MOST {
+        i32::try_from(number).ok()
+    } else {
+        None
+    }
+}
+
+/// The column of an inequality over closed sets. None where it is 0, or that of another inequality: one set K for each closure is enough
+/// for I(X;Y|K). It costs the more, the later the set is that is given: so costs differ much, and hardly two columns cost the same.
+fn inequality(
+    closures: &Closures,
+    places: &Places,
+    elemental: Elemental,
+    generator: u32,
+) -> Option<Inequality> {
+    let (plus, other_plus, minus, other_minus, given) = match elemental {
+        Elemental::Conditional { of } => {
+            let full = closures.full();
+            let rest = places.of_set(without(full, of));
+            (places.of_set(full), 0, rest, 0, rest)
+        }
+        Elemental::Mutual { left, right, given } => {
+            if !closures.is_closed(given) {
+                return None;
+            }
+            let place = places.of_set(given);
+            let both = places.of_set(with(with(given, left), right));
+            let one = places.of_set(with(given, left));
+            (one, places.of_set(with(given, right)), both, place, place)
+        }
+    };
+    if plus == minus && other_plus == other_minus {
+        return None;
+    }
+    Some(Inequality {
+        plus,
+        other_plus,
+        minus,
+        other_minus,
+        cost: INEQUALITY_COST.wrapping_mul(i64::from(given.max(1))),
+        generator,
+    })
+}
+
+/// The entries of a row. None where a number is large.
+fn entries(alloc: Global, places: &Places, row: &Row) -> Result<Option<Vec<Entry>>, AllocError> {
+    let mut entries = Vec::with_capacity(alloc, row.terms().len())?;
+    for (coordinate, number) in row.terms() {
+        let Some(number) = small(*number) else {
+            return Ok(None);
+        };
+        let place = places.of(*coordinate);
+        if place != 0 {
+            entries.push(Entry { place, number })?;
+        }
+    }
+    Ok(Some(entries))
+}
+
+/// The entries with each sign turned.
+fn negated(alloc: Global, entries: &[Entry]) -> Result<Vec<Entry>, AllocError> {
+    let mut negated = Vec::with_capacity(alloc, entries.len())?;
+    for entry in entries {
+        negated.push(Entry {
+            place: entry.place,
+            number: entry.number.wrapping_neg(),
+        })?;
+    }
+    Ok(negated)
+}
+
+/// The linear program of a problem over closed sets, and what is made of the closures.
+#[derive(Drop)]
+pub struct ClosedProgram {
+    companions: Companions,
+    pub closures: Closures,
+    pub places: Places,
+    pub program: Program,
+}
+
+impl ClosedProgram {
+    /// The program with the inequalities alone.
+    pub fn read(
+        alloc: Global,
+        dependences: &Dependences,
+        companions: Companions,
+    ) -> Result<ClosedProgram, AllocError> {
+        let space = dependences.space();
+        let closures = Closures::read(alloc, dependences, &companions)?;
+        let places = Places::read(alloc, &closures, space.rates)?;
+        let program = Program::new(alloc, places.width())?;
+        let mut closed = ClosedProgram {
+            companions,
+            closures,
+            places,
+            program,
+        };
+        closed.push_inequalities(dependences)?;
+        Ok(closed)
+    }
+
+    /// Whether it is that of these companions.
+    pub fn is_of(&self, companions: &Companions) -> bool {
+        self.companions.are(companions)
+    }
+
+    /// Puts the columns of the inequalities.
+    fn push_inequalities(&mut self, dependences: &Dependences) -> Result<(), AllocError> {
+        let n = dependences.space().variables;
+        for generator in 0..count(n) {
+            let column = inequality(&self.closures, &self.places, parts(n, generator), generator);
+            if let Some(mut column) = column {
+                column.cost = column.cost.wrapping_add(mixed(self.program.columns()));
+                self.program.inequalities.push(column)?;
+            }
+        }
+        Ok(())
+    }
+
+    /// Puts the columns of a problem's constraints and the right side of a target in the place of those that are there. False where a
+    /// number is large.
+    pub fn pose(
+        &mut self,
+        alloc: Global,
+        problem: &Problem,
+        target: &Row,
+    ) -> Result<bool, AllocError>
+        requires { IsProblem (problem_view problem.now) }
+    {
+        self.program.others.clear();
+        let mut generator = count(problem.space.variables);
+        for constraint in problem.constraints.as_slice() {
+            if !self.push_constraint(alloc, constraint, generator)? {
+                return Ok(false);
+            }
+            generator = generator.saturating_add(1);
+        }
+        self.put_right(alloc, target)
+    }
+
+    /// Puts the right side of a target. False where a number is large.
+    fn put_right(&mut self, alloc: Global, target: &Row) -> Result<bool, AllocError> {
+        let Some(entries) = entries(alloc, &self.places, target)? else {
+            return Ok(false);
+        };
+        self.program.right = Vec::from_elem(alloc, 0i32, self.places.width())?;
+        for entry in entries.as_slice() {
+            self.program.add_right(entry);
+        }
+        Ok(true)
+    }
+
+    /// Puts the column of a constraint, and for an equation also the one with each sign turned. False where a number is large.
+    fn push_constraint(
+        &mut self,
+        alloc: Global,
+        constraint: &Constraint,
+        generator: u32,
+    ) -> Result<bool, AllocError> {
+        let Some(entries) = entries(alloc, &self.places, &constraint.row)? else {
+            return Ok(false);
+        };
+        if let Kind::Equation = constraint.kind {
+            let turned = negated(alloc, entries.as_slice())?;
+            self.push(entries, generator, false)?;
+            self.push(turned, generator, true)?;
+        } else {
+            self.push(entries, generator, false)?;
+        }
+        Ok(true)
+    }
+
+    /// Puts one column of a constraint.
+    fn push(
+        &mut self,
+        entries: Vec<Entry>,
+        generator: u32,
+        negated: bool,
+    ) -> Result<(), AllocError> {
+        let cost = CONSTRAINT_COST.wrapping_add(mixed(self.program.columns()));
+        self.program.others.push(Column {
+            entries,
+            cost,
+            generator,
+            negated,
+        })?;
+        Ok(())
+    }
+}

@@ -1,0 +1,164 @@
+//! Closures of all sets, by the functional dependences of a problem and by those that its rows imply.
+//!
+//! Take the sets that the rows of the problem and the target speak of, closed under the dependences, and the closures of the left
+//! sides of the dependences. Where each of these sets that has x also has y, no row tells whether x determines y, and the run takes
+//! it so. A polymatroid on the sets closed under both is one on all sets, where each set has the value of its closure, and it has the
+//! same values at the rows. So a variable that no line names, a time-sharing variable and variables that only come together cost
+//! nothing.
+ghost use Rattle.std.specs.Prelude.{◌≤◌};
+
+use crate::numbers::at;
+use it_closure::Dependences;
+use it_space::{Problem, Row, VarSet};
+use std::alloc::{AllocError, Global};
+
+/// The set of the first variables.
+fn first_variables(n: u8) -> VarSet
+    requires { n ≤ 10 }
+{
+    VarSet::from_number((1u16 << n) - 1)
+}
+
+/// The set with a variable.
+pub fn with(set: VarSet, i: u8) -> VarSet {
+    set.union(VarSet::from_number(1u16.wrapping_shl(u32::from(i))))
+}
+
+/// The set without a variable.
+pub fn without(set: VarSet, i: u8) -> VarSet {
+    set.minus(VarSet::from_number(1u16.wrapping_shl(u32::from(i))))
+}
+
+/// For each variable those that are in each set with it.
+#[derive(Drop)]
+pub struct Companions {
+    sets: Vec<VarSet>,
+}
+
+impl Companions {
+    /// The companions by the rows of a problem and a target.
+    pub fn read(
+        alloc: Global,
+        dependences: &Dependences,
+        problem: &Problem,
+        target: &Row,
+    ) -> Result<Companions, AllocError> {
+        let n = dependences.space().variables;
+        let mut companions = Companions {
+            sets: Vec::from_elem(alloc, first_variables(n), usize::from(n))?,
+        };
+        companions.meet(dependences.close(VarSet::empty()));
+        for dependence in dependences.list() {
+            companions.meet(dependences.close(dependence.from));
+        }
+        for constraint in problem.constraints.as_slice() {
+            companions.meet_row(dependences, &constraint.row);
+        }
+        companions.meet_row(dependences, target);
+        Ok(companions)
+    }
+
+    /// Keeps for each member of a set those in the set.
+    fn meet(&mut self, set: VarSet) {
+        for i in 0..self.sets.len() {
+            if has(set, i) {
+                self.sets[i] = self.sets[i].meet(set);
+            }
+        }
+    }
+
+    /// The same for each set of a row.
+    fn meet_row(&mut self, dependences: &Dependences, row: &Row) {
+        let sets = 1u32 << dependences.space().variables;
+        for (coordinate, _) in row.terms() {
+            if *coordinate < sets {
+                if let Ok(set) = u16::try_from(*coordinate) {
+                    self.meet(dependences.close(VarSet::from_number(set)));
+                }
+            }
+        }
+    }
+
+    /// A set with the companions of its members.
+    fn joined(&self, set: VarSet) -> VarSet {
+        let mut all = set;
+        for i in 0..self.sets.len() {
+            if has(set, i) {
+                all = all.union(self.sets[i]);
+            }
+        }
+        all
+    }
+
+    /// Whether others are the same.
+    pub fn are(&self, others: &Companions) -> bool {
+        self.sets.as_slice() == others.sets.as_slice()
+    }
+}
+
+/// Whether a set has a variable.
+fn has(set: VarSet, i: usize) -> bool {
+    match u8::try_from(i) {
+        Ok(i) => set.has(i),
+        Err(_) => false,
+    }
+}
+
+/// The least set with this one that has what its subsets determine and the companions of its members.
+fn closure(dependences: &Dependences, companions: &Companions, set: VarSet) -> VarSet {
+    let mut all = set;
+    // each turn but the last brings a new variable
+    for _ in 0..=dependences.space().variables {
+        let next = companions.joined(dependences.close(all));
+        if next == all {
+            return all;
+        }
+        all = next;
+    }
+    all
+}
+
+/// The closure of each set, by its number.
+#[derive(Drop)]
+pub struct Closures {
+    sets: Vec<VarSet>,
+}
+
+impl Closures {
+    /// The closures of all sets.
+    pub fn read(
+        alloc: Global,
+        dependences: &Dependences,
+        companions: &Companions,
+    ) -> Result<Closures, AllocError> {
+        let count = 1u16 << dependences.space().variables;
+        let mut sets = Vec::with_capacity(alloc, usize::from(count))?;
+        for number in 0..count {
+            sets.push(closure(dependences, companions, VarSet::from_number(number)))?;
+        }
+        Ok(Closures { sets })
+    }
+
+    /// The closure of a set.
+    pub fn of(&self, set: VarSet) -> VarSet {
+        at(self.sets.as_slice(), usize::from(set.number()), set)
+    }
+
+    /// Whether a set is its own closure.
+    pub fn is_closed(&self, set: VarSet) -> bool {
+        self.of(set) == set
+    }
+
+    /// The number of sets.
+    pub fn count(&self) -> usize {
+        self.sets.len()
+    }
+
+    /// The set of all variables: the closure of the last set.
+    pub fn full(&self) -> VarSet {
+        match self.sets.last() {
+            Some(set) => *set,
+            None => VarSet::empty(),
+        }
+    }
+}

@@ -1,0 +1,382 @@
+//! From weights of columns over closed sets to a certificate over all sets.
+//!
+//! A column over closed sets A, B and C, of I(X;Y|K), is I(A;B|A∩B) and what A∩B has more than C: a sum of elemental inequalities over
+//! sets as they are. What is left over at a set then moves to its closure by the dependences.
+ghost use Rattle.std.specs.Prelude.{◌≡◌, ◌<◌, ◌≤◌, ◌^◌, bit_and};
+ghost use Rattle.std.specs.Bool.{OnTrue};
+ghost use Rattle.it_space.specs.Problems.{IsProblem, problem_view};
+
+use crate::closed::ClosedProgram;
+use crate::closures::{Closures, with, without};
+use crate::numbers::at;
+use crate::programs::Column;
+use crate::running::ColumnWeight;
+use it_closure::{Dependence, Dependences, first_open};
+use it_elemental::{
+    Elemental, count, expand_conditional, expand_mutual, generator_count, parts, row,
+};
+use it_fraction::Wide;
+use it_space::{Certificate, Problem, Row, RowFault, VarSet, with_product};
+use it_vectors::{common_divisor, short_product};
+use std::alloc::{AllocError, Global};
+
+/// Whether a set is one of n variables.
+fn is_below(n: u8, set: VarSet) -> bool
+    requires { n ≤ 10 }
+    ensures { OnTrue result (set < 2 ^ n) }
+{
+    set.number() < 1u16 << n
+}
+
+/// Whether two sets have no variable in common.
+fn are_apart(a: VarSet, b: VarSet) -> bool
+    ensures { OnTrue result (bit_and a b ≡ 0) }
+{
+    a.meet(b).number() == 0
+}
+
+/// The numbers of the inequalities that sum to I(a; b | c), where the sets are apart.
+fn mutual(alloc: Global, n: u8, a: VarSet, b: VarSet, c: VarSet) -> Result<Vec<u32>, AllocError>
+    requires some { 1 ≤ n }
+    requires few { n ≤ 10 }
+{
+    if is_below(n, a) && is_below(n, b) && is_below(n, c) {
+        if are_apart(a, b) && are_apart(a, c) && are_apart(b, c) {
+            return expand_mutual(alloc, n, a, b, c);
+        }
+    }
+    Ok(Vec::new(alloc))
+}
+
+/// The numbers of the inequalities that sum to H(a | k), where the sets are apart.
+fn conditional(alloc: Global, n: u8, a: VarSet, k: VarSet) -> Result<Vec<u32>, AllocError>
+    requires some { 1 ≤ n }
+    requires few { n ≤ 10 }
+{
+    if is_below(n, a) && is_below(n, k) && are_apart(a, k) {
+        return expand_conditional(alloc, n, a, k);
+    }
+    Ok(Vec::new(alloc))
+}
+
+/// Whole numbers by place, while products are added to them.
+#[derive(Drop)]
+struct Totals {
+    items: Vec<i128>,
+}
+
+impl Totals {
+    /// A 0 at each of so many places.
+    fn zeros(alloc: Global, count: usize) -> Result<Totals, AllocError> {
+        Ok(Totals {
+            items: Vec::from_elem(alloc, 0i128, count)?,
+        })
+    }
+
+    /// The number at a place.
+    fn at(&self, place: usize) -> i128 {
+        at(self.items.as_slice(), place, 0)
+    }
+
+    /// Adds a product, if there is the place.
+    fn add(&mut self, place: usize, a: i128, b: i128) -> Result<(), Wide> {
+        if place < self.items.len() {
+            self.items[place] = with_product(self.items[place], a, b)?;
+        }
+        Ok(())
+    }
+
+    /// Adds the same to each of some weights.
+    fn add_each(&mut self, places: &[u32], amount: i128) -> Result<(), Wide> {
+        for place in places {
+            self.add(*place as usize, amount, 1)?;
+        }
+        Ok(())
+    }
+
+    /// Adds a row so many times.
+    fn add_row(&mut self, row: &Row, times: i128) -> Result<(), Wide> {
+        for (coordinate, number) in row.terms() {
+            self.add(*coordinate as usize, *number, times)?;
+        }
+        Ok(())
+    }
+}
+
+/// Adds what h(to) has more than h(from), so many times.
+fn add_rise(
+    alloc: Global,
+    weights: &mut Totals,
+    n: u8,
+    from: VarSet,
+    to: VarSet,
+    amount: i128,
+) -> Result<(), RowFault>
+    requires some { 1 ≤ n }
+    requires few { n ≤ 10 }
+{
+    let indexes = conditional(alloc, n, to.minus(from), from)?;
+    weights.add_each(indexes.as_slice(), amount)?;
+    Ok(())
+}
+
+/// Adds h(a) + h(b) - h(a and b) - h(below), so many times, where the last set is in both.
+fn add_pair(
+    alloc: Global,
+    weights: &mut Totals,
+    n: u8,
+    a: VarSet,
+    b: VarSet,
+    below: VarSet,
+    amount: i128,
+) -> Result<(), RowFault>
+    requires some { 1 ≤ n }
+    requires few { n ≤ 10 }
+{
+    let both = a.meet(b);
+    let indexes = mutual(alloc, n, a.minus(b), b.minus(a), both)?;
+    weights.add_each(indexes.as_slice(), amount)?;
+    add_rise(alloc, weights, n, below, both, amount)
+}
+
+/// Adds an inequality over closed sets, so many times.
+fn add_inequality(
+    alloc: Global,
+    weights: &mut Totals,
+    n: u8,
+    closures: &Closures,
+    elemental: Elemental,
+    amount: i128,
+) -> Result<(), RowFault>
+    requires some { 1 ≤ n }
+    requires few { n ≤ 10 }
+{
+    match elemental {
+        Elemental::Conditional { of } => {
+            let full = closures.full();
+            let rest = closures.of(without(full, of));
+            add_rise(alloc, weights, n, rest, full, amount)
+        }
+        Elemental::Mutual { left, right, given } => {
+            let a = closures.of(with(given, left));
+            let b = closures.of(with(given, right));
+            add_pair(alloc, weights, n, a, b, closures.of(given), amount)
+        }
+    }
+}
+
+/// Adds the column of a constraint, so many times.
+fn add_constraint(weights: &mut Totals, column: &Column, amount: i128) -> Result<(), Wide> {
+    let sign = if column.negated { -1 } else { 1 };
+    weights.add(column.generator as usize, amount, sign)
+}
+
+/// Adds a column, so many times.
+fn add_column(
+    alloc: Global,
+    weights: &mut Totals,
+    n: u8,
+    closed: &ClosedProgram,
+    column: usize,
+    amount: i128,
+) -> Result<(), RowFault>
+    requires some { 1 ≤ n }
+    requires few { n ≤ 10 }
+{
+    match closed.program.inequalities.get(column) {
+        Some(inequality) => {
+            if inequality.generator < count(n) {
+                let elemental = parts(n, inequality.generator);
+                add_inequality(alloc, weights, n, &closed.closures, elemental, amount)?;
+            }
+        }
+        None => {
+            if let Some(other) = closed.program.other(column) {
+                add_constraint(weights, other, amount)?;
+            }
+        }
+    }
+    Ok(())
+}
+
+/// Adds what leads from a set over a dependence to a greater one.
+fn add_turn(
+    alloc: Global,
+    weights: &mut Totals,
+    n: u8,
+    set: VarSet,
+    by: Dependence,
+    amount: i128,
+) -> Result<(), RowFault>
+    requires some { 1 ≤ n }
+    requires few { n ≤ 10 }
+{
+    add_pair(alloc, weights, n, by.to, set, by.from, amount)?;
+    let sign = if by.negated { 1 } else { -1 };
+    weights.add(by.generator as usize, amount, sign)?;
+    Ok(())
+}
+
+/// Adds what leads from a set to its closure, one dependence after the other.
+fn add_way(
+    alloc: Global,
+    weights: &mut Totals,
+    n: u8,
+    list: &[Dependence],
+    set: VarSet,
+    amount: i128,
+) -> Result<(), RowFault>
+    requires some { 1 ≤ n }
+    requires few { n ≤ 10 }
+{
+    let mut all = set;
+    // each turn brings a new variable
+    for _ in 0..n {
+        match first_open(list, all) {
+            Some(open) => {
+                let next = all.union(open.to);
+                add_turn(alloc, weights, n, all, open, amount)?;
+                all = next;
+            }
+            None => return Ok(()),
+        }
+    }
+    Ok(())
+}
+
+/// Moves what is left over at a set to its closure.
+fn move_excess(
+    alloc: Global,
+    weights: &mut Totals,
+    dependences: &Dependences,
+    set: VarSet,
+    excess: i128,
+) -> Result<(), RowFault> {
+    let n = dependences.space().variables;
+    if excess > 0 {
+        add_way(alloc, weights, n, dependences.list(), set, excess)
+    } else if excess < 0 {
+        let closure = dependences.close(set);
+        add_rise(alloc, weights, n, set, closure, excess.wrapping_neg())
+    } else {
+        Ok(())
+    }
+}
+
+/// Moves what is left over at all sets. At the empty set is what evens out those with its closure.
+fn move_excesses(
+    alloc: Global,
+    weights: &mut Totals,
+    dependences: &Dependences,
+    excesses: &Totals,
+) -> Result<(), RowFault> {
+    let nothing = dependences.close(VarSet::empty());
+    let mut empty: i128 = 0;
+    for number in 1..1u16 << dependences.space().variables {
+        let set = VarSet::from_number(number);
+        let excess = excesses.at(usize::from(number));
+        if dependences.close(set) == nothing {
+            empty = with_product(empty, excess, -1)?;
+        }
+        move_excess(alloc, weights, dependences, set, excess)?;
+    }
+    move_excess(alloc, weights, dependences, VarSet::empty(), empty)
+}
+
+/// What is left over at each set: the target so many times, less the weights times their generators.
+fn excesses(
+    alloc: Global,
+    problem: &Problem,
+    target: &Row,
+    scale: i128,
+    weights: &Totals,
+) -> Result<Totals, RowFault>
+    requires { IsProblem (problem_view problem.now) }
+{
+    let n = problem.space.variables;
+    let mut left = Totals::zeros(alloc, 1usize << n)?;
+    left.add_row(target, scale)?;
+    for generator in 0..count(n) {
+        let weight = weights.at(generator as usize);
+        if weight != 0 {
+            left.add_row(&row(alloc, n, generator)?, weight.wrapping_neg())?;
+        }
+    }
+    let mut place = count(n) as usize;
+    for constraint in problem.constraints.as_slice() {
+        left.add_row(&constraint.row, weights.at(place).wrapping_neg())?;
+        place = place.saturating_add(1);
+    }
+    Ok(left)
+}
+
+/// The least common multiple of the denominators. None where it is large, or a denominator 0.
+fn common_denominator(weights: &[ColumnWeight]) -> Option<u64> {
+    let mut all: u64 = 1;
+    for weight in weights {
+        if weight.bottom == 0 {
+            return None;
+        }
+        all = short_product(all, weight.bottom / common_divisor(weight.bottom, all))?;
+    }
+    Some(all)
+}
+
+/// The weights other than 0, each after its generator.
+fn terms(alloc: Global, weights: &Totals) -> Result<Vec<(u32, i128)>, AllocError> {
+    let mut terms = Vec::new(alloc);
+    for place in 0..weights.items.len() {
+        if let Ok(generator) = u32::try_from(place) {
+            let weight = weights.at(place);
+            if weight != 0 {
+                terms.push((generator, weight))?;
+            }
+        }
+    }
+    Ok(terms)
+}
+
+/// The weights of the generators by those of columns, times a scale.
+fn generator_weights(
+    alloc: Global,
+    problem: &Problem,
+    closed: &ClosedProgram,
+    weights: &[ColumnWeight],
+    scale: u64,
+) -> Result<Totals, RowFault>
+    requires { IsProblem (problem_view problem.now) }
+{
+    let mut all = Totals::zeros(alloc, generator_count(problem) as usize)?;
+    for weight in weights {
+        if weight.bottom != 0 {
+            let amount = i128::from(scale / weight.bottom).wrapping_mul(i128::from(weight.number));
+            let n = problem.space.variables;
+            add_column(alloc, &mut all, n, closed, weight.column, amount)?;
+        }
+    }
+    Ok(all)
+}
+
+/// The certificate that weights of columns make. `Wide` where a number is large.
+pub fn certificate(
+    alloc: Global,
+    problem: &Problem,
+    dependences: &Dependences,
+    closed: &ClosedProgram,
+    target: &Row,
+    weights: &[ColumnWeight],
+) -> Result<Certificate, RowFault>
+    requires { IsProblem (problem_view problem.now) }
+{
+    let Some(scale) = common_denominator(weights) else {
+        return Err(RowFault::Wide);
+    };
+    let mut all = generator_weights(alloc, problem, closed, weights, scale)?;
+    let scale = i128::from(scale);
+    let left = excesses(alloc, problem, target, scale, &all)?;
+    move_excesses(alloc, &mut all, dependences, &left)?;
+    Ok(Certificate {
+        scale,
+        weights: terms(alloc, &all)?,
+    })
+}

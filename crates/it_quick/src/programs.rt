@@ -1,0 +1,157 @@
+//! The linear program of a run: which weights of its columns, none of them below 0, sum to its right side at least cost?
+//! Its rows are places from 2 on. At place 0, that of a set without entropy, stands 0; place 1 is that of the right side.
+
+use crate::numbers::{at, number_at};
+use std::alloc::{AllocError, Global};
+
+/// The column h(plus) + h(other_plus) - h(minus) - h(other_minus) of an elemental inequality, each set by its place.
+#[derive(Clone, Copy)]
+pub struct Inequality {
+    pub plus: u16,
+    pub other_plus: u16,
+    pub minus: u16,
+    pub other_minus: u16,
+    pub cost: i64,
+    /// The number of the inequality among the generators of the problem.
+    pub generator: u32,
+}
+
+impl Inequality {
+    /// Its value at a row.
+    #[inline]
+    pub fn value(&self, row: &[i32]) -> i64 {
+        let plus = number_at(row, self.plus).wrapping_add(number_at(row, self.other_plus));
+        let minus = number_at(row, self.minus).wrapping_add(number_at(row, self.other_minus));
+        plus.wrapping_sub(minus)
+    }
+
+    /// Its value at prices.
+    #[inline]
+    pub fn price(&self, prices: &[i64]) -> i64 {
+        let plus = price_at(prices, self.plus).wrapping_add(price_at(prices, self.other_plus));
+        let minus = price_at(prices, self.minus).wrapping_add(price_at(prices, self.other_minus));
+        plus.wrapping_sub(minus)
+    }
+}
+
+/// The price at a place.
+#[inline]
+fn price_at(prices: &[i64], place: u16) -> i64 {
+    at(prices, usize::from(place), 0)
+}
+
+/// A number other than 0 of a column at a place.
+#[derive(Clone, Copy)]
+pub struct Entry {
+    pub place: u16,
+    pub number: i32,
+}
+
+/// The column of a constraint.
+#[derive(Drop)]
+pub struct Column {
+    pub entries: Vec<Entry>,
+    pub cost: i64,
+    /// The number of the constraint among the generators of the problem.
+    pub generator: u32,
+    /// Whether the column is the constraint's with each sign turned.
+    pub negated: bool,
+}
+
+impl Column {
+    /// Its value at a row.
+    pub fn value(&self, row: &[i32]) -> i64 {
+        let mut sum: i64 = 0;
+        for entry in self.entries.as_slice() {
+            let product = i64::from(entry.number).wrapping_mul(number_at(row, entry.place));
+            sum = sum.wrapping_add(product);
+        }
+        sum
+    }
+
+    /// Its value at prices.
+    pub fn price(&self, prices: &[i64]) -> i64 {
+        let mut sum: i64 = 0;
+        for entry in self.entries.as_slice() {
+            let product = i64::from(entry.number).wrapping_mul(price_at(prices, entry.place));
+            sum = sum.wrapping_add(product);
+        }
+        sum
+    }
+}
+
+/// A linear program. Its columns are the inequalities and then the others, numbered from 0 on.
+#[derive(Drop)]
+pub struct Program {
+    pub inequalities: Vec<Inequality>,
+    pub others: Vec<Column>,
+    /// The right side at each place.
+    pub right: Vec<i32>,
+}
+
+impl Program {
+    /// The program without columns, whose right side is 0.
+    pub fn new(alloc: Global, width: usize) -> Result<Program, AllocError> {
+        Ok(Program {
+            inequalities: Vec::new(alloc),
+            others: Vec::new(alloc),
+            right: Vec::from_elem(alloc, 0i32, width)?,
+        })
+    }
+
+    /// The number of places.
+    pub fn width(&self) -> usize {
+        self.right.len()
+    }
+
+    /// Adds to the right side.
+    pub fn add_right(&mut self, entry: &Entry) {
+        let place = usize::from(entry.place);
+        if place < self.right.len() {
+            self.right[place] = self.right[place].wrapping_add(entry.number);
+        }
+    }
+
+    /// The number of columns.
+    pub fn columns(&self) -> usize {
+        self.inequalities.len().saturating_add(self.others.len())
+    }
+
+    /// A column that isn't an inequality's.
+    pub fn other(&self, column: usize) -> Option<&Column> {
+        self.others
+            .get(column.wrapping_sub(self.inequalities.len()))
+    }
+
+    /// The entry of a column in a row.
+    #[inline]
+    pub fn entry(&self, column: usize, row: &[i32]) -> i64 {
+        if column < self.inequalities.len() {
+            return self.inequalities[column].value(row);
+        }
+        match self.other(column) {
+            Some(other) => other.value(row),
+            None => 0,
+        }
+    }
+
+    /// What a column costs at prices over a denominator, times this.
+    #[inline]
+    pub fn reduced_cost(&self, column: usize, prices: &[i64], bottom: i64) -> i64 {
+        let (cost, price) = self.cost_and_price(column, prices);
+        bottom.wrapping_mul(cost).wrapping_sub(price)
+    }
+
+    /// A column's own cost, and its value at prices.
+    #[inline]
+    fn cost_and_price(&self, column: usize, prices: &[i64]) -> (i64, i64) {
+        if column < self.inequalities.len() {
+            let inequality = &self.inequalities[column];
+            return (inequality.cost, inequality.price(prices));
+        }
+        match self.other(column) {
+            Some(other) => (other.cost, other.price(prices)),
+            None => (0, 0),
+        }
+    }
+}

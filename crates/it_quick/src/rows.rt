@@ -1,0 +1,272 @@
+//! Rows of the inverse of a basis: whole numbers in 32 bits over one denominator.
+//!
+//! A row has a number at each place of the program. At place 0 stands 0, at place `RIGHT` the row's value at the right side.
+ghost use Rattle.std.specs.Prelude.{◌≡◌};
+ghost use Rattle.std.specs.Option.{IfNone};
+
+use crate::numbers::at;
+use it_vectors::narrow_numbers::{
+    STRETCH, combine, divide, divisor, greatest_size, note_stretches,
+};
+use it_vectors::{lowest_terms, short_product};
+use std::alloc::{AllocError, Global};
+use std::marker::Model;
+
+/// The place of the right side.
+pub const RIGHT: usize = 1;
+
+/// No number of a row is larger.
+const LIMIT: u64 = (1 << 31) - 1;
+
+/// A row is put in lowest terms once its denominator or its numbers are larger: to go through a whole row for that is dear.
+const LARGE_BOTTOM: u64 = 1 << 12;
+
+const LARGE: u64 = 1 << 20;
+
+/// The sum of the squares, modulo 2^64.
+fn sum_of_squares(numbers: &[i32]) -> u64 {
+    let mut sum: u64 = 0;
+    for k in 0..numbers.len() {
+        let size = u64::from(numbers[k].unsigned_abs());
+        sum = sum.wrapping_add(size.wrapping_mul(size));
+    }
+    sum
+}
+
+/// Divides the numbers and their denominator by what all have in common. The smaller denominator; None where there is none, and then
+/// the numbers stay.
+fn shorten(numbers: &mut [i32], bottom: u64) -> Option<u64>
+    ensures { IfNone result (numbers.new ≡ numbers.old) }
+{
+    if bottom <= 1 {
+        return None;
+    }
+    let shared = divisor(numbers, bottom);
+    if shared.is_one() {
+        return None;
+    }
+    divide(numbers, &shared);
+    Some(shared.size_quotient(bottom))
+}
+
+/// A row of the inverse.
+#[derive(Drop)]
+pub struct InverseRow {
+    numbers: Vec<i32>,
+    bottom: u64,
+    // no number is greater in absolute value
+    most: u64,
+    // the sum of the squares of the numbers, of which only the choice of a row makes use
+    squares: u64,
+    basic: Option<usize>,
+}
+
+impl Model for InverseRow {
+    ghost use Rattle.std.specs.Prelude.{List, ℤ};
+    ghost use Rattle.it_vectors.specs.Sizes.{AreAtMost};
+
+    ghost Value = { List ℤ };
+
+    ghost view = { λ r. r.numbers.items };
+
+    ghost invariant = { λ r. AreAtMost r.numbers.items r.most };
+}
+
+impl InverseRow {
+    /// The row of the unit matrix with its 1 at a place, of so many places, whose right side is this number.
+    pub fn unit(
+        alloc: Global,
+        width: usize,
+        place: usize,
+        right: i32,
+    ) -> Result<InverseRow, AllocError> {
+        let mut numbers = Vec::from_elem(alloc, 0i32, width)?;
+        if place < numbers.len() {
+            numbers[place] = 1;
+        }
+        if RIGHT < numbers.len() {
+            numbers[RIGHT] = right;
+        }
+        let most = greatest_size(numbers.as_slice());
+        let squares = sum_of_squares(numbers.as_slice());
+        Ok(InverseRow {
+            numbers,
+            bottom: 1,
+            most,
+            squares,
+            basic: None,
+        })
+    }
+
+    /// The numbers, before they are divided.
+    pub fn numbers(&self) -> &[i32] {
+        self.numbers.as_slice()
+    }
+
+    /// The denominator.
+    pub fn bottom(&self) -> u64 {
+        self.bottom
+    }
+
+    /// The column that is basic in this row; none where that is an artificial one.
+    pub fn basic(&self) -> Option<usize> {
+        self.basic
+    }
+
+    /// The right side, before it is divided.
+    pub fn right(&self) -> i32 {
+        at(self.numbers.as_slice(), RIGHT, 0)
+    }
+
+    /// How far the row is from what it should be: its right side, where that is below 0, or other than 0 though an artificial column
+    /// is basic; else 0.
+    pub fn fault(&self) -> i32 {
+        let right = self.right();
+        if right > 0 && self.basic.is_some() {
+            0
+        } else {
+            right
+        }
+    }
+
+    /// The sum of the squares of the numbers, modulo 2^64.
+    pub fn squares(&self) -> u64 {
+        self.squares
+    }
+
+    /// The row after another one has left, with this entry in the column that enters. False where a number would be too large: then
+    /// the row stays.
+    pub fn update(&mut self, leaving: &LeavingRow, entry: i64) -> bool {
+        if leaving.pivot < 1 || entry == i64::MIN || self.numbers.len() != leaving.numbers.len() {
+            return false;
+        }
+        let (a, b) = lowest_terms(leaving.pivot, entry);
+        let Some(bottom) = short_product(self.bottom, a.unsigned_abs()) else {
+            return false;
+        };
+        let Some(most) = combine(
+            self.numbers.as_mut_slice(),
+            leaving.numbers.as_slice(),
+            leaving.starts.as_slice(),
+            leaving.noted,
+            a,
+            b,
+            self.most,
+            leaving.most,
+            LIMIT,
+        ) else {
+            return false;
+        };
+        self.most = most;
+        self.bottom = bottom;
+        if bottom > LARGE_BOTTOM || most > LARGE {
+            self.put_in_lowest_terms();
+        }
+        self.squares = sum_of_squares(self.numbers.as_slice());
+        true
+    }
+
+    /// Divides the numbers and the denominator by what all have in common. False where that is nothing.
+    pub fn put_in_lowest_terms(&mut self) -> bool {
+        match shorten(self.numbers.as_mut_slice(), self.bottom) {
+            Some(smaller) => {
+                self.bottom = smaller;
+                self.most = greatest_size(self.numbers.as_slice());
+                true
+            }
+            None => false,
+        }
+    }
+
+    /// The row that has left, in which a column is now basic.
+    pub fn leave(&mut self, leaving: LeavingRow, column: usize) {
+        let LeavingRow {
+            numbers,
+            pivot,
+            most,
+            starts: _,
+            noted: _,
+        } = leaving;
+        self.squares = sum_of_squares(numbers.as_slice());
+        self.numbers = numbers;
+        self.bottom = pivot.unsigned_abs();
+        self.most = most;
+        self.basic = Some(column);
+    }
+}
+
+/// A row that leaves, with its signs such that its right side is above 0.
+#[derive(Drop)]
+pub struct LeavingRow {
+    numbers: Vec<i32>,
+    // its entry in the column that enters, and its denominator once it has left
+    pivot: i64,
+    most: u64,
+    // where the stretches begin outside of which the row is 0, and whether that is noted
+    starts: Vec<usize>,
+    noted: bool,
+}
+
+impl Model for LeavingRow {
+    ghost use Rattle.std.specs.Prelude.{List, ℤ};
+    ghost use Rattle.std.specs.Bool.{OnTrue};
+    ghost use Rattle.it_vectors.specs.Sizes.{AreAtMost};
+    ghost use Rattle.it_vectors.specs.Stretches.{AreStretches};
+
+    ghost Value = { List ℤ };
+
+    ghost view = { λ r. r.numbers.items };
+
+    ghost invariant = { λ r. (AreAtMost r.numbers.items r.most) × (OnTrue r.noted (AreStretches r.numbers.items r.starts.items)) };
+}
+
+impl LeavingRow {
+    /// The row before a column is chosen.
+    pub fn new(alloc: Global, row: &InverseRow) -> Result<LeavingRow, AllocError> {
+        let mut numbers = Vec::from_slice(alloc, row.numbers())?;
+        if row.right() < 0 {
+            negate(numbers.as_mut_slice());
+        }
+        let most = greatest_size(numbers.as_slice());
+        let starts = Vec::with_capacity(alloc, numbers.len() / STRETCH + 1)?;
+        Ok(LeavingRow {
+            numbers,
+            pivot: 1,
+            most,
+            starts,
+            noted: false,
+        })
+    }
+
+    /// The numbers.
+    pub fn numbers(&self) -> &[i32] {
+        self.numbers.as_slice()
+    }
+
+    /// Divides the row by its entry in the column that enters, which is above 0.
+    pub fn divide_by(&mut self, entry: i64) {
+        self.noted = false;
+        let bottom = entry.unsigned_abs();
+        let smaller = shorten(self.numbers.as_mut_slice(), bottom).unwrap_or(bottom);
+        self.pivot = i64::try_from(smaller).unwrap_or(0);
+        self.most = greatest_size(self.numbers.as_slice());
+        self.noted = note_stretches(self.numbers.as_slice(), &mut self.starts);
+    }
+
+    /// The point at which no column is below 0, where no column can enter, and the right side is: the numbers without a common
+    /// divisor, with each sign turned.
+    pub fn point(self) -> Vec<i32> {
+        let mut numbers = self.numbers;
+        let right = at(numbers.as_slice(), RIGHT, 0);
+        shorten(numbers.as_mut_slice(), u64::from(right.unsigned_abs()));
+        negate(numbers.as_mut_slice());
+        numbers
+    }
+}
+
+/// Turns the signs.
+fn negate(numbers: &mut [i32]) {
+    for k in 0..numbers.len() {
+        numbers[k] = numbers[k].wrapping_neg();
+    }
+}
