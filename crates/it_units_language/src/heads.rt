@@ -50,7 +50,8 @@ fn has_two(alloc: Global, file: &[u8], from: usize, skipped: u32) -> bool {
 /// Whether the head ends before the first line that begins with `vars`, after blank lines and comments; in a file that has none, with
 /// the file.
 fn end_with_questions(alloc: Global) -> bool {
-    let asking = b"copy R of A over C, D\n\ncopy S of R over 0\n# and then\n vars A, B, C, D\nprove H(A) >= 0\n";
+    let asking =
+        b"copy R of A over C, D\n\ncopy S of R over 0\n# and then\n vars A, B, C, D\nprove H(A) >= 0\n";
     let alone = b"copy R of A over C, D\ncopy S of R over 0";
     has_two(alloc, asking, 53, 4) && has_two(alloc, alone, 40, 2)
 }
