@@ -122,16 +122,13 @@ pulled_row_at s (g ∷ fs) (t ∷ ts) zero f h k = h.0
 pulled_row_at s (g ∷ fs) (t ∷ ts) (suc i) f h k = pulled_row_at s fs ts i f h.1 (omega arith)
 
 module _ (q : BodyView) (p : ProblemView) (is : IsProblemOf q p) where
-  abbrev variable_count : ℕ
-  variable_count = length (problem_names q).variables
-
   to_problem : (P : Space → Type 0) → P (space_of (problem_names q)) → P p.space
   to_problem P x = subst P (sym is.space) x
 
   from_problem : (P : Space → Type 0) → P p.space → P (space_of (problem_names q))
   from_problem P x = subst P is.space x
 
-  module _ (m : ℕ → ℤ) (h : IsPolymatroid variable_count m) (lines : AreTrueAt variable_count m (problem_lines q)) where
+  module _ (m : ℕ → ℤ) (h : IsPolymatroid (variable_count q) m) (lines : AreTrueAt (variable_count q) m (problem_lines q)) where
     target_holds : (f : Form) (t : Terms) (w : CertificateView) → IsPulledRow p.space f t → proof_verdict p t w ≡ Valid → pos 0 ≤ℤ f m
     target_holds f t w row e =
         let met : AreMet m p.constraints = (question_met q p.space p.constraints is.space is.constraints m h.empty).1 (to_problem (λ s. AreTrueAt s.variables m (problem_lines q)) lines) in
@@ -149,17 +146,17 @@ module _ (q : BodyView) (p : ProblemView) (is : IsProblemOf q p) where
         let c = both_valid (proof_verdict p t w) (proofs_verdict p ts ws) e in
         All-cons (λ (f : Form). pos 0 ≤ℤ f m) f fs (target_holds f t w z.0 c.0) (all_hold fs ts ws z.1 (omega (arith, l)) c.1)
 
-  yes_true : (r : RelationView) (ts : List Terms) (ws : List CertificateView) → ArePulledRows p.space (targets variable_count r) ts → length ws ≡ length (targets (length q.names.variables) r) → proofs_verdict p ts ws ≡ Valid → IsClaimTrueBy q (Prove r) (Yes ws)
+  yes_true : (r : RelationView) (ts : List Terms) (ws : List CertificateView) → ArePulledRows p.space (targets (variable_count q) r) ts → length ws ≡ length (targets (length q.names.variables) r) → proofs_verdict p ts ws ≡ Valid → IsClaimTrueBy q (Prove r) (Yes ws)
   yes_true r ts ws are l e m t =
-      (targets_met r.sign (side_at variable_count m (common_denominator r) r.left) (side_at variable_count m (common_denominator r) r.right) (form_of variable_count r) m refl).0
-      (all_hold m t.0 t.1 (targets variable_count r) ts ws are (l ∙ targets_counted (length q.names.variables) variable_count r) e)
+      (targets_met r.sign (side_at (variable_count q) m (common_denominator r) r.left) (side_at (variable_count q) m (common_denominator r) r.right) (form_of (variable_count q) r) m refl).0
+      (all_hold m t.0 t.1 (targets (variable_count q) r) ts ws are (l ∙ targets_counted (length q.names.variables) (variable_count q) r) e)
 
-  no_true : (r : RelationView) (ts : List Terms) (back : Bool) (values : List ℤ) → ArePulledRows p.space (targets variable_count r) ts → length values ≡ size_of p.space → place_named back < length ts
+  no_true : (r : RelationView) (ts : List Terms) (back : Bool) (values : List ℤ) → ArePulledRows p.space (targets (variable_count q) r) ts → length values ≡ size_of p.space → place_named back < length ts
       → point_verdict p ts back values ≡ Valid → IsClaimTrueBy q (Prove r) (No back values)
   unfolding point_verdict
   no_true r ts back values are l there e =
       let i = place_named back in
-      let row = pulled_row_at p.space (targets variable_count r) ts i (λ m. pos 0) are there in
+      let row = pulled_row_at p.space (targets (variable_count q) r) ts i (λ m. pos 0) are there in
       let t = get_or ts i [] in
       let refuted : RefutesRow p t values = ((valid_no_is p t values is.limits row.coordinates l).0 e).0 in (
         (
@@ -175,8 +172,8 @@ module _ (q : BodyView) (p : ProblemView) (is : IsProblemOf q p) where
   contained_true first second tries parts ts ws about k are fits e =
       obligations_contain q first second tries parts k about (parts_as_named first second parts ws fits)
       (λ m inside.
-      let polymatroid : IsPolymatroid variable_count m = subst (λ v. IsPolymatroid (length (names_under q.names v).variables) m) (sym about) inside.polymatroid in
-      let lines : AreTrueAt variable_count m (problem_lines q) = subst (λ v. AreTrueAt (length (names_under q.names v).variables) m (lines_under q.lines v)) (sym about) inside.lines_hold in
+      let polymatroid : IsPolymatroid (variable_count q) m = subst (λ v. IsPolymatroid (length (names_under q.names v).variables) m) (sym about) inside.polymatroid in
+      let lines : AreTrueAt (variable_count q) m (problem_lines q) = subst (λ v. AreTrueAt (length (names_under q.names v).variables) m (lines_under q.lines v)) (sym about) inside.lines_hold in
       all_hold m polymatroid lines (obligations q first second parts) ts ws are (fits.obligations ∙ sym (obligations_counted q first second parts)) e)
 
 judged_true : (q : BodyView) (verb : VerbView) (a : AnswerView) → q.verb ≡ verb → IsQuestion q → QuestionHasSmallNumbers q → HasQuestionShape q a → verdict_of q a ≡ Some Valid → IsClaimTrueBy q verb a
