@@ -1,10 +1,12 @@
 //! Targets by one of the two runs alone: by the defined run, or by the quick run, which may settle nothing.
 
+ghost use Rattle.std.specs.Prelude.{◌≡◌};
 ghost use Rattle.it_question.specs.Limits.{IsQuestion};
-ghost use Rattle.it_question.specs.Questions.{question_body};
+ghost use Rattle.it_question.specs.Questions.{Prove, question_body};
 ghost use Rattle.it_space.specs.Problems.{IsProblem, problem_view};
 ghost use Rattle.it_space.specs.Rows.{IsOver};
 ghost use Rattle.it_space.specs.Spaces.{size_of};
+ghost use Rattle.it_syntax.specs.Meaning.{relation_view};
 
 use crate::Task;
 use crate::output::Output;
@@ -102,7 +104,8 @@ fn proves_relation(
     relation: &Relation,
     asking: &mut Asking,
 ) -> Result<bool, AllocError>
-    requires { IsQuestion (question_body question.now) }
+    requires limits { IsQuestion (question_body question.now) }
+    requires proves { (question_body question.now).verb ≡ Prove (relation_view relation.now) }
 {
     let problem = problem(alloc, question)?;
     for target in target_rows(alloc, relation, problem.space)?.as_slice() {
