@@ -9,17 +9,22 @@ yes
 
 from .answers import Answer, Contained, No, Open, Projected, Undecided, Yes
 from .asking import ask, prove, prove_all
+from .copies import Copy, copy
 from .errors import Forged, ItipError, MissingProgram, NotationError, ProgramFailed, Refused, TimedOut, UndecidedError
 from .evidence import Certificate, Generator, Point
+from .factors import Factor, best
 from .latex import aligned
 from .notation import Constraint, H, I, Relation, Sum, Variable, func, indep, markov, rates, rv
 from .program import Itip, Notice, configure
 from .reading import assumption, relation
+from .regions import Region, contained, region
+from .sharing import Sharing, sharing
 
 __version__ = "0.1"
 __all__ = [
-    "Answer", "Certificate", "Constraint", "Contained", "Forged", "Generator", "H", "I", "Itip", "ItipError", "MissingProgram", "No",
-    "NotationError", "Notice", "Open", "Point", "ProgramFailed", "Projected", "Refused", "Relation", "Sum", "TimedOut", "Undecided",
-    "UndecidedError", "Variable", "Yes", "aligned", "ask", "assumption", "configure", "func", "indep", "markov", "prove", "prove_all",
-    "rates", "relation", "rv",
+    "Answer", "Certificate", "Constraint", "Contained", "Copy", "Factor", "Forged", "Generator", "H", "I", "Itip", "ItipError",
+    "MissingProgram", "No", "NotationError", "Notice", "Open", "Point", "ProgramFailed", "Projected", "Refused", "Region",
+    "Relation", "Sharing", "Sum", "TimedOut", "Undecided", "UndecidedError", "Variable", "Yes", "aligned", "ask", "assumption",
+    "best", "configure", "contained", "copy", "func", "indep", "markov", "prove", "prove_all", "rates", "region", "relation",
+    "rv", "sharing",
 ]
