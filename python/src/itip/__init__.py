@@ -10,11 +10,13 @@ yes
 from .answers import Answer, Contained, No, Open, Projected, Undecided, Yes
 from .asking import ask, prove, prove_all
 from .copies import Copy, copy
+from .curves import Corner, Curve, Face, tradeoff
 from .errors import Forged, ItipError, MissingProgram, NotationError, ProgramFailed, Refused, TimedOut, UndecidedError
 from .evidence import Certificate, Generator, Point
 from .factors import Factor, best
 from .latex import aligned
 from .notation import Constraint, H, I, Relation, Sum, Variable, func, indep, markov, rates, rv
+from .problems import Edge, Problem, caching, index_coding, network, regenerating
 from .program import Itip, Notice, configure
 from .reading import assumption, relation
 from .regions import Region, contained, region
@@ -22,9 +24,10 @@ from .sharing import Sharing, sharing
 
 __version__ = "0.1"
 __all__ = [
-    "Answer", "Certificate", "Constraint", "Contained", "Copy", "Factor", "Forged", "Generator", "H", "I", "Itip", "ItipError",
-    "MissingProgram", "No", "NotationError", "Notice", "Open", "Point", "ProgramFailed", "Projected", "Refused", "Region",
-    "Relation", "Sharing", "Sum", "TimedOut", "Undecided", "UndecidedError", "Variable", "Yes", "aligned", "ask", "assumption",
-    "best", "configure", "contained", "copy", "func", "indep", "markov", "prove", "prove_all", "rates", "region", "relation",
-    "rv", "sharing",
+    "Answer", "Certificate", "Constraint", "Contained", "Copy", "Corner", "Curve", "Edge", "Face", "Factor", "Forged",
+    "Generator", "H", "I", "Itip", "ItipError", "MissingProgram", "No", "NotationError", "Notice", "Open", "Point", "Problem",
+    "ProgramFailed", "Projected", "Refused", "Region", "Relation", "Sharing", "Sum", "TimedOut", "Undecided", "UndecidedError",
+    "Variable", "Yes", "aligned", "ask", "assumption", "best", "caching", "configure", "contained", "copy", "func", "indep",
+    "index_coding", "markov", "network", "prove", "prove_all", "rates", "regenerating", "region", "relation", "rv", "sharing",
+    "tradeoff",
 ]
