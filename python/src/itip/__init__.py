@@ -16,6 +16,8 @@ from .evidence import Certificate, Generator, Point
 from .factors import Factor, best
 from .latex import aligned
 from .notation import Constraint, H, I, Relation, Sum, Variable, func, indep, markov, rates, rv
+from .pictures import Picture, curve_picture
+from .polygons import Polygon, entropies, gaussian
 from .problems import Edge, Problem, caching, index_coding, network, regenerating
 from .program import Itip, Notice, configure
 from .reading import assumption, relation
@@ -25,9 +27,9 @@ from .sharing import Sharing, sharing
 __version__ = "0.1"
 __all__ = [
     "Answer", "Certificate", "Constraint", "Contained", "Copy", "Corner", "Curve", "Edge", "Face", "Factor", "Forged",
-    "Generator", "H", "I", "Itip", "ItipError", "MissingProgram", "No", "NotationError", "Notice", "Open", "Point", "Problem",
-    "ProgramFailed", "Projected", "Refused", "Region", "Relation", "Sharing", "Sum", "TimedOut", "Undecided", "UndecidedError",
-    "Variable", "Yes", "aligned", "ask", "assumption", "best", "caching", "configure", "contained", "copy", "func", "indep",
-    "index_coding", "markov", "network", "prove", "prove_all", "rates", "regenerating", "region", "relation", "rv", "sharing",
-    "tradeoff",
+    "Generator", "H", "I", "Itip", "ItipError", "MissingProgram", "No", "NotationError", "Notice", "Open", "Picture", "Point",
+    "Polygon", "Problem", "ProgramFailed", "Projected", "Refused", "Region", "Relation", "Sharing", "Sum", "TimedOut",
+    "Undecided", "UndecidedError", "Variable", "Yes", "aligned", "ask", "assumption", "best", "caching", "configure",
+    "contained", "copy", "curve_picture", "entropies", "func", "gaussian", "indep", "index_coding", "markov", "network",
+    "prove", "prove_all", "rates", "regenerating", "region", "relation", "rv", "sharing", "tradeoff",
 ]

@@ -13,6 +13,7 @@ from .asking import prove_all
 from .errors import Forged, ItipError
 from .evidence import Point
 from .notation import Assumption, Relation, Sum
+from .pictures import Picture, curve_picture
 from .program import Itip, default
 from .questions import Given, listed
 
@@ -81,6 +82,12 @@ class Curve:
             if verdict != "valid":
                 raise Forged(f"{verdict}: {answer.question}")
         return len(answers)
+
+    def picture(self) -> Picture:
+        return curve_picture([self])
+
+    def _repr_html_(self) -> str:
+        return "<br>".join([self.picture().svg(), *(f"${face.relation.latex()}$" for face in self.faces)])
 
     def __str__(self) -> str:
         return "\n".join([*(face.relation.text() for face in self.faces), "corners " + ", ".join(map(str, self.corners))])

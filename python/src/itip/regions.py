@@ -11,6 +11,7 @@ from .asking import prove
 from .errors import Forged, ItipError, NotationError
 from .latex import WIDTH, aligned
 from .notation import Assumption, Names, Rate, Relation, Sum, Variable, Variables, names_of
+from .polygons import Polygon, Values, polygon
 from .program import Budget, Itip, default
 from .questions import Contain, Eliminate, Given, Question, Side, as_relation, listed, named, question, with_rates, without_rates
 
@@ -54,6 +55,14 @@ class Region:
         """Whether a row, by its number from 0, follows from the others: where it is needed, a `no` with a point that shows it."""
         others = [other for place, other in enumerate(self.rows) if place != row]
         return prove(self.rows[row], [*self.given, *others], **settings)
+
+    def at(self, values: Values, *order: Sum) -> Polygon:
+        """The polygon of the region's two rates where entropies have these values: those of `entropies` or `gaussian`, a `Point`, or
+        just those of the informations that the rows have, {I(X & Y): 1}. `order` may say which rate goes which way."""
+        names = tuple(map(_rate_name, order)) or self.rates()
+        if len(names) != 2:
+            raise NotationError(f"two rates are drawn, and these are {', '.join(names) or 'none'}")
+        return polygon(self.rows, names, values)
 
     def __str__(self) -> str:
         marks = self.marks or ("",) * len(self.rows)
