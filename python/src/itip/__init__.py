@@ -22,14 +22,15 @@ from .problems import Edge, Problem, caching, index_coding, network, regeneratin
 from .program import Itip, Notice, configure
 from .reading import assumption, relation
 from .regions import Region, contained, region
+from .search import Search, find_copies
 from .sharing import Sharing, sharing
 
 __version__ = "0.1"
 __all__ = [
     "Answer", "Certificate", "Constraint", "Contained", "Copy", "Corner", "Curve", "Edge", "Face", "Factor", "Forged",
     "Generator", "H", "I", "Itip", "ItipError", "MissingProgram", "No", "NotationError", "Notice", "Open", "Picture", "Point",
-    "Polygon", "Problem", "ProgramFailed", "Projected", "Refused", "Region", "Relation", "Sharing", "Sum", "TimedOut",
+    "Polygon", "Problem", "ProgramFailed", "Projected", "Refused", "Region", "Relation", "Search", "Sharing", "Sum", "TimedOut",
     "Undecided", "UndecidedError", "Variable", "Yes", "aligned", "ask", "assumption", "best", "caching", "configure",
-    "contained", "copy", "curve_picture", "entropies", "func", "gaussian", "indep", "index_coding", "markov", "network",
-    "prove", "prove_all", "rates", "regenerating", "region", "relation", "rv", "sharing", "tradeoff",
+    "contained", "copy", "curve_picture", "entropies", "find_copies", "func", "gaussian", "indep", "index_coding", "markov",
+    "network", "prove", "prove_all", "rates", "regenerating", "region", "relation", "rv", "sharing", "tradeoff",
 ]

@@ -15,6 +15,7 @@ from .evidence import Point
 from .notation import Assumption, Relation, Sum
 from .pictures import Picture, curve_picture
 from .program import Itip, default
+from .progress import Progress, shown
 from .questions import Given, listed
 
 Place = Tuple[Fraction, Fraction]
@@ -93,7 +94,9 @@ class Curve:
         return "\n".join([*(face.relation.text() for face in self.faces), "corners " + ", ".join(map(str, self.corners))])
 
 
-def tradeoff(x: Sum, y: Sum, unit: Sum, given: Given = None, *, program: Optional[Itip] = None, **settings: Any) -> Curve:
+def tradeoff(
+    x: Sum, y: Sum, unit: Sum, given: Given = None, *, progress: Progress = None, program: Optional[Itip] = None, **settings: Any
+) -> Curve:
     """The least pairs (x / unit, y / unit) wherever what is given holds.
 
     It keeps a pool of polymatroids, and asks of each edge of their hull whether all polymatroids lie beyond it. By a `yes` the edge is a
@@ -101,6 +104,7 @@ def tradeoff(x: Sum, y: Sum, unit: Sum, given: Given = None, *, program: Optiona
     """
     at = program or default()
     assumed, begun, questions = listed(given), at.calls, 0
+    show = shown(progress)
     pool: dict[Place, No] = {}
     proved: dict[Edge, Yes] = {}
     due = [Edge(0, 0, 1)]  # which fails where the unit is above 0
@@ -119,6 +123,7 @@ def tradeoff(x: Sum, y: Sum, unit: Sum, given: Given = None, *, program: Optiona
         corners = _hull(pool)
         edges = _edges(corners)
         due = [edge for edge in edges if edge not in proved]
+        show(len(edges) - len(due), len(edges), f"faces proved, by {questions} questions")
     faces = tuple(Face(edge, proved[edge]) for edge in edges)
     found = tuple(Corner(*place, pool[place]) for place in corners)
     return Curve(x, y, unit, assumed, faces, found, questions, at.calls - begun)
