@@ -26,6 +26,7 @@ class Regions(unittest.TestCase):
         self.assertEqual(found.marks, ("needed",) * 3)
         for row in range(3):
             self.assertIsInstance(found.why_needed(row), No)
+        self.assertEqual([found.why_needed(0).point[rate] for rate in (R, Q)], [-1, 2])  # docs/ask.md
         self.assertTrue(region(*found.rows, R >= 0).why_needed(3))
         self.assertIn(r"H(X\mid Y)", found._repr_html_())
         self.assertIn(r"R &\ge H(X\mid Y)", found.latex())

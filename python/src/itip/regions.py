@@ -4,16 +4,16 @@ from __future__ import annotations
 
 from collections.abc import Mapping, Sequence
 from dataclasses import dataclass, field
-from typing import Any, Optional, Union
+from typing import Optional, Union
 
 from .answers import Answer, Contained, Open, Projected, Undecided, read
-from .asking import prove
+from .asking import answers_to
 from .errors import Forged, ItipError, NotationError
 from .latex import WIDTH, aligned
 from .notation import Assumption, Names, Rate, Relation, Sum, Variable, Variables, names_of
 from .polygons import Polygon, Values, polygon
 from .program import Budget, Itip, default
-from .questions import Contain, Eliminate, Given, Question, Side, as_relation, listed, named, question, with_rates, without_rates
+from .questions import Contain, Eliminate, Given, Prove, Question, Side, as_relation, listed, named, question, with_rates, without_rates
 
 
 @dataclass(frozen=True)
@@ -51,10 +51,11 @@ class Region:
             raise Forged(f"{answer.word} is no answer to an elimination")
         return Region(answer.rows, self.given, self.auxiliaries, answer)
 
-    def why_needed(self, row: int, **settings: Any) -> Answer:
+    def why_needed(self, row: int, pivots: Budget = "usual", program: Optional[Itip] = None) -> Answer:
         """Whether a row, by its number from 0, follows from the others: where it is needed, a `no` with a point that shows it."""
-        others = [other for place, other in enumerate(self.rows) if place != row]
-        return prove(self.rows[row], [*self.given, *others], **settings)
+        variables, rates = named([*self.given, *self.rows])
+        others = self.rows[:row] + self.rows[row + 1 :]
+        return answers_to([Question(variables, rates, self.given, others, Prove(self.rows[row]))], pivots, program)[0]
 
     def at(self, values: Values, *order: Sum) -> Polygon:
         """The polygon of the region's two rates where entropies have these values: those of `entropies` or `gaussian`, a `Point`, or
