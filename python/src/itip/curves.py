@@ -2,21 +2,23 @@
 
 from __future__ import annotations
 
+import json
 from collections.abc import Iterable, Sequence
-from dataclasses import dataclass, field
+from dataclasses import dataclass, field, replace
 from fractions import Fraction
 from math import gcd, lcm
 from typing import Any, NamedTuple, Optional, Tuple
 
 from .answers import Answer, No, Yes
 from .asking import prove_all
+from .codes import Code, code_at, code_for
 from .errors import Forged, ItipError
 from .evidence import Point
 from .notation import Assumption, Relation, Sum
 from .pictures import Picture, curve_picture
 from .program import Itip, default
 from .progress import Progress, shown
-from .questions import Given, listed
+from .questions import Given, Prove, listed
 
 Place = Tuple[Fraction, Fraction]
 
@@ -83,6 +85,33 @@ class Curve:
             if verdict != "valid":
                 raise Forged(f"{verdict}: {answer.question}")
         return len(answers)
+
+    def code(self, corner: Corner) -> Optional[Code]:
+        """A linear code that is at a corner, where one is found: then random variables get there.
+
+        `itip check` judges that its ranks make true what is given. That they are its ranks is for the reader to see.
+        """
+        point, keep = corner.point, [self.unit]
+        # where messages have bits of their own a code reads best, so that is tried first
+        found = code_for(point, self.given, keep, 20_000) or code_at(point) or code_for(point, self.given, keep)
+        if found is not None:
+            self._judge(corner, found)
+        return found
+
+    def codes(self) -> list[Optional[Code]]:
+        """A code for each corner, where one is found. With all of them the curve is what random variables can do, and no bound alone."""
+        return [self.code(corner) for corner in self.corners]
+
+    def _judge(self, corner: Corner, code: Code) -> None:
+        """Has `itip check` judge the code's ranks, with the corner's rates, as a counterexample to what plainly fails there."""
+        asked, values = corner.answer.asked, corner.point.values
+        too_much = int(corner.x + corner.y) + 1
+        question = replace(asked, goal=Prove(self.x + self.y >= too_much * self.unit))
+        numbers = [str(value if isinstance(key, str) else code.entropy(key)) for key, value in values.items()]
+        line = json.dumps({"answer": "no", "point": numbers, "question": question.text(), "side": "forward"})
+        verdict, = corner.answer.program.check([line])
+        if verdict != "valid":
+            raise Forged(f"{verdict}: {code}")
 
     def picture(self) -> Picture:
         return curve_picture([self])
