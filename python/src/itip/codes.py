@@ -69,28 +69,29 @@ class Code:
 
 
 class _Search:
-    """Chooses a space for one name after the other, depth first, as long as each choice fits."""
+    """Chooses a space for one name after the other, depth first, as long as each choice fits those before it."""
 
-    def __init__(self, spaces: Mapping[str, Sequence[Space]], fits: Callable[[dict[str, Space], str], bool]) -> None:
+    def __init__(self, spaces: Mapping[str, Sequence[Space]], fits: Callable[[Chosen, str], bool]) -> None:
         self.spaces = spaces
         self.names = tuple(spaces)
         self.fits = fits
-        self.steps = 0
+        self.left = 0  # steps; below 0 where they were too few
 
-    def run(self, steps: int, chosen: Optional[dict[str, Space]] = None, shuffle: Optional[random.Random] = None) -> Optional[dict[str, Space]]:
-        """The choices, if they are found within the steps; `steps` is 0 or above afterwards where all were tried."""
-        if chosen is None:
-            self.steps, chosen = steps, {}
+    def run(self, steps: int, shuffle: Optional[random.Random] = None) -> Optional[Chosen]:
+        self.left = steps
+        return self._completed({}, shuffle)
+
+    def _completed(self, chosen: Chosen, shuffle: Optional[random.Random]) -> Optional[Chosen]:
         if len(chosen) == len(self.names):
             return chosen
         name = self.names[len(chosen)]
         spaces = self.spaces[name]
         for space in shuffle.sample(spaces, len(spaces)) if shuffle else spaces:
-            self.steps -= 1
-            if self.steps < 0:
+            self.left -= 1
+            if self.left < 0:
                 return None
             longer = {**chosen, name: space}
-            found = self.run(steps, longer, shuffle) if self.fits(longer, name) else None
+            found = self._completed(longer, shuffle) if self.fits(longer, name) else None
             if found is not None:
                 return found
         return None
@@ -156,7 +157,7 @@ def code_for(point: Point, given: Sequence[Assumption], keep: Sequence[Sum] = ()
         found = search.run(STEPS_BEFORE_A_NEW_START, shuffle=shuffle)
         if found is not None:
             return Code(bits, {name: found[name] for name in point.variables})
-        if search.steps >= 0:
+        if search.left >= 0:
             return None  # all choices were tried
     return None
 
