@@ -47,6 +47,11 @@ class Searches(WithPrograms):
         few_steps = find_copies(ZHANG_YEUNG, pivots=1, limit=7, batch=3)
         self.assertEqual((few_steps.tried, few_steps.undecided), (7, 7))
 
+    def test_room(self):
+        """What would pass the limit of 64 lines isn't tried."""
+        many = [H(A) >= k * I(A & B) - k * H(B) for k in range(1, 58)]
+        self.assertEqual(find_copies("H(A) + H(C) >= H(B) + H(D)", many, most=1).left, 0)
+
     def test_batches(self):
         program = Itip()
         find_copies(DOUGHERTY_FREILING_ZEGER, limit=11, batch=4, program=program)
@@ -77,6 +82,8 @@ class Searches(WithPrograms):
         self.assertEqual(len(tried(H(A, B) + 2 * H(C) + 3 * H(D) >= 0, [], 1)), 1 + 7)
         # what is given counts
         self.assertEqual(len(tried(H(A, B, C, D) >= 0, [H(A) == H(B)], 1)), len(tried(H(A, B) + H(C, D) + H(A) + H(B) >= 0, [], 1)))
+        # ten variables have no room for one more
+        self.assertEqual(tried(H(*rv("A B C D E F G J K L")) >= 0, [], 2), [()])
         for chosen in tried(H(A, B, C, D) >= 0, [], 3):
             self.assertLessEqual(len(chosen), 3)
             self.assertEqual(len({one.name for one in chosen}), len(chosen))
