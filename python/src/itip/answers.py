@@ -8,6 +8,7 @@ from dataclasses import dataclass
 from functools import cached_property
 from typing import Any, NoReturn, Optional
 
+from .codes import Code, code_at
 from .errors import Forged, NotationError, UndecidedError
 from .evidence import Certificate, Point, Proof, certificates, point, row, subset
 from .latex import WIDTH, aligned
@@ -131,6 +132,10 @@ class No(Answer):
     @property
     def word(self) -> str:
         return "no"
+
+    def code(self) -> Optional[Code]:
+        """Random variables at which the relation fails: a linear code with just the point's entropies, where one is found."""
+        return code_at(self.point)
 
     def __bool__(self) -> bool:
         return False

@@ -3,14 +3,15 @@
 from __future__ import annotations
 
 import re
-from collections.abc import Iterable
+from collections.abc import Iterable, Sequence
 from typing import Any, Optional, Union
 
 from .answers import Answer, read
+from .copies import Copy, copied
 from .errors import ProgramFailed
 from .notation import Relation, Sum
 from .program import Budget, Itip, default
-from .questions import Given, Prove, as_relation, listed, parse, question
+from .questions import Given, Prove, Question, as_relation, listed, parse, question
 
 
 def prove(relation: Union[str, Relation], given: Given = None, **settings: Any) -> Answer:
@@ -28,21 +29,28 @@ def prove_all(
     relations: Iterable[Union[str, Relation]],
     given: Given = None,
     *,
+    copies: Sequence[Copy] = (),
     about: Iterable[Sum] = (),
     pivots: Budget = "usual",
     program: Optional[Itip] = None,
 ) -> list[Answer]:
     """Asks of each relation whether it holds wherever what is given does, all in one call of the program.
 
-    Relations and assumptions are objects, or texts in the notation of question files. `about` are sums whose variables and rates each
-    question has, whether or not its relation names them; `pivots` is the budget of steps, None for none.
+    Relations and assumptions are objects, or texts in the notation of question files. With `copies` of variables relations beyond
+    Shannon's may have proofs. `about` are sums whose variables and rates each question has, whether or not its relation names them;
+    `pivots` is the budget of steps, None for none.
     """
-    at = program or default()
     assumed, about = listed(given), tuple(about)
     goals = [Prove(as_relation(relation)) for relation in relations]
-    asked = [question(goal, assumed, [goal.relation, *about]) for goal in goals]
-    lines = at.report([one.text() for one in asked], pivots)
-    return [read(one, line, at) for one, line in zip(asked, lines)]
+    asked = [copied(question(goal, assumed, about=[goal.relation, *about]), copies) for goal in goals]
+    return answers_to(asked, pivots, program)
+
+
+def answers_to(questions: Sequence[Question], pivots: Budget = "usual", program: Optional[Itip] = None) -> list[Answer]:
+    """The answers to questions as they are, in as few calls as the limits of a file allow."""
+    at = program or default()
+    lines = at.report([one.text() for one in questions], pivots)
+    return [read(one, line, at) for one, line in zip(questions, lines)]
 
 
 def ask(text: str, *, pivots: Budget = "usual", program: Optional[Itip] = None) -> list[Answer]:

@@ -86,6 +86,14 @@ def has_rates(part: Assumption) -> bool:
     return any(isinstance(atom, Rate) for atom in part.atoms())
 
 
+def without_rates(parts: Iterable[Assumption]) -> tuple[Assumption, ...]:
+    return tuple(part for part in parts if not has_rates(part))
+
+
+def with_rates(parts: Iterable[Assumption]) -> tuple[Relation, ...]:
+    return tuple(part for part in parts if isinstance(part, Relation) and has_rates(part))
+
+
 def listed(what: Given) -> tuple[Assumption, ...]:
     """One assumption or several, as objects or as lines in the notation of question files."""
     if what is None:
@@ -121,17 +129,17 @@ def named(parts: Iterable[Union[Assumption, Sum]]) -> tuple[Names, Names]:
     return tuple(variables), tuple(rates)
 
 
-def question(goal: Union[Prove, Eliminate], given: Sequence[Assumption], about: Sequence[Union[Assumption, Sum]]) -> Question:
-    """Assumptions that name a rate become rows, all others `given` lines. `about` has what else names variables and rates.
+def question(
+    goal: Union[Prove, Eliminate], given: Sequence[Assumption], rows: Sequence[Relation] = (), about: Sequence[Union[Assumption, Sum]] = ()
+) -> Question:
+    """Assumptions that name a rate become rows, before the others. `about` has what else names variables and rates.
 
-    Variables stand in the order in which what is given and then what is asked names them, as one would write the question by hand.
+    Variables stand in the order in which what is given, the rows, and then what is asked name them, as one would write it by hand.
     """
-    variables, rates = named([*given, *about])
+    variables, rates = named([*given, *rows, *about])
     if not variables:
         variables = ("X" if "X" not in rates else "Y",)  # a question has one at least
-    entropic = tuple(part for part in given if not has_rates(part))
-    rows = tuple(part for part in given if isinstance(part, Relation) and has_rates(part))
-    return Question(variables, rates, entropic, rows, goal)
+    return Question(variables, rates, without_rates(given), with_rates(given) + tuple(rows), goal)
 
 
 def parse(source: str) -> Question:
