@@ -128,3 +128,14 @@ take_built() {
     [ -z "$beside" ] || rm -rf "$beside"
     beside=
 }
+
+# WORDS..: runs $built in place of the script. What is unpacked for this call is run as an open file, so that its folder is gone before it
+# begins.
+run_built() {
+    if [ -n "$scratch" ]; then
+        exec 9<"$built"
+        rm -rf "$scratch"
+        built=/proc/self/fd/9
+    fi
+    exec "$built" "$@"
+}

@@ -62,16 +62,17 @@ class Itip:
             raise MissingProgram("the repository of itip isn't around this package: set ITIP_HOME to its folder, or configure(home=..)")
         return found
 
-    def prover_path(self) -> Path:
-        """What this machine proved; where it hasn't, `./itip`, which chooses what runs in its place and says so."""
-        if self.prover:
-            return Path(self.prover)
+    def _path(self, name: str) -> Path:
+        """What this machine proved; where it hasn't, the script at the top, which chooses what runs in its place and says so."""
         home = self.repository()
-        proved = home / "crates" / "itip" / "out" / "itip"
-        return proved if proved.exists() else home / "itip"
+        proved = home / "crates" / name / "out" / name
+        return proved if proved.exists() else home / name
+
+    def prover_path(self) -> Path:
+        return Path(self.prover) if self.prover else self._path("itip")
 
     def teller_path(self) -> Path:
-        return Path(self.teller) if self.teller else self.repository() / "crates" / "tell" / "out" / "tell"
+        return Path(self.teller) if self.teller else self._path("tell")
 
     def _run(self, program: Path, words: Sequence[str], text: str) -> tuple[int, str]:
         """One call: its status and what it wrote. A timeout or an interrupt ends the program, and all that it started."""
