@@ -1,5 +1,6 @@
 """Programs that fail, hang, lie, or answer something else, as small scripts in the place of `itip`."""
 
+import signal
 import stat
 import sys
 import tempfile
@@ -24,3 +25,7 @@ class WithPrograms(unittest.TestCase):
         path.write_text(head + body)
         path.chmod(path.stat().st_mode | stat.S_IXUSR)
         return Itip(prover=path, **settings)
+
+    def take_interrupts(self):
+        """Has an interrupt raise KeyboardInterrupt in this test: a job that a shell starts with `&` begins by ignoring interrupts."""
+        self.addCleanup(signal.signal, signal.SIGINT, signal.signal(signal.SIGINT, signal.default_int_handler))

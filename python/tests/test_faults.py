@@ -87,6 +87,7 @@ class Programs(WithPrograms):
 
     def test_interrupt(self):
         """Ctrl-C ends the program, and what it started."""
+        self.take_interrupts()
         slow = self.program(
             "inner = subprocess.Popen(['sleep', '60'])\n"
             "open(__file__ + '.pids', 'w').write(f'{os.getpid()} {inner.pid}\\n')\ninner.wait()\n"

@@ -65,6 +65,7 @@ class Searches(WithPrograms):
 
     def test_interrupt(self):
         """Ctrl-C goes through, from within a call."""
+        self.take_interrupts()
         slow = self.program("time.sleep(60)\n")
         threading.Timer(1, lambda: os.kill(os.getpid(), signal.SIGINT)).start()
         with self.assertRaises(KeyboardInterrupt):
