@@ -12,7 +12,17 @@ from .asking import ask, prove, prove_all
 from .codes import Code, code_at, code_for
 from .copies import Copy, copy
 from .curves import Corner, Curve, Face, tradeoff
-from .errors import Forged, ItipError, MissingProgram, NotationError, ProgramFailed, Refused, TimedOut, UndecidedError
+from .errors import (
+    Forged,
+    ItipError,
+    MissingProgram,
+    NotationError,
+    ProgramFailed,
+    Refused,
+    TimedOut,
+    UndecidedError,
+    WorkerLost,
+)
 from .evidence import Certificate, Generator, Point
 from .factors import Factor, best
 from .latex import aligned
@@ -31,7 +41,7 @@ __all__ = [
     "Answer", "Certificate", "Code", "Constraint", "Contained", "Copy", "Corner", "Curve", "Edge", "Face", "Factor", "Forged",
     "Generator", "H", "I", "Itip", "ItipError", "MissingProgram", "No", "NotationError", "Notice", "Open", "Picture", "Point",
     "Polygon", "Problem", "ProgramFailed", "Projected", "Refused", "Region", "Relation", "Search", "Sharing", "Sum", "TimedOut",
-    "Undecided", "UndecidedError", "Variable", "Yes", "aligned", "ask", "assumption", "best", "caching", "code_at", "code_for",
+    "Undecided", "UndecidedError", "Variable", "WorkerLost", "Yes", "aligned", "ask", "assumption", "best", "caching", "code_at", "code_for",
     "configure", "contained", "copy", "curve_picture", "entropies", "find_copies", "func", "gaussian", "indep", "index_coding",
     "markov", "network", "prove", "prove_all", "rates", "regenerating", "region", "relation", "rv", "sharing", "tradeoff",
 ]

@@ -4,6 +4,7 @@ from __future__ import annotations
 
 import re
 from collections.abc import Iterable, Sequence
+from concurrent.futures import Executor
 from typing import Any, Optional, Union
 
 from .answers import Answer, read
@@ -12,6 +13,7 @@ from .errors import ProgramFailed
 from .notation import Relation, Sum
 from .program import Budget, Itip, default
 from .questions import Given, Prove, Question, as_relation, listed, parse, question
+from .workers import spread_report
 
 
 def prove(relation: Union[str, Relation], given: Given = None, **settings: Any) -> Answer:
@@ -33,23 +35,34 @@ def prove_all(
     about: Iterable[Sum] = (),
     pivots: Budget = "usual",
     program: Optional[Itip] = None,
+    executor: Optional[Executor] = None,
+    batch: int = 100,
 ) -> list[Answer]:
     """Asks of each relation whether it holds wherever what is given does, all in one call of the program.
 
     Relations and assumptions are objects, or texts in the notation of question files. With `copies` of variables relations beyond
     Shannon's may have proofs. `about` are sums whose variables and rates each question has, whether or not its relation names them;
     `pivots` is the budget of steps, None for none.
+
+    With an `executor` of concurrent.futures its workers make the calls, each of `batch` questions, by the programs on their machines.
     """
     assumed, about = listed(given), tuple(about)
     goals = [Prove(as_relation(relation)) for relation in relations]
     asked = [copied(question(goal, assumed, about=[goal.relation, *about]), copies) for goal in goals]
-    return answers_to(asked, pivots, program)
+    return answers_to(asked, pivots, program, executor, batch)
 
 
-def answers_to(questions: Sequence[Question], pivots: Budget = "usual", program: Optional[Itip] = None) -> list[Answer]:
-    """The answers to questions as they are, in as few calls as the limits of a file allow."""
+def answers_to(
+    questions: Sequence[Question],
+    pivots: Budget = "usual",
+    program: Optional[Itip] = None,
+    executor: Optional[Executor] = None,
+    batch: int = 100,
+) -> list[Answer]:
+    """The answers to questions as they are, in as few calls as the limits of a file allow, or by an executor in calls of `batch`."""
     at = program or default()
-    lines = at.report([one.text() for one in questions], pivots)
+    texts = [one.text() for one in questions]
+    lines = at.report(texts, pivots) if executor is None else spread_report(executor, at, texts, pivots, batch)
     return [read(one, line, at) for one, line in zip(questions, lines)]
 
 

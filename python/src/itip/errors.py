@@ -23,6 +23,10 @@ class ProgramFailed(ItipError):
     """A program ended without its whole output."""
 
 
+class WorkerLost(ItipError):
+    """A worker of an executor ended without its answers."""
+
+
 class Forged(ItipError):
     """`itip check` finds the answer invalid, or it is no answer to what was asked."""
 
