@@ -15,9 +15,15 @@ use it_canon::{problem, system};
 use it_eliminate::{Eliminated, step};
 use it_question::types::{Question, Verb};
 use it_redundant::{kept_system, reduce};
-use it_simplex::Budget;
+use it_prove::Effort;
 use it_space::{Constraint, Kind, Origin, Problem, Row, System};
 use std::alloc::{AllocError, Global};
+
+/// The defined run, with as many steps as it takes.
+const DEFINED: Effort = Effort {
+    quick: false,
+    pivots: None,
+};
 
 /// The most rows that a rate may leave.
 const MOST: usize = 4096;
@@ -165,7 +171,7 @@ fn reduction(
 {
     match way {
         "shared" => {
-            let reduced = reduce(alloc, &list, givens, Budget::none())?;
+            let reduced = reduce(alloc, &list, givens, DEFINED)?;
             kept_system(alloc, list.space, &reduced)
         }
         "anew" => reduction_anew(alloc, &list, givens, asking),

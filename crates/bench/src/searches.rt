@@ -11,11 +11,16 @@ use indexmap::IndexSet;
 use it_contain::{
     Candidate, Contained, Pair, Proposer, Shape, Singles, Subsets, contain, fits, obligations, pair,
 };
-use it_prove::{Proof, prove};
+use it_prove::{Effort, Proof, prove};
 use it_question::types::{Question, Verb};
-use it_simplex::Budget;
 use it_space::Row;
 use std::alloc::{AllocError, Global};
+
+/// The defined run, with as many steps as it takes.
+const DEFINED: Effort = Effort {
+    quick: false,
+    pivots: None,
+};
 
 /// How often the solver was called, and with which rows.
 #[derive(Drop)]
@@ -58,7 +63,7 @@ fn is_proved(
     let rows = obligations(alloc, pair, candidate)?;
     for row in rows.as_slice() {
         note(alloc, calls, row)?;
-        match prove(alloc, &pair.first, row, Budget::none())? {
+        match prove(alloc, &pair.first, row, DEFINED)? {
             Proof::Yes(_) => {}
             Proof::No(_) => return Ok(false),
             Proof::Undecided(_) => return Ok(false),
@@ -125,7 +130,7 @@ fn search_kept(
 ) -> Result<(), AllocError>
     requires { IsPair pair.now }
 {
-    match contain(alloc, pair, &[], boxes, tries, Budget::none())? {
+    match contain(alloc, pair, &[], boxes, tries, DEFINED)? {
         Contained::Found(_, proofs) => {
             out.put("found ");
             out.put(proofs.len());

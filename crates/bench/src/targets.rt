@@ -12,13 +12,18 @@ use crate::Task;
 use crate::output::Output;
 use crate::reductions::elimination;
 use it_canon::{problem, target_rows};
-use it_prove::{Proof, prove, settle};
+use it_prove::{Effort, Proof, prove, settle};
 use it_question::types::{Question, Verb};
 use it_quick::QuickProblem;
-use it_simplex::Budget;
 use it_space::{Problem, Row};
 use it_syntax::types::Relation;
 use std::alloc::{AllocError, Global};
+
+/// The defined run, with as many steps as it takes.
+const DEFINED: Effort = Effort {
+    quick: false,
+    pivots: None,
+};
 
 /// The run that is asked, about how many targets it was, and how many of them it settled.
 #[derive(Drop)]
@@ -65,7 +70,7 @@ impl Asking {
         requires target { IsOver (size_of problem.now.space) target.now }
     {
         if !self.quick {
-            return Ok(Some(prove(alloc, problem, target, Budget::none())?));
+            return Ok(Some(prove(alloc, problem, target, DEFINED)?));
         }
         let mut quick = match self.kept.take() {
             Some(quick) => quick,

@@ -32,6 +32,7 @@ use Rattle.it_prove.specs.declared.types.Proof.{Proof}
 use Rattle.it_prove.specs.declared.types.Proof.TheVariants as proofs
 use Rattle.it_space.proofs.TermLemmas.{value-negated_terms, ascends-negated_terms}
 use Rattle.it_prove.proofs.SmallRows.{small-negated_terms}
+use Rattle.it_prove.specs.declared.types.Effort.{Effort}
 use Rattle.it_answer.specs.declared.types.Budgets.{Budgets}
 use Rattle.it_contain.specs.Proposals.{Plan}
 use Rattle.it_contain.proofs.PlanLemmas.{after_none}
@@ -46,34 +47,34 @@ use Rattle.it_answer.proofs.FormLemmas.{generators_speak, by_forms, rows_add_up}
 
 -- ---- one target, or two
 
-module _ (p : ProblemView) (f : Form) (t : Terms) (row : IsRowOf p.space f t) (budget : Option ℕ) where
-  after_one : (o : ProofView) → IsRightProof p t o → EndsWith p t budget o → AnswersRows p budget (t ∷ []) (answer_after_one o)
+module _ (p : ProblemView) (f : Form) (t : Terms) (row : IsRowOf p.space f t) (effort : Effort) where
+  after_one : (o : ProofView) → IsRightProof p t o → EndsWith p t effort o → AnswersRows p effort (t ∷ []) (answer_after_one o)
   after_one (Yes w) r e = record { shows = (r.0, tt); due = (e, tt) }
   after_one (No values) r e = record { shows = r.0; due = e }
   after_one (Undecided cause) r e = record { shows = tt; due = inl e }
 
-  pub answers_one : (o : ProofView) (answer : AnswerView) → answer ≡ answer_after_one o → IsRightProof p t o → EndsWith p t budget o → AnswersForms p (f ∷ []) answer budget
-  answers_one o answer is r e = record { rows = t ∷ []; are = (row, tt); answered = subst (AnswersRows p budget (t ∷ [])) (sym is) (after_one o r e) }
+  pub answers_one : (o : ProofView) (answer : AnswerView) → answer ≡ answer_after_one o → IsRightProof p t o → EndsWith p t effort o → AnswersForms p (f ∷ []) answer effort
+  answers_one o answer is r e = record { rows = t ∷ []; are = (row, tt); answered = subst (AnswersRows p effort (t ∷ [])) (sym is) (after_one o r e) }
 
   module _ (g : Form) (u : Terms) (other : IsRowOf p.space g u) where
-    not_proven : (proof : Proof) → ((c : _) → proof ≡ proofs.Yes c → ⊥) → IsRightProof p t (proof_view proof) → EndsWith p t budget (proof_view proof)
-        → AnswersRows p budget (t ∷ u ∷ []) (answer_after_one (proof_view proof))
+    not_proven : (proof : Proof) → ((c : _) → proof ≡ proofs.Yes c → ⊥) → IsRightProof p t (proof_view proof) → EndsWith p t effort (proof_view proof)
+        → AnswersRows p effort (t ∷ u ∷ []) (answer_after_one (proof_view proof))
     not_proven (proofs.Yes c) n r e = absurd (n c refl)
     not_proven (proofs.No point) n r e = record { shows = r.0; due = e }
     not_proven (proofs.Undecided cause) n r e = record { shows = tt; due = inl e }
 
     pub answers_first : (proof : Proof) (answer : AnswerView) → answer ≡ answer_after_one (proof_view proof) → ((c : _) → proof ≡ proofs.Yes c → ⊥) → IsRightProof p t (proof_view proof)
-        → EndsWith p t budget (proof_view proof) → AnswersForms p (f ∷ g ∷ []) answer budget
-    answers_first proof answer is n r e = record { rows = t ∷ u ∷ []; are = (row, (other, tt)); answered = subst (AnswersRows p budget (t ∷ u ∷ [])) (sym is) (not_proven proof n r e) }
+        → EndsWith p t effort (proof_view proof) → AnswersForms p (f ∷ g ∷ []) answer effort
+    answers_first proof answer is n r e = record { rows = t ∷ u ∷ []; are = (row, (other, tt)); answered = subst (AnswersRows p effort (t ∷ u ∷ [])) (sym is) (not_proven proof n r e) }
 
-    after_two : (w : CertificateView) (o : ProofView) → IsRightProof p t (Yes w) → EndsWith p t budget (Yes w) → IsRightProof p u o → EndsWith p u budget o → AnswersRows p budget (t ∷ u ∷ []) (answer_after_two w o)
+    after_two : (w : CertificateView) (o : ProofView) → IsRightProof p t (Yes w) → EndsWith p t effort (Yes w) → IsRightProof p u o → EndsWith p u effort o → AnswersRows p effort (t ∷ u ∷ []) (answer_after_two w o)
     after_two w (Yes v) r e s d = record { shows = (r.0, (s.0, tt)); due = (e, (d, tt)) }
     after_two w (No values) r e s d = record { shows = ((w, r.0), s.0); due = ((w, e), d) }
     after_two w (Undecided cause) r e s d = record { shows = tt; due = inr ((w, e), inl d) }
 
-    pub answers_two : (w : CertificateView) (o : ProofView) (answer : AnswerView) → answer ≡ answer_after_two w o → IsRightProof p t (Yes w) → EndsWith p t budget (Yes w) → IsRightProof p u o
-        → EndsWith p u budget o → AnswersForms p (f ∷ g ∷ []) answer budget
-    answers_two w o answer is r e s d = record { rows = t ∷ u ∷ []; are = (row, (other, tt)); answered = subst (AnswersRows p budget (t ∷ u ∷ [])) (sym is) (after_two w o r e s d) }
+    pub answers_two : (w : CertificateView) (o : ProofView) (answer : AnswerView) → answer ≡ answer_after_two w o → IsRightProof p t (Yes w) → EndsWith p t effort (Yes w) → IsRightProof p u o
+        → EndsWith p u effort o → AnswersForms p (f ∷ g ∷ []) answer effort
+    answers_two w o answer is r e s d = record { rows = t ∷ u ∷ []; are = (row, (other, tt)); answered = subst (AnswersRows p effort (t ∷ u ∷ [])) (sym is) (after_two w o r e s d) }
 
 -- ---- the row of a form's negation
 
@@ -166,13 +167,13 @@ module _ (q : BodyView) (p : ProblemView) (e : p.space ≡ space_of (problem_nam
   show_targets fs ts (answer_views.Contained parts proofs) z c = absurd c
   show_targets fs ts (answer_views.Open tried) z c = absurd c
 
-  pub answers_relation : (budgets : Budgets) (plans : List Plan) (r : RelationView) (answer : AnswerView) → q.verb ≡ Prove r → AnswersForms p (targets p.space.variables r) answer budgets.pivots
+  pub answers_relation : (budgets : Budgets) (plans : List Plan) (r : RelationView) (answer : AnswerView) → q.verb ≡ Prove r → AnswersForms p (targets p.space.variables r) answer budgets.effort
       → IsRightAnswer budgets plans q (record { answer = answer; found = [] })
   answers_relation budgets plans r answer is a =
       let shown = shown_targets q r answer (to_question_space (λ s. ShowsTargets q (targets s.variables r) answer) (show_targets (targets p.space.variables r) a.rows answer a.are a.answered.shows)) in
       let rows : a.rows ≡ map (terms_in q) (targets (variable_count q) r) =
       rows_are_terms_of_forms p.space (targets p.space.variables r) a.rows a.are ∙ ap (λ (s : Space). map (terms_of_form (size_of s)) (targets s.variables r)) e in
-      let due : IsDueRelation budgets.pivots q r answer =
-      subst (λ (x : ProblemView). IsDueByRuns x budgets.pivots (map (terms_in q) (targets (variable_count q) r)) answer) (one_problem q p (record { space = e; limits = k; constraints = st }))
-      (subst (λ (ts : List Terms). IsDueByRuns p budgets.pivots ts answer) rows a.answered.due) in
+      let due : IsDueRelation budgets.effort q r answer =
+      subst (λ (x : ProblemView). IsDueByRuns x budgets.effort (map (terms_in q) (targets (variable_count q) r)) answer) (one_problem q p (record { space = e; limits = k; constraints = st }))
+      (subst (λ (ts : List Terms). IsDueByRuns p budgets.effort ts answer) rows a.answered.due) in
       right_by_verb budgets plans q (Prove r) (record { answer = answer; found = [] }) is shown (due, refl)

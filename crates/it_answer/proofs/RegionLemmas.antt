@@ -1,5 +1,5 @@
 -- What reduced elimination of the rows of the text ends with is the one right answer.
-use Rattle.std.proofs.Common.{◌≡◌, inl, inr, ◌↔◌, ℕ, ◌+◌, ◌^◌, ℤ, pos, ◌*ℤ◌, refl, sym, ap, ap₂, subst, ◌∙◌, arith, List, [], ◌∷◌, ◌++◌, length, map, All, Contains}
+use Rattle.std.proofs.Common.{◌≡◌, inl, inr, ◌↔◌, ℕ, ◌+◌, ◌^◌, ℤ, pos, ◌*ℤ◌, refl, sym, ap, ap₂, subst, ◌∙◌, arith, List, [], ◌∷◌, ◌++◌, length, map, All, Contains, false}
 use Rattle.std.proofs.lemmas.Int.{ints}
 use Rattle.std.proofs.lemmas.Nat.{pow_pos}
 use Rattle.it_space.specs.declared.answers.Cause.TheVariants.{Width}
@@ -153,11 +153,11 @@ module _ (q : BodyView) (rates : List ℕ) (givens : ProblemView) (rows : List T
   region_shows end answer x is = subst (ShowsBy q (Eliminate rates)) (sym is) (shows_end end x)
 
 pub region_is_due : (budgets : Budgets) (q : BodyView) (rates : List ℕ) (givens : ProblemView) (rows : List Terms) (end : ProjectedView) (answer : AnswerView) → givens ≡ problem_of q
-    → rows ≡ map (terms_in q) (system_forms (variable_count q) q.lines.rows) → ReducedEnds givens budgets.pivots budgets.rows rows [] [] rates end → answer ≡ answer_of_end end → IsDueElimination budgets q rates answer
+    → rows ≡ map (terms_in q) (system_forms (variable_count q) q.lines.rows) → ReducedEnds givens budgets.effort budgets.rows rows [] [] rates end → answer ≡ answer_of_end end → IsDueElimination budgets q rates answer
 region_is_due budgets q rates givens rows end answer posed rows_are ends is = record {
   end = end;
-  ends = subst (λ (g : ProblemView). ReducedEnds g budgets.pivots budgets.rows (map (terms_in q) (system_forms (variable_count q) q.lines.rows)) [] [] rates end) posed
-      (subst (λ (rs : List Terms). ReducedEnds givens budgets.pivots budgets.rows rs [] [] rates end) rows_are ends);
+  ends = subst (λ (g : ProblemView). ReducedEnds g budgets.effort budgets.rows (map (terms_in q) (system_forms (variable_count q) q.lines.rows)) [] [] rates end) posed
+      (subst (λ (rs : List Terms). ReducedEnds givens budgets.effort budgets.rows rs [] [] rates end) rows_are ends);
   is = is;
 }
 
@@ -167,9 +167,9 @@ system_rows_are q s rows same are = rows_are_terms_of_forms s (system_forms s.va
 
 -- ---- there is one right answer
 
-pub one_elimination : (budgets : Budgets) (q : BodyView) (rates : List ℕ) (a b : AnswerView) → IsDueElimination budgets q rates a → IsDueElimination budgets q rates b → a ≡ b
-one_elimination budgets q rates a b x y = x.is
-    ∙ ap answer_of_end (one_reduced_end (problem_of q) budgets.pivots budgets.rows (map (terms_in q) (system_forms (variable_count q) q.lines.rows)) [] [] rates x.end y.end x.ends y.ends) ∙ sym y.is
+pub one_elimination : (budgets : Budgets) (q : BodyView) (rates : List ℕ) (a b : AnswerView) → budgets.effort.quick ≡ false → IsDueElimination budgets q rates a → IsDueElimination budgets q rates b → a ≡ b
+one_elimination budgets q rates a b defined x y = x.is
+    ∙ ap answer_of_end (one_reduced_end (problem_of q) budgets.effort budgets.rows (map (terms_in q) (system_forms (variable_count q) q.lines.rows)) [] [] rates x.end y.end defined x.ends y.ends) ∙ sym y.is
 
 -- ---- what follows
 

@@ -18,6 +18,7 @@ use Rattle.it_canon.specs.TrueLines.{variable_count}
 use Rattle.it_canon.proofs.ExistenceLemmas.{each_question, question_poses, relation_rows}
 use Rattle.it_demand.proofs.ZipLemmas.{zip-right}
 use Rattle.it_prove.proofs.SmallLemmas.{never_at_start}
+use Rattle.it_prove.specs.declared.types.Effort.{Effort}
 use Rattle.it_region.specs.declared.types.Candidate.{Candidate}
 use Rattle.it_contain.specs.Proposals.{Plan}
 use Rattle.it_answer.specs.declared.types.Budgets.{Budgets}
@@ -28,18 +29,18 @@ use Rattle.it_answer.specs.RightAnswers.{IsDueBy, IsRightAnswer, NoStepIsZero}
 small_constraints : (q : BodyView) (p : ProblemView) → IsProblemOf q p → All (λ (c : Constraint). IsSmall c.row) p.constraints
 small_constraints q p is = zip-right (States p.space) (λ (c : Constraint). IsSmall c.row) (λ d c s. s.row.small) (question_demands q) p.constraints is.constraints.stated
 
-not_before_start : (p : ProblemView) (budget : Option ℕ) (fs : List Form) (ts : List Terms) → IsProblem p → All (λ (c : Constraint). IsSmall c.row) p.constraints → AreRowsOf p.space fs ts → CauseIsDue p budget ts (Width 0) → ⊥
-not_before_start p budget [] [] k small a c = absurd c
-not_before_start p budget [] (t ∷ ts) k small a c = absurd a
-not_before_start p budget (f ∷ fs) [] k small a c = absurd a
-not_before_start p budget (f ∷ fs) (t ∷ ts) k small a (inl e) = never_at_start p t budget k (record { constraints = small; own = a.0.small }) e
-not_before_start p budget (f ∷ fs) (t ∷ ts) k small a (inr c) = not_before_start p budget fs ts k small a.1 c.1
+not_before_start : (p : ProblemView) (effort : Effort) (fs : List Form) (ts : List Terms) → IsProblem p → All (λ (c : Constraint). IsSmall c.row) p.constraints → AreRowsOf p.space fs ts → CauseIsDue p effort ts (Width 0) → ⊥
+not_before_start p effort [] [] k small a c = absurd c
+not_before_start p effort [] (t ∷ ts) k small a c = absurd a
+not_before_start p effort (f ∷ fs) [] k small a c = absurd a
+not_before_start p effort (f ∷ fs) (t ∷ ts) k small a (inl e) = never_at_start p t effort k (record { constraints = small; own = a.0.small }) e
+not_before_start p effort (f ∷ fs) (t ∷ ts) k small a (inr c) = not_before_start p effort fs ts k small a.1 c.1
 
 module _ (q : BodyView) (k : IsQuestion q) (small : QuestionHasSmallNumbers q) (budgets : Budgets) (plans : List Plan) (found : List Candidate) where
   by_verb : (verb : VerbView) → q.verb ≡ verb → IsDueBy budgets plans q verb (record { answer = answer_views.Undecided (Width 0); found = found }) → ⊥
   by_verb (Prove r) about d =
       let is = question_poses q k small in
-      not_before_start (problem_of q) budgets.pivots (targets (variable_count q) r) (map (terms_in q) (targets (variable_count q) r)) is.limits (small_constraints q (problem_of q) is) (relation_rows q k small r about) d.0
+      not_before_start (problem_of q) budgets.effort (targets (variable_count q) r) (map (terms_in q) (targets (variable_count q) r)) is.limits (small_constraints q (problem_of q) is) (relation_rows q k small r about) d.0
   by_verb (Eliminate rates) about d = not_width 0 d.0.end d.0.is
   by_verb (Contain first second tries) about d = d
 

@@ -34,5 +34,5 @@ answer_of_end (projections.Wide rate) = Undecided (causes.WideRate rate)
 -- those turned; each reduction under the constraints of the `given` lines, which are the question's problem.
 pub record IsDueElimination (budgets : Budgets) (q : BodyView) (rates : List ℕ) (answer : AnswerView) : Type 0 where
   pub end : ProjectedView
-  pub ends : ReducedEnds (problem_of q) budgets.pivots budgets.rows (map (terms_in q) (system_forms (variable_count q) q.lines.rows)) [] [] rates end
+  pub ends : ReducedEnds (problem_of q) budgets.effort budgets.rows (map (terms_in q) (system_forms (variable_count q) q.lines.rows)) [] [] rates end
   pub is : answer ≡ answer_of_end end

@@ -1,5 +1,5 @@
 -- Which answer to `prove` is due, by the runs about the rows of the relation's targets.
-use Rattle.std.specs.Prelude.{◌⊎◌, ℕ, ℤ, List, [], ◌∷◌, map, Bool, true, false, Option}
+use Rattle.std.specs.Prelude.{◌⊎◌, ℕ, ℤ, List, [], ◌∷◌, map, Bool, true, false}
 use Rattle.it_space.specs.declared.answers.Cause.{Cause}
 use Rattle.it_space.specs.Answers.{AnswerView, CertificateView}
 use Rattle.it_space.specs.Answers.AnswerView.{Yes, No, Undecided}
@@ -12,29 +12,30 @@ use Rattle.it_canon.specs.QuestionDemands.{problem_of, terms_in}
 use Rattle.it_demand.specs.Targets.{targets}
 use Rattle.it_prove.specs.ProofViews as proof_views
 use Rattle.it_prove.specs.ProofViews.{EndsWith, AreProofsOf}
+use Rattle.it_prove.specs.declared.types.Effort.{Effort}
 
 -- the run proves the target, by some certificate
-abbrev pub IsProven : ProblemView → Option ℕ → Terms → Type 0
-IsProven p budget t = (w : CertificateView) × EndsWith p t budget (proof_views.Yes w)
+abbrev pub IsProven : ProblemView → Effort → Terms → Type 0
+IsProven p effort t = (w : CertificateView) × EndsWith p t effort (proof_views.Yes w)
 
 -- the first target that doesn't end by a proof ends by a point, and these are the run's values
-abbrev pub PointIsDue : ProblemView → Option ℕ → List Terms → Bool → List ℤ → Type 0
-PointIsDue p budget (t ∷ ts) false values = EndsWith p t budget (proof_views.No values)
-PointIsDue p budget (t ∷ u ∷ ts) true values = IsProven p budget t × EndsWith p u budget (proof_views.No values)
-PointIsDue p budget ts is_back values = ⊥
+abbrev pub PointIsDue : ProblemView → Effort → List Terms → Bool → List ℤ → Type 0
+PointIsDue p effort (t ∷ ts) false values = EndsWith p t effort (proof_views.No values)
+PointIsDue p effort (t ∷ u ∷ ts) true values = IsProven p effort t × EndsWith p u effort (proof_views.No values)
+PointIsDue p effort ts is_back values = ⊥
 
 -- it ends with the cause
-abbrev pub CauseIsDue : ProblemView → Option ℕ → List Terms → Cause → Type 0
-CauseIsDue p budget [] cause = ⊥
-CauseIsDue p budget (t ∷ ts) cause = EndsWith p t budget (proof_views.Undecided cause) ⊎ (IsProven p budget t × CauseIsDue p budget ts cause)
+abbrev pub CauseIsDue : ProblemView → Effort → List Terms → Cause → Type 0
+CauseIsDue p effort [] cause = ⊥
+CauseIsDue p effort (t ∷ ts) cause = EndsWith p t effort (proof_views.Undecided cause) ⊎ (IsProven p effort t × CauseIsDue p effort ts cause)
 
 -- the answer that is due by the runs about these targets
-abbrev pub IsDueByRuns : ProblemView → Option ℕ → List Terms → AnswerView → Type 0
-IsDueByRuns p budget ts (Yes ws) = AreProofsOf p budget ts ws
-IsDueByRuns p budget ts (No is_back values) = PointIsDue p budget ts is_back values
-IsDueByRuns p budget ts (Undecided cause) = CauseIsDue p budget ts cause
-IsDueByRuns p budget ts answer = ⊥
+abbrev pub IsDueByRuns : ProblemView → Effort → List Terms → AnswerView → Type 0
+IsDueByRuns p effort ts (Yes ws) = AreProofsOf p effort ts ws
+IsDueByRuns p effort ts (No is_back values) = PointIsDue p effort ts is_back values
+IsDueByRuns p effort ts (Undecided cause) = CauseIsDue p effort ts cause
+IsDueByRuns p effort ts answer = ⊥
 
 -- the same about the terms of the relation's targets, under the problem that the question poses
-abbrev pub IsDueRelation : Option ℕ → BodyView → RelationView → AnswerView → Type 0
-IsDueRelation budget q r answer = IsDueByRuns (problem_of q) budget (map (terms_in q) (targets (variable_count q) r)) answer
+abbrev pub IsDueRelation : Effort → BodyView → RelationView → AnswerView → Type 0
+IsDueRelation effort q r answer = IsDueByRuns (problem_of q) effort (map (terms_in q) (targets (variable_count q) r)) answer

@@ -1,5 +1,5 @@
 -- Right answers: they show what they say, and they are due; and what follows from it.
-use Rattle.std.specs.Prelude.{◌≡◌, ℕ, List, [], map, All}
+use Rattle.std.specs.Prelude.{◌≡◌, ℕ, List, [], map, All, false}
 use Rattle.it_space.specs.declared.answers.Cause.TheVariants.{Width}
 use Rattle.it_space.specs.declared.answers.Answer.{Answer}
 use Rattle.it_space.specs.Answers.{AnswerView, answer_view}
@@ -19,7 +19,7 @@ use Rattle.it_answer.specs.Shows.{Shows}
 
 -- the answer that is due to a question of this verb, with what was found: by runs, by reduced elimination, or by the search
 abbrev pub IsDueBy : Budgets → List Plan → BodyView → VerbView → Reply → Type 0
-IsDueBy budgets plans q (Prove r) reply = IsDueRelation budgets.pivots q r reply.answer × (reply.found ≡ [])
+IsDueBy budgets plans q (Prove r) reply = IsDueRelation budgets.effort q r reply.answer × (reply.found ≡ [])
 IsDueBy budgets plans q (Eliminate rates) reply = IsDueElimination budgets q rates reply.answer × (reply.found ≡ [])
 IsDueBy budgets plans q (Contain a b tries) reply = IsDueContainment budgets plans q a b tries reply
 
@@ -36,9 +36,9 @@ pub record IsAnswered (budgets : Budgets) (plans : List Plan) (question : Questi
 
 -- ---- what follows
 
--- a question has one right answer, and one candidate is found, if any
+-- where no quick run comes first a question has one right answer, and one candidate is found, if any
 abbrev pub OneRightAnswer : Type 0
-OneRightAnswer = (budgets : Budgets) (plans : List Plan) (q : BodyView) (a b : Reply) → IsRightAnswer budgets plans q a → IsRightAnswer budgets plans q b → a ≡ b
+OneRightAnswer = (budgets : Budgets) (plans : List Plan) (q : BodyView) (a b : Reply) → budgets.effort.quick ≡ false → IsRightAnswer budgets plans q a → IsRightAnswer budgets plans q b → a ≡ b
 
 -- the certificates of an answer list their generators in ascending order, each once and with a weight other than 0
 abbrev pub ProofsAscend : AnswerView → Type 0

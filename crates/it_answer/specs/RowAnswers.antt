@@ -1,5 +1,5 @@
 -- Answers about rows, by which the calls in this crate are proved. No public clause cites this module.
-use Rattle.std.specs.Prelude.{ℕ, ℤ, List, [], ◌∷◌, map, Bool, true, false, Option}
+use Rattle.std.specs.Prelude.{ℕ, ℤ, List, [], ◌∷◌, map, Bool, true, false}
 use Rattle.std.specs.List.{AllZip}
 use Rattle.it_space.specs.Problems.{ProblemView}
 use Rattle.it_space.specs.Answers.{AnswerView, CertificateView}
@@ -17,6 +17,7 @@ use Rattle.it_region.specs.Obligations.{obligations}
 use Rattle.it_check.specs.Meaning.{CertifiesRow, RefutesRow}
 use Rattle.it_prove.specs.ProofViews.{ProofView}
 use Rattle.it_prove.specs.ProofViews as proof_views
+use Rattle.it_prove.specs.declared.types.Effort.{Effort}
 use Rattle.it_answer.specs.DueRelations.{IsDueByRuns}
 
 -- one certificate of each row, in order
@@ -40,27 +41,27 @@ ShowsRows p ts (Contained parts proofs) = ⊥
 ShowsRows p ts (Open tried) = ⊥
 
 -- the answer shows what it says of the rows, and the run says that it is due
-pub record AnswersRows (p : ProblemView) (budget : Option ℕ) (ts : List Terms) (answer : AnswerView) : Type 0 where
+pub record AnswersRows (p : ProblemView) (effort : Effort) (ts : List Terms) (answer : AnswerView) : Type 0 where
   pub shows : ShowsRows p ts answer
-  pub due : IsDueByRuns p budget ts answer
+  pub due : IsDueByRuns p effort ts answer
 
 -- the same for targets with these forms
-pub record AnswersForms (p : ProblemView) (fs : List Form) (answer : AnswerView) (budget : Option ℕ) : Type 0 where
+pub record AnswersForms (p : ProblemView) (fs : List Form) (answer : AnswerView) (effort : Effort) : Type 0 where
   pub rows : List Terms
   pub are : AreRowsOf p.space fs rows
-  pub answered : AnswersRows p budget rows answer
+  pub answered : AnswersRows p effort rows answer
 
 -- for the target of an inequality
-abbrev pub AnswersInequality : ProblemView → RelationView → AnswerView → Option ℕ → Type 0
-AnswersInequality p r answer budget = AnswersForms p (form_of p.space.variables r ∷ []) answer budget
+abbrev pub AnswersInequality : ProblemView → RelationView → AnswerView → Effort → Type 0
+AnswersInequality p r answer effort = AnswersForms p (form_of p.space.variables r ∷ []) answer effort
 
 -- for the two of an equality
-abbrev pub AnswersEquality : ProblemView → RelationView → AnswerView → Option ℕ → Type 0
-AnswersEquality p r answer budget = AnswersForms p (form_of p.space.variables r ∷ negation (form_of p.space.variables r) ∷ []) answer budget
+abbrev pub AnswersEquality : ProblemView → RelationView → AnswerView → Effort → Type 0
+AnswersEquality p r answer effort = AnswersForms p (form_of p.space.variables r ∷ negation (form_of p.space.variables r) ∷ []) answer effort
 
 -- for those of a relation of any sign
-abbrev pub AnswersRelation : ProblemView → RelationView → AnswerView → Option ℕ → Type 0
-AnswersRelation p r answer budget = AnswersForms p (targets p.space.variables r) answer budget
+abbrev pub AnswersRelation : ProblemView → RelationView → AnswerView → Effort → Type 0
+AnswersRelation p r answer effort = AnswersForms p (targets p.space.variables r) answer effort
 
 -- the answer after the first target
 abbrev pub answer_after_one : ProofView → AnswerView

@@ -16,13 +16,12 @@ ghost use Rattle.it_answer.specs.RowAnswers.{AnswersEquality, AnswersInequality,
 
 use crate::containments::containment;
 use crate::regions::region;
-use crate::types::{AnsweredProblem, Budgets, budget_of};
+use crate::types::{AnsweredProblem, Budgets};
 use it_canon::{canon, problem};
 use it_columns::opposite_row;
 use it_contain::Proposer;
-use it_prove::{ClosedProblem, Proof, prove};
+use it_prove::{ClosedProblem, Effort, Proof, prove};
 use it_question::types::{Question, Verb};
-use it_simplex::Budget;
 use it_space::{Answer, Certificate, Problem};
 use it_syntax::types::{Relation, Sign};
 use std::alloc::{AllocError, Global};
@@ -58,12 +57,7 @@ fn answer_under(
     ensures { IfOk result (λ a. IsAnswered budgets (map plan boxes.old.items) question.now a (map plan boxes.new.items)) }
 {
     match &question.verb {
-        Verb::Prove(relation) => relation_answer(
-            alloc,
-            problem,
-            relation,
-            budget_of(budgets.pivots),
-        ),
+        Verb::Prove(relation) => { relation_answer(alloc, problem, relation, budgets.effort) }
         Verb::Eliminate(rates) => { region(alloc, question, rates.as_slice(), problem, budgets) }
         Verb::Contain {
             first,
@@ -81,23 +75,22 @@ fn answer_under(
     }
 }
 
-/// The answer about a relation under a problem, by runs of at most the budget's steps, if it has some. The two targets of an
-/// equality are the left side less the right one, then the right side less the left one; the second is asked only where the
-/// first has a certificate.
+/// The answer about a relation under a problem, with this effort for each target. The two targets of an equality are the left
+/// side less the right one, then the right side less the left one; the second is asked only where the first has a certificate.
 fn relation_answer(
     alloc: Global,
     problem: &Problem,
     relation: &Relation,
-    budget: Budget,
+    effort: Effort,
 ) -> Result<Answer, AllocError>
     requires problem { IsProblem (problem_view problem.now) }
     requires relation { IsRelationOf problem.now.space.variables problem.now.space.rates (relation_view relation.now) }
-    ensures { IfOk result (λ a. AnswersRelation (problem_view problem.now) (relation_view relation.now) (answer_view a) budget) }
+    ensures { IfOk result (λ a. AnswersRelation (problem_view problem.now) (relation_view relation.now) (answer_view a) effort) }
 {
     match relation.sign {
-        Sign::AtLeast => inequality(alloc, problem, relation, budget),
-        Sign::AtMost => inequality(alloc, problem, relation, budget),
-        Sign::Equal => equation(alloc, problem, relation, budget),
+        Sign::AtLeast => inequality(alloc, problem, relation, effort),
+        Sign::AtMost => inequality(alloc, problem, relation, effort),
+        Sign::Equal => equation(alloc, problem, relation, effort),
     }
 }
 
@@ -106,14 +99,14 @@ fn inequality(
     alloc: Global,
     problem: &Problem,
     relation: &Relation,
-    budget: Budget,
+    effort: Effort,
 ) -> Result<Answer, AllocError>
     requires problem { IsProblem (problem_view problem.now) }
     requires relation { IsRelationOf problem.now.space.variables problem.now.space.rates (relation_view relation.now) }
-    ensures { IfOk result (λ a. AnswersInequality (problem_view problem.now) (relation_view relation.now) (answer_view a) budget) }
+    ensures { IfOk result (λ a. AnswersInequality (problem_view problem.now) (relation_view relation.now) (answer_view a) effort) }
 {
     let row = canon(alloc, relation, problem.space)?;
-    let proof = prove(alloc, problem, &row, budget)?;
+    let proof = prove(alloc, problem, &row, effort)?;
     after_one(alloc, proof)
 }
 
@@ -122,18 +115,18 @@ fn equation(
     alloc: Global,
     problem: &Problem,
     relation: &Relation,
-    budget: Budget,
+    effort: Effort,
 ) -> Result<Answer, AllocError>
     requires problem { IsProblem (problem_view problem.now) }
     requires relation { IsRelationOf problem.now.space.variables problem.now.space.rates (relation_view relation.now) }
-    ensures { IfOk result (λ a. AnswersEquality (problem_view problem.now) (relation_view relation.now) (answer_view a) budget) }
+    ensures { IfOk result (λ a. AnswersEquality (problem_view problem.now) (relation_view relation.now) (answer_view a) effort) }
 {
     let row = canon(alloc, relation, problem.space)?;
-    let mut closed = ClosedProblem::read(alloc, problem)?;
-    match closed.prove(alloc, problem, &row, budget)? {
+    let mut closed = ClosedProblem::read(alloc, problem, effort)?;
+    match closed.prove(alloc, problem, &row, effort)? {
         Proof::Yes(certificate) => {
             let other = opposite_row(alloc, &row)?;
-            let proof = closed.prove(alloc, problem, &other, budget)?;
+            let proof = closed.prove(alloc, problem, &other, effort)?;
             after_two(alloc, certificate, proof)
         }
         proof => after_one(alloc, proof),

@@ -7,7 +7,7 @@ ghost use Rattle.it_answer.specs.RightAnswers.{IsAnswered};
 ghost use Rattle.it_answer.specs.DueContainments.{tried_of};
 ghost use Rattle.it_answer.specs.SearchAnswers.{answer_of_search};
 
-use crate::types::{Budgets, budget_of};
+use crate::types::Budgets;
 use it_contain::types::Contained;
 use it_contain::{Proposer, contain};
 use it_question::types::{Question, Region};
@@ -71,8 +71,14 @@ pub fn containment(
 {
     let pair = pair(alloc, question)?;
     let tried = tried_of(alloc, second, tries)?;
-    let budget = budget_of(budgets.pivots);
-    let end = contain(alloc, &pair, tried.as_slice(), boxes, budgets.tries, budget)?;
+    let end = contain(
+        alloc,
+        &pair,
+        tried.as_slice(),
+        boxes,
+        budgets.tries,
+        budgets.effort,
+    )?;
     // named before it is answered, so that the contract of the call stands at the answer
     let answer = answer_of_search(alloc, end)?;
     Ok(answer)

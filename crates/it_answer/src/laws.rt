@@ -14,7 +14,7 @@ pub fn never_yes_and_no()
     ensures { NeverYesAndNo }
 {}
 
-/// A question has one right answer, whatever boxes propose by the same plans. Each certificate of a yes or of a containment lists
+/// Where no quick run comes first a question has one right answer, whatever boxes propose by the same plans. With any effort each certificate of a yes or of a containment lists
 /// its generators in ascending order, none twice.
 pub fn answers_are_determined()
     ensures one { OneRightAnswer }

@@ -11,7 +11,7 @@ ghost use Rattle.it_contain.specs.Proposals.{Plan};
 ghost use Rattle.it_answer.specs.DueEliminations.{answer_of_end, mark_of_need, marked_rows};
 ghost use Rattle.it_answer.specs.RightAnswers.{IsAnswered};
 
-use crate::types::{Budgets, budget_of};
+use crate::types::Budgets;
 use it_canon::system;
 use it_question::types::Question;
 use it_redundant::{Need, Projected, project};
@@ -35,8 +35,7 @@ pub fn region(
 {
     let system = system(alloc, question)?;
     let rows = budgets.rows as usize;
-    let budget = budget_of(budgets.pivots);
-    let end = project(alloc, &system, rates, givens, rows, budget)?;
+    let end = project(alloc, &system, rates, givens, rows, budgets.effort)?;
     // named before it is answered, so that the contract of the call stands at the answer
     let answer = answer_of_end(alloc, end)?;
     Ok(answer)

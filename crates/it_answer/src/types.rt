@@ -1,26 +1,15 @@
 //! Answers with their problems, and what they may cost.
-ghost use Rattle.std.specs.Prelude.{◌≡◌};
-
-use it_simplex::Budget;
+use it_prove::Effort;
 use it_space::{Answer, Problem};
 
-/// How much an answer may cost: the most steps of a run, without which each run goes on to its end; the most rows that the
-/// elimination of a rate may leave before they are reduced, at most 65,535 by its type; and the most candidates that are tried.
+/// How much an answer may cost: the effort for each target, whether a quick run comes first and the most steps of the defined run; the
+/// most rows that the elimination of a rate may leave before they are reduced, at most 65,535 by its type; and the most candidates
+/// that are tried.
 #[derive(Clone, Copy, Debug, PartialEq, Eq)]
 pub struct Budgets {
-    pub pivots: Option<u32>,
+    pub effort: Effort,
     pub rows: u16,
     pub tries: u32,
-}
-
-/// The budget of a run: so many steps, or as many as it takes.
-pub(crate) fn budget_of(pivots: Option<u32>) -> Budget
-    ensures { result ≡ pivots }
-{
-    match pivots {
-        Some(steps) => Budget::at_most(steps),
-        None => Budget::none(),
-    }
 }
 
 /// The answer to a question, and the question's problem. The generators that a certificate numbers are the elemental

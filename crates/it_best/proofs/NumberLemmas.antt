@@ -1,5 +1,5 @@
 -- The numbers of unknowns, by the weights of their columns: they sum up to the target as the weights do.
-use Rattle.std.proofs.Common.{◌≡◌, ℕ, zero, suc, ◌+◌, ◌<◌, ◌≤◌, pos, ◌*ℤ◌, ◌≤ℤ◌, List, [], ◌∷◌, ◌++◌, length, get_or, Bool, true, false, cond, nat_eq, eq-eqb, ne_eqb, refl, sym, ap, ap₂, ◌∙◌, arith}
+use Rattle.std.proofs.Common.{◌≡◌, ℕ, zero, suc, ◌+◌, ◌<◌, ◌≤◌, pos, List, [], ◌∷◌, ◌++◌, length, get_or, Bool, true, false, cond, nat_eq, eq-eqb, ne_eqb, refl, sym, ap, ap₂, ◌∙◌, arith}
 use Rattle.it_number.proofs.Ring.{ring, v, nil}
 use Rattle.it_closure.specs.Sizes.{column_count}
 use Rattle.it_best.proofs.UnknownNumbers.{unknown_number, unknown_numbers}

@@ -27,6 +27,7 @@ use Rattle.it_prove.specs.Closed.{spread_point}
 use Rattle.it_prove.specs.ProofViews as proof_views
 use Rattle.it_prove.specs.ProofViews.{Follows, EndsWith, AreProofsOf}
 use Rattle.it_prove.proofs.RightLemmas.{ends_are_right}
+use Rattle.it_prove.specs.declared.types.Effort.{Effort}
 use Rattle.it_syntax.specs.Meaning.{RelationView}
 use Rattle.it_syntax.specs.NamesViews.{NamesView}
 use Rattle.it_question.specs.AsciiTexts.{IsAsciiQuestion}
@@ -97,7 +98,7 @@ point_fits p t values (Point qs) (inr h) = let e = h.1 in absurd (cc)
 point_fits p t values (Pivots k) e = absurd (cc)
 point_fits p t values (Width k) e = absurd (cc)
 
-module _ (q : BodyView) (posed : IsProblemOf q (problem_of q)) (budget : Option ℕ) where
+module _ (q : BodyView) (posed : IsProblemOf q (problem_of q)) (effort : Effort) where
   to_problem : (P : Space → Type 0) → P (space_of (problem_names q)) → P (problem_of q).space
   to_problem P x = subst P (sym posed.space) x
 
@@ -115,10 +116,18 @@ module _ (q : BodyView) (posed : IsProblemOf q (problem_of q)) (budget : Option 
     violated = subst (λ (x : ℤ). x ≤ℤ neg_ℤ (pos 1)) (sym (row.same (point_of values) refl)) c.violated;
   }
 
-  proof_valid : (f : Form) (t : Terms) (w : CertificateView) → IsRowOf (problem_of q).space f t → CertifiesForm q f w → EndsWith (problem_of q) t budget (proof_views.Yes w) → proof_verdict (problem_of q) t w ≡ Valid
-  proof_valid f t w row c d = (valid_yes_is (problem_of q) t w posed.limits row.coordinates).1 (certifies_row f t w row c, certificate_fits (problem_of q) t w d.end d.follows)
+  fits_of_yes : (t : Terms) (w : CertificateView) → EndsWith (problem_of q) t effort (proof_views.Yes w) → CertificateFits (problem_of q) t w
+  fits_of_yes t w (inl e) = certificate_fits (problem_of q) t w e.end e.follows
+  fits_of_yes t w (inr (quick, (certifies, fits), canonical)) = fits
 
-  proofs_valid : (fs : List Form) (ts : List Terms) (ws : List CertificateView) → AreRowsOf (problem_of q).space fs ts → CertifyAll q fs ws → AreProofsOf (problem_of q) budget ts ws → proofs_verdict (problem_of q) ts ws ≡ Valid
+  fits_of_no : (t : Terms) (values : List ℤ) → EndsWith (problem_of q) t effort (proof_views.No values) → PointFits (problem_of q) t values
+  fits_of_no t values (inl e) = point_fits (problem_of q) t values e.end e.follows
+  fits_of_no t values (inr (quick, (refutes, fits), within)) = fits
+
+  proof_valid : (f : Form) (t : Terms) (w : CertificateView) → IsRowOf (problem_of q).space f t → CertifiesForm q f w → EndsWith (problem_of q) t effort (proof_views.Yes w) → proof_verdict (problem_of q) t w ≡ Valid
+  proof_valid f t w row c d = (valid_yes_is (problem_of q) t w posed.limits row.coordinates).1 (certifies_row f t w row c, fits_of_yes t w d)
+
+  proofs_valid : (fs : List Form) (ts : List Terms) (ws : List CertificateView) → AreRowsOf (problem_of q).space fs ts → CertifyAll q fs ws → AreProofsOf (problem_of q) effort ts ws → proofs_verdict (problem_of q) ts ws ≡ Valid
   unfolding proofs_verdict
   proofs_valid [] [] ws z c d = refl
   proofs_valid [] (t ∷ ts) ws z c d = absurd z
@@ -127,30 +136,30 @@ module _ (q : BodyView) (posed : IsProblemOf q (problem_of q)) (budget : Option 
   proofs_valid (f ∷ fs) (t ∷ ts) (w ∷ ws) z c d =
       ap (λ v. if is_valid v then proofs_verdict (problem_of q) ts ws else v) (proof_valid f t w z.0 c.0 d.0) ∙ proofs_valid fs ts ws z.1 c.1 d.1
 
-  point_valid : (fs : List Form) (ts : List Terms) (back : Bool) (values : List ℤ) → AreRowsOf (problem_of q).space fs ts → Refutes q fs back values → PointIsDue (problem_of q) budget ts back values
+  point_valid : (fs : List Form) (ts : List Terms) (back : Bool) (values : List ℤ) → AreRowsOf (problem_of q).space fs ts → Refutes q fs back values → PointIsDue (problem_of q) effort ts back values
       → point_verdict (problem_of q) ts back values ≡ Valid
   unfolding point_verdict
   point_valid [] ts back values z c d = absurd c
   point_valid (f ∷ fs) [] back values z c d = absurd z
   point_valid (f ∷ fs) (t ∷ ts) false values z c d =
       let refuted = refutes_row f t values z.0 c in
-      (valid_no_is (problem_of q) t values posed.limits z.0.coordinates refuted.complete).1 (refuted, point_fits (problem_of q) t values d.end d.follows)
+      (valid_no_is (problem_of q) t values posed.limits z.0.coordinates refuted.complete).1 (refuted, fits_of_no t values d)
   point_valid (f ∷ []) (t ∷ ts) true values z c d = absurd c
   point_valid (f ∷ g ∷ fs) (t ∷ []) true values z c d = absurd d
   point_valid (f ∷ g ∷ fs) (t ∷ u ∷ ts) true values z c d =
       let refuted = refutes_row g u values z.1.0 c.1 in
-      (valid_no_is (problem_of q) u values posed.limits z.1.0.coordinates refuted.complete).1 (refuted, point_fits (problem_of q) u values d.1.end d.1.follows)
+      (valid_no_is (problem_of q) u values posed.limits z.1.0.coordinates refuted.complete).1 (refuted, fits_of_no u values d.1)
 
 -- ---- the proofs of a candidate are valid
 
-proofs_by_valid : (p : ProblemView) (budget : Option ℕ) (fs : List Form) (ts : List Terms) (ws : List CertificateView) → IsProblem p → ArePulledRows p.space fs ts → AreProofsOf p budget ts ws → proofs_verdict p ts ws ≡ Valid
+proofs_by_valid : (p : ProblemView) (effort : Effort) (fs : List Form) (ts : List Terms) (ws : List CertificateView) → IsProblem p → ArePulledRows p.space fs ts → AreProofsOf p effort ts ws → proofs_verdict p ts ws ≡ Valid
 unfolding proofs_verdict
-proofs_by_valid p budget [] [] ws l z d = refl
-proofs_by_valid p budget [] (t ∷ ts) ws l z d = absurd z
-proofs_by_valid p budget (f ∷ fs) [] ws l z d = absurd z
-proofs_by_valid p budget (f ∷ fs) (t ∷ ts) [] l z d = absurd d
-proofs_by_valid p budget (f ∷ fs) (t ∷ ts) (w ∷ ws) l z d =
-    ap (λ v. if is_valid v then proofs_verdict p ts ws else v) ((valid_yes_is p t w l z.0.coordinates).1 (ends_are_right p t budget (proof_views.Yes w) l z.0.coordinates d.0)) ∙ proofs_by_valid p budget fs ts ws l z.1 d.1
+proofs_by_valid p effort [] [] ws l z d = refl
+proofs_by_valid p effort [] (t ∷ ts) ws l z d = absurd z
+proofs_by_valid p effort (f ∷ fs) [] ws l z d = absurd z
+proofs_by_valid p effort (f ∷ fs) (t ∷ ts) [] l z d = absurd d
+proofs_by_valid p effort (f ∷ fs) (t ∷ ts) (w ∷ ws) l z d =
+    ap (λ v. if is_valid v then proofs_verdict p ts ws else v) ((valid_yes_is p t w l z.0.coordinates).1 (ends_are_right p t effort (proof_views.Yes w) l z.0.coordinates d.0)) ∙ proofs_by_valid p effort fs ts ws l z.1 d.1
 
 -- ---- lines
 
@@ -237,31 +246,31 @@ module _ (back : ReadsBack) (q : QuestionView) (short : length q.text ≤ 104857
       skipped_is_accepted (Region rows) (line_of (Region rows)) (clear_of (Region rows) plain) refl
       (line_reads (Region rows) (question_fits q.body (Region rows) (Eliminate rates) about fits) plain)
 
-  module _ (budgets : Budgets) (few : IfSome budgets.pivots (λ n. n < 2 ^ 32)) where
-    yes_accepted : (r : RelationView) (ws : List CertificateView) → q.body.verb ≡ Prove r → ProofsAscend (Yes ws) → ShowsBy q.body (Prove r) (Yes ws) → IsDueRelation budgets.pivots q.body r (Yes ws) → IsAccepted (line_of (Yes ws))
+  module _ (budgets : Budgets) (few : IfSome budgets.effort.pivots (λ n. n < 2 ^ 32)) where
+    yes_accepted : (r : RelationView) (ws : List CertificateView) → q.body.verb ≡ Prove r → ProofsAscend (Yes ws) → ShowsBy q.body (Prove r) (Yes ws) → IsDueRelation budgets.effort q.body r (Yes ws) → IsAccepted (line_of (Yes ws))
     yes_accepted r ws about ascend shown due =
-        let fits = right_prove_fits budgets.pivots q.body r (Yes ws) few posed about shown due in
-        let e = proofs_valid q.body posed budgets.pivots (targets (variable_count q.body) r) (map (terms_in q.body) (targets (variable_count q.body) r)) ws (relation_rows q.body limits small r about) shown due in
+        let fits = right_prove_fits budgets.effort q.body r (Yes ws) few posed about shown due in
+        let e = proofs_valid q.body posed budgets.effort (targets (variable_count q.body) r) (map (terms_in q.body) (targets (variable_count q.body) r)) ws (relation_rows q.body limits small r about) shown due in
         let plain = yes_plain q.text q.body.names text_is ws fits.1 in
         let reads = line_reads (Yes ws) (question_fits q.body (Yes ws) (Prove r) about fits) plain in
         judged_is_accepted (Yes ws) (line_of (Yes ws)) (clear_of (Yes ws) plain) (verdict_by_verb (Yes ws) (Prove r) about (ap Some e))
         (subst (λ us. ReadsReport (line_of (Yes ws)) (Ok (q, Yes us))) (all_weights_written ws ascend) reads)
 
-    no_accepted : (r : RelationView) (is_back : Bool) (values : List ℤ) → q.body.verb ≡ Prove r → ShowsBy q.body (Prove r) (No is_back values) → IsDueRelation budgets.pivots q.body r (No is_back values)
+    no_accepted : (r : RelationView) (is_back : Bool) (values : List ℤ) → q.body.verb ≡ Prove r → ShowsBy q.body (Prove r) (No is_back values) → IsDueRelation budgets.effort q.body r (No is_back values)
         → IsAccepted (line_of (No is_back values))
     no_accepted r is_back values about shown due =
-        let fits = right_prove_fits budgets.pivots q.body r (No is_back values) few posed about shown due in
+        let fits = right_prove_fits budgets.effort q.body r (No is_back values) few posed about shown due in
         let rows = relation_rows q.body limits small r about in
-        let e = point_valid q.body posed budgets.pivots (targets (variable_count q.body) r) (map (terms_in q.body) (targets (variable_count q.body) r)) is_back values rows shown due in
+        let e = point_valid q.body posed budgets.effort (targets (variable_count q.body) r) (map (terms_in q.body) (targets (variable_count q.body) r)) is_back values rows shown due in
         let plain = no_plain q.text q.body.names text_is is_back values fits.1 in
         judged_is_accepted (No is_back values) (line_of (No is_back values)) (clear_of (No is_back values) plain) (verdict_by_verb (No is_back values) (Prove r) about (ap Some e))
         (line_reads (No is_back values) (question_fits q.body (No is_back values) (Prove r) about fits) plain)
 
-    prove_accepted : (r : RelationView) (a : AnswerView) → q.body.verb ≡ Prove r → ProofsAscend a → ShowsBy q.body (Prove r) a → IsDueRelation budgets.pivots q.body r a → IsAccepted (line_of a)
+    prove_accepted : (r : RelationView) (a : AnswerView) → q.body.verb ≡ Prove r → ProofsAscend a → ShowsBy q.body (Prove r) a → IsDueRelation budgets.effort q.body r a → IsAccepted (line_of a)
     prove_accepted r (Yes ws) about ascend shown due = yes_accepted r ws about ascend shown due
     prove_accepted r (No is_back values) about ascend shown due = no_accepted r is_back values about shown due
     prove_accepted r (Undecided c) about ascend shown due =
-        let fits = right_prove_fits budgets.pivots q.body r (Undecided c) few posed about shown due in
+        let fits = right_prove_fits budgets.effort q.body r (Undecided c) few posed about shown due in
         undecided_accepted c (question_fits q.body (Undecided c) (Prove r) about fits) fits
     prove_accepted r (Region rows) about ascend shown due = absurd shown
     prove_accepted r (Contained parts proofs) about ascend shown due = absurd shown
@@ -288,10 +297,10 @@ module _ (back : ReadsBack) (q : QuestionView) (short : length q.text ≤ 104857
         let fits = contained_fits q.body limits posed first second tries about budgets plans parts ws found shown due in
         let plain = contained_plain q.text q.body.names text_is parts ws (All-weaker (λ s. (s < 2 ^ 32) × (s < 2 ^ length first.names.variables)) (λ s. s < 2 ^ 32) (λ s h. h.0) parts fits.sets) fits.numbers in
         let reads = line_reads a (question_fits q.body a (Contain first second tries) about fits) plain in
-        let proofs : AreProofsOf (problem_of q.body) budgets.pivots rows ws =
-        subst (λ ps. AreProofsOf (problem_of q.body) budgets.pivots (map (terms_in q.body) (obligations q.body first second ps)) ws) (sym due.parts_are) due.proofs.proofs in
+        let proofs : AreProofsOf (problem_of q.body) budgets.effort rows ws =
+        subst (λ ps. AreProofsOf (problem_of q.body) budgets.effort (map (terms_in q.body) (obligations q.body first second ps)) ws) (sym due.parts_are) due.proofs.proofs in
         let are = obligation_rows_there q.body limits small first second tries about parts shown.are_parts in
-        let e = proofs_by_valid (problem_of q.body) budgets.pivots forms rows ws posed.limits are proofs in
+        let e = proofs_by_valid (problem_of q.body) budgets.effort forms rows ws posed.limits are proofs in
         let verdict = verdict_by_verb a (Contain first second tries) about (ap Some e) in
         judged_is_accepted a (line_of a) (clear_of a plain) verdict
         (subst (λ us. ReadsReport (line_of a) (Ok (q, Contained parts us))) (all_weights_written ws ascend) reads)
@@ -319,7 +328,7 @@ module _ (back : ReadsBack) (q : QuestionView) (short : length q.text ≤ 104857
     verb_accepted plans (Eliminate rates) reply about short ascend shown due = eliminate_accepted rates reply.answer about shown due.0
     verb_accepted plans (Contain first second tries) reply about short ascend shown due = contain_accepted plans first second tries reply.answer reply.found short about ascend shown due
 
-pub right_accepted : ReadsBack → (budgets : Budgets) (plans : List Plan) (q : QuestionView) (reply : Reply) → IfSome budgets.pivots (λ n. n < 2 ^ 32) → budgets.tries < 2 ^ 32 → length q.text ≤ 1048577 → IsFile q.text (q ∷ [])
+pub right_accepted : ReadsBack → (budgets : Budgets) (plans : List Plan) (q : QuestionView) (reply : Reply) → IfSome budgets.effort.pivots (λ n. n < 2 ^ 32) → budgets.tries < 2 ^ 32 → length q.text ≤ 1048577 → IsFile q.text (q ∷ [])
     → IsRightAnswer budgets plans q.body reply → IsAccepted (answer_text q.text q.body.names reply.answer)
 right_accepted back budgets plans q reply few tries short file right = verb_accepted back q short file budgets few plans q.body.verb reply refl tries (a_yes_ascends budgets plans q.body reply right) right.shows right.due
 

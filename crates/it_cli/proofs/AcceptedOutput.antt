@@ -23,7 +23,7 @@ use Rattle.it_cli.proofs.ShortTexts.{texts_are_short}
 use Rattle.it_cli.proofs.ReplyLemmas.{RepliesFrom, any_more}
 use Rattle.it_cli.proofs.RightLemmas.{found_in}
 
-module _ (back : ReadsBack) (budgets : Budgets) (plans : List Plan) (few : IfSome budgets.pivots (λ n. n < 2 ^ 32)) (few_tries : budgets.tries < 2 ^ 32) (bytes : List ℕ) (short : length bytes ≤ 1048576) (whole : List QuestionView) (file : IsFile bytes whole) where
+module _ (back : ReadsBack) (budgets : Budgets) (plans : List Plan) (few : IfSome budgets.effort.pivots (λ n. n < 2 ^ 32)) (few_tries : budgets.tries < 2 ^ 32) (bytes : List ℕ) (short : length bytes ≤ 1048576) (whole : List QuestionView) (file : IsFile bytes whole) where
   none_invalid : (k j : ℕ) (prefix qs : List QuestionView) (s t : List Reply) (before verdicts : List LineVerdict) (out told : List ℕ) → whole ≡ prefix ++ qs → All (λ q. length q.text ≤ length bytes + 1) qs
       → RepliesFrom (answer_mode budgets plans Json) k s qs t out → list_any is_invalid before ≡ false → RepliesFrom check_mode j before (split_lines out) verdicts told
       → list_any is_invalid verdicts ≡ false
@@ -41,7 +41,7 @@ module _ (back : ReadsBack) (budgets : Budgets) (plans : List Plan) (few : IfSom
       (any_more is_invalid before w.0 ∙ ap₂ (λ x y. x || y) clean ok) w.3
 
 pub output_is_accepted : ReadsBack → OutputIsAccepted
-output_is_accepted back plans pivots rows tries bytes out told answered checked few few_tries short a c =
+output_is_accepted back plans run pivots rows tries bytes out told answered checked few few_tries short a c =
     let verdicts = subst (λ (lines : List (List ℕ)). Replies check_mode lines c.replies told) c.asked c.written in
-    let none = none_invalid back (budgets_of pivots rows tries) plans few few_tries bytes short a.items a.asked 1 1 [] a.items [] a.replies [] c.replies out told refl (texts_are_short bytes a.items a.asked) a.written refl verdicts in
+    let none = none_invalid back (budgets_of run pivots rows tries) plans few few_tries bytes short a.items a.asked 1 1 [] a.items [] a.replies [] c.replies out told refl (texts_are_short bytes a.items a.asked) a.written refl verdicts in
     c.is ∙ ap verdict_status none

@@ -2,6 +2,7 @@
 use Rattle.std.proofs.Common.{◌≡◌, ℕ, ◌<◌, List, [], length, map, get_or, Option, Result, Ok, Err, IfOk, refl, ap, ◌∙◌, arith}
 use Rattle.std.specs.Global.{Vec}
 use Rattle.std.proofs.lemmas.List.{length-map, get_or-map}
+use Rattle.it_prove.specs.declared.types.Effort.{Effort}
 use Rattle.it_space.specs.Answers.{AnswerView}
 use Rattle.it_question.specs.declared.types.Question.{Question}
 use Rattle.it_question.specs.Questions.{BodyView, question_view, VerbView, Prove, Eliminate, Contain}
@@ -22,20 +23,20 @@ use Rattle.it_cli.proofs.RightLemmas.{question_at}
 -- ---- the answer to one question
 
 due_alone : (b : Budgets) (plans : List Plan) (q : BodyView) (verb : VerbView) (a : AnswerView) (found : List Candidate) → IsProof verb → IsDueBy b plans q verb (record { answer = a; found = found })
-    → IsDueBy (record { pivots = b.pivots; rows = 1; tries = 1 }) [] q verb (record { answer = a; found = [] })
+    → IsDueBy (record { effort = b.effort; rows = 1; tries = 1 }) [] q verb (record { answer = a; found = [] })
 due_alone b plans q (Prove r) a found proof (due, none) = (due, refl)
 due_alone b plans q (Eliminate rates) a found proof h = absurd proof
 due_alone b plans q (Contain first second tries) a found proof h = absurd proof
 
 -- a right answer to a question about a relation finds no candidate, and rests on its steps alone
-pub right_alone : (b : Budgets) (plans : List Plan) (q : BodyView) (a : AnswerView) (found : List Candidate) → IsProof q.verb → IsRightAnswer b plans q (record { answer = a; found = found }) → IsRightProof b.pivots q a
+pub right_alone : (b : Budgets) (plans : List Plan) (q : BodyView) (a : AnswerView) (found : List Candidate) → IsProof q.verb → IsRightAnswer b plans q (record { answer = a; found = found }) → IsRightProof b.effort q a
 right_alone b plans q a found proof right = record { shows = right.shows; due = due_alone b plans q q.verb a found proof right.due }
 
 -- the line that says why there is no such question is a right reply
-pub misfit_text : {E : Type 0} (pivots : Option ℕ) (x : CopyQuestion) (k : ℕ) (fault : CopyFault) (r : Result (Vec ℕ) E) → IsMisfit x.question.body x.copies fault → IfOk r (λ t. t.items ≡ misfit_line k fault) → IfOk r (λ t. fault ≡ Memory → ⊥)
-    → IfOk r (λ t. IsTextOf (copy_mode pivots) [] k x t.items)
-misfit_text pivots x k fault (Ok t) misfit told some = record { reply = Misfit fault; right = (some, misfit); is = told }
-misfit_text pivots x k fault (Err e) misfit told some = tt
+pub misfit_text : {E : Type 0} (effort : Effort) (x : CopyQuestion) (k : ℕ) (fault : CopyFault) (r : Result (Vec ℕ) E) → IsMisfit x.question.body x.copies fault → IfOk r (λ t. t.items ≡ misfit_line k fault) → IfOk r (λ t. fault ≡ Memory → ⊥)
+    → IfOk r (λ t. IsTextOf (copy_mode effort) [] k x t.items)
+misfit_text effort x k fault (Ok t) misfit told some = record { reply = Misfit fault; right = (some, misfit); is = told }
+misfit_text effort x k fault (Err e) misfit told some = tt
 
 -- ---- the questions, one after the other
 

@@ -1,5 +1,5 @@
 -- The counts of mode `bench`.
-use Rattle.std.proofs.Common.{◌≡◌, ℕ, zero, suc, ◌+◌, ◌<◌, ◌≤◌, List, [], ◌∷◌, ◌++◌, length, map, drop, get_or, All, refl, sym, ap, subst, ◌∙◌, arith}
+use Rattle.std.proofs.Common.{◌≡◌, ℕ, zero, suc, ◌+◌, ◌<◌, ◌≤◌, List, [], ◌∷◌, ◌++◌, length, map, drop, get_or, All, refl, sym, ap, subst, ◌∙◌, arith, false}
 use Rattle.std.proofs.lemmas.List.{drop_more, length-map, get_or-map}
 use Rattle.std.proofs.lemmas.List.Elements.{All-head, All-tail}
 use Rattle.it_space.specs.declared.answers.Answer.{Answer}
@@ -75,11 +75,11 @@ counting_done budgets plans plans_now qs i counts c h = c.counted counts (subst 
 
 -- ---- the counts are determined
 
-pub one_count : OneRightAnswer → (budgets : Budgets) (plans : List Plan) (before : List Candidate) (counts : Counts) (qs : List QuestionView) (c d : Counts) → AreCounted budgets plans before counts qs c → AreCounted budgets plans before counts qs d → c ≡ d
-one_count one_answer budgets plans before counts [] c d a b = a ∙ sym b
-one_count one_answer budgets plans before counts (q ∷ qs) c d (reply, right, rest) (other, is_right, more) =
-    let same : other ≡ reply = one_answer budgets (map (plan_after_all before) plans) q.body other reply is_right right in
-    one_count one_answer budgets plans (before ++ reply.found) (with_answer counts reply.answer) qs c d rest
+pub one_count : OneRightAnswer → (budgets : Budgets) → budgets.effort.quick ≡ false → (plans : List Plan) (before : List Candidate) (counts : Counts) (qs : List QuestionView) (c d : Counts) → AreCounted budgets plans before counts qs c → AreCounted budgets plans before counts qs d → c ≡ d
+one_count one_answer budgets defined plans before counts [] c d a b = a ∙ sym b
+one_count one_answer budgets defined plans before counts (q ∷ qs) c d (reply, right, rest) (other, is_right, more) =
+    let same : other ≡ reply = one_answer budgets (map (plan_after_all before) plans) q.body other reply defined is_right right in
+    one_count one_answer budgets defined plans (before ++ reply.found) (with_answer counts reply.answer) qs c d rest
     (subst (λ (x : Reply). AreCounted budgets plans (before ++ x.found) (with_answer counts x.answer) qs d) same more)
 
 -- ---- what they sum to

@@ -22,7 +22,7 @@ use Rattle.it_prove.specs.Closed.{closed_places, spread_point}
 use Rattle.it_closure.specs.Collapse.{spread_out}
 use Rattle.it_columns.specs.Scaling.{NumbersFit, scale_of, scaled_point}
 use Rattle.it_prove.specs.Steps.{terms_of_places}
-use Rattle.it_prove.specs.ProofViews.{Follows, Runs, AreProofsOf}
+use Rattle.it_prove.specs.ProofViews.{Follows, Runs, EndsWith, AreProofsOf}
 use Rattle.it_prove.proofs.ProofLemmas.{scaled_within}
 use Rattle.it_prove.proofs.PointLemmas.{places_rise, pairs_canonical, point_spread, spread_within}
 use Rattle.it_syntax.specs.declared.types.Sign.{Sign}
@@ -59,6 +59,7 @@ use Rattle.it_cli.proofs.RateLemmas.{IsEndOf, end_of_rates}
 use Rattle.it_elemental.specs.Generators.{is_equation}
 use Rattle.it_space.specs.declared.answers.Cause.TheVariants as causes
 use Rattle.it_prove.specs.ProofViews as proof_views
+use Rattle.it_prove.specs.declared.types.Effort.{Effort}
 use Rattle.it_redundant.specs.ReducedElimination as projections
 
 -- ---- the ends of one target
@@ -175,12 +176,17 @@ pairs_below ds few from (t ∷ ts) a all =
     let l : t.0 < 2 ^ 32 = let below = h.0 in omega (arith, below, few) in
     All-cons IsNumberedAmount t ts (l, a.2) (pairs_below ds few (t.0 + 1) ts a.3 (All-tail (IsAllowedWeight ds) t ts all))
 
--- the run's proofs of targets and of obligations
-pub proofs_scaled : (p : ProblemView) (budget : Option ℕ) (ts : List Terms) (ws : List CertificateView) → AreProofsOf p budget ts ws → All IsScaled ws
-proofs_scaled p budget [] [] d = All-nil IsScaled
-proofs_scaled p budget [] (w ∷ ws) d = absurd d
-proofs_scaled p budget (t ∷ ts) [] d = absurd d
-proofs_scaled p budget (t ∷ ts) (w ∷ ws) d = All-cons IsScaled w ws (scaled_by_end p t w d.0.end d.0.follows) (proofs_scaled p budget ts ws d.1)
+-- a proof of a target has such a shape, whichever run it comes from
+scaled_proof : (p : ProblemView) (effort : Effort) (t : Terms) (w : CertificateView) → EndsWith p t effort (proof_views.Yes w) → IsScaled w
+scaled_proof p effort t w (inl e) = scaled_by_end p t w e.end e.follows
+scaled_proof p effort t w (inr (quick, right, canonical, within)) = record { scale = within; canonical = canonical }
+
+-- so have those of targets and of obligations
+pub proofs_scaled : (p : ProblemView) (effort : Effort) (ts : List Terms) (ws : List CertificateView) → AreProofsOf p effort ts ws → All IsScaled ws
+proofs_scaled p effort [] [] d = All-nil IsScaled
+proofs_scaled p effort [] (w ∷ ws) d = absurd d
+proofs_scaled p effort (t ∷ ts) [] d = absurd d
+proofs_scaled p effort (t ∷ ts) (w ∷ ws) d = All-cons IsScaled w ws (scaled_proof p effort t w d.0) (proofs_scaled p effort ts ws d.1)
 
 module _ (q : BodyView) (p : ProblemView) (space : p.space ≡ space_of (problem_names q)) (limits : IsProblem p) (stated : AllZip (States p.space) (question_demands q) p.constraints) where
   demands_counted : length (question_demands q) ≤ 2 ^ 20
@@ -219,11 +225,15 @@ module _ (q : BodyView) (p : ProblemView) (space : p.space ≡ space_of (problem
 module _ (q : BodyView) (posed : IsProblemOf q (problem_of q)) where
   -- ---- points
 
-  values_due : (budget : Option ℕ) (ts : List Terms) (back : Bool) (values : List ℤ) → PointIsDue (problem_of q) budget ts back values → All IsWithin values
-  values_due budget [] back values d = absurd d
-  values_due budget (t ∷ ts) false values d = values_by_end (problem_of q) t posed.limits values d.end d.follows
-  values_due budget (t ∷ []) true values d = absurd d
-  values_due budget (t ∷ u ∷ ts) true values d = values_by_end (problem_of q) u posed.limits values d.1.end d.1.follows
+  values_of_no : (effort : Effort) (t : Terms) (values : List ℤ) → EndsWith (problem_of q) t effort (proof_views.No values) → All IsWithin values
+  values_of_no effort t values (inl e) = values_by_end (problem_of q) t posed.limits values e.end e.follows
+  values_of_no effort t values (inr (quick, right, within)) = within
+
+  values_due : (effort : Effort) (ts : List Terms) (back : Bool) (values : List ℤ) → PointIsDue (problem_of q) effort ts back values → All IsWithin values
+  values_due effort [] back values d = absurd d
+  values_due effort (t ∷ ts) false values d = values_of_no effort t values d
+  values_due effort (t ∷ []) true values d = absurd d
+  values_due effort (t ∷ u ∷ ts) true values d = values_of_no effort u values d.1
 
   second_only : (s : Sign) (f : Form) (back : Bool) (values : List ℤ) → Refutes q (inequalities_of (kind_of s) f) back values → back ≡ true → is_equation (kind_of s) ≡ true
   second_only AtLeast f true values c e = absurd c
@@ -234,28 +244,32 @@ module _ (q : BodyView) (posed : IsProblemOf q (problem_of q)) where
 
   -- ---- causes
 
-  cause_due : (budget : Option ℕ) → IfSome budget (λ n. n < 2 ^ 32) → (ts : List Terms) (c : Cause) → CauseIsDue (problem_of q) budget ts c → IsCauseFor q.names c
-  cause_due budget few [] c d = absurd d
-  cause_due budget few (t ∷ ts) c (inl e) = cause_by_end q.names (problem_of q) t c e.end (run_end_up_to (problem_of q) t budget e.end few e.run) e.follows
-  cause_due budget few (t ∷ ts) c (inr d) = cause_due budget few ts c d.1
+  cause_of_target : (effort : Effort) → IfSome effort.pivots (λ n. n < 2 ^ 32) → (t : Terms) (c : Cause) → EndsWith (problem_of q) t effort (proof_views.Undecided c) → IsCauseFor q.names c
+  cause_of_target effort few t c (inl e) = cause_by_end q.names (problem_of q) t c e.end (run_end_up_to (problem_of q) t effort.pivots e.end few e.run) e.follows
+  cause_of_target effort few t c (inr (quick, settled)) = absurd settled
+
+  cause_due : (effort : Effort) → IfSome effort.pivots (λ n. n < 2 ^ 32) → (ts : List Terms) (c : Cause) → CauseIsDue (problem_of q) effort ts c → IsCauseFor q.names c
+  cause_due effort few [] c d = absurd d
+  cause_due effort few (t ∷ ts) c (inl e) = cause_of_target effort few t c e
+  cause_due effort few (t ∷ ts) c (inr d) = cause_due effort few ts c d.1
 
 -- a right answer to `prove` fits its question
-pub right_prove_fits : (budget : Option ℕ) (q : BodyView) (r : RelationView) (a : AnswerView) → IfSome budget (λ n. n < 2 ^ 32) → IsProblemOf q (problem_of q) → q.verb ≡ Prove r → ShowsBy q (Prove r) a → IsDueRelation budget q r a
+pub right_prove_fits : (effort : Effort) (q : BodyView) (r : RelationView) (a : AnswerView) → IfSome effort.pivots (λ n. n < 2 ^ 32) → IsProblemOf q (problem_of q) → q.verb ≡ Prove r → ShowsBy q (Prove r) a → IsDueRelation effort q r a
     → HasVerbShape q.names (Prove r) a
-right_prove_fits budget q r (Yes ws) few posed verb shown due = (
+right_prove_fits effort q r (Yes ws) few posed verb shown due = (
   all_counted q (problem_of q) posed.space posed.limits posed.constraints.stated (targets (variable_count q) r) ws shown ∙ targets_counted (variable_count q) (length q.names.variables) r,
-  all_numbered q (problem_of q) posed.space posed.limits posed.constraints.stated (targets (variable_count q) r) ws shown (proofs_scaled (problem_of q) budget (map (terms_in q) (targets (variable_count q) r)) ws due),
+  all_numbered q (problem_of q) posed.space posed.limits posed.constraints.stated (targets (variable_count q) r) ws shown (proofs_scaled (problem_of q) effort (map (terms_in q) (targets (variable_count q) r)) ws due),
 )
-right_prove_fits budget q r (No back values) few posed verb shown due =
+right_prove_fits effort q r (No back values) few posed verb shown due =
     let own : space_of (problem_names q) ≡ space_of q.names = ap (λ (v : _). space_of (names_under q.names v)) verb in (
       point_size q (targets (variable_count q) r) back values shown ∙ ap size_of own,
-      values_due q posed budget (map (terms_in q) (targets (variable_count q) r)) back values due,
+      values_due q posed effort (map (terms_in q) (targets (variable_count q) r)) back values due,
       second_only q posed r.sign (form_of (variable_count q) r) back values shown,
     )
-right_prove_fits budget q r (Undecided cause) few posed verb shown due = cause_due q posed budget few (map (terms_in q) (targets (variable_count q) r)) cause due
-right_prove_fits budget q r (Region rows) few posed verb shown due = absurd shown
-right_prove_fits budget q r (Contained parts proofs) few posed verb shown due = absurd shown
-right_prove_fits budget q r (Open tried) few posed verb shown due = absurd shown
+right_prove_fits effort q r (Undecided cause) few posed verb shown due = cause_due q posed effort few (map (terms_in q) (targets (variable_count q) r)) cause due
+right_prove_fits effort q r (Region rows) few posed verb shown due = absurd shown
+right_prove_fits effort q r (Contained parts proofs) few posed verb shown due = absurd shown
+right_prove_fits effort q r (Open tried) few posed verb shown due = absurd shown
 
 -- ---- eliminations that end with a cause
 
@@ -266,7 +280,7 @@ answer_cause_same c d e = cc
 pub eliminated_cause_fits : (budgets : Budgets) (q : BodyView) (rates : List ℕ) (cause : Cause) → ((r : ℕ) → Member r rates → IsFoundIn q.names r × (step_of (get_or q.names.rates r []) ≡ None))
     → IsDueElimination budgets q rates (Undecided cause) → IsCauseFor q.names cause
 eliminated_cause_fits budgets q rates cause named due =
-    by_end due.end (end_of_rates (problem_of q) budgets.pivots budgets.rows (map (terms_in q) (system_forms (variable_count q) q.lines.rows)) [] [] rates due.end due.ends) due.is
+    by_end due.end (end_of_rates (problem_of q) budgets.effort budgets.rows (map (terms_in q) (system_forms (variable_count q) q.lines.rows)) [] [] rates due.end due.ends) due.is
   where
     by_end : (end : ProjectedView) → IsEndOf rates end → Undecided cause ≡ answer_of_end end → IsCauseFor q.names cause
     by_end (projections.Region kept dropped) h is = absurd (cc)

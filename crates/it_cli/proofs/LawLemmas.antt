@@ -1,6 +1,7 @@
 -- What follows for the status of a call.
 use Rattle.std.proofs.Common.{◌≡◌, ℕ, ◌≤◌, ◌<◌, inl, inr, List, [], ◌∷◌, ◌++◌, length, ◌⊎◌, Option, Some, None, refl, sym, ap, subst, ◌∙◌, arith, append-nil}
 use Rattle.it_settings.specs.Settings.{settings_of}
+use Rattle.it_settings.specs.declared.types.Run.{Run}
 use Rattle.it_space.proofs.OptionLemmas.{some_same}
 use Rattle.it_outside.specs.Causes.{next_count}
 use Rattle.it_outside.specs.Traffic.{Gains, Gave, GaveMore}
@@ -16,7 +17,7 @@ use Rattle.it_cli.specs.Modes.{Replies, WholeOutput}
 use Rattle.it_cli.specs.Outputs.{IsOutput, bench_mode, check_mode, mode_of, most_bytes}
 use Rattle.it_cli.specs.Refusals.{fault_line}
 use Rattle.it_cli.specs.Ends.{Call, Ends, Wrote, IsUntouched, IsTaken, IsInput, HasLimit, IsTooLong, IsUnread, IsDueInPart, HasWritten}
-use Rattle.it_cli.specs.Laws.{BenchReadsNothing, CountsAreWritten, FaultIsDue, Headline, IsComplete, IsThere, LongIsDue, ModesAreDetermined, SureEnds, UsageIsDue, VerdictsAreWritten}
+use Rattle.it_cli.specs.Laws.{BenchReadsNothing, CountsAreWritten, FaultIsDue, Headline, IsComplete, IsThere, LongIsDue, ModesHaveOneReading, SureEnds, UsageIsDue, VerdictsAreWritten}
 use Rattle.it_cli.specs.declared.status.Status.{Status}
 use Rattle.it_cli.specs.declared.status.Status.TheVariants.{Done, Invalid, Usage, Refused, ReadFault, WriteFault, Memory}
 
@@ -124,18 +125,18 @@ fault_there : (r : Call) (settings : Settings) (bytes : List ℕ) (u : IsUnread 
 fault_there r settings bytes u reading there =
     subst (λ (b : List ℕ). (mode_of r.plans settings).FaultAt b u.line u.column u.code) (there_is_given r settings u.settings (most_bytes settings) bytes u.bytes reading refl there u.input) (fault_of r settings u reading)
 
-module _ (determined : ModesAreDetermined) where
+module _ (reading_is_one : ModesHaveOneReading) where
   no_output : (r : Call) (s : Status) (settings : Settings) (bytes : List ℕ) (line column : ℕ) (code : Code) → settings_of r.words ≡ Some settings → IsThere r (most_bytes settings) bytes → (mode_of r.plans settings).FaultAt bytes line column code
       → HasWritten r (λ mode bytes out. WholeOutput mode bytes out s) → ⊥
   no_output r s settings bytes line column code reading there fault h =
       let output = output_of r s settings h reading in
-      (determined r.plans settings).apart h.bytes output.items line column code output.asked
+      (reading_is_one r.plans settings).apart h.bytes output.items line column code output.asked
       (subst (λ (b : List ℕ). (mode_of r.plans settings).FaultAt b line column code) (sym (there_is_given r settings h.settings (most_bytes settings) bytes h.bytes reading refl there h.input)) fault)
 
   told_fault_is : (r : Call) (settings : Settings) (bytes : List ℕ) (line column : ℕ) (code : Code) (u : IsUnread r) → (mode_of r.plans settings).FaultAt bytes u.line u.column u.code
       → (mode_of r.plans settings).FaultAt bytes line column code → Wrote r (fault_line u.line u.column u.code) → Wrote r (fault_line line column code)
   told_fault_is r settings bytes line column code u at fault w =
-      let same : (u.line ≡ line) × (u.column ≡ column) × (u.code ≡ code) = (determined r.plans settings).one_fault bytes u.line u.column line column u.code code at fault in
+      let same : (u.line ≡ line) × (u.column ≡ column) × (u.code ≡ code) = (reading_is_one r.plans settings).one_fault bytes u.line u.column line column u.code code at fault in
       subst (λ (c : Code). Wrote r (fault_line line column c)) same.2 (subst (λ (n : ℕ). Wrote r (fault_line line n u.code)) same.1 (subst (λ (n : ℕ). Wrote r (fault_line n u.column u.code)) same.0 w))
 
   pub fault_is_due : FaultIsDue
@@ -156,39 +157,39 @@ module _ (determined : ModesAreDetermined) where
   is_complete r Usage settings bytes items (faultless, none, untouched, wrote) reading there asked no_fault no_write_fault = absurd (has_one_or_none r settings reading none)
   is_complete r Refused settings bytes items (faultless, inl (t, w)) reading there asked no_fault no_write_fault = absurd (there_is_short r settings (most_bytes settings) bytes reading refl there t)
   is_complete r Refused settings bytes items (faultless, inr (u, w)) reading there asked no_fault no_write_fault =
-      absurd ((determined r.plans settings).apart bytes items u.line u.column u.code asked (fault_there r settings bytes u reading there))
+      absurd ((reading_is_one r.plans settings).apart bytes items u.line u.column u.code asked (fault_there r settings bytes u reading there))
   is_complete r ReadFault settings bytes items (failed, limit, w) reading there asked no_fault no_write_fault = absurd (no_fault failed)
   is_complete r WriteFault settings bytes items (failed, cut) reading there asked no_fault no_write_fault = absurd (no_write_fault failed)
   is_complete r Memory settings bytes items ends reading there asked no_fault no_write_fault = inr refl
 
 -- ---- mode bench
 
-unread_in_part : (r : Call) (seed count : ℕ) (pivots : Option ℕ) (rows tries : ℕ) → settings_of r.words ≡ Some (Bench seed count pivots rows tries) → IsDueInPart r → IsUntouched r
-unread_in_part r seed count pivots rows tries reading (inl (none, untouched, prefix)) = untouched
-unread_in_part r seed count pivots rows tries reading (inr (inl (t, prefix))) = absurd (no_limit r (Bench seed count pivots rows tries) t.most reading refl t.limit)
-unread_in_part r seed count pivots rows tries reading (inr (inr (inl (u, prefix)))) = absurd (fault_of r (Bench seed count pivots rows tries) u reading)
-unread_in_part r seed count pivots rows tries reading (inr (inr (inr part))) = unread_input r (Bench seed count pivots rows tries) part.settings part.bytes reading refl part.input
+unread_in_part : (r : Call) (seed count : ℕ) (run : Run) (pivots : Option ℕ) (rows tries : ℕ) → settings_of r.words ≡ Some (Bench seed count run pivots rows tries) → IsDueInPart r → IsUntouched r
+unread_in_part r seed count run pivots rows tries reading (inl (none, untouched, prefix)) = untouched
+unread_in_part r seed count run pivots rows tries reading (inr (inl (t, prefix))) = absurd (no_limit r (Bench seed count run pivots rows tries) t.most reading refl t.limit)
+unread_in_part r seed count run pivots rows tries reading (inr (inr (inl (u, prefix)))) = absurd (fault_of r (Bench seed count run pivots rows tries) u reading)
+unread_in_part r seed count run pivots rows tries reading (inr (inr (inr part))) = unread_input r (Bench seed count run pivots rows tries) part.settings part.bytes reading refl part.input
 
-never_invalid : (r : Call) (seed count : ℕ) (pivots : Option ℕ) (rows tries : ℕ) → settings_of r.words ≡ Some (Bench seed count pivots rows tries) → HasWritten r (λ mode bytes out. WholeOutput mode bytes out Invalid) → ⊥
-never_invalid r seed count pivots rows tries reading h =
-    invalid_not_done (output_of r Invalid (Bench seed count pivots rows tries) h reading).is
+never_invalid : (r : Call) (seed count : ℕ) (run : Run) (pivots : Option ℕ) (rows tries : ℕ) → settings_of r.words ≡ Some (Bench seed count run pivots rows tries) → HasWritten r (λ mode bytes out. WholeOutput mode bytes out Invalid) → ⊥
+never_invalid r seed count run pivots rows tries reading h =
+    invalid_not_done (output_of r Invalid (Bench seed count run pivots rows tries) h reading).is
   where
     invalid_not_done : Invalid ≡ Done → ⊥
     invalid_not_done e = cc
 
 pub bench_reads_nothing : BenchReadsNothing
-bench_reads_nothing r Done seed count pivots rows tries (faultless, ends) reading = (unread_input r (Bench seed count pivots rows tries) ends.settings ends.bytes reading refl ends.input, inl refl)
-bench_reads_nothing r Invalid seed count pivots rows tries (faultless, ends) reading = absurd (never_invalid r seed count pivots rows tries reading ends)
-bench_reads_nothing r Usage seed count pivots rows tries (faultless, none, untouched, wrote) reading = absurd (has_one_or_none r (Bench seed count pivots rows tries) reading none)
-bench_reads_nothing r Refused seed count pivots rows tries (faultless, inl (t, wrote)) reading = absurd (no_limit r (Bench seed count pivots rows tries) t.most reading refl t.limit)
-bench_reads_nothing r Refused seed count pivots rows tries (faultless, inr (u, wrote)) reading = absurd (fault_of r (Bench seed count pivots rows tries) u reading)
-bench_reads_nothing r ReadFault seed count pivots rows tries (failed, (most, limit), wrote) reading = absurd (no_limit r (Bench seed count pivots rows tries) most reading refl limit)
-bench_reads_nothing r WriteFault seed count pivots rows tries (failed, part) reading = (unread_in_part r seed count pivots rows tries reading part, inr (inl refl))
-bench_reads_nothing r Memory seed count pivots rows tries (faultless, inl (none, untouched, wrote)) reading = (untouched, inr (inr refl))
-bench_reads_nothing r Memory seed count pivots rows tries (faultless, inr (inl begun)) reading =
-    (begun.unread (ap most_bytes (one_reading r begun.settings (Bench seed count pivots rows tries) begun.reading reading)), inr (inr refl))
-bench_reads_nothing r Memory seed count pivots rows tries (faultless, inr (inr first)) reading =
-    (unread_input r (Bench seed count pivots rows tries) first.settings first.bytes reading refl first.input, inr (inr refl))
+bench_reads_nothing r Done seed count run pivots rows tries (faultless, ends) reading = (unread_input r (Bench seed count run pivots rows tries) ends.settings ends.bytes reading refl ends.input, inl refl)
+bench_reads_nothing r Invalid seed count run pivots rows tries (faultless, ends) reading = absurd (never_invalid r seed count run pivots rows tries reading ends)
+bench_reads_nothing r Usage seed count run pivots rows tries (faultless, none, untouched, wrote) reading = absurd (has_one_or_none r (Bench seed count run pivots rows tries) reading none)
+bench_reads_nothing r Refused seed count run pivots rows tries (faultless, inl (t, wrote)) reading = absurd (no_limit r (Bench seed count run pivots rows tries) t.most reading refl t.limit)
+bench_reads_nothing r Refused seed count run pivots rows tries (faultless, inr (u, wrote)) reading = absurd (fault_of r (Bench seed count run pivots rows tries) u reading)
+bench_reads_nothing r ReadFault seed count run pivots rows tries (failed, (most, limit), wrote) reading = absurd (no_limit r (Bench seed count run pivots rows tries) most reading refl limit)
+bench_reads_nothing r WriteFault seed count run pivots rows tries (failed, part) reading = (unread_in_part r seed count run pivots rows tries reading part, inr (inl refl))
+bench_reads_nothing r Memory seed count run pivots rows tries (faultless, inl (none, untouched, wrote)) reading = (untouched, inr (inr refl))
+bench_reads_nothing r Memory seed count run pivots rows tries (faultless, inr (inl begun)) reading =
+    (begun.unread (ap most_bytes (one_reading r begun.settings (Bench seed count run pivots rows tries) begun.reading reading)), inr (inr refl))
+bench_reads_nothing r Memory seed count run pivots rows tries (faultless, inr (inr first)) reading =
+    (unread_input r (Bench seed count run pivots rows tries) first.settings first.bytes reading refl first.input, inr (inr refl))
 
 -- ---- no fault without a cause
 
@@ -252,9 +253,9 @@ line_of_output : (budgets : Budgets) (plans : List Plan) (seed count : ℕ) (byt
 line_of_output budgets plans seed count bytes out s o = by_one_item budgets plans seed count o.items o.replies out o.asked o.written
 
 pub counts_are_written : CountsAreWritten
-counts_are_written r seed count pivots rows tries old new (faultless, h) reading taken taken_after = (
+counts_are_written r seed count run pivots rows tries old new (faultless, h) reading taken taken_after = (
   h.out,
-  line_of_output (budgets_of pivots rows tries) r.plans seed count h.bytes h.out Done (output_of r Done (Bench seed count pivots rows tries) h reading),
+  line_of_output (budgets_of run pivots rows tries) r.plans seed count h.bytes h.out Done (output_of r Done (Bench seed count run pivots rows tries) h reading),
   gain_is_told r.taken r.taken_after old new h.out taken taken_after h.wrote,
-  unread_input r (Bench seed count pivots rows tries) h.settings h.bytes reading refl h.input,
+  unread_input r (Bench seed count run pivots rows tries) h.settings h.bytes reading refl h.input,
 )

@@ -41,7 +41,8 @@ use Rattle.it_demand.proofs.ZipLemmas.{zip-length}
 use Rattle.it_run.specs.Runs.RunEndView.{Weights, Point, Pivots, Width}
 use Rattle.it_run.specs.Runs.{RunEndView}
 use Rattle.it_rational.specs.Rational.{Rational}
-use Rattle.it_prove.specs.ProofViews.{Yes, No, Undecided, Follows}
+use Rattle.it_prove.specs.ProofViews.{Yes, No, Undecided, Follows, EndsWith}
+use Rattle.it_prove.specs.declared.types.Effort.{Effort}
 use Rattle.it_eliminate.proofs.MemberLemmas.{every_member}
 use Rattle.it_redundant.specs.ReducedElimination.{ProjectedView}
 use Rattle.it_redundant.specs.ReducedElimination as projections
@@ -107,10 +108,14 @@ cause_of_run_end p t m cause (Point qs) (inr a) = subst (IsCauseOf m) (sym (unde
 cause_of_run_end p t m cause (Pivots k) a = subst (IsCauseOf m) (sym (undecided_same cause (causes.Pivots k) a)) tt
 cause_of_run_end p t m cause (Width k) a = subst (IsCauseOf m) (sym (undecided_same cause (causes.Width k) a)) tt
 
-cause_of_due : (p : ProblemView) (budget : Option ℕ) (m : ℕ) (ts : List Terms) (cause : Cause) → CauseIsDue p budget ts cause → IsCauseOf m cause
-cause_of_due p budget m [] cause c = absurd c
-cause_of_due p budget m (t ∷ ts) cause (inl e) = cause_of_run_end p t m cause e.end e.follows
-cause_of_due p budget m (t ∷ ts) cause (inr e) = cause_of_due p budget m ts cause e.1
+cause_of_target : (p : ProblemView) (effort : Effort) (m : ℕ) (t : Terms) (cause : Cause) → EndsWith p t effort (Undecided cause) → IsCauseOf m cause
+cause_of_target p effort m t cause (inl e) = cause_of_run_end p t m cause e.end e.follows
+cause_of_target p effort m t cause (inr (quick, settled)) = absurd settled
+
+cause_of_due : (p : ProblemView) (effort : Effort) (m : ℕ) (ts : List Terms) (cause : Cause) → CauseIsDue p effort ts cause → IsCauseOf m cause
+cause_of_due p effort m [] cause c = absurd c
+cause_of_due p effort m (t ∷ ts) cause (inl e) = cause_of_target p effort m t cause e
+cause_of_due p effort m (t ∷ ts) cause (inr e) = cause_of_due p effort m ts cause e.1
 
 -- ---- an answer to `prove`
 
@@ -132,17 +137,17 @@ some_names q k = by_verb q.verb k.verb
     by_verb (Eliminate rates) over = k.some
     by_verb (Contain a b tries) over = omega (arith, k.some, ap length over.0.variables, length-append q.names.variables over.0.own)
 
-printable_proof : (budget : Option ℕ) (q : BodyView) (r : RelationView) (m : ℕ) (answer : Answer) → IsQuestion q → m ≡ length (question_demands q) → ShowsBy q (Prove r) (answer_view answer)
-    → IsDueRelation budget q r (answer_view answer) → IsPrintable q m answer
-printable_proof budget q r m (answers.Yes proofs) k few shown due = certificates q (variable_count q) m (targets (variable_count q) r) proofs.items refl few shown
-printable_proof budget q r m (answers.No is_back point) k few shown due =
+printable_proof : (effort : Effort) (q : BodyView) (r : RelationView) (m : ℕ) (answer : Answer) → IsQuestion q → m ≡ length (question_demands q) → ShowsBy q (Prove r) (answer_view answer)
+    → IsDueRelation effort q r (answer_view answer) → IsPrintable q m answer
+printable_proof effort q r m (answers.Yes proofs) k few shown due = certificates q (variable_count q) m (targets (variable_count q) r) proofs.items refl few shown
+printable_proof effort q r m (answers.No is_back point) k few shown due =
     let size : length point ≡ size_of (space_of (problem_names q)) = point_size q (targets (variable_count q) r) is_back point shown in
     let names = few_names q k in
     (omega (arith, size, pow_pos (variable_count q)), omega (arith, size, pow_mono {i = variable_count q} {j = 10} names.0, names.1))
-printable_proof budget q r m (answers.Undecided cause) k few shown due = cause_of_due (problem_of q) budget (length (problem_names q).rates) (map (terms_in q) (targets (variable_count q) r)) cause due
-printable_proof budget q r m (answers.Region rows) k few shown due = absurd shown
-printable_proof budget q r m (answers.Contained parts proofs) k few shown due = absurd shown
-printable_proof budget q r m (answers.Open tried) k few shown due = absurd shown
+printable_proof effort q r m (answers.Undecided cause) k few shown due = cause_of_due (problem_of q) effort (length (problem_names q).rates) (map (terms_in q) (targets (variable_count q) r)) cause due
+printable_proof effort q r m (answers.Region rows) k few shown due = absurd shown
+printable_proof effort q r m (answers.Contained parts proofs) k few shown due = absurd shown
+printable_proof effort q r m (answers.Open tried) k few shown due = absurd shown
 
 -- ---- an answer to `eliminate`
 
@@ -167,7 +172,7 @@ printable_region budgets q rates m (answers.Yes proofs) names within shown due =
 printable_region budgets q rates m (answers.No is_back point) names within shown due = absurd shown
 printable_region budgets q rates m (answers.Undecided cause) names within shown due =
     subst (λ (v : NamesView). IsCauseOf (length v.rates) cause) (sym names) (subst (IsCauseIn (length q.names.rates)) (sym due.is)
-    (cause_of_end (length q.names.rates) rates due.end within (end_of_rates (problem_of q) budgets.pivots budgets.rows (map (terms_in q) (system_forms (variable_count q) q.lines.rows)) [] [] rates due.end due.ends)))
+    (cause_of_end (length q.names.rates) rates due.end within (end_of_rates (problem_of q) budgets.effort budgets.rows (map (terms_in q) (system_forms (variable_count q) q.lines.rows)) [] [] rates due.end due.ends)))
 printable_region budgets q rates m (answers.Region rows) names within shown due = subst (λ (v : NamesView). All (λ (row : Mark × Terms). IsRowOver v row.1) rows.items) (sym names) (region_rows_over q.names rows.items shown.coordinates)
 printable_region budgets q rates m (answers.Contained parts proofs) names within shown due = absurd shown
 printable_region budgets q rates m (answers.Open tried) names within shown due = absurd shown
@@ -198,7 +203,7 @@ pub right_is_printable : (budgets : Budgets) (plans : List Plan) (q : BodyView) 
 right_is_printable budgets plans q m answer found k few right = by_verb q.verb refl right.shows right.due
   where
     by_verb : (verb : VerbView) → q.verb ≡ verb → ShowsBy q verb (answer_view answer) → IsDueBy budgets plans q verb (record { answer = answer_view answer; found = found }) → IsPrintable q m answer
-    by_verb (Prove r) is shown due = printable_proof budgets.pivots q r m answer k few shown due.0
+    by_verb (Prove r) is shown due = printable_proof efforts.effort q r m answer k few shown due.0
     by_verb (Eliminate rates) is shown due = printable_region budgets q rates m answer (ap (names_under q.names) is) (subst (IsVerbOver q.names) is k.verb).within shown due.0
     by_verb (Contain a b tries) is shown due = printable_containment q a b tries m answer is k few shown
 

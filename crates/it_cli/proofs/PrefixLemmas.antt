@@ -91,15 +91,15 @@ module _ (budgets : Budgets) (plans : List Plan) (seed count : ℕ) (bytes : Lis
   by_first_items (x ∷ xs) later next state whole e replies = absurd (none_follow xs later next (let tail : xs ++ next ∷ later ≡ [] = cc in tail))
 
 pub counts_are_prefix : CountsArePrefix
-counts_are_prefix plans seed count pivots rows tries bytes out = (
+counts_are_prefix plans seed count run pivots rows tries bytes out = (
   λ o. (
     o.reply,
     Done,
-    counts_whole (budgets_of pivots rows tries) plans seed count bytes o.reply o.right,
-    (o.prefix.0, o.prefix.1 ∙ ap (λ t. t ++ o.prefix.0) (sym (o.is ∙ ap (λ w. w ++ o.part) (by_first_items (budgets_of pivots rows tries) plans seed count bytes o.first.items o.later o.next o.first.replies o.whole o.first.asked o.first.written)))),
+    counts_whole (budgets_of run pivots rows tries) plans seed count bytes o.reply o.right,
+    (o.prefix.0, o.prefix.1 ∙ ap (λ t. t ++ o.prefix.0) (sym (o.is ∙ ap (λ w. w ++ o.part) (by_first_items (budgets_of run pivots rows tries) plans seed count bytes o.first.items o.later o.next o.first.replies o.whole o.first.asked o.first.written)))),
   ),
-  λ o. elim (by_items (budgets_of pivots rows tries) plans seed count bytes o.1.items o.0 o.1.replies out o.1.asked o.1.written) [
+  λ o. elim (by_items (budgets_of run pivots rows tries) plans seed count bytes o.1.items o.0 o.1.replies out o.1.asked o.1.written) [
     | inl nothing ↦ inl nothing
-    | inr is ↦ inr (out, Done, counts_whole (budgets_of pivots rows tries) plans seed count bytes out is, ([], sym (append-nil out)))
+    | inr is ↦ inr (out, Done, counts_whole (budgets_of run pivots rows tries) plans seed count bytes out is, ([], sym (append-nil out)))
   ],
 )

@@ -1,5 +1,6 @@
 -- The cause of an elimination names one of the rates that are eliminated.
 use Rattle.std.proofs.Common.{◌≡◌, ℕ, inl, inr, List, [], ◌∷◌, Option, refl, sym, subst}
+use Rattle.it_prove.specs.declared.types.Effort.{Effort}
 use Rattle.it_space.specs.Answers.{CertificateView}
 use Rattle.it_space.specs.Problems.{ProblemView}
 use Rattle.it_space.specs.Rows.{Terms}
@@ -31,8 +32,8 @@ end_of_more r rates (Region kept dropped) h = tt
 end_of_more r rates (Rows rate) h = inr h
 end_of_more r rates (Wide rate) h = inr h
 
-module _ (givens : ProblemView) (budget : Option ℕ) (most : ℕ) where
-  pub end_of_rates : (rows : List Terms) (last : List (Terms × NeedView)) (gone : List (Terms × CertificateView)) (rates : List ℕ) (end : ProjectedView) → ReducedEnds givens budget most rows last gone rates end → IsEndOf rates end
+module _ (givens : ProblemView) (effort : Effort) (most : ℕ) where
+  pub end_of_rates : (rows : List Terms) (last : List (Terms × NeedView)) (gone : List (Terms × CertificateView)) (rates : List ℕ) (end : ProjectedView) → ReducedEnds givens effort most rows last gone rates end → IsEndOf rates end
   end_of_rates rows last gone [] end is = subst (IsEndOf []) (sym is) tt
   end_of_rates rows last gone (r ∷ rates) end (elimination.Region next, e, g) = end_of_more r rates end (end_of_rates (kept_rows g.0) g.0 g.1 rates end g.3)
   end_of_rates rows last gone (r ∷ rates) end (elimination.Rows rate, e, is) = subst (IsEndOf (r ∷ rates)) (sym is) (inl (step_of_rate _ most _ r (elimination.Rows rate) e))

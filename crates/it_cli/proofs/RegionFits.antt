@@ -5,6 +5,7 @@ use Rattle.std.proofs.lemmas.Bool.{cases_eq}
 use Rattle.std.proofs.lemmas.List.Elements.{All-nil, All-cons, All-head, All-tail}
 use Rattle.std.proofs.Math.Pow.{pow_mono}
 use Rattle.std.specs.List.{AllByRecursion as Every}
+use Rattle.it_prove.specs.declared.types.Effort.{Effort}
 use Rattle.it_number.specs.Limit.{IsWithin}
 use Rattle.it_number.proofs.SignLemmas.{factor_above}
 use Rattle.it_space.specs.declared.answers.Mark.{Mark}
@@ -98,13 +99,13 @@ kept_same : (xs ys : List (Terms × NeedView)) (ds es : List (Terms × Certifica
 kept_same xs ys ds es e = cc
 
 -- the rows that stay
-module _ (givens : ProblemView) (budget : Option ℕ) (most : ℕ) where
-  kept_canonical : (rows : List Terms) (last kept : List (Terms × NeedView)) (gone dropped : List (Terms × CertificateView)) (rates : List ℕ) → Every IsCanonical rows → Every IsCanonical (kept_rows last) → ReducedEnds givens budget most rows last gone rates (projections.Region kept dropped)
+module _ (givens : ProblemView) (effort : Effort) (most : ℕ) where
+  kept_canonical : (rows : List Terms) (last kept : List (Terms × NeedView)) (gone dropped : List (Terms × CertificateView)) (rates : List ℕ) → Every IsCanonical rows → Every IsCanonical (kept_rows last) → ReducedEnds givens effort most rows last gone rates (projections.Region kept dropped)
       → Every IsCanonical (kept_rows kept)
   kept_canonical rows last kept gone dropped [] h l is = subst (λ (ks : List (Terms × NeedView)). Every IsCanonical (kept_rows ks)) (sym (kept_same kept last dropped gone is)) l
   kept_canonical rows last kept gone dropped (r ∷ rates) h l (elimination.Region next, e, g) =
       let stay : Every IsCanonical (kept_rows g.0) =
-      every_of IsCanonical (kept_rows g.0) (all_kept givens budget IsCanonical [] next g.0 g.1 g.2 (all_of IsCanonical next (step_canonical (2 ^ givens.space.variables) most (ordered_rows rows) r next (with_rows_canonical [] rows tt h) e))) in
+      every_of IsCanonical (kept_rows g.0) (all_kept givens effort IsCanonical [] next g.0 g.1 g.2 (all_of IsCanonical next (step_canonical (2 ^ givens.space.variables) most (ordered_rows rows) r next (with_rows_canonical [] rows tt h) e))) in
       kept_canonical (kept_rows g.0) g.0 kept g.1 dropped rates stay stay g.3
   kept_canonical rows last kept gone dropped (r ∷ rates) h l (elimination.Rows rate, e, is) = absurd (cc)
   kept_canonical rows last kept gone dropped (r ∷ rates) h l (elimination.Wide rate, e, is) = absurd (cc)
@@ -131,10 +132,10 @@ HasSystemRows q = AreRowsOf (space_of (problem_names q)) (system_forms (variable
 rows_canonical : (budgets : Budgets) (q : BodyView) (rates : List ℕ) (rows : List (Mark × Terms)) → HasSystemRows q → IsDueElimination budgets q rates (Region rows) → Every IsCanonical (region_rows rows)
 rows_canonical budgets q rates rows are due = by_end due.end due.ends due.is
   where
-    by_end : (end : ProjectedView) → ReducedEnds (problem_of q) budgets.pivots budgets.rows (map (terms_in q) (system_forms (variable_count q) q.lines.rows)) [] [] rates end → Region rows ≡ answer_of_end end → Every IsCanonical (region_rows rows)
+    by_end : (end : ProjectedView) → ReducedEnds (problem_of q) budgets.effort budgets.rows (map (terms_in q) (system_forms (variable_count q) q.lines.rows)) [] [] rates end → Region rows ≡ answer_of_end end → Every IsCanonical (region_rows rows)
     by_end (projections.Region kept dropped) e is =
         subst (λ (rs : List (Mark × Terms)). Every IsCanonical (region_rows rs)) (sym (answer_same rows (marked_rows kept) is))
-        (marked_canonical kept (kept_canonical (problem_of q) budgets.pivots budgets.rows (map (terms_in q) (system_forms (variable_count q) q.lines.rows)) [] kept [] dropped rates (stated_canonical _ _ _ are) tt e))
+        (marked_canonical kept (kept_canonical (problem_of q) budgets.effort budgets.rows (map (terms_in q) (system_forms (variable_count q) q.lines.rows)) [] kept [] dropped rates (stated_canonical _ _ _ are) tt e))
     by_end (projections.Rows r) e is = absurd (cc)
     by_end (projections.Wide r) e is = absurd (cc)
 

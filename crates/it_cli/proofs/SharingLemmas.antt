@@ -1,5 +1,6 @@
 -- From the lines about the question that a sharing file makes to what is written for the file.
 use Rattle.std.proofs.Common.{◌≡◌, ℕ, ◌+◌, ◌≤◌, ◌++◌, true, false, List, Option, sym, ap, ap₂, subst, ◌∙◌, []}
+use Rattle.it_prove.specs.declared.types.Effort.{Effort}
 use Rattle.it_question.specs.Questions.{QuestionView}
 use Rattle.it_copy.specs.Extensions.{IsProof}
 use Rattle.it_print.specs.Lines.{answer_line}
@@ -17,23 +18,23 @@ pub made_is_proof : (x : SharingView) (q : QuestionView) → q ≡ made_question
 unfolding made_question
 made_is_proof x q made = subst (λ (y : QuestionView). IsProof y.body.verb) (sym made) tt
 
-module _ (pivots : Option ℕ) (x : SharingView) (minimal maximal : ℕ) (q : QuestionView) (is_minimal : minimal ≡ minimal_count x) (is_maximal : maximal ≡ maximal_count x) (few : minimal + maximal ≤ 64) (made : q ≡ made_question x) where
+module _ (effort : Effort) (x : SharingView) (minimal maximal : ℕ) (q : QuestionView) (is_minimal : minimal ≡ minimal_count x) (is_maximal : maximal ≡ maximal_count x) (few : minimal + maximal ≤ 64) (made : q ≡ made_question x) where
   few_sets : minimal_count x + maximal_count x ≤ 64
   few_sets = subst (λ (n : ℕ). minimal_count x + n ≤ 64) is_maximal (subst (λ (m : ℕ). m + maximal ≤ 64) is_minimal few)
 
   headed : (line text : List ℕ) → text ≡ sharing_heading minimal maximal ++ line → text ≡ sharing_heading (minimal_count x) (maximal_count x) ++ line
   headed line text is = is ∙ ap₂ (λ m n. sharing_heading m n ++ line) is_minimal is_maximal
 
-  pub factored_text : (line text : List ℕ) → x.best ≡ true → IsTextOf (best_mode pivots) [] 1 q line → text ≡ sharing_heading minimal maximal ++ line → IsTextOf (sharing_mode pivots) [] 1 x text
+  pub factored_text : (line text : List ℕ) → x.best ≡ true → IsTextOf (best_mode effort) [] 1 q line → text ≡ sharing_heading minimal maximal ++ line → IsTextOf (sharing_mode effort) [] 1 x text
   factored_text line text asked t is = record {
     reply = Factored t.reply;
-    right = (few_sets, asked, subst (λ (y : QuestionView). IsRightReply pivots y.body t.reply) made t.right);
+    right = (few_sets, asked, subst (λ (y : QuestionView). IsRightReply effort y.body t.reply) made t.right);
     is = headed line text is ∙ ap (λ ys. sharing_heading (minimal_count x) (maximal_count x) ++ ys) (t.is ∙ ap (λ (y : QuestionView). reply_line 1 y.body (question_origins y.body) t.reply) made);
   }
 
-  pub answered_text : (line text : List ℕ) → x.best ≡ false → IsProofText pivots 1 q.body line → text ≡ sharing_heading minimal maximal ++ line → IsTextOf (sharing_mode pivots) [] 1 x text
+  pub answered_text : (line text : List ℕ) → x.best ≡ false → IsProofText effort 1 q.body line → text ≡ sharing_heading minimal maximal ++ line → IsTextOf (sharing_mode effort) [] 1 x text
   answered_text line text asked t is = record {
     reply = Answered t.answer;
-    right = (few_sets, asked, subst (λ (y : QuestionView). IsRightProof pivots y.body t.answer) made t.right);
+    right = (few_sets, asked, subst (λ (y : QuestionView). IsRightProof effort y.body t.answer) made t.right);
     is = headed line text is ∙ ap (λ ys. sharing_heading (minimal_count x) (maximal_count x) ++ ys) (t.is ∙ ap (λ (y : QuestionView). answer_line 1 y.body (question_origins y.body) t.answer) made);
   }

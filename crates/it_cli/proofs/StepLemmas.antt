@@ -12,6 +12,7 @@ use Rattle.it_redundant.specs.ReducedElimination.{ProjectedView}
 use Rattle.it_redundant.specs.ReducedElimination as projections
 use Rattle.it_region.specs.declared.types.Candidate.{Candidate}
 use Rattle.it_prove.specs.ProofViews as proofs
+use Rattle.it_prove.specs.declared.types.Effort.{Effort}
 use Rattle.it_contain.specs.Proposals.{Plan}
 use Rattle.it_answer.specs.declared.types.Budgets.{Budgets}
 use Rattle.it_answer.specs.DueEliminations.{answer_of_end}
@@ -25,15 +26,15 @@ no_steps_at_region_end steps (projections.Rows rate) e = cc
 no_steps_at_region_end steps (projections.Wide rate) e = cc
 
 module _ (never : proofs.NeverOutOfSteps) where
-  no_cause : (p : ProblemView) (steps : ℕ) (ts : List Terms) → CauseIsDue p None ts (causes.Pivots steps) → ⊥
-  no_cause p steps [] due = absurd due
-  no_cause p steps (t ∷ ts) (inl ends) = never p t steps ends
-  no_cause p steps (t ∷ ts) (inr (proven, rest)) = no_cause p steps ts rest
+  no_cause : (p : ProblemView) (effort : Effort) → effort.pivots ≡ None → (steps : ℕ) (ts : List Terms) → CauseIsDue p effort ts (causes.Pivots steps) → ⊥
+  no_cause p effort none steps [] due = absurd due
+  no_cause p effort none steps (t ∷ ts) (inl ends) = never p t effort steps none ends
+  no_cause p effort none steps (t ∷ ts) (inr (proven, rest)) = no_cause p effort none steps ts rest
 
-  by_verb : (budgets : Budgets) (plans : List Plan) (q : BodyView) (verb : VerbView) (steps : ℕ) (found : List Candidate) → budgets.pivots ≡ None
+  by_verb : (budgets : Budgets) (plans : List Plan) (q : BodyView) (verb : VerbView) (steps : ℕ) (found : List Candidate) → budgets.effort.pivots ≡ None
       → IsDueBy budgets plans q verb (record { answer = Undecided (causes.Pivots steps); found = found }) → ⊥
   by_verb budgets plans q (Prove r) steps found none due =
-      let rows = map (terms_in q) (targets (variable_count q) r) in no_cause (problem_of q) steps rows (subst (λ (o : Option ℕ). CauseIsDue (problem_of q) o rows (causes.Pivots steps)) none due.0)
+      no_cause (problem_of q) budgets.effort none steps (map (terms_in q) (targets (variable_count q) r)) due.0
   by_verb budgets plans q (Eliminate rates) steps found none due = no_steps_at_region_end steps due.0.end due.0.is
   by_verb budgets plans q (Contain a b tries) steps found none due = absurd due
 

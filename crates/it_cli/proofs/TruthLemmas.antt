@@ -1,5 +1,6 @@
 -- Right replies in modes `copy`, `best` and `sharing` are true.
 use Rattle.std.proofs.Common.{◌≡◌, ℕ, ℤ, ◌↔◌, length, true, List, Option, Some, refl, sym, ap, subst, ◌∙◌}
+use Rattle.it_prove.specs.declared.types.Effort.{Effort}
 use Rattle.it_space.specs.Answers.{AnswerView}
 use Rattle.it_space.specs.Answers.AnswerView.{Yes, No, Undecided, Region, Contained, Open}
 use Rattle.it_space.specs.Rows.{point_of}
@@ -47,17 +48,17 @@ module _ (shown_is_true : answers.WhatIsShownIsTrue) (by_copies : YesByCopies) w
   true_with_copies q e cs (Eliminate rates) a limits verb extension t = absurd (subst IsProof verb extension.made.proof)
   true_with_copies q e cs (Contain first second tries) a limits verb extension t = absurd (subst IsProof verb extension.made.proof)
 
-  pub right_copy_is_true : (pivots : Option ℕ) (x : CopyQuestion) (reply : CopyReply) → IsQuestion x.question.body → IsRightCopy pivots x reply → IsTrueCopy x reply
-  right_copy_is_true pivots x (Misfit fault) limits right = right
-  right_copy_is_true pivots x (Extended e a) limits right =
+  pub right_copy_is_true : (effort : Effort) (x : CopyQuestion) (reply : CopyReply) → IsQuestion x.question.body → IsRightCopy effort x reply → IsTrueCopy x reply
+  right_copy_is_true effort x (Misfit fault) limits right = right
+  right_copy_is_true effort x (Extended e a) limits right =
       (right.0, true_with_copies x.question.body e x.copies x.question.body.verb a limits refl right.0 (shown_is_true e a right.1.shows))
 
 -- ---- of a question in mode `best`
 
 module _ (shown_is_true : factors.WhatIsShownIsTrue) where
-  pub right_reply_is_true : (pivots : Option ℕ) (q : BodyView) (reply : ReplyView) → IsRightReply pivots q reply → IsTrueReply q reply
-  right_reply_is_true pivots q (Found best) right = (right.0, right.1, shown_is_true q right.0 best right.2.shows)
-  right_reply_is_true pivots q Other right = right
+  pub right_reply_is_true : (effort : Effort) (q : BodyView) (reply : ReplyView) → IsRightReply effort q reply → IsTrueReply q reply
+  right_reply_is_true effort q (Found best) right = (right.0, right.1, shown_is_true q right.0 best right.2.shows)
+  right_reply_is_true effort q Other right = right
 
 -- ---- of a sharing file
 
@@ -91,9 +92,9 @@ module _ (is_perfect : MadeQuestionIsOfPerfectSharing) (x : SharingView) (within
         true_of_same (HoldsFor (made_question x).body x.relation) (HoldsWherePerfect x) best same_factors (subst (λ (r : RelationView). IsTrueBest (HoldsFor (made_question x).body r) best) same t.2)
     true_factors Other t = absurd (none_is_not_some x.relation (sym t ∙ asks_for))
 
-pub right_sharing_is_true : answers.WhatIsShownIsTrue → factors.WhatIsShownIsTrue → MadeQuestionIsOfPerfectSharing → (pivots : Option ℕ) (x : SharingView) (reply : SharingReply) → IsSharing x × IsBoundWhereBest x
-    → IsRightSharing pivots x reply → IsTrueSharing x reply
-right_sharing_is_true shown_is_true shown_factors is_perfect pivots x Many within right = right
-right_sharing_is_true shown_is_true shown_factors is_perfect pivots x (Answered a) within right = true_of_sharing is_perfect x within.0 a (shown_is_true (made_question x).body a right.2.shows)
-right_sharing_is_true shown_is_true shown_factors is_perfect pivots x (Factored reply) within right =
-    true_factors is_perfect x within.0 within.1 right.1 reply (right_reply_is_true shown_factors pivots (made_question x).body reply right.2)
+pub right_sharing_is_true : answers.WhatIsShownIsTrue → factors.WhatIsShownIsTrue → MadeQuestionIsOfPerfectSharing → (effort : Effort) (x : SharingView) (reply : SharingReply) → IsSharing x × IsBoundWhereBest x
+    → IsRightSharing effort x reply → IsTrueSharing x reply
+right_sharing_is_true shown_is_true shown_factors is_perfect effort x Many within right = right
+right_sharing_is_true shown_is_true shown_factors is_perfect effort x (Answered a) within right = true_of_sharing is_perfect x within.0 a (shown_is_true (made_question x).body a right.2.shows)
+right_sharing_is_true shown_is_true shown_factors is_perfect effort x (Factored reply) within right =
+    true_factors is_perfect x within.0 within.1 right.1 reply (right_reply_is_true shown_factors effort (made_question x).body reply right.2)

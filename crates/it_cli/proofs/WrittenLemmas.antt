@@ -23,7 +23,7 @@ use Rattle.it_factor.specs.Truth.{IsTrueReply}
 use Rattle.it_cli.specs.Copies.{AsksWithCopies, CopyQuestion, copy_text, with_copies}
 use Rattle.it_cli.specs.Modes.{Mode, WholeOutput}
 use Rattle.it_cli.specs.Outputs.{IsOutput, answer_mode, best_mode, copy_mode, most_bytes, sharing_mode}
-use Rattle.it_cli.specs.Right.{answer_lines, budgets_of}
+use Rattle.it_cli.specs.Right.{answer_lines, budgets_of, effort_of}
 use Rattle.it_canon.specs.QuestionDemands.{question_origins}
 use Rattle.it_cli.specs.SharingReplies.{AsksOfSharing, sharing_text}
 use Rattle.it_cli.specs.Truth.{IsTrueCopy, IsTrueSharing}
@@ -61,12 +61,12 @@ abbrev Any : {X : Type 0} → X → Type 0
 Any x = Unit {0}
 
 pub answers_show : AnswersShow
-answers_show format pivots rows tries = writes_such (Answer format pivots rows tries) 1048576 (ShownAnswers format) refl (λ plans bytes out o.
-    lines_for (answer_mode (budgets_of pivots rows tries) plans format) (λ (reply : Reply). reply.answer) (answer_lines format) (λ k q reply. refl) Any (λ (q : QuestionView) (answer : AnswerView). Shows q.body answer) (λ earlier q reply any right. right.shows) (λ bytes qs asked i d l. tt) bytes out Done o)
+answers_show format run pivots rows tries = writes_such (Answer format run pivots rows tries) 1048576 (ShownAnswers format) refl (λ plans bytes out o.
+    lines_for (answer_mode (budgets_of run pivots rows tries) plans format) (λ (reply : Reply). reply.answer) (answer_lines format) (λ k q reply. refl) Any (λ (q : QuestionView) (answer : AnswerView). Shows q.body answer) (λ earlier q reply any right. right.shows) (λ bytes qs asked i d l. tt) bytes out Done o)
 
 pub answers_are_true : answers.WhatIsShownIsTrue → AnswersAreTrue
-answers_are_true shown_is_true format pivots rows tries = writes_such (Answer format pivots rows tries) 1048576 (TrueAnswers format) refl (λ plans bytes out o.
-    lines_for (answer_mode (budgets_of pivots rows tries) plans format) (λ (reply : Reply). reply.answer) (answer_lines format) (λ k q reply. refl) Any (λ (q : QuestionView) (answer : AnswerView). IsTrueAnswer q.body answer)
+answers_are_true shown_is_true format run pivots rows tries = writes_such (Answer format run pivots rows tries) 1048576 (TrueAnswers format) refl (λ plans bytes out o.
+    lines_for (answer_mode (budgets_of run pivots rows tries) plans format) (λ (reply : Reply). reply.answer) (answer_lines format) (λ k q reply. refl) Any (λ (q : QuestionView) (answer : AnswerView). IsTrueAnswer q.body answer)
     (λ earlier q reply any right. shown_is_true q.body reply.answer right.shows) (λ bytes qs asked i d l. tt) bytes out Done o)
 
 -- the question keeps the limits
@@ -78,13 +78,13 @@ copied_within are_within bytes items asked =
     subst (All IsWithinLimits) (sym asked.are) (All-map IsWithinLimits (with_copies asked.copies) asked.questions (are_within bytes asked.copies asked.questions asked.read))
 
 pub copies_are_true : answers.WhatIsShownIsTrue → YesByCopies → CopiedQuestionsAreWithin → CopiesAreTrue
-copies_are_true shown_is_true by_copies are_within pivots = writes_such (Copy pivots) 1048576 TrueCopies refl (λ plans bytes out o.
-    lines_for (copy_mode pivots) (λ reply. reply) (λ k x reply. copy_text k reply) (λ k x reply. refl) IsWithinLimits IsTrueCopy (λ earlier. right_copy_is_true shown_is_true by_copies pivots) (copied_within are_within) bytes out Done o)
+copies_are_true shown_is_true by_copies are_within run pivots = writes_such (Copy run pivots) 1048576 TrueCopies refl (λ plans bytes out o.
+    lines_for (copy_mode (effort_of run pivots)) (λ reply. reply) (λ k x reply. copy_text k reply) (λ k x reply. refl) IsWithinLimits IsTrueCopy (λ earlier. right_copy_is_true shown_is_true by_copies (effort_of run pivots)) (copied_within are_within) bytes out Done o)
 
 pub factors_are_true : factors.WhatIsShownIsTrue → FactorsAreTrue
-factors_are_true shown_is_true pivots = writes_such (Best pivots) 1048576 TrueFactors refl (λ plans bytes out o.
-    lines_for (best_mode pivots) (λ reply. reply) (λ k q reply. reply_line k q.body (question_origins q.body) reply) (λ k q reply. refl) Any (λ (q : QuestionView) (reply : ReplyView). IsTrueReply q.body reply)
-    (λ earlier q reply any. right_reply_is_true shown_is_true pivots q.body reply) (λ bytes qs asked i d l. tt) bytes out Done o)
+factors_are_true shown_is_true run pivots = writes_such (Best run pivots) 1048576 TrueFactors refl (λ plans bytes out o.
+    lines_for (best_mode (effort_of run pivots)) (λ reply. reply) (λ k q reply. reply_line k q.body (question_origins q.body) reply) (λ k q reply. refl) Any (λ (q : QuestionView) (reply : ReplyView). IsTrueReply q.body reply)
+    (λ earlier q reply any. right_reply_is_true shown_is_true (effort_of run pivots) q.body reply) (λ bytes qs asked i d l. tt) bytes out Done o)
 
 -- what the file says is within the limits
 abbrev IsWithinSharing : SharingView → Type 0
@@ -94,6 +94,6 @@ sharing_within : SharingIsWithin → (bytes : List ℕ) (items : List SharingVie
 sharing_within is_within bytes items asked = subst (All IsWithinSharing) (sym asked.is) (All-cons IsWithinSharing asked.file [] (is_within bytes asked.file asked.read) (All-nil IsWithinSharing))
 
 pub sharing_is_true : answers.WhatIsShownIsTrue → factors.WhatIsShownIsTrue → MadeQuestionIsOfPerfectSharing → SharingIsWithin → SharingIsTrue
-sharing_is_true shown_is_true shown_factors is_perfect is_within pivots = writes_such (Sharing pivots) 1048576 TrueSharing refl (λ plans bytes out o.
-    lines_for (sharing_mode pivots) (λ reply. reply) (λ k x reply. sharing_text x reply) (λ k x reply. refl) IsWithinSharing IsTrueSharing
-    (λ earlier. right_sharing_is_true shown_is_true shown_factors is_perfect pivots) (sharing_within is_within) bytes out Done o)
+sharing_is_true shown_is_true shown_factors is_perfect is_within run pivots = writes_such (Sharing run pivots) 1048576 TrueSharing refl (λ plans bytes out o.
+    lines_for (sharing_mode (effort_of run pivots)) (λ reply. reply) (λ k x reply. sharing_text x reply) (λ k x reply. refl) IsWithinSharing IsTrueSharing
+    (λ earlier. right_sharing_is_true shown_is_true shown_factors is_perfect (effort_of run pivots)) (sharing_within is_within) bytes out Done o)

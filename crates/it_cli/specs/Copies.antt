@@ -1,5 +1,6 @@
 -- What mode `copy` replies to a question: a right answer to it with the copies that the file's head asks for, or why it can't have them.
 use Rattle.std.specs.Prelude.{◌≡◌, ℕ, List, [], map, Option}
+use Rattle.it_prove.specs.declared.types.Effort.{Effort}
 use Rattle.it_space.specs.Answers.{AnswerView}
 use Rattle.it_question.specs.Questions.{BodyView, QuestionView}
 use Rattle.it_copy.specs.declared.types.CopyFault.{CopyFault}
@@ -34,13 +35,13 @@ pub data CopyReply : Type 0 where
   Extended : (question : BodyView) (answer : AnswerView) → CopyReply
 
 -- a right answer to a question about a relation, which tries no candidates and eliminates nothing
-abbrev pub IsRightProof : Option ℕ → BodyView → AnswerView → Type 0
-IsRightProof pivots q answer = IsRightAnswer (record { pivots = pivots; rows = 1; tries = 1 }) [] q (record { answer = answer; found = [] })
+abbrev pub IsRightProof : Effort → BodyView → AnswerView → Type 0
+IsRightProof effort q answer = IsRightAnswer (record { effort = effort; rows = 1; tries = 1 }) [] q (record { answer = answer; found = [] })
 
 -- a right reply; want of memory is none
-abbrev pub IsRightCopy : Option ℕ → CopyQuestion → CopyReply → Type 0
-IsRightCopy pivots x (Misfit fault) = (fault ≡ Memory → ⊥) × IsMisfit x.question.body x.copies fault
-IsRightCopy pivots x (Extended e answer) = IsExtension x.question.body x.copies e × IsRightProof pivots e answer
+abbrev pub IsRightCopy : Effort → CopyQuestion → CopyReply → Type 0
+IsRightCopy effort x (Misfit fault) = (fault ≡ Memory → ⊥) × IsMisfit x.question.body x.copies fault
+IsRightCopy effort x (Extended e answer) = IsExtension x.question.body x.copies e × IsRightProof effort e answer
 
 -- the lines of a reply to question k
 abbrev pub copy_text : ℕ → CopyReply → List ℕ

@@ -4,6 +4,7 @@ use Rattle.std.specs.Borrow.{Bor}
 use Rattle.it_outside.specs.Causes.{next_count}
 use Rattle.it_outside.specs.Traffic.{Gains, TookPrefix}
 use Rattle.it_forms.specs.declared.types.Code.{Code}
+use Rattle.it_prove.specs.declared.types.Effort.{Effort}
 use Rattle.it_question.specs.declared.types.Question.{Question}
 use Rattle.it_question.specs.Questions.{BodyView, QuestionView, question_view}
 use Rattle.it_canon.specs.QuestionDemands.{terms_in, question_origins}
@@ -55,9 +56,9 @@ pub record IsAnswerText (budgets : Budgets) (plans : List Plan) (format : Format
   pub is : bytes ≡ answer_lines format k q reply.answer
 
 -- the lines of a right answer to question k, which is about a relation
-pub record IsProofText (pivots : Option ℕ) (k : ℕ) (q : BodyView) (bytes : List ℕ) : Type 0 where
+pub record IsProofText (effort : Effort) (k : ℕ) (q : BodyView) (bytes : List ℕ) : Type 0 where
   pub answer : AnswerView
-  pub right : IsRightProof pivots q answer
+  pub right : IsRightProof effort q answer
   pub is : bytes ≡ answer_line k q (question_origins q) answer
 
 -- the lines of a right reply to item k of a mode, after earlier replies

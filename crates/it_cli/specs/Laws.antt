@@ -2,8 +2,10 @@
 use Rattle.std.specs.Prelude.{◌≡◌, ℕ, ◌+◌, ◌≤◌, ◌<◌, List, [], ◌++◌, length, ◌⊎◌, Option, Some, None}
 use Rattle.std.specs.List.{list_any}
 use Rattle.it_outside.specs.Causes.{next_count}
+use Rattle.it_settings.specs.declared.types.Run.{Run}
+use Rattle.it_settings.specs.declared.types.Run.TheVariants.{Bland}
 use Rattle.it_settings.specs.declared.types.Settings.{Settings}
-use Rattle.it_settings.specs.declared.types.Settings.TheVariants.{Check, Bench}
+use Rattle.it_settings.specs.declared.types.Settings.TheVariants.{Answer, Check, Bench, Copy, Best, Sharing}
 use Rattle.it_settings.specs.Settings.{settings_of}
 use Rattle.it_space.specs.Answers.AnswerView.{Undecided}
 use Rattle.it_space.specs.declared.answers.Cause.TheVariants.{Pivots}
@@ -19,7 +21,7 @@ use Rattle.it_cli.specs.Right.{budgets_of}
 use Rattle.it_gen.specs.GeneratedFiles.{generated_file}
 use Rattle.it_cli.specs.Counts.{AreCounted, IsBenchLine, no_counts}
 use Rattle.it_cli.specs.declared.counts.Counts.{Counts}
-use Rattle.it_cli.specs.Modes.{IsDetermined, WholeOutput}
+use Rattle.it_cli.specs.Modes.{HasOneReading, IsDetermined, WholeOutput}
 use Rattle.it_cli.specs.Outputs.{IsFirstOutput, IsPrefixOfOutput, IsOutput, IsOutputInPart, Verdicts, mode_of, most_bytes, verdict_status}
 use Rattle.it_cli.specs.Refusals.{long_line, fault_line}
 use Rattle.it_cli.specs.Ends.{Call, Ends, IsUntouched, Wrote, FaultsAre, HasWritten}
@@ -44,9 +46,9 @@ VerdictsAreWritten = (r : Call) (s : Status) (bytes old new : List ℕ) → Ends
 
 -- In mode `bench` it gained the line of counts, and the source is as it was.
 abbrev pub CountsAreWritten : Type 0
-CountsAreWritten = (r : Call) (seed count : ℕ) (pivots : Option ℕ) (rows tries : ℕ) (old new : List ℕ) → Ends r Done
-    → settings_of r.words ≡ Some (Bench seed count pivots rows tries) → r.taken ≡ Some old → r.taken_after ≡ Some new
-    → (line : List ℕ) × IsBenchLine (budgets_of pivots rows tries) r.plans seed count line × (new ≡ old ++ line) × IsUntouched r
+CountsAreWritten = (r : Call) (seed count : ℕ) (run : Run) (pivots : Option ℕ) (rows tries : ℕ) (old new : List ℕ) → Ends r Done
+    → settings_of r.words ≡ Some (Bench seed count run pivots rows tries) → r.taken ≡ Some old → r.taken_after ≡ Some new
+    → (line : List ℕ) × IsBenchLine (budgets_of run pivots rows tries) r.plans seed count line × (new ≡ old ++ line) × IsUntouched r
 
 -- ---- completeness
 
@@ -86,8 +88,8 @@ FaultIsDue = (r : Call) (s : Status) (settings : Settings) (bytes : List ℕ) (l
 
 -- mode `bench` leaves the source as it was, whatever the status, and refuses nothing
 abbrev pub BenchReadsNothing : Type 0
-BenchReadsNothing = (r : Call) (s : Status) (seed count : ℕ) (pivots : Option ℕ) (rows tries : ℕ) → Ends r s
-    → settings_of r.words ≡ Some (Bench seed count pivots rows tries) → IsUntouched r × ((s ≡ Done) ⊎ ((s ≡ WriteFault) ⊎ (s ≡ Memory)))
+BenchReadsNothing = (r : Call) (s : Status) (seed count : ℕ) (run : Run) (pivots : Option ℕ) (rows tries : ℕ) → Ends r s
+    → settings_of r.words ≡ Some (Bench seed count run pivots rows tries) → IsUntouched r × ((s ≡ Done) ⊎ ((s ≡ WriteFault) ⊎ (s ≡ Memory)))
 
 -- ---- what is determined
 
@@ -97,18 +99,31 @@ CountsAddUp = (budgets : Budgets) (plans : List Plan) (seed count : ℕ) (questi
     → IsFile (generated_file seed count) questions → AreCounted budgets plans [] no_counts questions counts
     → (counts.yes + counts.no + counts.undecided ≡ count) × (counts.regions ≡ 0) × (counts.contained ≡ 0) × (counts.left_open ≡ 0)
 
--- in each mode bytes ask for one list of items, or have one first fault, and not both; and an item has one right reply after others
-abbrev pub ModesAreDetermined : Type 0
-ModesAreDetermined = (plans : List Plan) (settings : Settings) → IsDetermined (mode_of plans settings)
+-- targets are decided by the defined run alone
+abbrev pub AreByBland : Settings → Type 0
+AreByBland (Answer format run pivots rows tries) = run ≡ Bland
+AreByBland Check = Unit {0}
+AreByBland (Bench seed count run pivots rows tries) = run ≡ Bland
+AreByBland (Copy run pivots) = run ≡ Bland
+AreByBland (Best run pivots) = run ≡ Bland
+AreByBland (Sharing run pivots) = run ≡ Bland
 
--- an input has one output, and one status after it
+-- in each mode bytes ask for one list of items, or have one first fault, and not both
+abbrev pub ModesHaveOneReading : Type 0
+ModesHaveOneReading = (plans : List Plan) (settings : Settings) → HasOneReading (mode_of plans settings)
+
+-- and where targets are decided by the defined run alone, an item has one right reply after others
+abbrev pub ModesAreDetermined : Type 0
+ModesAreDetermined = (plans : List Plan) (settings : Settings) → AreByBland settings → IsDetermined (mode_of plans settings)
+
+-- an input then has one output, and one status after it
 abbrev pub OneOutput : Type 0
-OneOutput = (plans : List Plan) (settings : Settings) (bytes out other : List ℕ) (s t : Status) → IsOutput plans settings bytes out s → IsOutput plans settings bytes other t
+OneOutput = (plans : List Plan) (settings : Settings) (bytes out other : List ℕ) (s t : Status) → AreByBland settings → IsOutput plans settings bytes out s → IsOutput plans settings bytes other t
     → (out ≡ other) × (s ≡ t)
 
 -- without a budget of steps `undecided pivots` is never right
 abbrev pub NoLineIsOutOfSteps : Type 0
-NoLineIsOutOfSteps = (budgets : Budgets) (plans : List Plan) (q : BodyView) (steps : ℕ) (found : List Candidate) → budgets.pivots ≡ None
+NoLineIsOutOfSteps = (budgets : Budgets) (plans : List Plan) (q : BodyView) (steps : ℕ) (found : List Candidate) → budgets.effort.pivots ≡ None
     → IsRightAnswer budgets plans q (record { answer = Undecided (Pivots steps); found = found }) → ⊥
 
 -- ---- what is written in part
@@ -119,6 +134,6 @@ VerdictsArePrefix = (plans : List Plan) (bytes out : List ℕ) → IsFirstOutput
 
 -- what is written of the line of counts where a write fails is a prefix of a whole output; where memory is wanted, nothing or a whole output
 abbrev pub CountsArePrefix : Type 0
-CountsArePrefix = (plans : List Plan) (seed count : ℕ) (pivots : Option ℕ) (rows tries : ℕ) (bytes out : List ℕ)
-    → (IsOutputInPart plans (Bench seed count pivots rows tries) bytes out → IsPrefixOfOutput plans (Bench seed count pivots rows tries) bytes out)
-    × (IsFirstOutput plans (Bench seed count pivots rows tries) bytes out → (out ≡ []) ⊎ IsPrefixOfOutput plans (Bench seed count pivots rows tries) bytes out)
+CountsArePrefix = (plans : List Plan) (seed count : ℕ) (run : Run) (pivots : Option ℕ) (rows tries : ℕ) (bytes out : List ℕ)
+    → (IsOutputInPart plans (Bench seed count run pivots rows tries) bytes out → IsPrefixOfOutput plans (Bench seed count run pivots rows tries) bytes out)
+    × (IsFirstOutput plans (Bench seed count run pivots rows tries) bytes out → (out ≡ []) ⊎ IsPrefixOfOutput plans (Bench seed count run pivots rows tries) bytes out)

@@ -47,9 +47,13 @@ pub record OutputInPart (m : Mode) (bytes out : List ℕ) : Type 0 where
   pub prefix : IsPrefix part (m.text (length first.items + 1) next reply)
   pub is : out ≡ whole ++ part
 
--- bytes ask for one list of items, or have one first fault, and not both; and an item has one right reply after others
-pub record IsDetermined (m : Mode) : Type 0 where
+-- bytes ask for one list of items, or have one first fault, and not both
+pub record HasOneReading (m : Mode) : Type 0 where
   pub one_reading : (bytes : List ℕ) (xs ys : List m.Item) → m.Asks bytes xs → m.Asks bytes ys → xs ≡ ys
   pub one_fault : (bytes : List ℕ) (line column row place : ℕ) (c d : Code) → m.FaultAt bytes line column c → m.FaultAt bytes row place d → (line ≡ row) × (column ≡ place) × (c ≡ d)
   pub apart : (bytes : List ℕ) (xs : List m.Item) (line column : ℕ) (c : Code) → m.Asks bytes xs → m.FaultAt bytes line column c → ⊥
+
+-- and an item has one right reply after others
+pub record IsDetermined (m : Mode) : Type 0 where
+  pub reading : HasOneReading m
   pub one_reply : (earlier : List m.Reply) (x : m.Item) (a b : m.Reply) → m.IsRight earlier x a → m.IsRight earlier x b → a ≡ b

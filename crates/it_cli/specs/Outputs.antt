@@ -15,9 +15,10 @@ use Rattle.it_answer.specs.declared.types.Budgets.{Budgets}
 use Rattle.it_answer.specs.Replies.{Reply}
 use Rattle.it_report.specs.Judging.{IsVerdict}
 use Rattle.it_report.specs.LineVerdicts.{LineVerdict, is_invalid, verdict_line}
+use Rattle.it_prove.specs.declared.types.Effort.{Effort}
 use Rattle.it_factor.specs.Lines.{reply_line}
 use Rattle.it_factor.specs.RightReplies.{IsRightReply}
-use Rattle.it_cli.specs.Right.{IsRightAfter, answer_lines, budgets_of}
+use Rattle.it_cli.specs.Right.{IsRightAfter, answer_lines, budgets_of, effort_of}
 use Rattle.it_canon.specs.QuestionDemands.{question_origins}
 use Rattle.it_cli.specs.Counts.{IsBenchLine}
 use Rattle.it_cli.specs.Copies.{AsksWithCopies, IsRightCopy, copy_text}
@@ -30,7 +31,7 @@ use Rattle.it_cli.specs.declared.status.Status.TheVariants.{Done, Invalid}
 -- the most bytes of an input; none where the mode has no input
 abbrev pub most_bytes : Settings → Option ℕ
 most_bytes Check = Some 67108864
-most_bytes (Bench seed count pivots rows tries) = None
+most_bytes (Bench seed count run pivots rows tries) = None
 most_bytes settings = Some 1048576
 
 -- ---- the modes
@@ -77,26 +78,26 @@ bench_mode budgets plans seed count = done_mode (λ bytes items. items ≡ tt {0
     (λ earlier item line. IsBenchLine budgets plans seed count line) (λ k item line. line)
 
 -- one right reply to each question of a file with a head
-abbrev pub copy_mode : Option ℕ → Mode
-copy_mode pivots = done_mode AsksWithCopies CopyFileFaultAt (λ earlier. IsRightCopy pivots) (λ k x reply. copy_text k reply)
+abbrev pub copy_mode : Effort → Mode
+copy_mode effort = done_mode AsksWithCopies CopyFileFaultAt (λ earlier. IsRightCopy effort) (λ k x reply. copy_text k reply)
 
 -- one right reply to each question of a file that asks for factors
-abbrev pub best_mode : Option ℕ → Mode
-best_mode pivots = done_mode IsFile FileFaultAt (λ earlier q reply. IsRightReply pivots q.body reply)
+abbrev pub best_mode : Effort → Mode
+best_mode effort = done_mode IsFile FileFaultAt (λ earlier q reply. IsRightReply effort q.body reply)
     (λ k q reply. reply_line k q.body (question_origins q.body) reply)
 
 -- one right reply to what a sharing file asks
-abbrev pub sharing_mode : Option ℕ → Mode
-sharing_mode pivots = done_mode AsksOfSharing SharingFaultAt (λ earlier. IsRightSharing pivots) (λ k x reply. sharing_text x reply)
+abbrev pub sharing_mode : Effort → Mode
+sharing_mode effort = done_mode AsksOfSharing SharingFaultAt (λ earlier. IsRightSharing effort) (λ k x reply. sharing_text x reply)
 
 -- the mode that the words ask for; the boxes had these plans
 abbrev pub mode_of : List Plan → Settings → Mode
-mode_of plans (Answer format pivots rows tries) = answer_mode (budgets_of pivots rows tries) plans format
+mode_of plans (Answer format run pivots rows tries) = answer_mode (budgets_of run pivots rows tries) plans format
 mode_of plans Check = check_mode
-mode_of plans (Bench seed count pivots rows tries) = bench_mode (budgets_of pivots rows tries) plans seed count
-mode_of plans (Copy pivots) = copy_mode pivots
-mode_of plans (Best pivots) = best_mode pivots
-mode_of plans (Sharing pivots) = sharing_mode pivots
+mode_of plans (Bench seed count run pivots rows tries) = bench_mode (budgets_of run pivots rows tries) plans seed count
+mode_of plans (Copy run pivots) = copy_mode (effort_of run pivots)
+mode_of plans (Best run pivots) = best_mode (effort_of run pivots)
+mode_of plans (Sharing run pivots) = sharing_mode (effort_of run pivots)
 
 -- ---- its output
 

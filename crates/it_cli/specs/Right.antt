@@ -1,7 +1,9 @@
 -- Right answers to questions in order, and the lines of each.
-use Rattle.std.specs.Prelude.{ℕ, List, ◌++◌, map, Option, codes}
+use Rattle.std.specs.Prelude.{ℕ, List, ◌++◌, map, Option, true, false, codes}
 use Rattle.it_settings.specs.declared.types.Format.{Format}
 use Rattle.it_settings.specs.declared.types.Format.TheVariants.{Text, Json, Proof}
+use Rattle.it_settings.specs.declared.types.Run.{Run}
+use Rattle.it_settings.specs.declared.types.Run.TheVariants.{Bland, Quick}
 use Rattle.it_space.specs.Answers.{AnswerView}
 use Rattle.it_elemental.specs.Generators.{Generator}
 use Rattle.it_question.specs.Questions.{BodyView, QuestionView}
@@ -18,10 +20,16 @@ use Rattle.it_answer.specs.Forms.{all_demands, demand_at}
 use Rattle.it_region.specs.AnswerForms.{answer_forms}
 use Rattle.it_answer.specs.Replies.{Reply}
 use Rattle.it_answer.specs.RightAnswers.{IsRightAnswer}
+use Rattle.it_prove.specs.declared.types.Effort.{Effort}
 
--- how much an answer may cost: the steps of a run, if they are bounded, the rows after a rate and the candidates that are tried
-abbrev pub budgets_of : Option ℕ → ℕ → ℕ → Budgets
-budgets_of pivots rows tries = record { pivots = pivots; rows = rows; tries = tries }
+-- what is done to decide a target: a quick run first, or not, and the steps of the defined run, if they are bounded
+abbrev pub effort_of : Run → Option ℕ → Effort
+effort_of Bland pivots = record { quick = false; pivots = pivots }
+effort_of Quick pivots = record { quick = true; pivots = pivots }
+
+-- how much an answer may cost: the effort for a target, the rows after a rate and the candidates that are tried
+abbrev pub budgets_of : Run → Option ℕ → ℕ → ℕ → Budgets
+budgets_of run pivots rows tries = record { effort = effort_of run pivots; rows = rows; tries = tries }
 
 -- the boxes had these plans before the first question, and know of the candidates that were found for earlier ones
 abbrev pub IsRightAfter : Budgets → List Plan → List Candidate → QuestionView → Reply → Type 0

@@ -1,5 +1,6 @@
 -- What mode `sharing` replies to a file: a right answer to the question that it makes, or that its sets are too many.
 use Rattle.std.specs.Prelude.{◌≡◌, ℕ, ◌+◌, ◌<◌, ◌≤◌, true, false, List, [], ◌∷◌, ◌++◌, Option, codes, decimal}
+use Rattle.it_prove.specs.declared.types.Effort.{Effort}
 use Rattle.it_space.specs.Answers.{AnswerView}
 use Rattle.it_print.specs.Lines.{answer_line}
 use Rattle.it_factor.specs.Lines.{reply_line}
@@ -24,10 +25,10 @@ pub data SharingReply : Type 0 where
   Factored : (reply : ReplyView) → SharingReply
 
 -- a right reply: many where these are more than 64 together, else a right one to the made question, by what the file asks for
-abbrev pub IsRightSharing : Option ℕ → SharingView → SharingReply → Type 0
-IsRightSharing pivots x Many = most_lines < minimal_count x + maximal_count x
-IsRightSharing pivots x (Answered answer) = (minimal_count x + maximal_count x ≤ most_lines) × (x.best ≡ false) × IsRightProof pivots (made_question x).body answer
-IsRightSharing pivots x (Factored reply) = (minimal_count x + maximal_count x ≤ most_lines) × (x.best ≡ true) × IsRightReply pivots (made_question x).body reply
+abbrev pub IsRightSharing : Effort → SharingView → SharingReply → Type 0
+IsRightSharing effort x Many = most_lines < minimal_count x + maximal_count x
+IsRightSharing effort x (Answered answer) = (minimal_count x + maximal_count x ≤ most_lines) × (x.best ≡ false) × IsRightProof effort (made_question x).body answer
+IsRightSharing effort x (Factored reply) = (minimal_count x + maximal_count x ≤ most_lines) × (x.best ≡ true) × IsRightReply effort (made_question x).body reply
 
 -- the line with both numbers
 unfoldable pub sharing_heading : ℕ → ℕ → List ℕ

@@ -3,6 +3,7 @@
 use Rattle.std.specs.Prelude.{◌≡◌, ℕ, ◌+◌, List, [], ◌∷◌, ◌++◌, Option, Some}
 use Rattle.it_settings.specs.Settings.{settings_of}
 use Rattle.it_settings.specs.declared.types.Format.{Format}
+use Rattle.it_settings.specs.declared.types.Run.{Run}
 use Rattle.it_settings.specs.declared.types.Settings.{Settings}
 use Rattle.it_settings.specs.declared.types.Settings.TheVariants.{Answer, Copy, Best, Sharing}
 use Rattle.it_space.specs.Answers.{AnswerView}
@@ -64,20 +65,20 @@ TrueSharing = AreLinesFor AsksOfSharing IsTrueSharing (λ k x reply. sharing_tex
 
 -- in mode `answer` each answer that was written shows what it says
 abbrev pub AnswersShow : Type 0
-AnswersShow = (format : Format) (pivots : Option ℕ) (rows tries : ℕ) → WritesSuch (Answer format pivots rows tries) (ShownAnswers format)
+AnswersShow = (format : Format) (run : Run) (pivots : Option ℕ) (rows tries : ℕ) → WritesSuch (Answer format run pivots rows tries) (ShownAnswers format)
 
 -- and each is true
 abbrev pub AnswersAreTrue : Type 0
-AnswersAreTrue = (format : Format) (pivots : Option ℕ) (rows tries : ℕ) → WritesSuch (Answer format pivots rows tries) (TrueAnswers format)
+AnswersAreTrue = (format : Format) (run : Run) (pivots : Option ℕ) (rows tries : ℕ) → WritesSuch (Answer format run pivots rows tries) (TrueAnswers format)
 
 -- in mode `copy` each reply that was written is true
 abbrev pub CopiesAreTrue : Type 0
-CopiesAreTrue = (pivots : Option ℕ) → WritesSuch (Copy pivots) TrueCopies
+CopiesAreTrue = (run : Run) (pivots : Option ℕ) → WritesSuch (Copy run pivots) TrueCopies
 
 -- in mode `best`
 abbrev pub FactorsAreTrue : Type 0
-FactorsAreTrue = (pivots : Option ℕ) → WritesSuch (Best pivots) TrueFactors
+FactorsAreTrue = (run : Run) (pivots : Option ℕ) → WritesSuch (Best run pivots) TrueFactors
 
 -- and in mode `sharing`
 abbrev pub SharingIsTrue : Type 0
-SharingIsTrue = (pivots : Option ℕ) → WritesSuch (Sharing pivots) TrueSharing
+SharingIsTrue = (run : Run) (pivots : Option ℕ) → WritesSuch (Sharing run pivots) TrueSharing

@@ -15,23 +15,24 @@ use it_answer::{Budgets, answer};
 use it_copy::types::CopyLine;
 use it_copy::{copy_file, extend};
 use it_outside::{Sink, write_all};
+use it_prove::Effort;
 use it_question::types::{FileFault, Question};
 use std::alloc::{AllocError, Global};
 
 /// What is done for the bytes of a file with a head.
 pub fn answer_with_copies<K: Sink>(
     alloc: Global,
-    pivots: Option<u32>,
+    effort: Effort,
     bytes: &[u8],
     sink: &mut K,
 ) -> Status
     requires { length bytes.now ≤ 1048576 }
-    ensures { EndsForBytes K.taken K.faults (copy_mode pivots) sink.old sink.new bytes.now result }
+    ensures { EndsForBytes K.taken K.faults (copy_mode effort) sink.old sink.new bytes.now result }
 {
     match copy_file(alloc, bytes) {
         Ok(file) => reply_all(
             alloc,
-            pivots,
+            effort,
             file.copies.as_slice(),
             file.questions.as_slice(),
             sink,
@@ -44,7 +45,7 @@ pub fn answer_with_copies<K: Sink>(
 /// Writes the lines of each question, as soon as they are there.
 fn reply_all<K: Sink>(
     alloc: Global,
-    pivots: Option<u32>,
+    effort: Effort,
     copies: &[CopyLine],
     questions: &[Question],
     sink: &mut K,
@@ -52,10 +53,10 @@ fn reply_all<K: Sink>(
     requires limits { All (λ q. IsQuestion (question_body q)) questions.now }
     requires names { AreNamed copies.now }
     requires few { length copies.now ≤ 4 }
-    ensures { EndsForItems K.taken K.faults (copy_mode pivots) sink.old sink.new (questions_with copies.now questions.now) result }
+    ensures { EndsForItems K.taken K.faults (copy_mode effort) sink.old sink.new (questions_with copies.now questions.now) result }
 {
     for (i, question) in questions.iter().enumerate() {
-        let Ok(text) = reply(alloc, pivots, copies, i + 1, question) else {
+        let Ok(text) = reply(alloc, effort, copies, i + 1, question) else {
             return Status::Memory;
         };
         let Ok(()) = write_all(sink, text.as_slice()) else {
@@ -68,7 +69,7 @@ fn reply_all<K: Sink>(
 /// The lines of question k, counted from 1: those of a right answer with the copies, or why it can't have them.
 fn reply(
     alloc: Global,
-    pivots: Option<u32>,
+    effort: Effort,
     copies: &[CopyLine],
     k: usize,
     question: &Question,
@@ -76,10 +77,10 @@ fn reply(
     requires limits { IsQuestion (question_body question.now) }
     requires names { AreNamed copies.now }
     requires few { length copies.now ≤ 4 }
-    ensures { IfOk result (λ text. IsTextOf (copy_mode pivots) [] k (with_copies (map copy_view copies.now) (question_view question.now)) text.items) }
+    ensures { IfOk result (λ text. IsTextOf (copy_mode effort) [] k (with_copies (map copy_view copies.now) (question_view question.now)) text.items) }
 {
     match extend(alloc, question, copies) {
-        Ok(extended) => proof_lines(alloc, pivots, k, &extended),
+        Ok(extended) => proof_lines(alloc, effort, k, &extended),
         Err(fault) => misfit_line(alloc, k, fault),
     }
 }
@@ -87,16 +88,16 @@ fn reply(
 /// The lines of a right answer to a question about a relation.
 pub fn proof_lines(
     alloc: Global,
-    pivots: Option<u32>,
+    effort: Effort,
     k: usize,
     question: &Question,
 ) -> Result<Vec<u8>, AllocError>
     requires limits { IsQuestion (question_body question.now) }
     requires proof { IsProof (question_body question.now).verb }
-    ensures { IfOk result (λ text. IsProofText pivots k (question_body question.now) text.items) }
+    ensures { IfOk result (λ text. IsProofText effort k (question_body question.now) text.items) }
 {
     let budgets = Budgets {
-        pivots,
+        effort,
         rows: 1,
         tries: 1,
     };

@@ -9,6 +9,7 @@ use crate::answering::tell_fault;
 use crate::status::Status;
 use it_factor::{reply, reply_line};
 use it_outside::{Sink, write_all};
+use it_prove::Effort;
 use it_question::questions;
 use it_question::types::{FileFault, Question};
 use std::alloc::{AllocError, Global};
@@ -16,15 +17,15 @@ use std::alloc::{AllocError, Global};
 /// What is done for the bytes of a question file.
 pub fn find_factors<K: Sink>(
     alloc: Global,
-    pivots: Option<u32>,
+    effort: Effort,
     bytes: &[u8],
     sink: &mut K,
 ) -> Status
     requires { length bytes.now ≤ 1048576 }
-    ensures { EndsForBytes K.taken K.faults (best_mode pivots) sink.old sink.new bytes.now result }
+    ensures { EndsForBytes K.taken K.faults (best_mode effort) sink.old sink.new bytes.now result }
 {
     match questions(alloc, bytes) {
-        Ok(questions) => reply_all(alloc, pivots, questions.as_slice(), sink),
+        Ok(questions) => reply_all(alloc, effort, questions.as_slice(), sink),
         Err(FileFault::Fault { line, column, code }) => tell_fault(alloc, line, column, code, sink),
         Err(FileFault::Memory) => Status::Memory,
     }
@@ -33,15 +34,15 @@ pub fn find_factors<K: Sink>(
 /// Writes the line of each question, as soon as it is there.
 fn reply_all<K: Sink>(
     alloc: Global,
-    pivots: Option<u32>,
+    effort: Effort,
     questions: &[Question],
     sink: &mut K,
 ) -> Status
     requires { All (λ q. IsQuestion (question_body q)) questions.now }
-    ensures { EndsForItems K.taken K.faults (best_mode pivots) sink.old sink.new (map question_view questions.now) result }
+    ensures { EndsForItems K.taken K.faults (best_mode effort) sink.old sink.new (map question_view questions.now) result }
 {
     for (i, question) in questions.iter().enumerate() {
-        let Ok(text) = factor_line(alloc, pivots, i + 1, question) else {
+        let Ok(text) = factor_line(alloc, effort, i + 1, question) else {
             return Status::Memory;
         };
         let Ok(()) = write_all(sink, text.as_slice()) else {
@@ -54,14 +55,14 @@ fn reply_all<K: Sink>(
 /// The line of the right reply to question k, counted from 1.
 pub fn factor_line(
     alloc: Global,
-    pivots: Option<u32>,
+    effort: Effort,
     k: usize,
     question: &Question,
 ) -> Result<Vec<u8>, AllocError>
     requires { IsQuestion (question_body question.now) }
-    ensures { IfOk result (λ text. IsTextOf (best_mode pivots) [] k (question_view question.now) text.items) }
+    ensures { IfOk result (λ text. IsTextOf (best_mode effort) [] k (question_view question.now) text.items) }
 {
-    let replied = reply(alloc, question, pivots)?;
+    let replied = reply(alloc, question, effort)?;
     reply_line(
         alloc,
         k,

@@ -1,7 +1,7 @@
 //! Theorems on how a call ends and on what it writes, each as the contract of a function.
 ghost use Rattle.it_answer.specs.RightAnswers.{AYesAscends, NoStepIsZero, OneRightAnswer};
 ghost use Rattle.it_cli.specs.Accepted.{OutputIsAccepted, ReportsAreAccepted};
-ghost use Rattle.it_cli.specs.Laws.{BenchReadsNothing, CountsAddUp, CountsArePrefix, CountsAreWritten, FaultIsDue, Headline, IsComplete, LongIsDue, ModesAreDetermined, NoLineIsOutOfSteps, OneOutput, SureEnds, UsageIsDue, VerdictsArePrefix, VerdictsAreWritten};
+ghost use Rattle.it_cli.specs.Laws.{BenchReadsNothing, CountsAddUp, CountsArePrefix, CountsAreWritten, FaultIsDue, Headline, IsComplete, LongIsDue, ModesAreDetermined, ModesHaveOneReading, NoLineIsOutOfSteps, OneOutput, SureEnds, UsageIsDue, VerdictsArePrefix, VerdictsAreWritten};
 ghost use Rattle.it_cli.specs.Written.{AnswersAreTrue, AnswersShow, CopiesAreTrue, FactorsAreTrue, SharingIsTrue};
 
 use it_answer::{answers_are_determined, shown_answers_are_true};
@@ -26,7 +26,7 @@ pub fn headline()
 pub fn is_complete()
     ensures { IsComplete }
 {
-    modes_are_determined();
+    modes_have_one_reading();
 }
 
 /// Over a source and a sink that never count a fault, as `SureSource` and `SureSink` of it_outside, neither status of a fault
@@ -43,21 +43,30 @@ pub fn are_due()
     ensures fault { FaultIsDue }
     ensures bench { BenchReadsNothing }
 {
-    modes_are_determined();
+    modes_have_one_reading();
 }
 
-/// In each mode the bytes of an input ask for one list of items, or have one first fault, and not both; and an item has one right
-/// reply.
+/// In each mode the bytes of an input ask for one list of items, or have one first fault, and not both.
+pub fn modes_have_one_reading()
+    ensures { ModesHaveOneReading }
+{
+    file_is_one();
+    heads_are_one();
+    copies_are_determined();
+    sharing_is_one();
+}
+
+/// Where targets are decided by the defined run alone, an item has one right reply.
 pub fn modes_are_determined()
     ensures { ModesAreDetermined }
 {
+    modes_have_one_reading();
     answers_are_determined();
     file_is_one();
     verdict_is_one();
     heads_are_one();
     copies_are_determined();
     replies_are_determined();
-    sharing_is_one();
 }
 
 /// What modes `check` and `bench` have written of an output in part is a prefix of a whole output.
@@ -115,8 +124,8 @@ pub fn sharing_is_true()
     sharing_is_within();
 }
 
-/// For given budgets and boxes a question has one right answer, whose certificates list their generators in ascending order, and so
-/// an input has one output.
+/// Where targets are decided by the defined run alone, a question has one right answer for given budgets and boxes, and so an input has
+/// one output. However they are decided, certificates list their generators in ascending order.
 pub fn output_is_determined()
     ensures answer { OneRightAnswer }
     ensures ascends { AYesAscends }

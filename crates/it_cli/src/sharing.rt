@@ -15,6 +15,7 @@ use crate::status::Status;
 use crate::telling::tell;
 use it_outside::Sink;
 use it_print::write_number;
+use it_prove::Effort;
 use it_question::types::FileFault;
 use it_sharing::types::{Made, MadeFault, Sharing};
 use it_sharing::{made, sharing};
@@ -26,38 +27,38 @@ const MANY: &[u8] = b"misfit many\n";
 /// What is done for the bytes of a sharing file.
 pub fn answer_sharing<K: Sink>(
     alloc: Global,
-    pivots: Option<u32>,
+    effort: Effort,
     bytes: &[u8],
     sink: &mut K,
 ) -> Status
     requires { length bytes.now ≤ 1048576 }
-    ensures { EndsForBytes K.taken K.faults (sharing_mode pivots) sink.old sink.new bytes.now result }
+    ensures { EndsForBytes K.taken K.faults (sharing_mode effort) sink.old sink.new bytes.now result }
 {
     match sharing(alloc, bytes) {
-        Ok(sharing) => reply(alloc, pivots, &sharing, sink),
+        Ok(sharing) => reply(alloc, effort, &sharing, sink),
         Err(FileFault::Fault { line, column, code }) => tell_fault(alloc, line, column, code, sink),
         Err(FileFault::Memory) => Status::Memory,
     }
 }
 
 /// Writes the lines for what a sharing file asks.
-fn reply<K: Sink>(alloc: Global, pivots: Option<u32>, sharing: &Sharing, sink: &mut K) -> Status
+fn reply<K: Sink>(alloc: Global, effort: Effort, sharing: &Sharing, sink: &mut K) -> Status
     requires { IsSharing (sharing_view sharing.now) }
-    ensures { EndsForItems K.taken K.faults (sharing_mode pivots) sink.old sink.new (sharing_view sharing.now ∷ []) result }
+    ensures { EndsForItems K.taken K.faults (sharing_mode effort) sink.old sink.new (sharing_view sharing.now ∷ []) result }
 {
-    match lines(alloc, pivots, sharing) {
+    match lines(alloc, effort, sharing) {
         Ok(text) => tell(sink, text.as_slice(), Status::Done),
         Err(_) => Status::Memory,
     }
 }
 
 /// The lines of the right reply to what a sharing file asks.
-fn lines(alloc: Global, pivots: Option<u32>, sharing: &Sharing) -> Result<Vec<u8>, AllocError>
+fn lines(alloc: Global, effort: Effort, sharing: &Sharing) -> Result<Vec<u8>, AllocError>
     requires { IsSharing (sharing_view sharing.now) }
-    ensures { IfOk result (λ text. IsTextOf (sharing_mode pivots) [] 1 (sharing_view sharing.now) text.items) }
+    ensures { IfOk result (λ text. IsTextOf (sharing_mode effort) [] 1 (sharing_view sharing.now) text.items) }
 {
     match made(alloc, sharing) {
-        Ok(made) => made_lines(alloc, pivots, sharing, &made),
+        Ok(made) => made_lines(alloc, effort, sharing, &made),
         Err(MadeFault::Many) => many_line(alloc),
         Err(MadeFault::Memory) => Err(AllocError),
     }
@@ -75,7 +76,7 @@ fn many_line(alloc: Global) -> Result<Vec<u8>, AllocError>
 /// The lines of the right reply to the question that a sharing file makes.
 fn made_lines(
     alloc: Global,
-    pivots: Option<u32>,
+    effort: Effort,
     sharing: &Sharing,
     made: &Made,
 ) -> Result<Vec<u8>, AllocError>
@@ -84,14 +85,14 @@ fn made_lines(
     requires minimal { made.now.minimal ≡ minimal_count (sharing_view sharing.now) }
     requires maximal { made.now.maximal ≡ maximal_count (sharing_view sharing.now) }
     requires few { made.now.minimal + made.now.maximal ≤ most_lines }
-    ensures { IfOk result (λ text. IsTextOf (sharing_mode pivots) [] 1 (sharing_view sharing.now) text.items) }
+    ensures { IfOk result (λ text. IsTextOf (sharing_mode effort) [] 1 (sharing_view sharing.now) text.items) }
 {
     if sharing.best {
-        let line = factor_line(alloc, pivots, 1, &made.question)?;
+        let line = factor_line(alloc, effort, 1, &made.question)?;
         let text = with_heading(alloc, made.minimal, made.maximal, line.as_slice())?;
         Ok(text)
     } else {
-        let lines = proof_lines(alloc, pivots, 1, &made.question)?;
+        let lines = proof_lines(alloc, effort, 1, &made.question)?;
         let whole = with_heading(alloc, made.minimal, made.maximal, lines.as_slice())?;
         Ok(whole)
     }

@@ -5,7 +5,7 @@ ghost use Rattle.it_settings.specs.Settings.{AreInRange};
 ghost use Rattle.it_cli.specs.Ends.{Ends, call_of};
 ghost use Rattle.it_cli.specs.InnerEnds.{EndsForBytes, EndsForSettings};
 ghost use Rattle.it_cli.specs.Outputs.{mode_of, most_bytes};
-ghost use Rattle.it_cli.specs.Right.{budgets_of};
+ghost use Rattle.it_cli.specs.Right.{budgets_of, effort_of};
 
 use crate::answering::answer_file;
 use crate::benching::bench;
@@ -19,8 +19,9 @@ use crate::telling::tell;
 use it_answer::Budgets;
 use it_contain::Proposer;
 use it_outside::{InFault, Sink, Source, read_all};
+use it_prove::Effort;
 use it_settings::settings;
-use it_settings::types::{Settings, WordsFault};
+use it_settings::types::{Run, Settings, WordsFault};
 use std::alloc::Global;
 
 /// The line that is written where the words have no reading.
@@ -112,13 +113,29 @@ fn limit(settings: Settings) -> Option<usize>
     }
 }
 
+/// What is done to decide a target.
+fn effort_of(run: Run, pivots: Option<u32>) -> Effort
+    ensures { result ≡ effort_of run pivots }
+{
+    match run {
+        Run::Bland => Effort {
+            quick: false,
+            pivots,
+        },
+        Run::Quick => Effort {
+            quick: true,
+            pivots,
+        },
+    }
+}
+
 /// How much an answer may cost.
-fn budgets_of(pivots: Option<u32>, rows: u32, tries: u32) -> Budgets
+fn budgets_of(run: Run, pivots: Option<u32>, rows: u32, tries: u32) -> Budgets
     requires few { rows ≤ 4096 }
-    ensures { result ≡ budgets_of pivots rows tries }
+    ensures { result ≡ budgets_of run pivots rows tries }
 {
     Budgets {
-        pivots,
+        effort: effort_of(run, pivots),
         rows: rows as u16,
         tries,
     }
@@ -139,26 +156,34 @@ fn reply<K: Sink>(
     match settings {
         Settings::Answer {
             format,
+            run,
             pivots,
             rows,
             tries,
         } => {
-            let budgets = budgets_of(pivots, rows, tries);
+            let budgets = budgets_of(run, pivots, rows, tries);
             answer_file(alloc, format, budgets, bytes, boxes, sink)
         }
         Settings::Check => check_report(alloc, bytes, sink),
         Settings::Bench {
             seed,
             count,
+            run,
             pivots,
             rows,
             tries,
         } => {
-            let budgets = budgets_of(pivots, rows, tries);
+            let budgets = budgets_of(run, pivots, rows, tries);
             bench(alloc, seed, count, budgets, boxes, sink)
         }
-        Settings::Copy { pivots } => answer_with_copies(alloc, pivots, bytes, sink),
-        Settings::Best { pivots } => find_factors(alloc, pivots, bytes, sink),
-        Settings::Sharing { pivots } => answer_sharing(alloc, pivots, bytes, sink),
+        Settings::Copy { run, pivots } => {
+            answer_with_copies(alloc, effort_of(run, pivots), bytes, sink)
+        }
+        Settings::Best { run, pivots } => {
+            find_factors(alloc, effort_of(run, pivots), bytes, sink)
+        }
+        Settings::Sharing { run, pivots } => {
+            answer_sharing(alloc, effort_of(run, pivots), bytes, sink)
+        }
     }
 }

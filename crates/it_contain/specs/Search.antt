@@ -1,13 +1,15 @@
 -- What a search over boxes ends with.
-use Rattle.std.specs.Prelude.{◌≡◌, ℕ, ◌<◌, List, [], ◌∷◌, ◌++◌, map, take, length, min, Option, Vec, All}
+use Rattle.std.specs.Prelude.{◌≡◌, ℕ, ◌<◌, List, [], ◌∷◌, ◌++◌, map, take, length, min, Vec, All, Contains}
 use Rattle.std.specs.Global.{Global}
-use Rattle.std.specs.List.{flat_map}
+use Rattle.std.specs.List.{AllZip, flat_map}
 use Rattle.it_space.specs.declared.answers.Certificate.{Certificate}
 use Rattle.it_space.specs.Answers.{CertificateView, certificate_view}
 use Rattle.it_space.specs.Problems.{problem_view}
+use Rattle.it_space.specs.Rows.{Terms}
 use Rattle.it_space.specs.Spaces.{size_of}
 use Rattle.it_demand.specs.RowsOfForms.{terms_of_form}
-use Rattle.it_prove.specs.ProofViews.{AreProofsOf}
+use Rattle.it_prove.specs.ProofViews.{ProofView, Yes, No, Undecided, EndsWith}
+use Rattle.it_prove.specs.declared.types.Effort.{Effort}
 use Rattle.it_region.specs.declared.types.Candidate.{Candidate}
 use Rattle.it_contain.specs.declared.types.Contained.{Contained}
 use Rattle.it_contain.specs.declared.types.Contained.TheVariants.{Found, Open}
@@ -16,14 +18,34 @@ use Rattle.it_contain.specs.declared.types.Shape.{Shape}
 use Rattle.it_region.specs.Pairs.{FitsPair, pair_obligations}
 use Rattle.it_contain.specs.Proposals.{Plan, plan_after}
 
--- what is looked for: which certificates prove a candidate
-abbrev pub Goal : Type 1
-Goal = Candidate → List CertificateView → Type 0
+-- what is looked for: which candidates fit, the targets that each is to prove, and the outcomes that a target may have
+pub record Goal : Type 1 where
+  pub fits : Candidate → Type 0
+  pub targets : Candidate → List Terms
+  pub ends : Terms → ProofView → Type 0
 
--- the candidate fits the pair, and the run about each of its obligations, with a budget of steps or without one, ends with a proof
-pub record IsProofBy (p : Pair) (budget : Option ℕ) (c : Candidate) (ws : List CertificateView) : Type 0 where
-  pub fits : FitsPair p c
-  pub proofs : AreProofsOf (problem_view p.first) budget (map (terms_of_form (size_of p.first.space)) (pair_obligations p c)) ws
+-- for a pair: the targets are the candidate's obligations under the problem of the first region, decided with an effort
+abbrev pub pair_goal : Pair → Effort → Goal
+pair_goal p effort = record {
+  fits = FitsPair p;
+  targets = λ c. map (terms_of_form (size_of p.first.space)) (pair_obligations p c);
+  ends = λ t o. EndsWith (problem_view p.first) t effort o;
+}
+
+-- the candidate fits, and its targets end with these certificates, in order
+pub record IsProofOf (goal : Goal) (c : Candidate) (ws : List CertificateView) : Type 0 where
+  pub fits : goal.fits c
+  pub proofs : AllZip (λ t w. goal.ends t (Yes w)) (goal.targets c) ws
+
+-- an outcome other than a proof
+abbrev pub IsNoProof : ProofView → Type 0
+IsNoProof (Yes w) = ⊥
+IsNoProof (No values) = Unit {0}
+IsNoProof (Undecided cause) = Unit {0}
+
+-- some target among these has such an outcome
+abbrev pub LeavesSome : (Terms → ProofView → Type 0) → List Terms → Type 0
+LeavesSome ends ts = (t : Terms) × (o : ProofView) × Contains ts t × ends t o × IsNoProof o
 
 -- the certificates of a candidate's obligations, in order
 abbrev pub Proofs : Type 0
@@ -35,15 +57,15 @@ proof_views proofs = map certificate_view proofs.items
 
 -- these certificates prove the candidate
 unfoldable pub IsProof : Goal → Candidate → Proofs → Type 0
-IsProof goal c proofs = goal c (proof_views proofs)
+IsProof goal c proofs = IsProofOf goal c (proof_views proofs)
 
 -- some certificates do
 unfoldable pub IsProved : Goal → Candidate → Type 0
-IsProved goal c = (ws : List CertificateView) × goal c ws
+IsProved goal c = (ws : List CertificateView) × IsProofOf goal c ws
 
--- none do
+-- the candidate doesn't fit, or it leaves a target unproved
 abbrev pub IsUnproved : Goal → Candidate → Type 0
-IsUnproved goal c = IsProved goal c → ⊥
+IsUnproved goal c = goal.fits c → LeavesSome goal.ends (goal.targets c)
 
 -- c is the first proved candidate among the first `tries` of the plan
 pub record IsFirstProved (goal : Goal) (tries : ℕ) (plan : List Candidate) (c : Candidate) : Type 0 where
@@ -69,5 +91,5 @@ SearchEnds goal tries plan plans (Found c proofs) plans_after = IsFirstProved go
 SearchEnds goal tries plan plans (Open tried) plans_after = IsOpen goal tries plan tried × (plans_after ≡ plans)
 
 -- That of a search for certificates of a pair: its candidates are those of a list, and then those that the boxes set for a shape.
-abbrev pub PairEnds : Pair → Option ℕ → ℕ → List Candidate → Shape → List Plan → Contained → List Plan → Type 0
-PairEnds p budget tries first shape plans end plans_after = SearchEnds (IsProofBy p budget) tries (plan_of first plans shape) plans end plans_after
+abbrev pub PairEnds : Pair → Effort → ℕ → List Candidate → Shape → List Plan → Contained → List Plan → Type 0
+PairEnds p effort tries first shape plans end plans_after = SearchEnds (pair_goal p effort) tries (plan_of first plans shape) plans end plans_after

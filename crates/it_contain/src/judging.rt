@@ -4,55 +4,55 @@ ghost use Rattle.it_space.specs.Problems.{IsProblem, problem_view};
 ghost use Rattle.it_space.specs.Rows.{IsOver};
 ghost use Rattle.it_space.specs.Spaces.{size_of};
 ghost use Rattle.it_region.specs.Pairs.{IsPair};
-ghost use Rattle.it_contain.specs.Search.{IsProofBy};
+ghost use Rattle.it_contain.specs.Search.{pair_goal};
 ghost use Rattle.it_contain.specs.SearchSteps.{ProvesOne, ProvesAll, Judges, AreOutcomes};
 
 use crate::outcomes::{Outcomes, copy_outcome};
+use it_prove::Effort;
 use it_region::{Candidate, Pair, fits, obligations};
-use it_simplex::Budget;
 use it_space::{Certificate, Problem, Row};
 use std::alloc::{AllocError, Global};
 
-/// The certificate that the run about a target ends with, if it does; without the run where the target is kept.
+/// The certificate that a target ends with, if it does; without a run where the target is kept.
 fn proof_of(
     alloc: Global,
     problem: &Problem,
     target: &Row,
-    budget: Budget,
+    effort: Effort,
     outcomes: &mut Outcomes,
 ) -> Result<Option<Certificate>, AllocError>
     requires problem { IsProblem (problem_view problem.now) }
     requires target { IsOver (size_of problem.now.space) target.now }
-    requires outcomes { AreOutcomes (problem_view problem.now) budget outcomes.old }
-    ensures proves { IfOk result (λ o. ProvesOne (problem_view problem.now) budget target.now o) }
-    ensures outcomes { OnOk result (AreOutcomes (problem_view problem.now) budget outcomes.new) }
+    requires outcomes { AreOutcomes (problem_view problem.now) effort outcomes.old }
+    ensures proves { IfOk result (λ o. ProvesOne (problem_view problem.now) effort target.now o) }
+    ensures outcomes { OnOk result (AreOutcomes (problem_view problem.now) effort outcomes.new) }
 {
     if let Some(outcome) = outcomes.by_row.get(target.terms()) {
         let kept = copy_outcome(alloc, outcome)?;
         return Ok(kept);
     }
-    let outcome = outcomes.certificate_of(alloc, problem, target, budget)?;
+    let outcome = outcomes.certificate_of(alloc, problem, target, effort)?;
     outcomes.keep(alloc, target, &outcome)?;
     Ok(outcome)
 }
 
-/// The certificates of all targets in order, if each run ends with one.
+/// The certificates of all targets in order, if each ends with one.
 fn proofs_of(
     alloc: Global,
     problem: &Problem,
     targets: &[Row],
-    budget: Budget,
+    effort: Effort,
     outcomes: &mut Outcomes,
 ) -> Result<Option<Vec<Certificate>>, AllocError>
     requires problem { IsProblem (problem_view problem.now) }
     requires targets { All (IsOver (size_of problem.now.space)) targets.now }
-    requires outcomes { AreOutcomes (problem_view problem.now) budget outcomes.old }
-    ensures proves { IfOk result (λ o. ProvesAll (problem_view problem.now) budget targets.now o) }
-    ensures outcomes { OnOk result (AreOutcomes (problem_view problem.now) budget outcomes.new) }
+    requires outcomes { AreOutcomes (problem_view problem.now) effort outcomes.old }
+    ensures proves { IfOk result (λ o. ProvesAll (problem_view problem.now) effort targets.now o) }
+    ensures outcomes { OnOk result (AreOutcomes (problem_view problem.now) effort outcomes.new) }
 {
     let mut proofs = Vec::new(alloc);
     for target in targets {
-        match proof_of(alloc, problem, target, budget, outcomes)? {
+        match proof_of(alloc, problem, target, effort, outcomes)? {
             Some(proof) => proofs.push(proof)?,
             None => return Ok(None),
         }
@@ -65,19 +65,19 @@ pub(crate) fn proofs_of_candidate(
     alloc: Global,
     pair: &Pair,
     candidate: &Candidate,
-    budget: Budget,
+    effort: Effort,
     outcomes: &mut Outcomes,
 ) -> Result<Option<Vec<Certificate>>, AllocError>
     requires pair { IsPair pair.now }
-    requires outcomes { AreOutcomes (problem_view pair.now.first) budget outcomes.old }
-    ensures judges { IfOk result (λ o. Judges (IsProofBy pair.now budget) candidate.now o) }
-    ensures outcomes { OnOk result (AreOutcomes (problem_view pair.now.first) budget outcomes.new) }
+    requires outcomes { AreOutcomes (problem_view pair.now.first) effort outcomes.old }
+    ensures judges { IfOk result (λ o. Judges (pair_goal pair.now effort) candidate.now o) }
+    ensures outcomes { OnOk result (AreOutcomes (problem_view pair.now.first) effort outcomes.new) }
 {
     if !fits(pair, candidate) {
         return Ok(None);
     }
     let rows = obligations(alloc, pair, candidate)?;
     // named before it is answered, so that the contract of the call stands at the answer
-    let proofs = proofs_of(alloc, &pair.first, rows.as_slice(), budget, outcomes)?;
+    let proofs = proofs_of(alloc, &pair.first, rows.as_slice(), effort, outcomes)?;
     Ok(proofs)
 }

@@ -1,5 +1,5 @@
 //! What is kept about one problem, so that nothing is made or solved twice.
-ghost use Rattle.std.specs.Prelude.{◌≡◌, ℕ, Option, IfOk, OnOk};
+ghost use Rattle.std.specs.Prelude.{◌≡◌, IfOk, OnOk};
 ghost use Rattle.std.specs.Option.{option_map};
 ghost use Rattle.it_space.specs.Answers.{certificate_view};
 ghost use Rattle.it_space.specs.Problems.{IsProblem, problem_view};
@@ -8,15 +8,14 @@ ghost use Rattle.it_space.specs.Spaces.{size_of};
 ghost use Rattle.it_contain.specs.SearchSteps.{AreOutcomes, IsKept, ProvesOne};
 
 use indexmap::IndexMap;
-use it_prove::{ClosedProblem, Proof};
-use it_simplex::Budget;
+use it_prove::{ClosedProblem, Effort, Proof};
 use it_space::{Certificate, Problem, Row};
 use std::alloc::{AllocError, Global};
 
 /// How many rows are kept at most.
 const MOST_ROWS: usize = 4096;
 
-/// Rows that were targets of runs about one problem, each with the certificate that its run ended with, if it did. The first
+/// Rows that were targets under one problem, each with the certificate that it ended with, if it did. The first
 /// `MOST_ROWS` of them are kept. What is made once of the problem serves all these runs.
 pub(crate) struct Outcomes {
     pub(crate) by_row: IndexMap<Vec<(u32, i128)>, Option<Certificate>>,
@@ -34,39 +33,43 @@ impl Drop for Outcomes {
 
 impl Outcomes {
     /// Those about a problem before any run.
-    pub(crate) fn new(alloc: Global, problem: &Problem) -> Result<Outcomes, AllocError>
+    pub(crate) fn new(
+        alloc: Global,
+        problem: &Problem,
+        effort: Effort,
+    ) -> Result<Outcomes, AllocError>
         requires { IsProblem (problem_view problem.now) }
-        ensures { IfOk result (λ o. (budget : Option ℕ) → AreOutcomes (problem_view problem.now) budget o) }
+        ensures { IfOk result (AreOutcomes (problem_view problem.now) effort) }
     {
-        let closed = ClosedProblem::read(alloc, problem)?;
+        let closed = ClosedProblem::read(alloc, problem, effort)?;
         Ok(Outcomes {
             by_row: IndexMap::new(alloc),
             closed,
         })
     }
 
-    /// The certificate that the run about a target ends with, if it does.
+    /// The certificate that a target ends with, if it does.
     pub(crate) fn certificate_of(
         &mut self,
         alloc: Global,
         problem: &Problem,
         target: &Row,
-        budget: Budget,
+        effort: Effort,
     ) -> Result<Option<Certificate>, AllocError>
         requires problem { IsProblem (problem_view problem.now) }
         requires target { IsOver (size_of problem.now.space) target.now }
-        requires outcomes { AreOutcomes (problem_view problem.now) budget self.old }
-        ensures proves { IfOk result (λ o. ProvesOne (problem_view problem.now) budget target.now o) }
-        ensures outcomes { OnOk result (AreOutcomes (problem_view problem.now) budget self.new) }
+        requires outcomes { AreOutcomes (problem_view problem.now) effort self.old }
+        ensures proves { IfOk result (λ o. ProvesOne (problem_view problem.now) effort target.now o) }
+        ensures outcomes { OnOk result (AreOutcomes (problem_view problem.now) effort self.new) }
     {
-        match self.closed.prove(alloc, problem, target, budget)? {
+        match self.closed.prove(alloc, problem, target, effort)? {
             Proof::Yes(certificate) => Ok(Some(certificate)),
             Proof::No(_) => Ok(None),
             Proof::Undecided(_) => Ok(None),
         }
     }
 
-    /// Keeps what a run about a row ended with.
+    /// Keeps what a row ended with.
     pub(crate) fn keep(
         &mut self,
         alloc: Global,

@@ -3,7 +3,7 @@ ghost use Rattle.std.specs.Prelude.{◌≡◌, ◌<◌, ◌+◌, map, drop, vec_
 ghost use Rattle.it_space.specs.Problems.{problem_view};
 ghost use Rattle.it_region.specs.Pairs.{IsPair};
 ghost use Rattle.it_contain.specs.Shapes.{IsShape, shape_of};
-ghost use Rattle.it_contain.specs.Search.{IsProofBy, PairEnds};
+ghost use Rattle.it_contain.specs.Search.{pair_goal, PairEnds};
 ghost use Rattle.it_contain.specs.SearchSteps.{AreOutcomes, BoxEnds, Judges, KeepsLater, KeepsPending, ListEnds, plans_after_try};
 
 use crate::boxes::{begin_all, next_at, teach_all, tell_all};
@@ -11,39 +11,39 @@ use crate::judging::proofs_of_candidate;
 use crate::outcomes::Outcomes;
 use crate::proposer::Proposer;
 use crate::types::{Contained, Shape};
+use it_prove::Effort;
 use it_region::{Candidate, Pair};
-use it_simplex::Budget;
 use it_space::Certificate;
 use std::alloc::{AllocError, Global};
 
-/// What candidates are to show, and the budget of the runs that may show it.
+/// What candidates are to show, and the effort that is spent on each of their targets.
 #[derive(Drop)]
 struct Goal<'a> {
     pair: &'a Pair,
-    budget: Budget,
+    effort: Effort,
 }
 
-/// Looks for a substitution that shows that the pair's first region lies in the second, by runs of at most the budget's
-/// steps, where there is a budget. All boxes are begun, and at most `tries` candidates are tried: those of `first`, then those
-/// of each box in order. A candidate that doesn't fit counts. What is found the boxes know at later questions; where nothing is,
-/// they plan as before. Where memory was wanted nothing is known of the boxes.
+/// Looks for a substitution that shows that the pair's first region lies in the second, with this effort for each target. All
+/// boxes are begun, and at most `tries` candidates are tried: those of `first`, then those of each box in order. A candidate that
+/// doesn't fit counts. What is found the boxes know at later questions; where nothing is, they plan as before. Where memory was
+/// wanted nothing is known of the boxes.
 pub fn contain(
     alloc: Global,
     pair: &Pair,
     first: &[Candidate],
     boxes: &mut Vec<Box<dyn Proposer>>,
     tries: u32,
-    budget: Budget,
+    effort: Effort,
 ) -> Result<Contained, AllocError>
     requires pair { IsPair pair.now }
-    ensures { IfOk result (λ r. PairEnds pair.now budget tries first.now (shape_of pair.now) (map plan boxes.old.items) r (map plan boxes.new.items)) }
+    ensures { IfOk result (λ r. PairEnds pair.now effort tries first.now (shape_of pair.now) (map plan boxes.old.items) r (map plan boxes.new.items)) }
 {
     let shape = Shape {
         variables: pair.first.space.variables,
         parts: pair.parts,
     };
-    let mut outcomes = Outcomes::new(alloc, &pair.first)?;
-    let goal = Goal { pair, budget };
+    let mut outcomes = Outcomes::new(alloc, &pair.first, effort)?;
+    let goal = Goal { pair, effort };
     // named before it is answered, so that the contract of the call stands at the answer
     let end = try_all(alloc, &goal, shape, first, boxes, tries, &mut outcomes)?;
     Ok(end)
@@ -58,13 +58,13 @@ fn try_one(
     outcomes: &mut Outcomes,
 ) -> Result<Option<Vec<Certificate>>, AllocError>
     requires pair { IsPair goal.now.pair.now }
-    requires outcomes { AreOutcomes (problem_view goal.now.pair.now.first) goal.now.budget outcomes.old }
-    ensures judges { IfOk result (λ o. Judges (IsProofBy goal.now.pair.now goal.now.budget) candidate.now o) }
+    requires outcomes { AreOutcomes (problem_view goal.now.pair.now.first) goal.now.effort outcomes.old }
+    ensures judges { IfOk result (λ o. Judges (pair_goal goal.now.pair.now goal.now.effort) candidate.now o) }
     ensures pending { IfOk result (λ o. KeepsPending o (map pending boxes.old.items) (map pending boxes.new.items)) }
     ensures plans { IfOk result (λ o. map plan boxes.new.items ≡ plans_after_try candidate.now o (map plan boxes.old.items)) }
-    ensures outcomes { OnOk result (AreOutcomes (problem_view goal.now.pair.now.first) goal.now.budget outcomes.new) }
+    ensures outcomes { OnOk result (AreOutcomes (problem_view goal.now.pair.now.first) goal.now.effort outcomes.new) }
 {
-    match proofs_of_candidate(alloc, goal.pair, candidate, goal.budget, outcomes)? {
+    match proofs_of_candidate(alloc, goal.pair, candidate, goal.effort, outcomes)? {
         Some(proof) => {
             teach_all(boxes, candidate);
             Ok(Some(proof))
@@ -86,10 +86,10 @@ fn try_list(
     outcomes: &mut Outcomes,
 ) -> Result<Contained, AllocError>
     requires pair { IsPair goal.now.pair.now }
-    requires outcomes { AreOutcomes (problem_view goal.now.pair.now.first) goal.now.budget outcomes.old }
+    requires outcomes { AreOutcomes (problem_view goal.now.pair.now.first) goal.now.effort outcomes.old }
     ensures ends { IfOk result (λ r. ListEnds goal.now tries first.now (map plan boxes.old.items) r (map plan boxes.new.items)) }
     ensures later { IfOk result (λ r. KeepsLater r (map pending boxes.old.items) (map pending boxes.new.items)) }
-    ensures outcomes { OnOk result (AreOutcomes (problem_view goal.now.pair.now.first) goal.now.budget outcomes.new) }
+    ensures outcomes { OnOk result (AreOutcomes (problem_view goal.now.pair.now.first) goal.now.effort outcomes.new) }
 {
     let mut count: u32 = 0;
     for candidate in first {
@@ -114,11 +114,11 @@ fn try_box(
     outcomes: &mut Outcomes,
 ) -> Result<Contained, AllocError>
     requires pair { IsPair goal.now.pair.now }
-    requires outcomes { AreOutcomes (problem_view goal.now.pair.now.first) goal.now.budget outcomes.old }
+    requires outcomes { AreOutcomes (problem_view goal.now.pair.now.first) goal.now.effort outcomes.old }
     requires box_is { i < vec_len boxes.old }
     ensures ends { IfOk result (λ r. BoxEnds goal.now tries (map pending boxes.old.items) i (map plan boxes.old.items) r (map plan boxes.new.items)) }
     ensures later { IfOk result (λ r. KeepsLater r (drop (i + 1) (map pending boxes.old.items)) (drop (i + 1) (map pending boxes.new.items))) }
-    ensures outcomes { OnOk result (AreOutcomes (problem_view goal.now.pair.now.first) goal.now.budget outcomes.new) }
+    ensures outcomes { OnOk result (AreOutcomes (problem_view goal.now.pair.now.first) goal.now.effort outcomes.new) }
 {
     for count in 0..tries {
         let Some(candidate) = next_at(boxes, i) else {
@@ -143,9 +143,9 @@ fn try_all(
     outcomes: &mut Outcomes,
 ) -> Result<Contained, AllocError>
     requires pair { IsPair goal.now.pair.now }
-    requires outcomes { AreOutcomes (problem_view goal.now.pair.now.first) goal.now.budget outcomes.old }
+    requires outcomes { AreOutcomes (problem_view goal.now.pair.now.first) goal.now.effort outcomes.old }
     requires shape { IsShape shape }
-    ensures { IfOk result (λ r. PairEnds goal.now.pair.now goal.now.budget tries first.now shape (map plan boxes.old.items) r (map plan boxes.new.items)) }
+    ensures { IfOk result (λ r. PairEnds goal.now.pair.now goal.now.effort tries first.now shape (map plan boxes.old.items) r (map plan boxes.new.items)) }
 {
     begin_all(boxes, shape);
     let mut count = match try_list(alloc, goal, first, boxes, tries, outcomes)? {

@@ -1,5 +1,5 @@
 -- Constraints are met where the lines that they state are true, and the rows of a system are at least 0 where its lines hold.
-use Rattle.std.proofs.Common.{◌≡◌, ◌↔◌, ℕ, ◌+◌, ℤ, pos, ◌-ℤ◌, ◌≤ℤ◌, refl, sym, subst, subst₂, arith, List, [], ◌∷◌, map, All}
+use Rattle.std.proofs.Common.{◌≡◌, ◌↔◌, ℕ, ℤ, pos, ◌-ℤ◌, ◌≤ℤ◌, refl, sym, subst, subst₂, arith, List, [], ◌∷◌, map, All}
 use Rattle.std.specs.List.{flat_map}
 use Rattle.std.proofs.lemmas.Int.{ints}
 use Rattle.std.proofs.lemmas.List.Elements.{All-nil, All-cons, All-head, All-tail, All-append}

@@ -1,5 +1,5 @@
 -- Members of lists, and what holds of each item.
-use Rattle.std.proofs.Common.{◌≡◌, ℕ, zero, suc, length, get_or, arith, All, ◌⊎◌, inl, inr, ⊎_elim, refl, sym, ap, subst, ◌∙◌, List, [], ◌∷◌, ◌++◌, Bool, true, false, cond}
+use Rattle.std.proofs.Common.{◌≡◌, zero, suc, get_or, arith, All, ◌⊎◌, inl, inr, ⊎_elim, refl, sym, ap, subst, ◌∙◌, List, [], ◌∷◌, ◌++◌, Bool, true, false, cond}
 use Rattle.std.specs.List.{flat_map, AllByRecursion as Every}
 use Rattle.std.specs.Prelude.{filter, map, Contains}
 use Rattle.std.proofs.lemmas.Bool.{false≢true}

@@ -20,6 +20,7 @@ use Rattle.it_demand.proofs.ZipLemmas.{zip-length}
 use Rattle.it_canon.specs.QuestionDemands.{IsProblemOf, question_demands}
 use Rattle.it_canon.specs.TrueLines.{variable_count}
 use Rattle.it_answer.specs.Forms.{CertifiesForm, IsAllowedWeight, all_demands}
+use Rattle.it_prove.specs.declared.types.Effort.{Effort}
 use Rattle.it_best.specs.declared.types.Best.{Best}
 use Rattle.it_best.specs.declared.types.Best.TheVariants as answers
 use Rattle.it_best.specs.BestViews.{best_view}
@@ -68,6 +69,6 @@ module _ (q : BodyView) (m : ℕ) (count : m ≡ length (question_demands q)) wh
       by_best (answers.Undecided cause) s = tt
 
   -- what is printed of a reply is there
-  pub reply_printable : (budget : Option ℕ) (r : RelationView) (reply : Reply) → IsQuestion q → q.verb ≡ Prove r → IsRightReply budget q (reply_view reply) → IsPrintable q m reply
-  reply_printable budget r (replies.Found best) k verb right = best_printable right.0 r best k verb right.2.shows
-  reply_printable budget r replies.Other k verb right = tt
+  pub reply_printable : (effort : Effort) (r : RelationView) (reply : Reply) → IsQuestion q → q.verb ≡ Prove r → IsRightReply effort q (reply_view reply) → IsPrintable q m reply
+  reply_printable effort r (replies.Found best) k verb right = best_printable right.0 r best k verb right.2.shows
+  reply_printable effort r replies.Other k verb right = tt

@@ -24,17 +24,17 @@ use Rattle.it_canon.specs.Sides.{left_form, right_form}
 use Rattle.it_canon.proofs.ProblemLemmas.{question_met}
 use Rattle.it_answer.specs.Forms.{Certifies, CertifiesForm, all_demands}
 use Rattle.it_answer.proofs.FormLemmas.{by_forms, generators_speak}
+use Rattle.it_prove.specs.declared.types.Effort.{Effort}
 use Rattle.it_best.specs.BestViews.{BestView, Least, Never, Unbounded, Undecided}
 use Rattle.it_best.specs.Factors.{IsRightBest, IsFactor, IsPoint, ground_of}
 use Rattle.it_best.proofs.CertificateLemmas.{linear-factor, linear-neg}
 use Rattle.it_factor.specs.Replies.{ReplyView, Found, Other}
-use Rattle.it_factor.specs.RightReplies.{IsRightFactor, IsRightReply, question_ground}
+use Rattle.it_factor.specs.RightReplies.{FindsFactor, IsRightFactor, IsRightReply, question_ground}
 use Rattle.it_factor.specs.RowReplies.{IsFoundByRows, IsReplyByRows}
 use Rattle.it_factor.specs.Truth.{asked_by, at_least}
 use Rattle.it_demand.specs.RowsOfForms.{terms_of_form}
 use Rattle.it_demand.proofs.FormRows.{row_is_terms_of_form}
 use Rattle.it_canon.proofs.PosesLemmas.{one_problem}
-use Rattle.it_best.specs.Ends.{EndsWith}
 
 module _ (q : BodyView) (p : ProblemView) (posed : IsProblemOf q p) where
   in_question_space : (P : Space → Type 0) → P p.space → P (space_of (problem_names q))
@@ -94,27 +94,27 @@ module _ (q : BodyView) (p : ProblemView) (posed : IsProblemOf q p) where
   row_is form t is = row_is_terms_of_form p.space (form p.space.variables) t is ∙ ap (λ (s : Space). terms_of_form (size_of s) (form s.variables)) posed.space
 
   -- what is found by rows is right by the text, and due
-  pub right_factor : (budget : Option ℕ) (r : RelationView) (best : BestView) → IsFoundByRows p budget r best → IsRightFactor budget q r best
-  right_factor budget r best f =
+  pub right_factor : (effort : Effort) (r : RelationView) (best : BestView) → IsFoundByRows p effort r best → IsRightFactor effort q r best
+  right_factor effort r best f =
       let variables : p.space.variables ≡ variable_count q = ap (λ (s : Space). s.variables) posed.space in
       let left_is : IsRowOf p.space (left_form (variable_count q) r) f.left = subst (λ n. IsRowOf p.space (left_form n r) f.left) variables f.left_is in
       let right_is : IsRowOf p.space (right_form (variable_count q) r) f.right = subst (λ n. IsRowOf p.space (right_form n r) f.right) variables f.right_is in record {
         shows = best_by_text (left_form (variable_count q) r) (right_form (variable_count q) r) f.left f.right left_is right_is best f.right_of_rows;
-        due = subst (λ (x : ProblemView). EndsWith x (terms_in q (left_form (variable_count q) r)) (terms_in q (right_form (variable_count q) r)) budget best) (one_problem q p posed)
-            (subst (λ (t : Terms). EndsWith p (terms_in q (left_form (variable_count q) r)) t budget best) (row_is (λ n. right_form n r) f.right f.right_is)
-            (subst (λ (t : Terms). EndsWith p t f.right budget best) (row_is (λ n. left_form n r) f.left f.left_is) f.ends));
+        due = subst (λ (x : ProblemView). FindsFactor x (terms_in q (left_form (variable_count q) r)) (terms_in q (right_form (variable_count q) r)) effort best) (one_problem q p posed)
+            (subst (λ (t : Terms). FindsFactor p (terms_in q (left_form (variable_count q) r)) t effort best) (row_is (λ n. right_form n r) f.right f.right_is)
+            (subst (λ (t : Terms). FindsFactor p t f.right effort best) (row_is (λ n. left_form n r) f.left f.left_is) f.ends));
       }
 
-  right_by_asked : (budget : Option ℕ) (asked : Option RelationView) (reply : ReplyView) → asked_by q.verb ≡ asked → IsReplyByRows p budget asked reply → IsRightReply budget q reply
-  right_by_asked budget (Some r) (Found best) is f = (r, is, right_factor budget r best f)
-  right_by_asked budget (Some r) Other is f = absurd f
-  right_by_asked budget None (Found best) is f = absurd f
-  right_by_asked budget None Other is f = is
+  right_by_asked : (effort : Effort) (asked : Option RelationView) (reply : ReplyView) → asked_by q.verb ≡ asked → IsReplyByRows p effort asked reply → IsRightReply effort q reply
+  right_by_asked effort (Some r) (Found best) is f = (r, is, right_factor effort r best f)
+  right_by_asked effort (Some r) Other is f = absurd f
+  right_by_asked effort None (Found best) is f = absurd f
+  right_by_asked effort None Other is f = is
 
   -- the reply by rows is right
-  pub right_reply : (budget : Option ℕ) (r : RelationView) (reply : ReplyView) → q.verb ≡ Prove r → IsReplyByRows p budget (at_least r.sign r) reply → IsRightReply budget q reply
-  right_reply budget r reply verb f = right_by_asked budget (at_least r.sign r) reply (ap asked_by verb) f
+  pub right_reply : (effort : Effort) (r : RelationView) (reply : ReplyView) → q.verb ≡ Prove r → IsReplyByRows p effort (at_least r.sign r) reply → IsRightReply effort q reply
+  right_reply effort r reply verb f = right_by_asked effort (at_least r.sign r) reply (ap asked_by verb) f
 
 -- a question that asks for no factor has the other reply
-pub other_is_right : (budget : Option ℕ) (q : BodyView) (verb : VerbView) → q.verb ≡ verb → asked_by verb ≡ None → IsRightReply budget q Other
-other_is_right budget q verb is none = ap asked_by is ∙ none
+pub other_is_right : (effort : Effort) (q : BodyView) (verb : VerbView) → q.verb ≡ verb → asked_by verb ≡ None → IsRightReply effort q Other
+other_is_right effort q verb is none = ap asked_by is ∙ none

@@ -1,6 +1,8 @@
 -- Right replies to questions in mode `best`: they show what they say, by the meaning of the question's text alone, and they are due; and
 -- what follows from it.
-use Rattle.std.specs.Prelude.{◌≡◌, ℕ, Option, Some, None}
+use Rattle.std.specs.Prelude.{◌≡◌, ◌⊎◌, ℕ, Some, None, true, false}
+use Rattle.it_space.specs.Problems.{ProblemView}
+use Rattle.it_space.specs.Rows.{Terms}
 use Rattle.it_space.specs.Spaces.{size_of}
 use Rattle.it_syntax.specs.Meaning.{RelationView}
 use Rattle.it_question.specs.Questions.{BodyView}
@@ -10,6 +12,7 @@ use Rattle.it_canon.specs.TrueLines.{AreTrueTogether, variable_count}
 use Rattle.it_canon.specs.QuestionDemands.{problem_of, terms_in}
 use Rattle.it_canon.specs.Sides.{left_form, right_form}
 use Rattle.it_answer.specs.Forms.{CertifiesForm}
+use Rattle.it_prove.specs.declared.types.Effort.{Effort}
 use Rattle.it_best.specs.declared.types.BestCause.TheVariants.{Pivots}
 use Rattle.it_best.specs.BestViews.{BestView, Undecided}
 use Rattle.it_best.specs.Ends.{EndsWith}
@@ -34,32 +37,41 @@ ShowsFactor q r best = IsRightBest (question_ground q) (left_form (variable_coun
 
 -- ---- by the runs
 
--- what the runs about the terms of both sides end with, under the problem that the question poses
-abbrev pub IsDueFactor : Option ℕ → BodyView → RelationView → BestView → Type 0
-IsDueFactor budget q r best = EndsWith (problem_of q) (terms_in q (left_form (variable_count q) r)) (terms_in q (right_form (variable_count q) r)) budget best
+-- it is known of each number whether it is a factor
+abbrev pub IsKnown : BestView → Type 0
+IsKnown (Undecided cause) = ⊥
+IsKnown best = Unit {0}
+
+-- what the runs about two rows under a problem end with, or where quick runs come first whatever is known
+abbrev pub FindsFactor : ProblemView → Terms → Terms → Effort → BestView → Type 0
+FindsFactor p left right effort best = EndsWith p left right effort.pivots best ⊎ ((effort.quick ≡ true) × IsKnown best)
+
+-- the same about the terms of both sides, under the problem that the question poses
+abbrev pub IsDueFactor : Effort → BodyView → RelationView → BestView → Type 0
+IsDueFactor effort q r best = FindsFactor (problem_of q) (terms_in q (left_form (variable_count q) r)) (terms_in q (right_form (variable_count q) r)) effort best
 
 -- ---- right replies
 
 -- what is found is right by the text, and it is due
-pub record IsRightFactor (budget : Option ℕ) (q : BodyView) (r : RelationView) (best : BestView) : Type 0 where
+pub record IsRightFactor (effort : Effort) (q : BodyView) (r : RelationView) (best : BestView) : Type 0 where
   pub shows : ShowsFactor q r best
-  pub due : IsDueFactor budget q r best
+  pub due : IsDueFactor effort q r best
 
--- a right reply to a question, by runs with a budget of steps or without one: what is found of the factors of the relation that it asks
+-- a right reply to a question, with this effort: what is found of the factors of the relation that it asks
 -- about, or that it asks about none
-abbrev pub IsRightReply : Option ℕ → BodyView → ReplyView → Type 0
-IsRightReply budget q (Found best) = (r : RelationView) × (asked_by q.verb ≡ Some r) × IsRightFactor budget q r best
-IsRightReply budget q Other = asked_by q.verb ≡ None
+abbrev pub IsRightReply : Effort → BodyView → ReplyView → Type 0
+IsRightReply effort q (Found best) = (r : RelationView) × (asked_by q.verb ≡ Some r) × IsRightFactor effort q r best
+IsRightReply effort q Other = asked_by q.verb ≡ None
 
 -- ---- what follows
 
--- a question has one right reply
+-- where no quick run comes first a question has one right reply
 abbrev pub OneRightReply : Type 0
-OneRightReply = (budget : Option ℕ) (q : BodyView) (a b : ReplyView) → IsRightReply budget q a → IsRightReply budget q b → a ≡ b
+OneRightReply = (effort : Effort) (q : BodyView) (a b : ReplyView) → effort.quick ≡ false → IsRightReply effort q a → IsRightReply effort q b → a ≡ b
 
 -- without a budget no reply is undecided for want of steps
 abbrev pub NeverOutOfSteps : Type 0
-NeverOutOfSteps = (q : BodyView) (k phase : ℕ) → IsRightReply None q (Found (Undecided (Pivots k phase))) → ⊥
+NeverOutOfSteps = (effort : Effort) (q : BodyView) (k phase : ℕ) → effort.pivots ≡ None → IsRightReply effort q (Found (Undecided (Pivots k phase))) → ⊥
 
 -- what shows what it says of the factors is true of them
 abbrev pub WhatIsShownIsTrue : Type 0

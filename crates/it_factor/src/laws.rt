@@ -8,7 +8,8 @@ pub fn shown_factors_are_true()
     ensures { WhatIsShownIsTrue }
 {}
 
-/// A question has one right reply for a budget, and without one it isn't undecided for want of steps.
+/// Where no quick run comes first a question has one right reply. With any effort it isn't undecided for want of steps where there is no
+/// budget of them.
 pub fn replies_are_determined()
     ensures one { OneRightReply }
     ensures steps { NeverOutOfSteps }

@@ -19,38 +19,28 @@ use crate::types::{RepliedProblem, Reply};
 use it_best::best;
 use it_best::types::Best;
 use it_canon::{problem, sides};
+use it_prove::{Effort, budget_of};
 use it_question::types::{Question, Verb};
-use it_simplex::Budget;
 use it_space::Problem;
 use it_syntax::types::{Relation, Sign};
 use std::alloc::{AllocError, Global};
 
 /// The right reply to a question, and the question's problem: to `prove E >= F` what is found of its factors, and `Other` to each
-/// other verb or sign. `pivots` is the most steps of each of the three runs; without it each goes on to its end.
+/// other verb or sign. The effort's steps are the most of each of the three runs; without them each goes on to its end.
 pub fn reply(
     alloc: Global,
     question: &Question,
-    pivots: Option<u32>,
+    effort: Effort,
 ) -> Result<RepliedProblem, AllocError>
     requires limits { IsQuestion (question_body question.now) }
     ensures space { IfOk result (λ a. a.problem.space ≡ space_of (problem_names (question_body question.now))) }
     ensures problem { IfOk result (λ a. AreStated a.problem.space (question_origins (question_body question.now)) (question_demands (question_body question.now)) a.problem.constraints.items) }
-    ensures right { IfOk result (λ a. IsRightReply pivots (question_body question.now) (reply_view a.reply)) }
+    ensures right { IfOk result (λ a. IsRightReply effort (question_body question.now) (reply_view a.reply)) }
     ensures printable { IfOk result (λ a. IsPrintable (question_body question.now) (length a.problem.constraints.items) a.reply) }
 {
     let problem = problem(alloc, question)?;
-    let reply = reply_under(alloc, question, &problem, budget_of(pivots))?;
+    let reply = reply_under(alloc, question, &problem, effort)?;
     Ok(RepliedProblem { problem, reply })
-}
-
-/// The budget of a run: so many steps, or as many as it takes.
-fn budget_of(pivots: Option<u32>) -> Budget
-    ensures { result ≡ pivots }
-{
-    match pivots {
-        Some(steps) => Budget::at_most(steps),
-        None => Budget::none(),
-    }
 }
 
 /// The reply to a question, with the question's problem.
@@ -58,15 +48,15 @@ fn reply_under(
     alloc: Global,
     question: &Question,
     problem: &Problem,
-    budget: Budget,
+    effort: Effort,
 ) -> Result<Reply, AllocError>
     requires limits { IsQuestion (question_body question.now) }
     requires problem { IsProblemOf (question_body question.now) (problem_view problem.now) }
-    ensures right { IfOk result (λ r. IsRightReply budget (question_body question.now) (reply_view r)) }
+    ensures right { IfOk result (λ r. IsRightReply effort (question_body question.now) (reply_view r)) }
     ensures printable { IfOk result (IsPrintable (question_body question.now) (length problem.now.constraints.items)) }
 {
     match &question.verb {
-        Verb::Prove(relation) => relation_reply(alloc, problem, relation, budget),
+        Verb::Prove(relation) => relation_reply(alloc, problem, relation, effort),
         Verb::Eliminate(_) => Ok(Reply::Other),
         Verb::Contain { .. } => Ok(Reply::Other),
     }
@@ -77,15 +67,15 @@ fn relation_reply(
     alloc: Global,
     problem: &Problem,
     relation: &Relation,
-    budget: Budget,
+    effort: Effort,
 ) -> Result<Reply, AllocError>
     requires problem { IsProblem (problem_view problem.now) }
     requires relation { IsRelationOf problem.now.space.variables problem.now.space.rates (relation_view relation.now) }
-    ensures { IfOk result (λ r. IsRelationReply (problem_view problem.now) budget (relation_view relation.now) (reply_view r)) }
+    ensures { IfOk result (λ r. IsRelationReply (problem_view problem.now) effort (relation_view relation.now) (reply_view r)) }
 {
     match relation.sign {
         Sign::AtLeast => {
-            let found = factors(alloc, problem, relation, budget)?;
+            let found = factors(alloc, problem, relation, effort)?;
             Ok(Reply::Found(found))
         }
         Sign::AtMost => Ok(Reply::Other),
@@ -98,13 +88,13 @@ fn factors(
     alloc: Global,
     problem: &Problem,
     relation: &Relation,
-    budget: Budget,
+    effort: Effort,
 ) -> Result<Best, AllocError>
     requires problem { IsProblem (problem_view problem.now) }
     requires relation { IsRelationOf problem.now.space.variables problem.now.space.rates (relation_view relation.now) }
-    ensures { IfOk result (λ b. IsFoundByRows (problem_view problem.now) budget (relation_view relation.now) (best_view b)) }
+    ensures { IfOk result (λ b. IsFoundByRows (problem_view problem.now) effort (relation_view relation.now) (best_view b)) }
 {
     let (left, right) = sides(alloc, relation, problem.space)?;
-    let found = best(alloc, problem, &left, &right, budget)?;
+    let found = best(alloc, problem, &left, &right, budget_of(effort.pivots))?;
     Ok(found)
 }

@@ -1,5 +1,6 @@
 -- From the ends of the run and the checker's verdict to the outcome.
-use Rattle.std.proofs.Common.{◌≡◌, ◌≢◌, ◌⊎◌, inl, inr, ℕ, zero, suc, ℤ, List, [], ◌∷◌, map, length, get_or, All, Option, Some, None, Result, Ok, Err, refl, sym, ap, subst, subst₂, ◌∙◌}
+use Rattle.std.proofs.Common.{◌≡◌, ◌≢◌, ◌⊎◌, inl, inr, ℕ, zero, suc, ℤ, List, [], ◌∷◌, map, length, get_or, All, Option, Some, None, Result, Ok, Err, refl, sym, ap, subst, subst₂, ◌∙◌, Bool, true, false}
+use Rattle.std.proofs.lemmas.Bool.{false≢true}
 use Rattle.std.specs.Option.{IfNone}
 use Rattle.std.specs.Result.{IfOk}
 use Rattle.it_number.specs.Limit.{IsWithin}
@@ -39,7 +40,8 @@ use Rattle.it_columns.specs.Columns.{columns}
 use Rattle.it_prove.specs.ClosedProblems.{SameRows}
 use Rattle.it_prove.specs.Closed.{closed_places, closed_generators, closed_target, CollapsesFit, spread_point}
 use Rattle.it_columns.specs.Scaling.{NumbersFit, scaled_number}
-use Rattle.it_prove.specs.ProofViews.{ProofView, Yes, No, Undecided, IsLifted, LiftedFit, Follows, Runs, EndsWith, NeverOutOfSteps, OneProofView, ProvenAscends, proof_view}
+use Rattle.it_prove.specs.ProofViews.{ProofView, Yes, No, Undecided, IsLifted, LiftedFit, Follows, Runs, EndsByRun, EndsWith, DefinedEndsMayCome, NeverOutOfSteps, OneProofView, ProvenAscends, proof_view}
+use Rattle.it_prove.specs.declared.types.Effort.{Effort}
 use Rattle.it_prove.specs.declared.types.Proof.{Proof}
 use Rattle.it_prove.proofs.PointLemmas.{point_right}
 use Rattle.it_prove.proofs.LiftLemmas.{one_lift}
@@ -115,7 +117,7 @@ module _ (coords : List ℕ) (rs ss : List Terms) (s : SameRows rs ss) (r t : Te
 -- the run of the code's rows is that of the problem
 module _ (q : ProblemView) (target : Terms) (coords : List ℕ) (at : coords ≡ closed_places q) (rs : List Terms) (s : SameRows rs (columns (closed_generators q)))
     (r : Terms) (e : (c : ℕ) → coefficient r c ≡ coefficient (closed_target q target) c) where
-  pub ends_so : CollapsesFit q target → (budget : Option ℕ) (end : RunEndView (List (ℕ × Rational)) (List Rational)) (o : ProofView) → Solves coords rs r budget end → Follows q target end o → EndsWith q target budget o
+  pub ends_so : CollapsesFit q target → (budget : Option ℕ) (end : RunEndView (List (ℕ × Rational)) (List Rational)) (o : ProofView) → Solves coords rs r budget end → Follows q target end o → EndsByRun q target budget o
   ends_so fit budget end o h f = record {
     end = end;
     run = inr (fit, same_run (closed_places q) rs (columns (closed_generators q)) s r (closed_target q target) e budget end (subst (λ (cs : List ℕ). Solves cs rs r budget end) at h));
@@ -130,7 +132,7 @@ module _ (q : ProblemView) (target : Terms) (coords : List ℕ) (at : coords ≡
       → Separates rationals (length (closed_places q)) (length (columns (closed_generators q))) (feasibility_problem (closed_places q) (columns (closed_generators q)) (closed_target q target)) qs
   separates_so qs h = same_separates (closed_places q) rs (columns (closed_generators q)) s r (closed_target q target) e qs (subst (λ (cs : List ℕ). Separates rationals (length cs) (length rs) (feasibility_problem cs rs r) qs) at h)
 
-pub wide_start : (q : ProblemView) (target : Terms) (budget : Option ℕ) → ¬ (CollapsesFit q target) → EndsWith q target budget (Undecided (causes.Width 0))
+pub wide_start : (q : ProblemView) (target : Terms) (budget : Option ℕ) → ¬ (CollapsesFit q target) → EndsByRun q target budget (Undecided (causes.Width 0))
 wide_start q target budget n = record { end = Width 0; run = inl (n, refl); follows = refl }
 
 -- what the answer of the run shows, by its end
@@ -153,7 +155,7 @@ module _ (q : ProblemView) (target : Terms) (coords items : List ℕ) (slice : c
   rows_are = subst (λ (xs : List Terms). SameRows xs (columns (closed_generators q))) (sym same) s
 
   pub answer_ends : CollapsesFit q target → (budget : Option ℕ) → Solves coords rs r budget (end_of_answer x) → (end : RunEndView (List (ℕ × Rational)) (List Rational)) (o : ProofView) → end_of_answer x ≡ end → Follows q target end o
-      → EndsWith q target budget o
+      → EndsByRun q target budget o
   answer_ends fit budget h end o is f = ends_so q target coords places_are rs rows_are r e fit budget end o (subst (Solves coords rs r budget) is h) f
 
   pub answer_sums : IsRightAnswer coords rs r x → (part : List (ℕ × Rational)) → end_of_answer x ≡ Weights part
@@ -184,13 +186,26 @@ one_run q target budget d e (inl a) (inr b) = absurd (a.0 b.0)
 one_run q target budget d e (inr a) (inl b) = absurd (b.0 a.0)
 one_run q target budget d e (inr a) (inr b) = run_ends_once (closed_places q) (columns (closed_generators q)) (closed_target q target) budget d e a.1 b.1
 
-pub one_outcome : OneProofView
-one_outcome q target budget o p a b =
+one_run_outcome : (q : ProblemView) (target : Terms) (budget : Option ℕ) (o p : ProofView) → EndsByRun q target budget o → EndsByRun q target budget p → o ≡ p
+one_run_outcome q target budget o p a b =
     one_follows q target b.end o p (subst (λ e. Follows q target e o) (one_run q target budget a.end b.end a.run b.run) a.follows) b.follows
 
+not_quick : (quick : Bool) → quick ≡ false → quick ≡ true → ⊥
+not_quick quick e f = false≢true (sym e ∙ f)
+
+pub one_outcome : OneProofView
+one_outcome q target effort o p e (inl a) (inl b) = one_run_outcome q target effort.pivots o p a b
+one_outcome q target effort o p e (inl a) (inr b) = absurd (not_quick effort.quick e b.0)
+one_outcome q target effort o p e (inr a) b = absurd (not_quick effort.quick e a.0)
+
+-- the outcome of the defined run may come where a quick run comes first
+pub defined_ends_may_come : DefinedEndsMayCome
+defined_ends_may_come q target budget o (inl a) = inl a
+defined_ends_may_come q target budget o (inr b) = absurd (not_quick false refl b.0)
+
 -- weights of a proof ascend, and none is 0
-pub proven_ascends : ProvenAscends
-proven_ascends q target budget w e = for_each e.end e.follows
+run_ascends : (q : ProblemView) (target : Terms) (budget : Option ℕ) (w : CertificateView) → EndsByRun q target budget (Yes w) → IsCanonical w.weights
+run_ascends q target budget w e = for_each e.end e.follows
   where
     same_certificate : (v : CertificateView) → Yes w ≡ Yes v → w ≡ v
     same_certificate v e = cc
@@ -209,14 +224,18 @@ proven_ascends q target budget w e = for_each e.end e.follows
     for_each (Pivots k) a = absurd (yes_not_undecided a)
     for_each (Width k) a = absurd (yes_not_undecided a)
 
+pub proven_ascends : ProvenAscends
+proven_ascends q target effort w (inl e) = run_ascends q target effort.pivots w e
+proven_ascends q target effort w (inr (quick, right, canonical, within)) = canonical
+
 -- ---- without a budget
 
 run_within_budget : (q : ProblemView) (target : Terms) (e : RunEndView (List (ℕ × Rational)) (List Rational)) → Runs q target None e → (k : ℕ) → e ≢ Pivots k
 run_within_budget q target e (inl a) = λ k p. let h = a.1 in cc
 run_within_budget q target e (inr a) = ends_within_budget (closed_places q) (columns (closed_generators q)) (closed_target q target) e a.1
 
-pub never_out_of_steps : NeverOutOfSteps
-never_out_of_steps q target k e = for_each e.end e.follows (run_within_budget q target e.end e.run)
+run_never_out : (q : ProblemView) (target : Terms) (k : ℕ) → EndsByRun q target None (Undecided (causes.Pivots k)) → ⊥
+run_never_out q target k e = for_each e.end e.follows (run_within_budget q target e.end e.run)
   where
     pivots_not_yes : {w : CertificateView} → Undecided (causes.Pivots k) ≡ Yes w → ⊥
     pivots_not_yes e = cc
@@ -238,8 +257,17 @@ never_out_of_steps q target k e = for_each e.end e.follows (run_within_budget q 
     for_each (Pivots j) a i = i j refl
     for_each (Width j) a i = pivots_not_width a
 
-pub never_pivots : {E : Type 0} (q : ProblemView) (target : Terms) (budget : Option ℕ) (r : Result Proof E) → IfOk r (λ proof. EndsWith q target budget (proof_view proof))
-    → IfNone budget (IfOk r (λ proof. (k : ℕ) → proof_view proof ≢ Undecided (causes.Pivots k)))
-never_pivots q target (Some steps) r h = tt
-never_pivots q target None (Err e) h = tt
-never_pivots q target None (Ok proof) h = λ k is. never_out_of_steps q target k (subst (EndsWith q target None) is h)
+pub never_out_of_steps : NeverOutOfSteps
+never_out_of_steps q target effort k none (inl e) = run_never_out q target k (subst (λ b. EndsByRun q target b (Undecided (causes.Pivots k))) none e)
+never_out_of_steps q target effort k none (inr (quick, settled)) = settled
+
+-- so is it of what the code gives
+pub never_pivots : {E : Type 0} (q : ProblemView) (target : Terms) (effort : Effort) (r : Result Proof E) → IfOk r (λ proof. EndsWith q target effort (proof_view proof))
+    → IfNone effort.pivots (IfOk r (λ proof. (k : ℕ) → proof_view proof ≢ Undecided (causes.Pivots k)))
+never_pivots q target effort r h = by effort.pivots refl r h
+  where
+    by : (pivots : Option ℕ) → effort.pivots ≡ pivots → {E : Type 0} (r : Result Proof E) → IfOk r (λ proof. EndsWith q target effort (proof_view proof))
+        → IfNone pivots (IfOk r (λ proof. (k : ℕ) → proof_view proof ≢ Undecided (causes.Pivots k)))
+    by (Some steps) e r h = tt
+    by None e (Err fault) h = tt
+    by None e (Ok proof) h = λ k is. never_out_of_steps q target effort k e (subst (EndsWith q target effort) is h)

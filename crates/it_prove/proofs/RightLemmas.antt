@@ -1,10 +1,12 @@
 -- What a run ends with is right: of weights the lift certifies the target, and a point that is spread out refutes it.
-use Rattle.std.proofs.Common.{inl, inr, ℕ, List, Option, Result, Ok, Err, length, sym, subst}
+use Rattle.std.proofs.Common.{inl, inr, ℕ, ℤ, pos, neg_ℤ, ◌≤ℤ◌, List, Option, Result, Ok, Err, length, sym, subst, arith}
+use Rattle.std.proofs.lemmas.Int.{ints}
 use Rattle.std.specs.Result.{IfOk}
 use Rattle.it_rational.specs.Rational.{Rational}
 use Rattle.it_rational.proofs.Field.{field_ℚ}
 use Rattle.it_space.specs.Problems.{ProblemView, IsProblem}
-use Rattle.it_space.specs.Rows.{Terms, IsOver}
+use Rattle.it_space.specs.Answers.{CertificateView}
+use Rattle.it_space.specs.Rows.{Terms, IsOver, point_of, value}
 use Rattle.it_space.specs.Spaces.{size_of}
 use Rattle.it_tableau.specs.Problems.{feasibility_problem}
 use Rattle.it_run.specs.Runs.{RunEndView}
@@ -12,9 +14,11 @@ use Rattle.it_run.specs.Runs.RunEndView.{Weights, Point, Pivots, Width}
 use Rattle.it_run.specs.Solving.{StepFits}
 use Rattle.it_run.proofs.BudgetLemmas.{right_by}
 use Rattle.it_run.proofs.RunLemmas.{EndIsRight}
+use Rattle.it_check.proofs.Truth.{yes_is_true}
 use Rattle.it_prove.specs.Closed.{closed_places, closed_generators, closed_target}
 use Rattle.it_columns.specs.Columns.{columns}
-use Rattle.it_prove.specs.ProofViews.{ProofView, Follows, Runs, EndsWith, IsRightProof, EndsAreRight, proof_view}
+use Rattle.it_prove.specs.ProofViews.{ProofView, Yes, No, Undecided, Follows, Runs, EndsByRun, EndsWith, EndsAgree, IsRightProof, IsSettled, EndsAreRight, proof_view}
+use Rattle.it_prove.specs.declared.types.Effort.{Effort}
 use Rattle.it_prove.specs.declared.types.Proof.{Proof}
 use Rattle.it_prove.proofs.LiftLemmas.{lifted_certifies}
 use Rattle.it_prove.proofs.PointLemmas.{point_right}
@@ -39,11 +43,35 @@ module _ (q : ProblemView) (target : Terms) where
   right_outcome k u (Pivots j) o r e = subst (IsRightProof q target) (sym e) tt
   right_outcome k u (Width j) o r e = subst (IsRightProof q target) (sym e) tt
 
+run_right : (q : ProblemView) (target : Terms) (budget : Option ℕ) (o : ProofView) → IsProblem q → IsOver (size_of q.space) target → EndsByRun q target budget o → IsRightProof q target o
+run_right q target budget o k u e = right_outcome q target k u e.end o (right_run q target budget e.end e.run) e.follows
+
+-- what is settled is right
+settled_right : (q : ProblemView) (target : Terms) (o : ProofView) → IsSettled q target o → IsRightProof q target o
+settled_right q target (Yes w) (right, canonical, within) = right
+settled_right q target (No values) (right, within) = right
+settled_right q target (Undecided cause) s = tt
+
 pub ends_are_right : EndsAreRight
-ends_are_right q target budget o k u e = right_outcome q target k u e.end o (right_run q target budget e.end e.run) e.follows
+ends_are_right q target effort o k u (inl e) = run_right q target effort.pivots o k u e
+ends_are_right q target effort o k u (inr (quick, settled)) = settled_right q target o settled
 
 -- so is what the code gives
-pub right_result : {E : Type 0} (q : ProblemView) (target : Terms) (budget : Option ℕ) (r : Result Proof E) → IsProblem q → IsOver (size_of q.space) target
-    → IfOk r (λ proof. EndsWith q target budget (proof_view proof)) → IfOk r (λ proof. IsRightProof q target (proof_view proof))
-right_result q target budget (Err e) k u h = tt
-right_result q target budget (Ok proof) k u h = ends_are_right q target budget (proof_view proof) k u h
+pub right_result : {E : Type 0} (q : ProblemView) (target : Terms) (effort : Effort) (r : Result Proof E) → IsProblem q → IsOver (size_of q.space) target
+    → IfOk r (λ proof. EndsWith q target effort (proof_view proof)) → IfOk r (λ proof. IsRightProof q target (proof_view proof))
+right_result q target effort (Err e) k u h = tt
+right_result q target effort (Ok proof) k u h = ends_are_right q target effort (proof_view proof) k u h
+
+not_at_least_zero : (x : ℤ) → x ≤ℤ neg_ℤ (pos 1) → pos 0 ≤ℤ x → ⊥
+not_at_least_zero x h k = omega (arith, ints)
+
+-- a right certificate and a right point exclude each other
+right_agree : (q : ProblemView) (target : Terms) (w : CertificateView) (values : List ℤ) → IsProblem q → IsOver (size_of q.space) target
+    → IsRightProof q target (Yes w) → IsRightProof q target (No values) → ⊥
+right_agree q target w values k u proof refutation =
+    let low : value target (point_of values) ≤ℤ neg_ℤ (pos 1) = refutation.0.violated in
+    let high : pos 0 ≤ℤ value target (point_of values) = yes_is_true q target w k u proof.0 (point_of values) refutation.0.polymatroid refutation.0.met in
+    not_at_least_zero (value target (point_of values)) low high
+
+pub ends_agree : EndsAgree
+ends_agree q target effort other w values k u a b = right_agree q target w values k u (ends_are_right q target effort (Yes w) k u a) (ends_are_right q target other (No values) k u b)

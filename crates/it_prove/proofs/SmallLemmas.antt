@@ -12,6 +12,7 @@ use Rattle.it_fraction.specs.Fits.{IsNarrow}
 use Rattle.it_space.specs.declared.answers.Cause.TheVariants as causes
 use Rattle.it_space.specs.declared.answers.Cause.TheVariants.{Scale}
 use Rattle.it_space.specs.Bounds.{IsSmall}
+use Rattle.it_space.specs.Problems.{ProblemView, IsProblem}
 use Rattle.it_space.specs.Rows.{Terms, coefficient}
 use Rattle.std.specs.List.{AllByRecursion as Every}
 use Rattle.it_space.proofs.EveryLemmas.{all_of, every-same, every-map}
@@ -35,7 +36,7 @@ use Rattle.it_run.specs.Runs.RunEndView.{Weights, Point, Pivots, Width}
 use Rattle.it_run.proofs.RowValues.{whole_plus}
 use Rattle.it_prove.specs.Closed.{collapsed_row, collapsed_generator, closed_places, closed_generators, closed_target, CollapsesFit}
 use Rattle.it_columns.specs.Columns.{columns}
-use Rattle.it_prove.specs.ProofViews.{Undecided, Follows, Runs, NeverAtStart}
+use Rattle.it_prove.specs.ProofViews.{Undecided, Follows, Runs, EndsByRun, AreSmall, NeverAtStart}
 use Rattle.it_prove.proofs.ClosedRows.{coords_rise}
 use Rattle.it_prove.proofs.LiftLemmas.{dependences_sound}
 use Rattle.it_prove.proofs.SmallRows.{abs_add, abs_neg, SmallRow, small_row, columns_small, collapse_fits, generators_small}
@@ -131,8 +132,8 @@ never_run m n p None t e z r =
     never_zero (IsDone rationals m n) (IsStuck rationals m n) (StepFits m n) (next rationals m n) (weights rationals m n) (point rationals m n p) r.0 zero t
     (subst (RunsTo m n p (Some r.0) t) z r.1)
 
-pub never_at_start : NeverAtStart
-never_at_start q target budget k s e = by_cases e.run (zero_end e.end e.follows)
+run_never_at_start : (q : ProblemView) (target : Terms) (budget : Option ℕ) → IsProblem q → AreSmall q target → EndsByRun q target budget (Undecided (causes.Width 0)) → ⊥
+run_never_at_start q target budget k s e = by_cases e.run (zero_end e.end e.follows)
   where
     all_small : Every (λ g. IsSmall g.row) (generators q)
     all_small = generators_small q.space.variables q.constraints s.constraints
@@ -183,3 +184,7 @@ never_at_start q target budget k s e = by_cases e.run (zero_end e.end e.follows)
     by_cases (inr (f, inl a)) z = a.0 start
     by_cases (inr (f, inr a)) z = never_run (length (closed_places q)) (length (columns (closed_generators q))) (feasibility_problem (closed_places q) (columns (closed_generators q)) (closed_target q target)) budget
         (start_of (closed_places q) (columns (closed_generators q)) (closed_target q target)) e.end z a.1
+
+pub never_at_start : NeverAtStart
+never_at_start q target effort k s (inl e) = run_never_at_start q target effort.pivots k s e
+never_at_start q target effort k s (inr (quick, settled)) = settled

@@ -1,7 +1,8 @@
 -- How a question about one target ends: by weights of the run over closed sets, which are lifted to a certificate, by a point of
--- it, which is spread out, or by neither.
-use Rattle.std.specs.Prelude.{◌≡◌, ◌≢◌, ◌⊎◌, ℕ, ◌+◌, ◌*◌, ℤ, List, [], length, All, Option, None}
+-- it, which is spread out, or by neither; and where a quick run comes first, by what the check finds valid of its proposal.
+use Rattle.std.specs.Prelude.{◌≡◌, ◌≢◌, ◌⊎◌, ℕ, ◌+◌, ◌*◌, ℤ, List, [], length, All, Option, None, true, false}
 use Rattle.std.specs.List.{AllZip}
+use Rattle.it_number.specs.Limit.{IsWithin}
 use Rattle.it_rational.specs.Rational.{Rational}
 use Rattle.it_space.specs.declared.answers.Cause.{Cause}
 use Rattle.it_space.specs.declared.answers.Cause.TheVariants as causes
@@ -24,6 +25,7 @@ use Rattle.it_columns.specs.Columns.{columns}
 use Rattle.it_prove.specs.Closed.{closed_places, closed_generators, closed_target, CollapsesFit, spread_point}
 use Rattle.it_columns.specs.Scaling.{NumbersFit}
 use Rattle.it_prove.specs.Weights.{numbers_of, certificate_of}
+use Rattle.it_prove.specs.declared.types.Effort.{Effort}
 use Rattle.it_prove.specs.declared.types.Proof.{Proof}
 use Rattle.it_prove.specs.declared.types.Proof.TheVariants as proofs
 
@@ -70,15 +72,11 @@ Runs q target budget e =
     (¬ (CollapsesFit q target) × (e ≡ Width 0))
     ⊎ (CollapsesFit q target × Solves (closed_places q) (columns (closed_generators q)) (closed_target q target) budget e)
 
--- the outcome is that of the run
-pub record EndsWith (q : ProblemView) (target : Terms) (budget : Option ℕ) (o : ProofView) : Type 0 where
+-- the outcome is that of the defined run
+pub record EndsByRun (q : ProblemView) (target : Terms) (budget : Option ℕ) (o : ProofView) : Type 0 where
   pub end : RunEndView (List (ℕ × Rational)) (List Rational)
   pub run : Runs q target budget end
   pub follows : Follows q target end o
-
--- the run about each target ends with its certificate, in order
-abbrev pub AreProofsOf : ProblemView → Option ℕ → List Terms → List CertificateView → Type 0
-AreProofsOf q budget targets ws = AllZip (λ t w. EndsWith q t budget (Yes w)) targets ws
 
 -- a certificate certifies the target, and a point refutes it
 abbrev pub IsRightProof : ProblemView → Terms → ProofView → Type 0
@@ -86,17 +84,42 @@ IsRightProof q target (Yes w) = CertifiesRow q target w × CertificateFits q tar
 IsRightProof q target (No values) = RefutesRow q target values × PointFits q target values
 IsRightProof q target (Undecided cause) = Unit {0}
 
--- what a run ends with is right
-abbrev pub EndsAreRight : Type 0
-EndsAreRight = (q : ProblemView) (target : Terms) (budget : Option ℕ) (o : ProofView) → IsProblem q → IsOver (size_of q.space) target → EndsWith q target budget o → IsRightProof q target o
+-- a certificate of the target that ascends, or a point that refutes it, with numbers within the limit; whichever run it comes from
+abbrev pub IsSettled : ProblemView → Terms → ProofView → Type 0
+IsSettled q target (Yes w) = IsRightProof q target (Yes w) × IsCanonical w.weights × IsWithin w.scale
+IsSettled q target (No values) = IsRightProof q target (No values) × All IsWithin values
+IsSettled q target (Undecided cause) = ⊥
 
--- a target under a problem has one outcome for a budget
+-- The outcome is that of the defined run, or where a quick run comes first one that is settled. So where the target is left open, the
+-- defined run leaves it open.
+abbrev pub EndsWith : ProblemView → Terms → Effort → ProofView → Type 0
+EndsWith q target effort o = EndsByRun q target effort.pivots o ⊎ ((effort.quick ≡ true) × IsSettled q target o)
+
+-- each target ends with its certificate, in order
+abbrev pub AreProofsOf : ProblemView → Effort → List Terms → List CertificateView → Type 0
+AreProofsOf q effort targets ws = AllZip (λ t w. EndsWith q t effort (Yes w)) targets ws
+
+-- what a target ends with is right
+abbrev pub EndsAreRight : Type 0
+EndsAreRight = (q : ProblemView) (target : Terms) (effort : Effort) (o : ProofView) → IsProblem q → IsOver (size_of q.space) target → EndsWith q target effort o → IsRightProof q target o
+
+-- no two outcomes of a target say the opposite, whatever the effort for each
+abbrev pub EndsAgree : Type 0
+EndsAgree = (q : ProblemView) (target : Terms) (effort other : Effort) (w : CertificateView) (values : List ℤ) → IsProblem q → IsOver (size_of q.space) target
+    → EndsWith q target effort (Yes w) → EndsWith q target other (No values) → ⊥
+
+-- where no quick run comes first a target has one outcome
 abbrev pub OneProofView : Type 0
-OneProofView = (q : ProblemView) (target : Terms) (budget : Option ℕ) (o p : ProofView) → EndsWith q target budget o → EndsWith q target budget p → o ≡ p
+OneProofView = (q : ProblemView) (target : Terms) (effort : Effort) (o p : ProofView) → effort.quick ≡ false → EndsWith q target effort o → EndsWith q target effort p → o ≡ p
+
+-- where a quick run comes first, that outcome is one that may come
+abbrev pub DefinedEndsMayCome : Type 0
+DefinedEndsMayCome = (q : ProblemView) (target : Terms) (budget : Option ℕ) (o : ProofView)
+    → EndsWith q target (record { quick = false; pivots = budget }) o → EndsWith q target (record { quick = true; pivots = budget }) o
 
 -- the weights of a proof ascend by generator, and none is 0
 abbrev pub ProvenAscends : Type 0
-ProvenAscends = (q : ProblemView) (target : Terms) (budget : Option ℕ) (w : CertificateView) → EndsWith q target budget (Yes w) → IsCanonical w.weights
+ProvenAscends = (q : ProblemView) (target : Terms) (effort : Effort) (w : CertificateView) → EndsWith q target effort (Yes w) → IsCanonical w.weights
 
 -- the rows of the constraints and of the target are small
 pub record AreSmall (q : ProblemView) (target : Terms) : Type 0 where
@@ -105,37 +128,12 @@ pub record AreSmall (q : ProblemView) (target : Terms) : Type 0 where
 
 -- Where the rows are small the run doesn't end before step 0.
 abbrev pub NeverAtStart : Type 0
-NeverAtStart = (q : ProblemView) (target : Terms) (budget : Option ℕ) → IsProblem q → AreSmall q target → EndsWith q target budget (Undecided (causes.Width 0)) → ⊥
+NeverAtStart = (q : ProblemView) (target : Terms) (effort : Effort) → IsProblem q → AreSmall q target → EndsWith q target effort (Undecided (causes.Width 0)) → ⊥
 
 -- without a budget no question is left open for want of steps
 abbrev pub NeverOutOfSteps : Type 0
-NeverOutOfSteps = (q : ProblemView) (target : Terms) (k : ℕ) → EndsWith q target None (Undecided (causes.Pivots k)) → ⊥
+NeverOutOfSteps = (q : ProblemView) (target : Terms) (effort : Effort) (k : ℕ) → effort.pivots ≡ None → EndsWith q target effort (Undecided (causes.Pivots k)) → ⊥
 
 -- the size of a problem's table is that of the run's start: its coordinates times its columns, with an artificial one for each coordinate
 abbrev pub SizeIsOfStart : Type 0
 SizeIsOfStart = (q : ProblemView) → table_size q ≡ length (closed_places q) * (length (columns (closed_generators q)) + length (closed_places q))
-
--- ---- with a quick run first
-
--- a certificate of the target that ascends, or a point that refutes it; whichever run it comes from
-abbrev pub IsSettled : ProblemView → Terms → ProofView → Type 0
-IsSettled q target (Yes w) = IsRightProof q target (Yes w) × IsCanonical w.weights
-IsSettled q target (No values) = IsRightProof q target (No values)
-IsSettled q target (Undecided cause) = ⊥
-
--- Where a quick run comes first an outcome is settled, or it is that of the defined run. So where the target is left open, that run leaves it open.
-abbrev pub AnswersQuickly : ProblemView → Terms → Option ℕ → ProofView → Type 0
-AnswersQuickly q target budget o = IsSettled q target o ⊎ EndsWith q target budget o
-
--- what a quick answer says is right
-abbrev pub QuickAnswersAreRight : Type 0
-QuickAnswersAreRight = (q : ProblemView) (target : Terms) (budget : Option ℕ) (o : ProofView) → IsProblem q → IsOver (size_of q.space) target → AnswersQuickly q target budget o → IsRightProof q target o
-
--- each outcome of the defined run is a quick answer
-abbrev pub EndsAreQuickAnswers : Type 0
-EndsAreQuickAnswers = (q : ProblemView) (target : Terms) (budget : Option ℕ) (o : ProofView) → EndsWith q target budget o → AnswersQuickly q target budget o
-
--- no two quick answers say the opposite
-abbrev pub QuickAnswersAgree : Type 0
-QuickAnswersAgree = (q : ProblemView) (target : Terms) (w : CertificateView) (values : List ℤ) → IsProblem q → IsOver (size_of q.space) target
-    → IsRightProof q target (Yes w) → IsRightProof q target (No values) → ⊥

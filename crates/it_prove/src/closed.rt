@@ -7,19 +7,21 @@ ghost use Rattle.it_prove.specs.Steps.{GeneratorsFit};
 ghost use Rattle.it_columns.specs.Columns.{columns};
 
 use crate::columns::push_columns;
+use crate::types::Effort;
 use it_closure::Dependences;
 use it_elemental::generator_count;
+use it_quick::QuickProblem;
 use it_space::{Problem, Row, RowFault};
 use std::alloc::{AllocError, Global};
 
-/// A problem over closed sets: its dependences, its coordinates, and the columns of its first generators, so many as are counted.
-/// It serves each problem that has these dependences and begins with these generators.
-#[derive(Debug)]
+/// A problem over closed sets: its dependences, its coordinates, and the columns of its first generators, so many as are counted; and
+/// what quick runs keep, where they come first. It serves each problem that has these dependences and begins with these generators.
 pub struct ClosedProblem {
     pub(crate) dependences: Dependences,
     pub(crate) coordinates: Vec<u32>,
     pub(crate) columns: Vec<Row>,
     count: u32,
+    pub(crate) quick: Option<QuickProblem>,
 }
 
 impl Drop for ClosedProblem {
@@ -29,17 +31,27 @@ impl Drop for ClosedProblem {
             coordinates: _,
             columns: _,
             count: _,
+            quick: _,
         } = self;
     }
 }
 
 impl ClosedProblem {
-    /// That of a problem, with the columns of all its generators; with none where a partial sum of a coefficient passes the limit.
-    pub fn read(alloc: Global, problem: &Problem) -> Result<ClosedProblem, AllocError>
+    /// That of a problem, for targets on which this effort is spent. Where a quick run comes first no column is made before the
+    /// defined run needs it; else those of all generators are, and none where a partial sum of a coefficient passes the limit.
+    pub fn read(
+        alloc: Global,
+        problem: &Problem,
+        effort: Effort,
+    ) -> Result<ClosedProblem, AllocError>
         requires { IsProblem (problem_view problem.now) }
         ensures { IfOk result (IsClosedProblem (problem_view problem.now)) }
     {
         let mut closed = without_columns(alloc, problem)?;
+        if effort.quick {
+            closed.quick = Some(QuickProblem::read(alloc, problem)?);
+            return Ok(closed);
+        }
         match other_columns(alloc, problem, &closed) {
             Ok(others) => {
                 closed.columns = others;
@@ -65,6 +77,7 @@ fn without_columns(alloc: Global, problem: &Problem) -> Result<ClosedProblem, Al
         coordinates,
         columns: Vec::new(alloc),
         count: 0,
+        quick: None,
     })
 }
 

@@ -1,12 +1,22 @@
 //! What the outcomes say, each theorem as the contract of a function.
-ghost use Rattle.it_prove.specs.ProofViews.{EndsAreQuickAnswers, EndsAreRight, NeverAtStart, NeverOutOfSteps, OneProofView, ProvenAscends, QuickAnswersAgree, QuickAnswersAreRight, SizeIsOfStart};
+ghost use Rattle.it_prove.specs.ProofViews.{DefinedEndsMayCome, EndsAgree, EndsAreRight, NeverAtStart, NeverOutOfSteps, OneProofView, ProvenAscends, SizeIsOfStart};
 
-/// What a run ends with is right: a certificate certifies the target, and a point refutes it.
+/// What a target ends with is right: a certificate certifies it, and a point refutes it.
 pub fn ends_are_right()
     ensures { EndsAreRight }
 {}
 
-/// A target under a problem has one outcome for a budget.
+/// No two outcomes of a target say the opposite, whatever the effort for each.
+pub fn ends_agree()
+    ensures { EndsAgree }
+{}
+
+/// Where no quick run comes first, what the defined run ends with is one of the outcomes that may come where one does.
+pub fn defined_ends_may_come()
+    ensures { DefinedEndsMayCome }
+{}
+
+/// Where no quick run comes first a target under a problem has one outcome.
 pub fn one_outcome()
     ensures { OneProofView }
 {}
@@ -31,19 +41,4 @@ pub fn never_out_of_steps()
 #[tactic(auto, using(crate::proofs::SizeLemmas::size_of_start))]
 pub fn size_is_of_start()
     ensures { SizeIsOfStart }
-{}
-
-/// What a quick answer says is right.
-pub fn quick_answers_are_right()
-    ensures { QuickAnswersAreRight }
-{}
-
-/// Each outcome of the defined run is a quick answer.
-pub fn ends_are_quick_answers()
-    ensures { EndsAreQuickAnswers }
-{}
-
-/// No two quick answers say the opposite.
-pub fn quick_answers_agree()
-    ensures { QuickAnswersAgree }
 {}

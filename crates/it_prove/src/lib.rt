@@ -5,6 +5,7 @@
 //! finds it valid.
 #![tactic(auto)]
 
+mod answering;
 mod certificates;
 mod closed;
 mod columns;
@@ -15,11 +16,11 @@ mod quick;
 mod scaling;
 mod types;
 
+pub use answering::prove;
 pub use closed::ClosedProblem;
 pub use laws::{
-    ends_are_quick_answers, ends_are_right, never_at_start, never_out_of_steps, one_outcome,
-    proven_ascends, quick_answers_agree, quick_answers_are_right, size_is_of_start,
+    defined_ends_may_come, ends_agree, ends_are_right, never_at_start, never_out_of_steps, one_outcome,
+    proven_ascends, size_is_of_start,
 };
-pub use proving::prove;
-pub use quick::{quick_prove, settle};
-pub use types::Proof;
+pub use quick::settle;
+pub use types::{Effort, Proof, budget_of};

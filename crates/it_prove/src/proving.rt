@@ -1,9 +1,7 @@
-//! The answer about one target: collapse, run, lift or spread out, check.
+//! The answer of the defined run about one target: collapse, run, lift or spread out, check.
 //! A last call is named before it is answered, so that its contract stands at the answer.
-ghost use Rattle.std.specs.Prelude.{◌≡◌, ◌≢◌, ◌++◌, ℕ, IfErr, IfOk, OnOk};
-ghost use Rattle.std.specs.Option.{IfNone};
+ghost use Rattle.std.specs.Prelude.{◌≡◌, ◌++◌, IfErr, IfOk, OnOk};
 ghost use Rattle.it_space.specs.Answers.{certificate_view};
-ghost use Rattle.it_space.specs.declared.answers.Cause.TheVariants as causes;
 ghost use Rattle.it_space.specs.Problems.{IsProblem, ProblemView, problem_view};
 ghost use Rattle.it_space.specs.Rows.{IsOver, coefficient};
 ghost use Rattle.it_space.specs.Spaces.{size_of};
@@ -14,12 +12,12 @@ ghost use Rattle.it_prove.specs.Closed.{closed_generators, closed_places, closed
 ghost use Rattle.it_prove.specs.ClosedProblems.{IsClosedProblem, SameRows};
 ghost use Rattle.it_prove.specs.Steps.{ClosedSeparates, ClosedSumsUp};
 ghost use Rattle.it_columns.specs.Columns.{columns};
-ghost use Rattle.it_prove.specs.ProofViews.{EndsWith, Follows, IsLifted, IsRightProof, LiftedFit, Undecided, proof_view};
+ghost use Rattle.it_prove.specs.ProofViews.{EndsByRun, Follows, IsLifted, LiftedFit, proof_view};
 
 use crate::certificates::certificate;
 use crate::closed::{ClosedProblem, other_columns};
 use crate::points::whole_point;
-use crate::types::Proof;
+use crate::types::{Proof, budget_of};
 use it_check::{Verdict, check_no, check_yes};
 use it_closure::Dependences;
 use it_fraction::Fraction;
@@ -148,7 +146,7 @@ fn closed_proof(
     requires columns { SameRows closed.now.columns.items (columns (closed_generators (problem_view problem.now))) }
     requires collapsed { (k : ℕ) → coefficient collapsed.now k ≡ coefficient (closed_target (problem_view problem.now) target.now) k }
     requires fits { CollapsesFit (problem_view problem.now) target.now }
-    ensures { IfOk result (λ proof. EndsWith (problem_view problem.now) target.now budget (proof_view proof)) }
+    ensures { IfOk result (λ proof. EndsByRun (problem_view problem.now) target.now budget (proof_view proof)) }
 {
     match solve(
         alloc,
@@ -192,7 +190,7 @@ fn with_columns(
     requires columns { SameRows (closed.old.columns.items ++ rows.columns.items) (columns (closed_generators (problem_view problem.now))) }
     requires collapsed { (k : ℕ) → coefficient rows.target k ≡ coefficient (closed_target (problem_view problem.now) target.now) k }
     requires fits { CollapsesFit (problem_view problem.now) target.now }
-    ensures ends { IfOk result (λ proof. EndsWith (problem_view problem.now) target.now budget (proof_view proof)) }
+    ensures ends { IfOk result (λ proof. EndsByRun (problem_view problem.now) target.now budget (proof_view proof)) }
     ensures stays { OnOk result ((q : ProblemView) → IsClosedProblem q closed.old → IsClosedProblem q closed.new) }
 {
     let count = closed.columns.len();
@@ -203,48 +201,24 @@ fn with_columns(
 }
 
 impl ClosedProblem {
-    /// The answer of `prove` for a target under a problem that this one is of, or that goes on after the constraints of
-    /// such a problem by constraints of `row` lines. It is then of the same problems as before.
-    pub fn prove(
+    /// The answer of the defined run, under the same problems as in `prove`.
+    pub(crate) fn defined(
         &mut self,
         alloc: Global,
         problem: &Problem,
         target: &Row,
-        budget: Budget,
+        pivots: Option<u32>,
     ) -> Result<Proof, AllocError>
         requires problem { IsProblem (problem_view problem.now) }
         requires closed { IsClosedProblem (problem_view problem.now) self.old }
         requires target { IsOver (size_of problem.now.space) target.now }
-        ensures ends { IfOk result (λ proof. EndsWith (problem_view problem.now) target.now budget (proof_view proof)) }
-        ensures unbound { IfNone budget (IfOk result (λ proof. (k : ℕ) → proof_view proof ≢ Undecided (causes.Pivots k))) }
-        ensures right { IfOk result (λ proof. IsRightProof (problem_view problem.now) target.now (proof_view proof)) }
+        ensures ends { IfOk result (λ proof. EndsByRun (problem_view problem.now) target.now pivots (proof_view proof)) }
         ensures stays { OnOk result ((q : ProblemView) → IsClosedProblem q self.old → IsClosedProblem q self.new) }
     {
         match collapse_rows(alloc, problem, self, target) {
-            Ok(rows) => with_columns(alloc, problem, self, target, rows, budget),
+            Ok(rows) => with_columns(alloc, problem, self, target, rows, budget_of(pivots)),
             Err(RowFault::Wide) => Ok(Proof::Undecided(Cause::Width(0))),
             Err(RowFault::Memory) => Err(AllocError),
         }
     }
-}
-
-/// Whether the target, a row over the coordinates of the problem's space, is at least 0 wherever a polymatroid and rates
-/// meet the problem. The answer is that of the defined run over closed sets with Bland's rule (Bland 1977): a certificate
-/// or a point that the check finds valid, `Pivots` with the budget where its steps don't suffice, which is never without
-/// one, `Width` with the step that has a number past the limit, 0 for the start, and `Scale` where the scaled answer has one.
-pub fn prove(
-    alloc: Global,
-    problem: &Problem,
-    target: &Row,
-    budget: Budget,
-) -> Result<Proof, AllocError>
-    requires problem { IsProblem (problem_view problem.now) }
-    requires target { IsOver (size_of problem.now.space) target.now }
-    ensures ends { IfOk result (λ proof. EndsWith (problem_view problem.now) target.now budget (proof_view proof)) }
-    ensures unbound { IfNone budget (IfOk result (λ proof. (k : ℕ) → proof_view proof ≢ Undecided (causes.Pivots k))) }
-    ensures right { IfOk result (λ proof. IsRightProof (problem_view problem.now) target.now (proof_view proof)) }
-{
-    let mut closed = ClosedProblem::read(alloc, problem)?;
-    let proof = closed.prove(alloc, problem, target, budget)?;
-    Ok(proof)
 }

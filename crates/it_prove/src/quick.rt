@@ -1,20 +1,16 @@
-//! The answer by a quick run, which the check judges, and where that settles nothing by the defined run.
-ghost use Rattle.std.specs.Prelude.{◌≡◌, ◌≢◌, ◌≤◌, ℕ, IfOk, length, pos};
+//! What a quick run settles: its proposal, where the check finds it valid.
+ghost use Rattle.std.specs.Prelude.{◌≡◌, ◌≢◌, ◌≤◌, All, IfOk, length, pos};
 ghost use Rattle.std.specs.Bool.{OnTrue};
-ghost use Rattle.std.specs.Option.{IfNone, IfSome};
+ghost use Rattle.std.specs.Option.{IfSome};
 ghost use Rattle.it_number.specs.Limit.{IsWithin};
 ghost use Rattle.it_space.specs.Problems.{IsProblem, problem_view};
 ghost use Rattle.it_space.specs.Rows.{Ascends, IsOver};
 ghost use Rattle.it_space.specs.Spaces.{size_of};
-ghost use Rattle.it_space.specs.declared.answers.Cause.TheVariants as causes;
-ghost use Rattle.it_quick.specs.Proposals.{IsOfSpace};
-ghost use Rattle.it_prove.specs.ProofViews.{AnswersQuickly, IsRightProof, IsSettled, Undecided, proof_view};
+ghost use Rattle.it_prove.specs.ProofViews.{IsSettled, proof_view};
 
-use crate::proving::prove;
 use crate::types::Proof;
 use it_check::{Verdict, check_no, check_yes};
 use it_quick::{Proposal, QuickProblem};
-use it_simplex::Budget;
 use it_space::{Certificate, Point, Problem, Row};
 use std::alloc::{AllocError, Global};
 
@@ -48,6 +44,7 @@ fn judged_yes(problem: &Problem, target: &Row, certificate: Certificate) -> Opti
     requires problem { IsProblem (problem_view problem.now) }
     requires target { IsOver (size_of problem.now.space) target.now }
     requires canonical { Ascends 0 certificate.weights.items }
+    requires scale { IsWithin certificate.scale }
     ensures { IfSome result (λ proof. IsSettled (problem_view problem.now) target.now (proof_view proof)) }
 {
     match check_yes(problem, target, &certificate) {
@@ -62,18 +59,19 @@ fn checked_yes(problem: &Problem, target: &Row, certificate: Certificate) -> Opt
     requires target { IsOver (size_of problem.now.space) target.now }
     ensures { IfSome result (λ proof. IsSettled (problem_view problem.now) target.now (proof_view proof)) }
 {
-    if ascends(certificate.weights.as_slice(), 0) {
+    if certificate.scale > 0 && ascends(certificate.weights.as_slice(), 0) {
         judged_yes(problem, target, certificate)
     } else {
         None
     }
 }
 
-/// The refutation that a point is, where the check finds it valid.
-fn checked_no(problem: &Problem, target: &Row, point: Point) -> Option<Proof>
+/// The refutation that a point with a value for each coordinate is, where the check finds it valid.
+fn judged_no(problem: &Problem, target: &Row, point: Point) -> Option<Proof>
     requires problem { IsProblem (problem_view problem.now) }
     requires target { IsOver (size_of problem.now.space) target.now }
     requires complete { length point ≡ size_of problem.now.space }
+    requires within { All IsWithin point }
     ensures { IfSome result (λ proof. IsSettled (problem_view problem.now) target.now (proof_view proof)) }
 {
     match check_no(problem, target, &point) {
@@ -82,11 +80,23 @@ fn checked_no(problem: &Problem, target: &Row, point: Point) -> Option<Proof>
     }
 }
 
+/// The same of any point.
+fn checked_no(problem: &Problem, target: &Row, point: Point) -> Option<Proof>
+    requires problem { IsProblem (problem_view problem.now) }
+    requires target { IsOver (size_of problem.now.space) target.now }
+    ensures { IfSome result (λ proof. IsSettled (problem_view problem.now) target.now (proof_view proof)) }
+{
+    if point.values().len() == problem.space.size() as usize {
+        judged_no(problem, target, point)
+    } else {
+        None
+    }
+}
+
 /// What a proposal settles.
 fn checked(problem: &Problem, target: &Row, proposal: Proposal) -> Option<Proof>
     requires problem { IsProblem (problem_view problem.now) }
     requires target { IsOver (size_of problem.now.space) target.now }
-    requires space { IsOfSpace problem.now.space proposal }
     ensures { IfSome result (λ proof. IsSettled (problem_view problem.now) target.now (proof_view proof)) }
 {
     match proposal {
@@ -111,29 +121,5 @@ pub fn settle(
     match quick.propose(alloc, problem, target, steps)? {
         Some(proposal) => Ok(checked(problem, target, proposal)),
         None => Ok(None),
-    }
-}
-
-/// A quick run has at most so many steps. Nobody sees it in an answer.
-const QUICK_STEPS: u32 = 4000;
-
-/// Whether the target is at least 0 wherever a polymatroid and rates meet the problem, by a quick run first: a certificate or a point
-/// that the check finds valid, and where it settles nothing the answer of `prove`, to which the budget belongs.
-pub fn quick_prove(
-    alloc: Global,
-    problem: &Problem,
-    target: &Row,
-    budget: Budget,
-) -> Result<Proof, AllocError>
-    requires problem { IsProblem (problem_view problem.now) }
-    requires target { IsOver (size_of problem.now.space) target.now }
-    ensures answers { IfOk result (λ proof. AnswersQuickly (problem_view problem.now) target.now budget (proof_view proof)) }
-    ensures unbound { IfNone budget (IfOk result (λ proof. (k : ℕ) → proof_view proof ≢ Undecided (causes.Pivots k))) }
-    ensures right { IfOk result (λ proof. IsRightProof (problem_view problem.now) target.now (proof_view proof)) }
-{
-    let mut quick = QuickProblem::read(alloc, problem)?;
-    match settle(alloc, &mut quick, problem, target, QUICK_STEPS)? {
-        Some(proof) => Ok(proof),
-        None => prove(alloc, problem, target, budget),
     }
 }

@@ -1,4 +1,7 @@
-//! What a proof is.
+//! What a proof is, and what may be done for one.
+ghost use Rattle.std.specs.Prelude.{◌≡◌};
+
+use it_simplex::Budget;
 use it_space::{Cause, Certificate, Point};
 
 /// What was found of a target, which is a row that is to be at least 0.
@@ -10,4 +13,23 @@ pub enum Proof {
     No(Point),
     /// Neither, and why.
     Undecided(Cause),
+}
+
+/// What is done to decide a target.
+#[derive(Clone, Copy, Debug, PartialEq, Eq)]
+pub struct Effort {
+    /// Whether a quick run comes first, whose proposal is the answer where the check finds it valid.
+    pub quick: bool,
+    /// The most steps of the defined run, without which it goes on to its end.
+    pub pivots: Option<u32>,
+}
+
+/// The budget of a run: so many steps, or as many as it takes.
+pub fn budget_of(pivots: Option<u32>) -> Budget
+    ensures { result ≡ pivots }
+{
+    match pivots {
+        Some(steps) => Budget::at_most(steps),
+        None => Budget::none(),
+    }
 }

@@ -8,3 +8,4 @@ pub mod ProjectionLemmas
 pub mod LowestLemmas
 pub mod PartLemmas
 pub mod PlainCauseLemmas
+pub mod SettledLemmas

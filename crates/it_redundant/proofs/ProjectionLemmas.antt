@@ -1,11 +1,11 @@
 -- Reduced elimination rate after rate: where it leads, that it has one end, and what a region holds.
-use Rattle.std.proofs.Common.{◌≡◌, inl, inr, ℕ, ◌+◌, ◌<◌, ◌≤◌, ◌^◌, ℤ, pos, List, [], ◌∷◌, map, length, drop, get_or, Option, refl, sym, ap, subst, ◌∙◌, arith, All, Result, Ok, Err, IfOk}
+use Rattle.std.proofs.Common.{◌≡◌, inl, inr, ℕ, ◌+◌, ◌<◌, ◌≤◌, ◌^◌, ℤ, List, [], ◌∷◌, map, length, drop, get_or, Option, refl, sym, ap, subst, ◌∙◌, arith, All, Result, Ok, Err, IfOk}
 use Rattle.it_space.proofs.ListLemmas.{drop_item}
 use Rattle.it_space.specs.declared.problems.System.{System}
 use Rattle.it_space.specs.declared.spaces.Space.{Space}
 use Rattle.it_space.specs.Answers.{CertificateView}
 use Rattle.it_space.specs.Problems.{ProblemView, IsProblem, IsSystem}
-use Rattle.it_space.specs.Rows.{Terms, IsOver, coefficient}
+use Rattle.it_space.specs.Rows.{Terms, IsOver}
 use Rattle.it_space.specs.Spaces.{IsSpace, size_of}
 use Rattle.it_eliminate.specs.Elimination.{EliminatedView, EliminationEnds, ordered_rows, next_list, list_after}
 use Rattle.it_eliminate.specs.Elimination as elimination
@@ -19,6 +19,7 @@ use Rattle.it_eliminate.proofs.OrderLemmas.{RowLacks, lacks-ordered_rows}
 use Rattle.it_eliminate.proofs.RateLemmas.{next_keeps_lacking, projection_exact, rates_exact}
 use Rattle.it_eliminate.proofs.SpaceLemmas.{projection_up_to}
 use Rattle.it_eliminate.proofs.StepLemmas.{next_lacks}
+use Rattle.it_prove.specs.declared.types.Effort.{Effort}
 use Rattle.it_redundant.specs.declared.types.Projected.{Projected}
 use Rattle.it_redundant.specs.declared.types.Projected.TheVariants as projection_ends
 use Rattle.it_redundant.specs.declared.types.Reduced.{Reduced}
@@ -49,64 +50,64 @@ step_list base most rows r next (inr (inr e)) =
     let is : next ≡ next_list (base + r) rows = same_list next (next_list (base + r) rows) e.2 in (is, subst (λ (xs : List Terms). length xs ≤ most) (sym is) e.1)
 
 -- the rows of the list are of the space, and so are those that stay of it
-list_up : (givens : ProblemView) (most : ℕ) (rows : List Terms) (r : ℕ) (next : List Terms) → All (IsOver (size_of givens.space)) rows
+pub list_up : (givens : ProblemView) (most : ℕ) (rows : List Terms) (r : ℕ) (next : List Terms) → All (IsOver (size_of givens.space)) rows
     → EliminationEnds (2 ^ givens.space.variables) most (ordered_rows rows) (r ∷ []) (elimination.Region next) → All (IsOver (size_of givens.space)) next
 list_up givens most rows r next up e = subst (λ (xs : List Terms). All (IsOver (size_of givens.space)) xs) (sym (step_list (2 ^ givens.space.variables) most (ordered_rows rows) r next e).0)
     (projection_up_to (size_of givens.space) ((2 ^ givens.space.variables + r) ∷ []) rows up)
 
-pub kept_up : (givens : ProblemView) (budget : Option ℕ) (most : ℕ) (rows : List Terms) (r : ℕ) (next : List Terms) (mid : List (Terms × NeedView)) (dropped : List (Terms × CertificateView)) → All (IsOver (size_of givens.space)) rows
-    → EliminationEnds (2 ^ givens.space.variables) most (ordered_rows rows) (r ∷ []) (elimination.Region next) → Reduces givens budget [] next mid dropped → All (IsOver (size_of givens.space)) (kept_rows mid)
-kept_up givens budget most rows r next mid dropped up e red = all_kept givens budget (IsOver (size_of givens.space)) [] next mid dropped red (list_up givens most rows r next up e)
+pub kept_up : (givens : ProblemView) (effort : Effort) (most : ℕ) (rows : List Terms) (r : ℕ) (next : List Terms) (mid : List (Terms × NeedView)) (dropped : List (Terms × CertificateView)) → All (IsOver (size_of givens.space)) rows
+    → EliminationEnds (2 ^ givens.space.variables) most (ordered_rows rows) (r ∷ []) (elimination.Region next) → Reduces givens effort [] next mid dropped → All (IsOver (size_of givens.space)) (kept_rows mid)
+kept_up givens effort most rows r next mid dropped up e red = all_kept givens effort (IsOver (size_of givens.space)) [] next mid dropped red (list_up givens most rows r next up e)
 
 -- ---- rate after rate
 
-module _ (givens : ProblemView) (budget : Option ℕ) (most : ℕ) where
-  resumes_more : (rows : List Terms) (last : List (Terms × NeedView)) (gone : List (Terms × CertificateView)) (r : ℕ) (rs : List ℕ) (now end : ProjectedView) → IsAfterRate givens budget most rows r now → Resumes givens budget most rs now end
-      → ReducedEnds givens budget most rows last gone (r ∷ rs) end
+module _ (givens : ProblemView) (effort : Effort) (most : ℕ) where
+  resumes_more : (rows : List Terms) (last : List (Terms × NeedView)) (gone : List (Terms × CertificateView)) (r : ℕ) (rs : List ℕ) (now end : ProjectedView) → IsAfterRate givens effort most rows r now → Resumes givens effort most rs now end
+      → ReducedEnds givens effort most rows last gone (r ∷ rs) end
   resumes_more rows last gone r rs now end (elimination.Region next, e, g) h =
-      (elimination.Region next, e, (g.0, g.1, g.2, subst (λ (x : ProjectedView). Resumes givens budget most rs x end) g.3 h))
-  resumes_more rows last gone r rs now end (elimination.Rows rate, e, is) h = (elimination.Rows rate, e, subst (λ (x : ProjectedView). Resumes givens budget most rs x end) is h)
-  resumes_more rows last gone r rs now end (elimination.Wide rate, e, is) h = (elimination.Wide rate, e, subst (λ (x : ProjectedView). Resumes givens budget most rs x end) is h)
+      (elimination.Region next, e, (g.0, g.1, g.2, subst (λ (x : ProjectedView). Resumes givens effort most rs x end) g.3 h))
+  resumes_more rows last gone r rs now end (elimination.Rows rate, e, is) h = (elimination.Rows rate, e, subst (λ (x : ProjectedView). Resumes givens effort most rs x end) is h)
+  resumes_more rows last gone r rs now end (elimination.Wide rate, e, is) h = (elimination.Wide rate, e, subst (λ (x : ProjectedView). Resumes givens effort most rs x end) is h)
 
-  next_more : (r : ℕ) (rs : List ℕ) (old new end : ProjectedView) → IsNext givens budget most r old new → Resumes givens budget most rs new end → Resumes givens budget most (r ∷ rs) old end
+  next_more : (r : ℕ) (rs : List ℕ) (old new end : ProjectedView) → IsNext givens effort most r old new → Resumes givens effort most rs new end → Resumes givens effort most (r ∷ rs) old end
   next_more r rs (Region kept dropped) new end n h = resumes_more (kept_rows kept) kept dropped r rs new end n h
-  next_more r rs (Rows other) new end n h = subst (λ (x : ProjectedView). Resumes givens budget most rs x end) n h
-  next_more r rs (Wide other) new end n h = subst (λ (x : ProjectedView). Resumes givens budget most rs x end) n h
+  next_more r rs (Rows other) new end n h = subst (λ (x : ProjectedView). Resumes givens effort most rs x end) n h
+  next_more r rs (Wide other) new end n h = subst (λ (x : ProjectedView). Resumes givens effort most rs x end) n h
 
   -- i rates are eliminated: whatever the others end with, all do
   pub record Leads (size : ℕ) (rows : List Terms) (rates : List ℕ) (now : ProjectedView) (i : ℕ) : Type 0 where
-    pub more : (end : ProjectedView) → Resumes givens budget most (drop i rates) now end → ReducedEnds givens budget most rows [] [] rates end
+    pub more : (end : ProjectedView) → Resumes givens effort most (drop i rates) now end → ReducedEnds givens effort most rows [] [] rates end
     pub up : HasRowsUpTo size now
 
   module _ (size : ℕ) (rows : List Terms) (rates : List ℕ) where
-    pub leads_more : (old new : ProjectedView) (i r : ℕ) → i < length rates → r ≡ get_or rates i 0 → IsNext givens budget most r old new → HasRowsUpTo size new → Leads size rows rates old i → Leads size rows rates new (i + 1)
+    pub leads_more : (old new : ProjectedView) (i r : ℕ) → i < length rates → r ≡ get_or rates i 0 → IsNext givens effort most r old new → HasRowsUpTo size new → Leads size rows rates old i → Leads size rows rates new (i + 1)
     leads_more old new i r below is next up l = record {
-      more = λ end h. l.more end (subst (λ (xs : List ℕ). Resumes givens budget most xs old end) (sym (drop_item rates i 0 below is)) (next_more r (drop (i + 1) rates) old new end next h));
+      more = λ end h. l.more end (subst (λ (xs : List ℕ). Resumes givens effort most xs old end) (sym (drop_item rates i 0 below is)) (next_more r (drop (i + 1) rates) old new end next h));
       up = up;
     }
 
 -- ---- one end
 
 pub one_reduced_end : OneReducedEnd
-one_reduced_end givens budget most rows last gone [] end other e f = e ∙ sym f
-one_reduced_end givens budget most rows last gone (r ∷ rs) end other (s, e, g) (t, f, h) =
+one_reduced_end givens effort most rows last gone [] end other defined e f = e ∙ sym f
+one_reduced_end givens effort most rows last gone (r ∷ rs) end other defined (s, e, g) (t, f, h) =
     let same : s ≡ t = one_end (2 ^ givens.space.variables) most (ordered_rows rows) (r ∷ []) s t e f in
-    by_step s g (subst (λ (x : EliminatedView). GoesOn givens budget (λ kept dropped. ReducedEnds givens budget most (kept_rows kept) kept dropped rs other) x other) (sym same) h)
-    (λ kept dropped. one_reduced_end givens budget most (kept_rows kept) kept dropped rs end other)
+    by_step s g (subst (λ (x : EliminatedView). GoesOn givens effort (λ kept dropped. ReducedEnds givens effort most (kept_rows kept) kept dropped rs other) x other) (sym same) h)
+    (λ kept dropped. one_reduced_end givens effort most (kept_rows kept) kept dropped rs end other defined)
   where
-    by_step : (x : EliminatedView) → GoesOn givens budget (λ kept dropped. ReducedEnds givens budget most (kept_rows kept) kept dropped rs end) x end
-        → GoesOn givens budget (λ kept dropped. ReducedEnds givens budget most (kept_rows kept) kept dropped rs other) x other
-        → ((kept : List (Terms × NeedView)) (dropped : List (Terms × CertificateView)) → ReducedEnds givens budget most (kept_rows kept) kept dropped rs end → ReducedEnds givens budget most (kept_rows kept) kept dropped rs other → end ≡ other) → end ≡ other
+    by_step : (x : EliminatedView) → GoesOn givens effort (λ kept dropped. ReducedEnds givens effort most (kept_rows kept) kept dropped rs end) x end
+        → GoesOn givens effort (λ kept dropped. ReducedEnds givens effort most (kept_rows kept) kept dropped rs other) x other
+        → ((kept : List (Terms × NeedView)) (dropped : List (Terms × CertificateView)) → ReducedEnds givens effort most (kept_rows kept) kept dropped rs end → ReducedEnds givens effort most (kept_rows kept) kept dropped rs other → end ≡ other) → end ≡ other
     by_step (elimination.Region next) g h later =
-        let same = one_reduction givens budget [] next g.0 h.0 g.1 h.1 g.2 h.2 in
-        later g.0 g.1 g.3 (subst (λ (d : List (Terms × CertificateView)). ReducedEnds givens budget most (kept_rows g.0) g.0 d rs other) (sym same.1)
-        (subst (λ (k : List (Terms × NeedView)). ReducedEnds givens budget most (kept_rows k) k h.1 rs other) (sym same.0) h.3))
+        let same = one_reduction givens effort [] next g.0 h.0 g.1 h.1 defined g.2 h.2 in
+        later g.0 g.1 g.3 (subst (λ (d : List (Terms × CertificateView)). ReducedEnds givens effort most (kept_rows g.0) g.0 d rs other) (sym same.1)
+        (subst (λ (k : List (Terms × NeedView)). ReducedEnds givens effort most (kept_rows k) k h.1 rs other) (sym same.0) h.3))
     by_step (elimination.Rows rate) g h later = g ∙ sym h
     by_step (elimination.Wide rate) g h later = g ∙ sym h
 
 -- ---- what a region holds
 
-module _ (givens : ProblemView) (budget : Option ℕ) (most : ℕ) (limits : IsProblem givens) (few : length givens.constraints ≤ 65535) (few_rows : most ≤ 65535) (sets : SpeakOfSets givens) where
+module _ (givens : ProblemView) (effort : Effort) (most : ℕ) (limits : IsProblem givens) (few : length givens.constraints ≤ 65535) (few_rows : most ≤ 65535) (sets : SpeakOfSets givens) where
   -- a region of rows without rates; and no coordinate comes back
   record Holds (rates : List ℕ) (rows : List Terms) (kept : List (Terms × NeedView)) : Type 0 where
     region : IsReducedRegion givens rates rows kept
@@ -131,7 +132,7 @@ module _ (givens : ProblemView) (budget : Option ℕ) (most : ℕ) (limits : IsP
   extends_alike rates xs ys p m f y = record { factor = y.factor; some = y.some; point = y.point; kept = y.kept; meets = f y.point (point_meets rates xs p y m) y.meets }
 
   module _ (rows : List Terms) (r : ℕ) (next : List Terms) (mid : List (Terms × NeedView)) (dropped : List (Terms × CertificateView)) (up : All (IsOver (size_of givens.space)) rows)
-      (e : EliminationEnds (2 ^ givens.space.variables) most (ordered_rows rows) (r ∷ []) (elimination.Region next)) (red : Reduces givens budget [] next mid dropped) where
+      (e : EliminationEnds (2 ^ givens.space.variables) most (ordered_rows rows) (r ∷ []) (elimination.Region next)) (red : Reduces givens effort [] next mid dropped) where
     next_is : next ≡ next_list (2 ^ givens.space.variables + r) (ordered_rows rows)
     next_is = (step_list (2 ^ givens.space.variables) most (ordered_rows rows) r next e).0
 
@@ -142,16 +143,16 @@ module _ (givens : ProblemView) (budget : Option ℕ) (most : ℕ) (limits : IsP
     next_up = list_up givens most rows r next up e
 
     mid_up : All (IsOver (size_of givens.space)) (kept_rows mid)
-    mid_up = kept_up givens budget most rows r next mid dropped up e red
+    mid_up = kept_up givens effort most rows r next mid dropped up e red
 
     mid_alike : HoldAlike givens next (kept_rows mid)
-    mid_alike = hold_alike givens budget limits few next mid dropped (omega (arith, few_next, few_rows)) next_up red
+    mid_alike = hold_alike givens effort limits few next mid dropped (omega (arith, few_next, few_rows)) next_up red
 
     mid_lacks : (c : ℕ) → LacksCoordinate c next → LacksCoordinate c (kept_rows mid)
-    mid_lacks c h = all_kept givens budget (RowLacks c) [] next mid dropped red h
+    mid_lacks c h = all_kept givens effort (RowLacks c) [] next mid dropped red h
 
     mid_needed : AreNeeded givens mid
-    mid_needed = kept_are_needed givens budget limits few next mid dropped (omega (arith, few_next, few_rows)) next_up red
+    mid_needed = kept_are_needed givens effort limits few next mid dropped (omega (arith, few_next, few_rows)) next_up red
 
     one_more : (rs : List ℕ) (kept : List (Terms × NeedView)) → Holds rs (kept_rows mid) kept → Holds (r ∷ rs) rows kept
     one_more rs kept h = record {
@@ -194,20 +195,20 @@ module _ (givens : ProblemView) (budget : Option ℕ) (most : ℕ) (limits : IsP
 
   module _ (kept : List (Terms × NeedView)) (dropped : List (Terms × CertificateView)) where
     later_region_holds : (rs : List ℕ) (mid : List (Terms × NeedView)) (gone : List (Terms × CertificateView)) → All (IsOver (size_of givens.space)) (kept_rows mid) → AreNeeded givens mid
-        → ReducedEnds givens budget most (kept_rows mid) mid gone rs (Region kept dropped) → Holds rs (kept_rows mid) kept
+        → ReducedEnds givens effort most (kept_rows mid) mid gone rs (Region kept dropped) → Holds rs (kept_rows mid) kept
     later_region_holds [] mid gone up need is = subst (λ (k : List (Terms × NeedView)). Holds [] (kept_rows mid) k) (sym (same_region kept mid dropped gone is)) (nothing_gone mid up need)
     later_region_holds (r ∷ rs) mid gone up need (elimination.Region next, e, g) =
         one_more (kept_rows mid) r next g.0 g.1 up e g.2 rs kept (later_region_holds rs g.0 g.1 (mid_up (kept_rows mid) r next g.0 g.1 up e g.2) (mid_needed (kept_rows mid) r next g.0 g.1 up e g.2) g.3)
     later_region_holds (r ∷ rs) mid gone up need (elimination.Rows rate, e, is) = absurd (region_not_rows kept dropped rate is)
     later_region_holds (r ∷ rs) mid gone up need (elimination.Wide rate, e, is) = absurd (region_not_wide kept dropped rate is)
 
-    first_region_holds : (r : ℕ) (rs : List ℕ) (rows : List Terms) → All (IsOver (size_of givens.space)) rows → ReducedEnds givens budget most rows [] [] (r ∷ rs) (Region kept dropped) → Holds (r ∷ rs) rows kept
+    first_region_holds : (r : ℕ) (rs : List ℕ) (rows : List Terms) → All (IsOver (size_of givens.space)) rows → ReducedEnds givens effort most rows [] [] (r ∷ rs) (Region kept dropped) → Holds (r ∷ rs) rows kept
     first_region_holds r rs rows up (elimination.Region next, e, g) =
         one_more rows r next g.0 g.1 up e g.2 rs kept (later_region_holds rs g.0 g.1 (mid_up rows r next g.0 g.1 up e g.2) (mid_needed rows r next g.0 g.1 up e g.2) g.3)
     first_region_holds r rs rows up (elimination.Rows rate, e, is) = absurd (region_not_rows kept dropped rate is)
     first_region_holds r rs rows up (elimination.Wide rate, e, is) = absurd (region_not_wide kept dropped rate is)
 
-  pub region_reduced : (rates : List ℕ) (rows : List Terms) (end : ProjectedView) → 1 ≤ length rates → All (IsOver (size_of givens.space)) rows → ReducedEnds givens budget most rows [] [] rates end
+  pub region_reduced : (rates : List ℕ) (rows : List Terms) (end : ProjectedView) → 1 ≤ length rates → All (IsOver (size_of givens.space)) rows → ReducedEnds givens effort most rows [] [] rates end
       → RegionIsReduced givens rates rows end
   region_reduced [] rows end some up e = absurd (omega arith)
   region_reduced (r ∷ rs) rows (Region kept dropped) some up e = (first_region_holds kept dropped r rs rows up e).region
@@ -216,28 +217,28 @@ module _ (givens : ProblemView) (budget : Option ℕ) (most : ℕ) (limits : IsP
 
 -- ---- what the code's step and reduction make
 
-module _ (givens : ProblemView) (budget : Option ℕ) (most : ℕ) (system : System) (rate : ℕ) (end : Eliminated) (space : system.space ≡ givens.space)
+module _ (givens : ProblemView) (effort : Effort) (most : ℕ) (system : System) (rate : ℕ) (end : Eliminated) (space : system.space ≡ givens.space)
     (ends : EliminationEnds (2 ^ system.space.variables) most (ordered_rows system.rows.items) (rate ∷ []) (eliminated_view end)) where
   over_givens : (e : EliminatedView) → eliminated_view end ≡ e → EliminationEnds (2 ^ givens.space.variables) most (ordered_rows system.rows.items) (rate ∷ []) e
   over_givens e is = subst (λ (s : Space). EliminationEnds (2 ^ s.variables) most (ordered_rows system.rows.items) (rate ∷ []) e) space
       (subst (λ (x : EliminatedView). EliminationEnds (2 ^ system.space.variables) most (ordered_rows system.rows.items) (rate ∷ []) x) is ends)
 
   -- a cause of the step is the end
-  pub wide_ends : (other : ℕ) → end ≡ elimination_ends.Wide other → IsAfterRate givens budget most system.rows.items rate (Wide other)
+  pub wide_ends : (other : ℕ) → end ≡ elimination_ends.Wide other → IsAfterRate givens effort most system.rows.items rate (Wide other)
   wide_ends other is = (elimination.Wide other, over_givens (elimination.Wide other) (ap eliminated_view is), refl)
 
   module _ (next : System) (is : end ≡ elimination_ends.Region next) where
-    pub region_up : (reduced : Reduced) → All (IsOver (size_of system.space)) system.rows.items → Reduces givens budget [] next.rows.items (kept_view reduced) (dropped_view reduced)
+    pub region_up : (reduced : Reduced) → All (IsOver (size_of system.space)) system.rows.items → Reduces givens effort [] next.rows.items (kept_view reduced) (dropped_view reduced)
         → All (IsOver (size_of givens.space)) (kept_rows (kept_view reduced))
-    region_up reduced up red = kept_up givens budget most system.rows.items rate next.rows.items (kept_view reduced) (dropped_view reduced)
+    region_up reduced up red = kept_up givens effort most system.rows.items rate next.rows.items (kept_view reduced) (dropped_view reduced)
         (subst (λ (s : Space). All (IsOver (size_of s)) system.rows.items) space up) (over_givens (elimination.Region next.rows.items) (ap eliminated_view is)) red
 
 -- of rows that stay, a rate leaves what it leaves of them as a system
-pub next_of_region : {E : Type 0} (givens : ProblemView) (budget : Option ℕ) (most rate : ℕ) (end : Projected) (reduced : Reduced) (rows : List Terms) (result : Result Projected E) → end ≡ projection_ends.Region reduced
-    → rows ≡ map (λ k. k.0) reduced.kept.items → IfOk result (λ e. IsAfterRate givens budget most rows rate (projected_view e)) → IfOk result (λ e. IsNext givens budget most rate (projected_view end) (projected_view e))
-next_of_region givens budget most rate end reduced rows (Err e) is same h = tt
-next_of_region givens budget most rate end reduced rows (Ok e) is same h = subst (λ (x : Projected). IsNext givens budget most rate (projected_view x) (projected_view e)) (sym is)
-    (subst (λ (xs : List Terms). IsAfterRate givens budget most xs rate (projected_view e)) (same ∙ sym (rows_kept reduced.kept.items)) h)
+pub next_of_region : {E : Type 0} (givens : ProblemView) (effort : Effort) (most rate : ℕ) (end : Projected) (reduced : Reduced) (rows : List Terms) (result : Result Projected E) → end ≡ projection_ends.Region reduced
+    → rows ≡ map (λ k. k.0) reduced.kept.items → IfOk result (λ e. IsAfterRate givens effort most rows rate (projected_view e)) → IfOk result (λ e. IsNext givens effort most rate (projected_view end) (projected_view e))
+next_of_region givens effort most rate end reduced rows (Err e) is same h = tt
+next_of_region givens effort most rate end reduced rows (Ok e) is same h = subst (λ (x : Projected). IsNext givens effort most rate (projected_view x) (projected_view e)) (sym is)
+    (subst (λ (xs : List Terms). IsAfterRate givens effort most xs rate (projected_view e)) (same ∙ sym (rows_kept reduced.kept.items)) h)
 
 -- the rows that stay are a system over the givens' space
 pub kept_is_system : (givens : ProblemView) (end : Projected) (reduced : Reduced) (system : System) → IsSpace givens.space → end ≡ projection_ends.Region reduced → HasRowsUpTo (size_of givens.space) (projected_view end)

@@ -10,6 +10,7 @@ use Rattle.it_space.specs.Spaces.{size_of}
 use Rattle.it_prove.specs.ClosedProblems.{IsClosedProblem}
 use Rattle.it_prove.specs.declared.closed.ClosedProblem.{ClosedProblem}
 use Rattle.it_prove.specs.ProofViews.{ProofView, Yes, No, Undecided, EndsWith}
+use Rattle.it_prove.specs.declared.types.Effort.{Effort}
 use Rattle.it_redundant.specs.declared.types.Need.{Need}
 use Rattle.it_redundant.specs.Reduction.{NeedView, Reduces, kept_by, dropped_by, kept_rows, need_view, row_constraints, with_rows}
 use Rattle.it_redundant.specs.ReductionSteps.{AreRowsUpTo}
@@ -23,30 +24,30 @@ rows_kept [] = refl
 rows_kept (k ∷ ks) = ap (λ xs. k.0 ∷ xs) (rows_kept ks)
 
 -- The first i rows were visited: whatever the others end with, stands after what is there.
-pub record IsUnderWay (givens : ProblemView) (budget : Option ℕ) (size : ℕ) (rows : List Terms) (kept : List (Terms × NeedView)) (dropped : List (Terms × CertificateView)) (i : ℕ) : Type 0 where
-  pub more : (k : List (Terms × NeedView)) (d : List (Terms × CertificateView)) → Reduces givens budget (kept_rows kept) (drop i rows) k d → Reduces givens budget [] rows (kept ++ k) (dropped ++ d)
+pub record IsUnderWay (givens : ProblemView) (effort : Effort) (size : ℕ) (rows : List Terms) (kept : List (Terms × NeedView)) (dropped : List (Terms × CertificateView)) (i : ℕ) : Type 0 where
+  pub more : (k : List (Terms × NeedView)) (d : List (Terms × CertificateView)) → Reduces givens effort (kept_rows kept) (drop i rows) k d → Reduces givens effort [] rows (kept ++ k) (dropped ++ d)
   pub few : length (kept_rows kept) ≤ i
   pub up : AreRowsUpTo size (kept_rows kept)
 
-module _ (givens : ProblemView) (budget : Option ℕ) (size : ℕ) (rows : List Terms) where
+module _ (givens : ProblemView) (effort : Effort) (size : ℕ) (rows : List Terms) where
   pub under_way_more : (kept new_kept : List (Terms × NeedView)) (dropped new_dropped : List (Terms × CertificateView)) (i : ℕ) (row : Terms) (o : ProofView) → i < length rows
-      → drop i rows ≡ row ∷ drop (i + 1) rows → IsOver size row → EndsWith (with_rows givens (kept_rows kept ++ drop (i + 1) rows)) row budget o
+      → drop i rows ≡ row ∷ drop (i + 1) rows → IsOver size row → EndsWith (with_rows givens (kept_rows kept ++ drop (i + 1) rows)) row effort o
       → new_kept ≡ kept ++ kept_by row o → new_dropped ≡ dropped ++ dropped_by row o
-      → IsUnderWay givens budget size rows kept dropped i → IsUnderWay givens budget size rows new_kept new_dropped (i + 1)
+      → IsUnderWay givens effort size rows kept dropped i → IsUnderWay givens effort size rows new_kept new_dropped (i + 1)
   under_way_more kept new_kept dropped new_dropped i row o below next own out e f u = record {
-    more = λ k d r. subst (λ x. Reduces givens budget [] rows x (new_dropped ++ d)) (sym (append_assoc kept (kept_by row o) k) ∙ ap (λ x. x ++ k) (sym e))
-        (subst (λ x. Reduces givens budget [] rows (kept ++ (kept_by row o ++ k)) x) (sym (append_assoc dropped (dropped_by row o) d) ∙ ap (λ x. x ++ d) (sym f))
-        (u.more (kept_by row o ++ k) (dropped_by row o ++ d) (subst (λ x. Reduces givens budget (kept_rows kept) x (kept_by row o ++ k) (dropped_by row o ++ d)) (sym next)
-        (o, k, d, out, refl, refl, subst (λ x. Reduces givens budget x (drop (i + 1) rows) k d) (ap kept_rows e ∙ rows_of_parts kept (kept_by row o)) r))));
+    more = λ k d r. subst (λ x. Reduces givens effort [] rows x (new_dropped ++ d)) (sym (append_assoc kept (kept_by row o) k) ∙ ap (λ x. x ++ k) (sym e))
+        (subst (λ x. Reduces givens effort [] rows (kept ++ (kept_by row o ++ k)) x) (sym (append_assoc dropped (dropped_by row o) d) ∙ ap (λ x. x ++ d) (sym f))
+        (u.more (kept_by row o ++ k) (dropped_by row o ++ d) (subst (λ x. Reduces givens effort (kept_rows kept) x (kept_by row o ++ k) (dropped_by row o ++ d)) (sym next)
+        (o, k, d, out, refl, refl, subst (λ x. Reduces givens effort x (drop (i + 1) rows) k d) (ap kept_rows e ∙ rows_of_parts kept (kept_by row o)) r))));
     few = let total : length (kept_rows new_kept) ≡ length (kept_rows kept) + length (kept_rows (kept_by row o))
-        = ap (λ x. length (kept_rows x)) e ∙ ap length (rows_of_parts kept (kept_by row o)) ∙ length-append (kept_rows kept) (kept_rows (kept_by row o)) in omega (arith, total, few_kept givens budget row o, u.few);
+        = ap (λ x. length (kept_rows x)) e ∙ ap length (rows_of_parts kept (kept_by row o)) ∙ length-append (kept_rows kept) (kept_rows (kept_by row o)) in omega (arith, total, few_kept givens effort row o, u.few);
     up = subst (AreRowsUpTo size) (sym (ap kept_rows e ∙ rows_of_parts kept (kept_by row o))) (All-append (IsOver size) (kept_rows kept) (kept_rows (kept_by row o)) u.up (some_keep (IsOver size) row o own));
   }
 
-  pub under_way_end : (kept : List (Terms × NeedView)) (dropped : List (Terms × CertificateView)) (i : ℕ) → drop i rows ≡ [] → IsUnderWay givens budget size rows kept dropped i
-      → Reduces givens budget [] rows kept dropped
-  under_way_end kept dropped i e u = subst (λ x. Reduces givens budget [] rows x dropped) (append-nil kept)
-      (subst (λ x. Reduces givens budget [] rows (kept ++ []) x) (append-nil dropped) (u.more [] [] (subst (λ x. Reduces givens budget (kept_rows kept) x [] []) (sym e) (refl, refl))))
+  pub under_way_end : (kept : List (Terms × NeedView)) (dropped : List (Terms × CertificateView)) (i : ℕ) → drop i rows ≡ [] → IsUnderWay givens effort size rows kept dropped i
+      → Reduces givens effort [] rows kept dropped
+  under_way_end kept dropped i e u = subst (λ x. Reduces givens effort [] rows x dropped) (append-nil kept)
+      (subst (λ x. Reduces givens effort [] rows (kept ++ []) x) (append-nil dropped) (u.more [] [] (subst (λ x. Reduces givens effort (kept_rows kept) x [] []) (sym e) (refl, refl))))
 
 -- ---- one visit
 
@@ -147,5 +148,5 @@ module _ (givens p : ProblemView) (kept : List (Terms × Need)) (after : List Te
   pub visit_closed : (c : ClosedProblem) → IsClosedProblem givens c → IsClosedProblem p c
   visit_closed c h = subst (λ q. IsClosedProblem q c) (sym is) (closed_after givens (map (λ k. k.0) kept ++ after) c h)
 
-  pub visit_ends : (budget : Option ℕ) (row : Terms) (o : ProofView) → EndsWith p row budget o → EndsWith (with_rows givens (kept_rows (map (λ k. (k.0, need_view k.1)) kept) ++ after)) row budget o
-  visit_ends budget row o e = subst (λ (q : ProblemView). EndsWith q row budget o) (is ∙ ap (λ (rows : List Terms). with_rows givens (rows ++ after)) (sym (rows_kept kept))) e
+  pub visit_ends : (effort : Effort) (row : Terms) (o : ProofView) → EndsWith p row effort o → EndsWith (with_rows givens (kept_rows (map (λ k. (k.0, need_view k.1)) kept) ++ after)) row effort o
+  visit_ends effort row o e = subst (λ (q : ProblemView). EndsWith q row effort o) (is ∙ ap (λ (rows : List Terms). with_rows givens (rows ++ after)) (sym (rows_kept kept))) e

@@ -1,9 +1,10 @@
 -- Causes of plain elimination, which goes on past a cause: its lists are over numbers without bounds.
-use Rattle.std.specs.Prelude.{◌≡◌, ℕ, ◌+◌, ◌^◌, ◌<◌, List, ◌∷◌, ◌++◌, length, map, Option}
+use Rattle.std.specs.Prelude.{◌≡◌, ℕ, ◌+◌, ◌^◌, ◌<◌, List, ◌∷◌, ◌++◌, length, map}
 use Rattle.it_space.specs.Answers.{CertificateView}
 use Rattle.it_space.specs.Problems.{ProblemView}
 use Rattle.it_space.specs.Rows.{Terms}
 use Rattle.it_eliminate.specs.Elimination.{PairsFit, ordered_rows, next_list, list_after}
+use Rattle.it_prove.specs.declared.types.Effort.{Effort}
 use Rattle.it_redundant.specs.Reduction.{NeedView}
 use Rattle.it_redundant.specs.ReducedElimination.{ProjectedView, Region, Rows, Wide, ReducedEnds}
 
@@ -22,5 +23,5 @@ IsPlainCause base most start rates (Wide rate) = (rows : List Terms) × ComesTo 
 
 -- where reduced elimination ends with a cause at a rate, plain elimination has the same cause at this rate
 abbrev pub CausesArePlain : Type 0
-CausesArePlain = (givens : ProblemView) (budget : Option ℕ) (most : ℕ) (rows : List Terms) (last : List (Terms × NeedView)) (gone : List (Terms × CertificateView)) (rates : List ℕ) (end : ProjectedView)
-    → ReducedEnds givens budget most rows last gone rates end → IsPlainCause (2 ^ givens.space.variables) most (ordered_rows rows) rates end
+CausesArePlain = (givens : ProblemView) (effort : Effort) (most : ℕ) (rows : List Terms) (last : List (Terms × NeedView)) (gone : List (Terms × CertificateView)) (rates : List ℕ) (end : ProjectedView)
+    → ReducedEnds givens effort most rows last gone rates end → IsPlainCause (2 ^ givens.space.variables) most (ordered_rows rows) rates end

@@ -1,10 +1,11 @@
 -- Reduced elimination: elimination of rates that reduces the list after each.
-use Rattle.std.specs.Prelude.{◌≡◌, ℕ, ◌^◌, List, [], ◌∷◌, Option}
+use Rattle.std.specs.Prelude.{◌≡◌, ℕ, ◌^◌, List, [], ◌∷◌}
 use Rattle.it_space.specs.Answers.{CertificateView}
 use Rattle.it_space.specs.Problems.{ProblemView}
 use Rattle.it_space.specs.Rows.{Terms}
 use Rattle.it_eliminate.specs.Elimination.{EliminatedView, EliminationEnds, ordered_rows}
 use Rattle.it_eliminate.specs.Elimination as elimination
+use Rattle.it_prove.specs.declared.types.Effort.{Effort}
 use Rattle.it_redundant.specs.declared.types.Projected.{Projected}
 use Rattle.it_redundant.specs.declared.types.Projected.TheVariants as ends
 use Rattle.it_redundant.specs.Reduction.{NeedView, Reduces, dropped_view, kept_rows, kept_view}
@@ -23,14 +24,14 @@ projected_view (ends.Rows rate) = Rows rate
 projected_view (ends.Wide rate) = Wide rate
 
 -- after a rate's step its list is reduced, and elimination goes on with what stays; a cause is the end
-abbrev pub GoesOn : ProblemView → Option ℕ → (List (Terms × NeedView) → List (Terms × CertificateView) → Type 0) → EliminatedView → ProjectedView → Type 0
-GoesOn givens budget later (elimination.Region next) end = (kept : List (Terms × NeedView)) × (dropped : List (Terms × CertificateView)) × Reduces givens budget [] next kept dropped × later kept dropped
-GoesOn givens budget later (elimination.Rows rate) end = end ≡ Rows rate
-GoesOn givens budget later (elimination.Wide rate) end = end ≡ Wide rate
+abbrev pub GoesOn : ProblemView → Effort → (List (Terms × NeedView) → List (Terms × CertificateView) → Type 0) → EliminatedView → ProjectedView → Type 0
+GoesOn givens effort later (elimination.Region next) end = (kept : List (Terms × NeedView)) × (dropped : List (Terms × CertificateView)) × Reduces givens effort [] next kept dropped × later kept dropped
+GoesOn givens effort later (elimination.Rows rate) end = end ≡ Rows rate
+GoesOn givens effort later (elimination.Wide rate) end = end ≡ Wide rate
 
 -- what elimination of rates from rows ends with, where `last` tells why the rows stay so far, and `gone` what the last reduction
 -- dropped; each rate's step begins with the rows in order, and may leave at most `most` before their reduction
-abbrev pub ReducedEnds : ProblemView → Option ℕ → ℕ → List Terms → List (Terms × NeedView) → List (Terms × CertificateView) → List ℕ → ProjectedView → Type 0
-ReducedEnds givens budget most rows last gone [] end = end ≡ Region last gone
-ReducedEnds givens budget most rows last gone (r ∷ rs) end = (step : EliminatedView) × EliminationEnds (2 ^ givens.space.variables) most (ordered_rows rows) (r ∷ []) step
-    × GoesOn givens budget (λ kept dropped. ReducedEnds givens budget most (kept_rows kept) kept dropped rs end) step end
+abbrev pub ReducedEnds : ProblemView → Effort → ℕ → List Terms → List (Terms × NeedView) → List (Terms × CertificateView) → List ℕ → ProjectedView → Type 0
+ReducedEnds givens effort most rows last gone [] end = end ≡ Region last gone
+ReducedEnds givens effort most rows last gone (r ∷ rs) end = (step : EliminatedView) × EliminationEnds (2 ^ givens.space.variables) most (ordered_rows rows) (r ∷ []) step
+    × GoesOn givens effort (λ kept dropped. ReducedEnds givens effort most (kept_rows kept) kept dropped rs end) step end

@@ -1,5 +1,5 @@
 -- Reduction of a list of rows: each in turn goes where the givens and all other rows that still stand give it, and stays otherwise.
-use Rattle.std.specs.Prelude.{◌≡◌, ℕ, ◌+◌, ◌≤◌, ℤ, List, [], ◌∷◌, ◌++◌, length, map, Option}
+use Rattle.std.specs.Prelude.{◌≡◌, ℕ, ◌+◌, ◌≤◌, ℤ, List, [], ◌∷◌, ◌++◌, length, map}
 use Rattle.it_space.specs.declared.answers.Cause.{Cause}
 use Rattle.it_space.specs.declared.problems.Constraint.{Constraint}
 use Rattle.it_space.specs.declared.problems.Kind.TheVariants.{Inequality}
@@ -9,6 +9,7 @@ use Rattle.it_space.specs.declared.problems.System.{System}
 use Rattle.it_space.specs.Problems.{ProblemView, IsProblem, IsSystem}
 use Rattle.it_space.specs.Rows.{Terms}
 use Rattle.it_prove.specs.ProofViews.{ProofView, Yes, No, Undecided, EndsWith}
+use Rattle.it_prove.specs.declared.types.Effort.{Effort}
 use Rattle.it_redundant.specs.declared.types.Need.{Need}
 use Rattle.it_redundant.specs.declared.types.Need.TheVariants as needs
 use Rattle.it_redundant.specs.declared.types.Reduced.{Reduced}
@@ -64,8 +65,8 @@ kept_rows kept = map (λ k. k.0) kept
 
 -- After the rows `before`, which stay, the rows that are still to be visited end so: the run about each, under the givens, those and
 -- the rows after it, has an outcome, by which the row goes or stays.
-abbrev pub Reduces : ProblemView → Option ℕ → List Terms → List Terms → List (Terms × NeedView) → List (Terms × CertificateView) → Type 0
-Reduces givens budget before [] kept dropped = (kept ≡ []) × (dropped ≡ [])
-Reduces givens budget before (row ∷ rows) kept dropped =
-    (o : ProofView) × (k : List (Terms × NeedView)) × (d : List (Terms × CertificateView)) × EndsWith (with_rows givens (before ++ rows)) row budget o
-    × (kept ≡ kept_by row o ++ k) × (dropped ≡ dropped_by row o ++ d) × Reduces givens budget (before ++ kept_rows (kept_by row o)) rows k d
+abbrev pub Reduces : ProblemView → Effort → List Terms → List Terms → List (Terms × NeedView) → List (Terms × CertificateView) → Type 0
+Reduces givens effort before [] kept dropped = (kept ≡ []) × (dropped ≡ [])
+Reduces givens effort before (row ∷ rows) kept dropped =
+    (o : ProofView) × (k : List (Terms × NeedView)) × (d : List (Terms × CertificateView)) × EndsWith (with_rows givens (before ++ rows)) row effort o
+    × (kept ≡ kept_by row o ++ k) × (dropped ≡ dropped_by row o ++ d) × Reduces givens effort (before ++ kept_rows (kept_by row o)) rows k d

@@ -1,10 +1,11 @@
 -- The visit of one row. No public clause cites this module.
-use Rattle.std.specs.Prelude.{◌≡◌, ℕ, ◌+◌, List, [], ◌∷◌, ◌++◌, All, Option, length}
+use Rattle.std.specs.Prelude.{◌≡◌, ℕ, ◌+◌, List, [], ◌∷◌, ◌++◌, All, length}
 use Rattle.it_space.specs.declared.problems.Constraint.{Constraint}
 use Rattle.it_space.specs.declared.problems.Origin.TheVariants.{Rate}
 use Rattle.it_space.specs.Problems.{ProblemView}
 use Rattle.it_space.specs.Rows.{Terms, IsOver}
 use Rattle.it_prove.specs.ProofViews.{ProofView, EndsWith}
+use Rattle.it_prove.specs.declared.types.Effort.{Effort}
 use Rattle.it_redundant.specs.declared.types.Reduced.{Reduced}
 use Rattle.it_redundant.specs.Reduction.{row_constraints, with_rows, kept_by, dropped_by, kept_rows, kept_view, dropped_view}
 
@@ -13,9 +14,9 @@ abbrev pub AreRowsUpTo : ℕ → List Terms → Type 0
 AreRowsUpTo size rows = All (IsOver size) rows
 
 -- a row was visited between the rows that stay so far and those after it
-pub record IsVisited (givens : ProblemView) (budget : Option ℕ) (row : Terms) (after : List Terms) (old new : Reduced) : Type 0 where
+pub record IsVisited (givens : ProblemView) (effort : Effort) (row : Terms) (after : List Terms) (old new : Reduced) : Type 0 where
   pub outcome : ProofView
-  pub ends : EndsWith (with_rows givens (kept_rows (kept_view old) ++ after)) row budget outcome
+  pub ends : EndsWith (with_rows givens (kept_rows (kept_view old) ++ after)) row effort outcome
   pub kept : kept_view new ≡ kept_view old ++ kept_by row outcome
   pub dropped : dropped_view new ≡ dropped_view old ++ dropped_by row outcome
 

@@ -1,13 +1,15 @@
 -- What reduction is good for.
-use Rattle.std.specs.Prelude.{◌≡◌, ◌↔◌, ℕ, ◌+◌, ◌-◌, ◌^◌, ℤ, neg_ℤ, pos, ◌≤ℤ◌, List, ◌++◌, ◌∷◌, map, All, Contains, Option}
+use Rattle.std.specs.Prelude.{◌≡◌, ◌↔◌, ℕ, ◌+◌, ◌-◌, ◌^◌, ◌≤◌, ℤ, neg_ℤ, pos, ◌≤ℤ◌, List, [], ◌++◌, ◌∷◌, length, map, All, Contains, false}
 use Rattle.it_space.specs.Answers.{CertificateView}
-use Rattle.it_space.specs.Problems.{ProblemView, AreMet}
+use Rattle.it_space.specs.Problems.{ProblemView, AreMet, IsProblem}
 use Rattle.it_space.specs.Rows.{Terms, IsOver, point_of, value}
 use Rattle.it_space.specs.Spaces.{size_of}
 use Rattle.it_polymatroid.specs.Polymatroid.{IsPolymatroid}
+use Rattle.it_eliminate.specs.Elimination.{EliminatedView, EliminationEnds, ordered_rows}
 use Rattle.it_eliminate.specs.Projections.{IsPointOf, Extends, LacksCoordinate}
+use Rattle.it_prove.specs.declared.types.Effort.{Effort}
 use Rattle.it_redundant.specs.Reduction.{NeedView, Needed, Unsettled, Reduces, kept_rows}
-use Rattle.it_redundant.specs.ReducedElimination.{ProjectedView, Region, Rows, Wide, ReducedEnds}
+use Rattle.it_redundant.specs.ReducedElimination.{ProjectedView, Region, Rows, Wide, GoesOn, ReducedEnds}
 
 -- a polymatroid and rates that meet the givens
 abbrev pub MeetsGivens : ProblemView → (ℕ → ℤ) → Type 0
@@ -33,10 +35,10 @@ abbrev pub AreNeeded : ProblemView → List (Terms × NeedView) → Type 0
 AreNeeded givens kept = (before after : List (Terms × NeedView)) (k : Terms × NeedView) → kept ≡ before ++ k ∷ after
     → IsNeeded givens (kept_rows before ++ kept_rows after) k
 
--- a list has one reduction
+-- where no quick run comes first a list has one reduction
 abbrev pub OneReduction : Type 0
-OneReduction = (givens : ProblemView) (budget : Option ℕ) (before rows : List Terms) (kept other_kept : List (Terms × NeedView)) (dropped other_dropped : List (Terms × CertificateView))
-    → Reduces givens budget before rows kept dropped → Reduces givens budget before rows other_kept other_dropped → (kept ≡ other_kept) × (dropped ≡ other_dropped)
+OneReduction = (givens : ProblemView) (effort : Effort) (before rows : List Terms) (kept other_kept : List (Terms × NeedView)) (dropped other_dropped : List (Terms × CertificateView))
+    → effort.quick ≡ false → Reduces givens effort before rows kept dropped → Reduces givens effort before rows other_kept other_dropped → (kept ≡ other_kept) × (dropped ≡ other_dropped)
 
 -- the givens speak of entropies alone
 abbrev pub SpeakOfSets : ProblemView → Type 0
@@ -56,7 +58,33 @@ RegionIsReduced givens rates rows (Region kept dropped) = IsReducedRegion givens
 RegionIsReduced givens rates rows (Rows rate) = Unit {0}
 RegionIsReduced givens rates rows (Wide rate) = Unit {0}
 
--- reduced elimination has one end
+-- where no quick run comes first reduced elimination has one end
 abbrev pub OneReducedEnd : Type 0
-OneReducedEnd = (givens : ProblemView) (budget : Option ℕ) (most : ℕ) (rows : List Terms) (last : List (Terms × NeedView)) (gone : List (Terms × CertificateView)) (rates : List ℕ) (end other : ProjectedView)
-    → ReducedEnds givens budget most rows last gone rates end → ReducedEnds givens budget most rows last gone rates other → end ≡ other
+OneReducedEnd = (givens : ProblemView) (effort : Effort) (most : ℕ) (rows : List Terms) (last : List (Terms × NeedView)) (gone : List (Terms × CertificateView)) (rates : List ℕ) (end other : ProjectedView)
+    → effort.quick ≡ false → ReducedEnds givens effort most rows last gone rates end → ReducedEnds givens effort most rows last gone rates other → end ≡ other
+
+-- ---- whatever the effort
+
+-- it is settled why a row stays
+abbrev pub IsSettledRow : Terms × NeedView → Type 0
+IsSettledRow (row, Needed values) = Unit {0}
+IsSettledRow (row, Unsettled cause) = ⊥
+
+-- reduced elimination ends so, and none of its reductions leaves a row unsettled
+abbrev pub SettledEnds : ProblemView → Effort → ℕ → List Terms → List (Terms × NeedView) → List (Terms × CertificateView) → List ℕ → ProjectedView → Type 0
+SettledEnds givens effort most rows last gone [] end = end ≡ Region last gone
+SettledEnds givens effort most rows last gone (r ∷ rs) end = (step : EliminatedView) × EliminationEnds (2 ^ givens.space.variables) most (ordered_rows rows) (r ∷ []) step
+    × GoesOn givens effort (λ kept dropped. All IsSettledRow kept × SettledEnds givens effort most (kept_rows kept) kept dropped rs end) step end
+
+-- the rows are the same, in the same order, or the cause is, at the same rate
+abbrev pub HaveSameRows : ProjectedView → ProjectedView → Type 0
+HaveSameRows (Region kept dropped) (Region other gone) = kept_rows kept ≡ kept_rows other
+HaveSameRows (Rows rate) (Rows other) = rate ≡ other
+HaveSameRows (Wide rate) (Wide other) = rate ≡ other
+HaveSameRows end other = ⊥
+
+-- where all rows are settled on both ways, whatever the effort for each, both end with the same rows
+abbrev pub SettledRegionsAgree : Type 0
+SettledRegionsAgree = (givens : ProblemView) (effort other : Effort) (most : ℕ) (rows : List Terms) (rates : List ℕ) (end other_end : ProjectedView)
+    → IsProblem givens → length givens.constraints ≤ 65535 → most ≤ 65535 → All (IsOver (size_of givens.space)) rows
+    → SettledEnds givens effort most rows [] [] rates end → SettledEnds givens other most rows [] [] rates other_end → HaveSameRows end other_end

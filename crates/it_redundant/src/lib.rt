@@ -7,7 +7,7 @@ mod projection;
 mod reduction;
 mod types;
 
-pub use laws::{causes_are_plain, reductions_are_determined};
+pub use laws::{causes_are_plain, reductions_are_determined, settled_regions_agree};
 pub use projection::{kept_system, project};
 pub use reduction::reduce;
 pub use types::{Need, Projected, Reduced};

@@ -10,7 +10,7 @@ ghost use Rattle.it_redundant.specs.Theorems.{RegionIsReduced, SpeakOfSets};
 use crate::reduction::reduce;
 use crate::types::{Projected, Reduced};
 use it_eliminate::{Eliminated, step};
-use it_simplex::Budget;
+use it_prove::Effort;
 use it_space::{Problem, Space, System};
 use std::alloc::{AllocError, Global};
 
@@ -23,18 +23,18 @@ pub fn project(
     rates: &[u8],
     givens: &Problem,
     rows: usize,
-    budget: Budget,
+    effort: Effort,
 ) -> Result<Projected, AllocError>
     requires system { IsSystemUnder (problem_view givens.now) system.now }
     requires rates { All (λ r. r < system.now.space.rates) rates.now }
     requires some { 1 ≤ length rates.now }
     requires sets { SpeakOfSets (problem_view givens.now) }
     requires few_rows { rows ≤ 65535 }
-    ensures ends { IfOk result (λ e. ReducedEnds (problem_view givens.now) budget rows system.now.rows.items [] [] rates.now (projected_view e)) }
+    ensures ends { IfOk result (λ e. ReducedEnds (problem_view givens.now) effort rows system.now.rows.items [] [] rates.now (projected_view e)) }
     ensures region { IfOk result (λ e. RegionIsReduced (problem_view givens.now) rates.now system.now.rows.items (projected_view e)) }
 {
     // named before it is answered, so that the contract of the call stands at the answer
-    let end = reduced_elimination(alloc, system, rates, givens, rows, budget)?;
+    let end = reduced_elimination(alloc, system, rates, givens, rows, effort)?;
     Ok(end)
 }
 
@@ -45,17 +45,17 @@ fn reduced_elimination(
     rates: &[u8],
     givens: &Problem,
     rows: usize,
-    budget: Budget,
+    effort: Effort,
 ) -> Result<Projected, AllocError>
     requires system { IsSystemUnder (problem_view givens.now) system.now }
     requires rates { All (λ r. r < system.now.space.rates) rates.now }
     requires some { 1 ≤ length rates.now }
     requires few_rows { rows ≤ 65535 }
-    ensures { IfOk result (λ e. ReducedEnds (problem_view givens.now) budget rows system.now.rows.items [] [] rates.now (projected_view e)) }
+    ensures { IfOk result (λ e. ReducedEnds (problem_view givens.now) effort rows system.now.rows.items [] [] rates.now (projected_view e)) }
 {
-    let mut end = after_rate(alloc, system, rates[0], givens, rows, budget)?;
+    let mut end = after_rate(alloc, system, rates[0], givens, rows, effort)?;
     for i in 1..rates.len() {
-        end = next_end(alloc, end, rates[i], givens, rows, budget)?;
+        end = next_end(alloc, end, rates[i], givens, rows, effort)?;
     }
     Ok(end)
 }
@@ -67,20 +67,20 @@ fn next_end(
     rate: u8,
     givens: &Problem,
     rows: usize,
-    budget: Budget,
+    effort: Effort,
 ) -> Result<Projected, AllocError>
     requires end { HasRowsUpTo (size_of givens.now.space) (projected_view end) }
     requires rate { rate < givens.now.space.rates }
     requires givens { IsProblem (problem_view givens.now) }
     requires few_rows { rows ≤ 65535 }
     requires few_givens { length givens.now.constraints.items ≤ 65535 }
-    ensures next { IfOk result (λ e. IsNext (problem_view givens.now) budget rows rate (projected_view end) (projected_view e)) }
+    ensures next { IfOk result (λ e. IsNext (problem_view givens.now) effort rows rate (projected_view end) (projected_view e)) }
     ensures rows { IfOk result (λ e. HasRowsUpTo (size_of givens.now.space) (projected_view e)) }
 {
     match end {
         Projected::Region(reduced) => {
             let system = kept_system(alloc, givens.space, &reduced)?;
-            after_rate(alloc, &system, rate, givens, rows, budget)
+            after_rate(alloc, &system, rate, givens, rows, effort)
         }
         Projected::Rows { rate: other } => Ok(Projected::Rows { rate: other }),
         Projected::Wide { rate: other } => Ok(Projected::Wide { rate: other }),
@@ -106,18 +106,18 @@ fn after_rate(
     rate: u8,
     givens: &Problem,
     rows: usize,
-    budget: Budget,
+    effort: Effort,
 ) -> Result<Projected, AllocError>
     requires system { IsSystemUnder (problem_view givens.now) system.now }
     requires rate { rate < system.now.space.rates }
     requires few_rows { rows ≤ 65535 }
-    ensures after { IfOk result (λ e. IsAfterRate (problem_view givens.now) budget rows system.now.rows.items rate (projected_view e)) }
+    ensures after { IfOk result (λ e. IsAfterRate (problem_view givens.now) effort rows system.now.rows.items rate (projected_view e)) }
     ensures rows { IfOk result (λ e. HasRowsUpTo (size_of givens.now.space) (projected_view e)) }
 {
     let end = step(alloc, system, rate, rows)?;
     match end {
         Eliminated::Region(next) => {
-            let reduced = reduce(alloc, &next, givens, budget)?;
+            let reduced = reduce(alloc, &next, givens, effort)?;
             Ok(Projected::Region(reduced))
         }
         Eliminated::Rows { rate } => Ok(Projected::Rows { rate }),

@@ -12,8 +12,7 @@ ghost use Rattle.it_redundant.specs.Theorems.{AreNeeded, HoldAlike};
 
 use crate::others::{insert_row, problem_with, remove_row};
 use crate::types::{Need, Reduced};
-use it_prove::{ClosedProblem, Proof};
-use it_simplex::Budget;
+use it_prove::{ClosedProblem, Effort, Proof};
 use it_space::{Certificate, Problem, Row, System};
 use std::alloc::{AllocError, Global};
 
@@ -23,16 +22,16 @@ pub fn reduce(
     alloc: Global,
     system: &System,
     givens: &Problem,
-    budget: Budget,
+    effort: Effort,
 ) -> Result<Reduced, AllocError>
     requires system { IsSystemUnder (problem_view givens.now) system.now }
     requires few_rows { length system.now.rows.items ≤ 65535 }
-    ensures reduces { IfOk result (λ r. Reduces (problem_view givens.now) budget [] system.now.rows.items (kept_view r) (dropped_view r)) }
+    ensures reduces { IfOk result (λ r. Reduces (problem_view givens.now) effort [] system.now.rows.items (kept_view r) (dropped_view r)) }
     ensures alike { IfOk result (λ r. HoldAlike (problem_view givens.now) system.now.rows.items (kept_rows (kept_view r))) }
     ensures needed { IfOk result (λ r. AreNeeded (problem_view givens.now) (kept_view r)) }
 {
     // named before it is answered, so that the contract of the call stands at the answer
-    let reduced = reduced_rows(alloc, system.rows.as_slice(), givens, budget)?;
+    let reduced = reduced_rows(alloc, system.rows.as_slice(), givens, effort)?;
     Ok(reduced)
 }
 
@@ -41,15 +40,15 @@ fn reduced_rows(
     alloc: Global,
     rows: &[Row],
     givens: &Problem,
-    budget: Budget,
+    effort: Effort,
 ) -> Result<Reduced, AllocError>
     requires givens { IsProblem (problem_view givens.now) }
     requires rows { AreRowsUpTo (size_of givens.now.space) rows.now }
     requires few_rows { length rows.now ≤ 65535 }
     requires few_givens { length givens.now.constraints.items ≤ 65535 }
-    ensures { IfOk result (λ r. Reduces (problem_view givens.now) budget [] rows.now (kept_view r) (dropped_view r)) }
+    ensures { IfOk result (λ r. Reduces (problem_view givens.now) effort [] rows.now (kept_view r) (dropped_view r)) }
 {
-    let mut closed = ClosedProblem::read(alloc, givens)?;
+    let mut closed = ClosedProblem::read(alloc, givens, effort)?;
     let mut problem = problem_with(alloc, givens, rows)?;
     let mut reduced = Reduced {
         kept: Vec::new(alloc),
@@ -64,7 +63,7 @@ fn reduced_rows(
             &mut reduced,
             &rows[i],
             &rows[i + 1..],
-            budget,
+            effort,
         )?;
     }
     Ok(reduced)
@@ -80,7 +79,7 @@ fn visit(
     reduced: &mut Reduced,
     row: &Row,
     after: &[Row],
-    budget: Budget,
+    effort: Effort,
 ) -> Result<(), AllocError>
     requires givens { IsProblem (problem_view givens.now) }
     requires few_givens { length givens.now.constraints.items ≤ 65535 }
@@ -90,14 +89,14 @@ fn visit(
     requires after { AreRowsUpTo (size_of givens.now.space) after.now }
     requires closed { IsClosedProblem (problem_view givens.now) closed.old }
     requires problem { problem_view problem.old ≡ with_rows (problem_view givens.now) (map (λ k. k.0) reduced.old.kept.items ++ row.now ∷ after.now) }
-    ensures visited { OnOk result (IsVisited (problem_view givens.now) budget row.now after.now reduced.old reduced.new) }
+    ensures visited { OnOk result (IsVisited (problem_view givens.now) effort row.now after.now reduced.old reduced.new) }
     ensures closed { OnOk result (IsClosedProblem (problem_view givens.now) closed.new) }
     ensures problem { OnOk result (problem_view problem.new ≡ with_rows (problem_view givens.now) (map (λ k. k.0) reduced.new.kept.items ++ after.now)) }
 {
     let line = reduced.kept.len() + 1;
     let place = givens.constraints.len() + reduced.kept.len();
     remove_row(&mut problem.constraints, place, line);
-    let proof = closed.prove(alloc, problem, row, budget)?;
+    let proof = closed.prove(alloc, problem, row, effort)?;
     put(alloc, reduced, row, proof)?;
     if reduced.kept.len() == line {
         insert_row(alloc, &mut problem.constraints, place, line, row)?;

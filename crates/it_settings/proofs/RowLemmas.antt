@@ -2,11 +2,11 @@
 use Rattle.std.proofs.Common.{refl}
 use Rattle.clap.proofs.OnLiterals.{clap_on_literals}
 use Rattle.it_settings.specs.App.{option_rule, mode_rule, bare_app, itip_app}
-use Rattle.it_settings.specs.Settings.{settings_of, settings_by, answer_of, bench_of, steps_of, number_of, pivots_of, format_of}
-use Rattle.it_settings.specs.Rows.{ModesAreRead, FormsAreRead, NumbersAreRead, BenchIsRead, CopyIsRead, BestIsRead, SharingIsRead, OtherModesAreRead}
+use Rattle.it_settings.specs.Settings.{settings_of, settings_by, answer_of, bench_of, runs_of, number_of, pivots_of, format_of, run_of}
+use Rattle.it_settings.specs.Rows.{ModesAreRead, FormsAreRead, NumbersAreRead, BenchIsRead, RunsAreRead, CopyIsRead, BestIsRead, SharingIsRead, OtherModesAreRead}
 
 pub modes_are_read : ModesAreRead
-unfolding clap_on_literals settings_of settings_by answer_of bench_of number_of pivots_of format_of itip_app bare_app mode_rule option_rule
+unfolding clap_on_literals settings_of settings_by answer_of bench_of number_of pivots_of format_of run_of itip_app bare_app mode_rule option_rule
 modes_are_read = record {
   answer = refl;
   check = refl;
@@ -30,7 +30,7 @@ modes_are_read = record {
 }
 
 pub forms_are_read : FormsAreRead
-unfolding clap_on_literals settings_of settings_by answer_of bench_of number_of pivots_of format_of itip_app bare_app mode_rule option_rule
+unfolding clap_on_literals settings_of settings_by answer_of bench_of number_of pivots_of format_of run_of itip_app bare_app mode_rule option_rule
 forms_are_read = record {
   spaced = refl;
   joined = refl;
@@ -53,7 +53,7 @@ forms_are_read = record {
 }
 
 pub numbers_are_read : NumbersAreRead
-unfolding clap_on_literals settings_of settings_by answer_of bench_of number_of pivots_of format_of itip_app bare_app mode_rule option_rule
+unfolding clap_on_literals settings_of settings_by answer_of bench_of number_of pivots_of format_of run_of itip_app bare_app mode_rule option_rule
 numbers_are_read = record {
   pivots_zero = refl;
   pivots_least = refl;
@@ -86,7 +86,7 @@ numbers_are_read = record {
 }
 
 pub bench_is_read : BenchIsRead
-unfolding clap_on_literals settings_of settings_by answer_of bench_of number_of pivots_of format_of itip_app bare_app mode_rule option_rule
+unfolding clap_on_literals settings_of settings_by answer_of bench_of number_of pivots_of format_of run_of itip_app bare_app mode_rule option_rule
 bench_is_read = record {
   all_options = refl;
   seed_least = refl;
@@ -103,7 +103,7 @@ bench_is_read = record {
 }
 
 pub other_modes_are_read : OtherModesAreRead
-unfolding clap_on_literals settings_of settings_by answer_of bench_of number_of pivots_of format_of itip_app bare_app mode_rule option_rule
+unfolding clap_on_literals settings_of settings_by answer_of bench_of number_of pivots_of format_of run_of itip_app bare_app mode_rule option_rule
 other_modes_are_read = record {
   check_format = refl;
   check_pivots = refl;
@@ -117,13 +117,32 @@ other_modes_are_read = record {
   bench_format = refl;
 }
 
+pub runs_are_read : RunsAreRead
+unfolding clap_on_literals settings_of settings_by answer_of bench_of number_of pivots_of format_of run_of itip_app bare_app mode_rule option_rule
+runs_are_read = record {
+  quick = refl;
+  bland = refl;
+  with_all = refl;
+  bench = refl;
+  capital = refl;
+  unknown = refl;
+  longer = refl;
+  no_value = refl;
+  empty = refl;
+  twice = refl;
+  check = refl;
+}
+
 pub copy_is_read : CopyIsRead
-unfolding clap_on_literals settings_of settings_by answer_of bench_of steps_of number_of pivots_of format_of itip_app bare_app mode_rule option_rule
+unfolding clap_on_literals settings_of settings_by answer_of bench_of runs_of number_of pivots_of format_of run_of itip_app bare_app mode_rule option_rule
 copy_is_read = record {
   alone = refl;
   pivots = refl;
   pivots_without = refl;
   pivots_more = refl;
+  quick = refl;
+  quick_without = refl;
+  other_run = refl;
   format = refl;
   rows = refl;
   tries = refl;
@@ -133,12 +152,15 @@ copy_is_read = record {
 }
 
 pub best_is_read : BestIsRead
-unfolding clap_on_literals settings_of settings_by answer_of bench_of steps_of number_of pivots_of format_of itip_app bare_app mode_rule option_rule
+unfolding clap_on_literals settings_of settings_by answer_of bench_of runs_of number_of pivots_of format_of run_of itip_app bare_app mode_rule option_rule
 best_is_read = record {
   alone = refl;
   pivots = refl;
   pivots_without = refl;
   pivots_more = refl;
+  quick = refl;
+  quick_without = refl;
+  other_run = refl;
   format = refl;
   rows = refl;
   tries = refl;
@@ -148,12 +170,15 @@ best_is_read = record {
 }
 
 pub sharing_is_read : SharingIsRead
-unfolding clap_on_literals settings_of settings_by answer_of bench_of steps_of number_of pivots_of format_of itip_app bare_app mode_rule option_rule
+unfolding clap_on_literals settings_of settings_by answer_of bench_of runs_of number_of pivots_of format_of run_of itip_app bare_app mode_rule option_rule
 sharing_is_read = record {
   alone = refl;
   pivots = refl;
   pivots_without = refl;
   pivots_more = refl;
+  quick = refl;
+  quick_without = refl;
+  other_run = refl;
   format = refl;
   rows = refl;
   tries = refl;

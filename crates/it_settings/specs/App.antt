@@ -18,7 +18,7 @@ bare_app = let a = new_app (codes "itip") in record a { top = record a.top { no_
 
 -- the options of all modes
 abbrev pub option_names : List Text
-option_names = codes "format" ∷ codes "pivots" ∷ codes "rows" ∷ codes "tries" ∷ codes "seed" ∷ codes "count" ∷ []
+option_names = codes "format" ∷ codes "pivots" ∷ codes "rows" ∷ codes "tries" ∷ codes "seed" ∷ codes "count" ∷ codes "run" ∷ []
 
 -- the mode, and the options of all modes
 unfoldable pub itip_app : App

@@ -1,6 +1,8 @@
 -- Command lines and what they are read as.
 use Rattle.std.specs.Prelude.{Option, ℕ, ◌≡◌, List, [], ◌∷◌, Some, None, codes}
 use Rattle.it_settings.specs.declared.types.Format.TheVariants as formats
+use Rattle.it_settings.specs.declared.types.Run.{Run}
+use Rattle.it_settings.specs.declared.types.Run.TheVariants as runs
 use Rattle.it_settings.specs.declared.types.Settings.{Settings}
 use Rattle.it_settings.specs.declared.types.Settings.TheVariants as settings
 use Rattle.it_settings.specs.Settings.{settings_of}
@@ -15,9 +17,9 @@ HaveNoReading words = settings_of words ≡ None
 
 -- the word for the mode, alone and among others
 pub record ModesAreRead : Type 0 where
-  pub answer : AreReadAs (codes "answer" ∷ []) (settings.Answer formats.Text (Some 20000) 512 256)
+  pub answer : AreReadAs (codes "answer" ∷ []) (settings.Answer formats.Text runs.Bland (Some 20000) 512 256)
   pub check : AreReadAs (codes "check" ∷ []) settings.Check
-  pub bench : AreReadAs (codes "bench" ∷ []) (settings.Bench 1 100 (Some 20000) 512 256)
+  pub bench : AreReadAs (codes "bench" ∷ []) (settings.Bench 1 100 runs.Bland (Some 20000) 512 256)
   pub no_words : HaveNoReading []
   pub unknown : HaveNoReading (codes "prove" ∷ [])
   pub capital : HaveNoReading (codes "Answer" ∷ [])
@@ -37,13 +39,13 @@ pub record ModesAreRead : Type 0 where
 
 -- how an option is written
 pub record FormsAreRead : Type 0 where
-  pub spaced : AreReadAs (codes "answer" ∷ codes "--format" ∷ codes "json" ∷ []) (settings.Answer formats.Json (Some 20000) 512 256)
-  pub joined : AreReadAs (codes "answer" ∷ codes "--format=json" ∷ []) (settings.Answer formats.Json (Some 20000) 512 256)
-  pub text : AreReadAs (codes "answer" ∷ codes "--format" ∷ codes "text" ∷ []) (settings.Answer formats.Text (Some 20000) 512 256)
-  pub proof : AreReadAs (codes "answer" ∷ codes "--format" ∷ codes "proof" ∷ []) (settings.Answer formats.Proof (Some 20000) 512 256)
+  pub spaced : AreReadAs (codes "answer" ∷ codes "--format" ∷ codes "json" ∷ []) (settings.Answer formats.Json runs.Bland (Some 20000) 512 256)
+  pub joined : AreReadAs (codes "answer" ∷ codes "--format=json" ∷ []) (settings.Answer formats.Json runs.Bland (Some 20000) 512 256)
+  pub text : AreReadAs (codes "answer" ∷ codes "--format" ∷ codes "text" ∷ []) (settings.Answer formats.Text runs.Bland (Some 20000) 512 256)
+  pub proof : AreReadAs (codes "answer" ∷ codes "--format" ∷ codes "proof" ∷ []) (settings.Answer formats.Proof runs.Bland (Some 20000) 512 256)
   pub capitals : HaveNoReading (codes "answer" ∷ codes "--format" ∷ codes "JSON" ∷ [])
-  pub before_mode : AreReadAs (codes "--tries" ∷ codes "1" ∷ codes "answer" ∷ []) (settings.Answer formats.Text (Some 20000) 512 1)
-  pub all_options : AreReadAs (codes "answer" ∷ codes "--tries=7" ∷ codes "--rows" ∷ codes "6" ∷ codes "--format" ∷ codes "json" ∷ codes "--pivots" ∷ codes "5" ∷ []) (settings.Answer formats.Json (Some 5) 6 7)
+  pub before_mode : AreReadAs (codes "--tries" ∷ codes "1" ∷ codes "answer" ∷ []) (settings.Answer formats.Text runs.Bland (Some 20000) 512 1)
+  pub all_options : AreReadAs (codes "answer" ∷ codes "--tries=7" ∷ codes "--rows" ∷ codes "6" ∷ codes "--format" ∷ codes "json" ∷ codes "--pivots" ∷ codes "5" ∷ []) (settings.Answer formats.Json runs.Bland (Some 5) 6 7)
   pub twice : HaveNoReading (codes "answer" ∷ codes "--rows" ∷ codes "5" ∷ codes "--rows" ∷ codes "5" ∷ [])
   pub twice_joined : HaveNoReading (codes "answer" ∷ codes "--format" ∷ codes "json" ∷ codes "--format=json" ∷ [])
   pub cut_short : HaveNoReading (codes "answer" ∷ codes "--piv" ∷ codes "5" ∷ [])
@@ -59,25 +61,25 @@ pub record FormsAreRead : Type 0 where
 -- which numbers an option takes
 pub record NumbersAreRead : Type 0 where
   pub pivots_zero : HaveNoReading (codes "answer" ∷ codes "--pivots" ∷ codes "0" ∷ [])
-  pub pivots_least : AreReadAs (codes "answer" ∷ codes "--pivots" ∷ codes "1" ∷ []) (settings.Answer formats.Text (Some 1) 512 256)
-  pub pivots_most : AreReadAs (codes "answer" ∷ codes "--pivots" ∷ codes "1000000" ∷ []) (settings.Answer formats.Text (Some 1000000) 512 256)
+  pub pivots_least : AreReadAs (codes "answer" ∷ codes "--pivots" ∷ codes "1" ∷ []) (settings.Answer formats.Text runs.Bland (Some 1) 512 256)
+  pub pivots_most : AreReadAs (codes "answer" ∷ codes "--pivots" ∷ codes "1000000" ∷ []) (settings.Answer formats.Text runs.Bland (Some 1000000) 512 256)
   pub pivots_more : HaveNoReading (codes "answer" ∷ codes "--pivots" ∷ codes "1000001" ∷ [])
-  pub pivots_without : AreReadAs (codes "answer" ∷ codes "--pivots" ∷ codes "none" ∷ []) (settings.Answer formats.Text None 512 256)
-  pub pivots_joined : AreReadAs (codes "answer" ∷ codes "--pivots=none" ∷ []) (settings.Answer formats.Text None 512 256)
+  pub pivots_without : AreReadAs (codes "answer" ∷ codes "--pivots" ∷ codes "none" ∷ []) (settings.Answer formats.Text runs.Bland None 512 256)
+  pub pivots_joined : AreReadAs (codes "answer" ∷ codes "--pivots=none" ∷ []) (settings.Answer formats.Text runs.Bland None 512 256)
   pub pivots_capital : HaveNoReading (codes "answer" ∷ codes "--pivots" ∷ codes "None" ∷ [])
   pub pivots_longer : HaveNoReading (codes "answer" ∷ codes "--pivots" ∷ codes "none0" ∷ [])
   pub rows_without : HaveNoReading (codes "answer" ∷ codes "--rows" ∷ codes "none" ∷ [])
   pub tries_without : HaveNoReading (codes "answer" ∷ codes "--tries" ∷ codes "none" ∷ [])
   pub rows_zero : HaveNoReading (codes "answer" ∷ codes "--rows" ∷ codes "0" ∷ [])
-  pub rows_least : AreReadAs (codes "answer" ∷ codes "--rows" ∷ codes "1" ∷ []) (settings.Answer formats.Text (Some 20000) 1 256)
-  pub rows_most : AreReadAs (codes "answer" ∷ codes "--rows" ∷ codes "4096" ∷ []) (settings.Answer formats.Text (Some 20000) 4096 256)
+  pub rows_least : AreReadAs (codes "answer" ∷ codes "--rows" ∷ codes "1" ∷ []) (settings.Answer formats.Text runs.Bland (Some 20000) 1 256)
+  pub rows_most : AreReadAs (codes "answer" ∷ codes "--rows" ∷ codes "4096" ∷ []) (settings.Answer formats.Text runs.Bland (Some 20000) 4096 256)
   pub rows_more : HaveNoReading (codes "answer" ∷ codes "--rows" ∷ codes "4097" ∷ [])
   pub tries_zero : HaveNoReading (codes "answer" ∷ codes "--tries" ∷ codes "0" ∷ [])
-  pub tries_least : AreReadAs (codes "answer" ∷ codes "--tries" ∷ codes "1" ∷ []) (settings.Answer formats.Text (Some 20000) 512 1)
-  pub tries_most : AreReadAs (codes "answer" ∷ codes "--tries" ∷ codes "4096" ∷ []) (settings.Answer formats.Text (Some 20000) 512 4096)
+  pub tries_least : AreReadAs (codes "answer" ∷ codes "--tries" ∷ codes "1" ∷ []) (settings.Answer formats.Text runs.Bland (Some 20000) 512 1)
+  pub tries_most : AreReadAs (codes "answer" ∷ codes "--tries" ∷ codes "4096" ∷ []) (settings.Answer formats.Text runs.Bland (Some 20000) 512 4096)
   pub tries_more : HaveNoReading (codes "answer" ∷ codes "--tries" ∷ codes "4097" ∷ [])
-  pub zeros_before : AreReadAs (codes "answer" ∷ codes "--pivots" ∷ codes "007" ∷ []) (settings.Answer formats.Text (Some 7) 512 256)
-  pub ten_digits : AreReadAs (codes "answer" ∷ codes "--pivots=0000000005" ∷ []) (settings.Answer formats.Text (Some 5) 512 256)
+  pub zeros_before : AreReadAs (codes "answer" ∷ codes "--pivots" ∷ codes "007" ∷ []) (settings.Answer formats.Text runs.Bland (Some 7) 512 256)
+  pub ten_digits : AreReadAs (codes "answer" ∷ codes "--pivots=0000000005" ∷ []) (settings.Answer formats.Text runs.Bland (Some 5) 512 256)
   pub eleven_digits : HaveNoReading (codes "answer" ∷ codes "--pivots=00000000005" ∷ [])
   pub past_32_bits : HaveNoReading (codes "answer" ∷ codes "--pivots" ∷ codes "4294967297" ∷ [])
   pub hyphen : HaveNoReading (codes "answer" ∷ codes "--pivots" ∷ codes "-1" ∷ [])
@@ -89,15 +91,15 @@ pub record NumbersAreRead : Type 0 where
 
 -- the options of mode `bench`
 pub record BenchIsRead : Type 0 where
-  pub all_options : AreReadAs (codes "bench" ∷ codes "--seed=2" ∷ codes "--count" ∷ codes "3" ∷ codes "--pivots=4" ∷ codes "--rows=5" ∷ codes "--tries=6" ∷ []) (settings.Bench 2 3 (Some 4) 5 6)
-  pub seed_least : AreReadAs (codes "bench" ∷ codes "--seed" ∷ codes "0" ∷ []) (settings.Bench 0 100 (Some 20000) 512 256)
-  pub seed_most : AreReadAs (codes "bench" ∷ codes "--seed" ∷ codes "2147483647" ∷ []) (settings.Bench 2147483647 100 (Some 20000) 512 256)
+  pub all_options : AreReadAs (codes "bench" ∷ codes "--seed=2" ∷ codes "--count" ∷ codes "3" ∷ codes "--pivots=4" ∷ codes "--rows=5" ∷ codes "--tries=6" ∷ []) (settings.Bench 2 3 runs.Bland (Some 4) 5 6)
+  pub seed_least : AreReadAs (codes "bench" ∷ codes "--seed" ∷ codes "0" ∷ []) (settings.Bench 0 100 runs.Bland (Some 20000) 512 256)
+  pub seed_most : AreReadAs (codes "bench" ∷ codes "--seed" ∷ codes "2147483647" ∷ []) (settings.Bench 2147483647 100 runs.Bland (Some 20000) 512 256)
   pub seed_more : HaveNoReading (codes "bench" ∷ codes "--seed" ∷ codes "2147483648" ∷ [])
   pub count_zero : HaveNoReading (codes "bench" ∷ codes "--count" ∷ codes "0" ∷ [])
-  pub count_least : AreReadAs (codes "bench" ∷ codes "--count" ∷ codes "1" ∷ []) (settings.Bench 1 1 (Some 20000) 512 256)
-  pub count_most : AreReadAs (codes "bench" ∷ codes "--count" ∷ codes "1000" ∷ []) (settings.Bench 1 1000 (Some 20000) 512 256)
+  pub count_least : AreReadAs (codes "bench" ∷ codes "--count" ∷ codes "1" ∷ []) (settings.Bench 1 1 runs.Bland (Some 20000) 512 256)
+  pub count_most : AreReadAs (codes "bench" ∷ codes "--count" ∷ codes "1000" ∷ []) (settings.Bench 1 1000 runs.Bland (Some 20000) 512 256)
   pub count_more : HaveNoReading (codes "bench" ∷ codes "--count" ∷ codes "1001" ∷ [])
-  pub pivots_without : AreReadAs (codes "bench" ∷ codes "--pivots" ∷ codes "none" ∷ []) (settings.Bench 1 100 None 512 256)
+  pub pivots_without : AreReadAs (codes "bench" ∷ codes "--pivots" ∷ codes "none" ∷ []) (settings.Bench 1 100 runs.Bland None 512 256)
   pub seed_without : HaveNoReading (codes "bench" ∷ codes "--seed" ∷ codes "none" ∷ [])
   pub count_without : HaveNoReading (codes "bench" ∷ codes "--count" ∷ codes "none" ∷ [])
   pub hyphen : HaveNoReading (codes "bench" ∷ codes "--seed" ∷ codes "-1" ∷ [])
@@ -115,12 +117,29 @@ pub record OtherModesAreRead : Type 0 where
   pub check_pivots_without : HaveNoReading (codes "check" ∷ codes "--pivots" ∷ codes "none" ∷ [])
   pub bench_format : HaveNoReading (codes "bench" ∷ codes "--format" ∷ codes "text" ∷ [])
 
--- a mode that takes a budget of steps and no other option
-pub record IsReadWithSteps (mode : List ℕ) (read : Option ℕ → Settings) : Type 0 where
-  pub alone : AreReadAs (mode ∷ []) (read (Some 20000))
-  pub pivots : AreReadAs (mode ∷ codes "--pivots" ∷ codes "5" ∷ []) (read (Some 5))
-  pub pivots_without : AreReadAs (codes "--pivots=none" ∷ mode ∷ []) (read None)
+-- how targets are decided, in the modes with a file to answer
+pub record RunsAreRead : Type 0 where
+  pub quick : AreReadAs (codes "answer" ∷ codes "--run" ∷ codes "quick" ∷ []) (settings.Answer formats.Text runs.Quick (Some 20000) 512 256)
+  pub bland : AreReadAs (codes "answer" ∷ codes "--run=bland" ∷ []) (settings.Answer formats.Text runs.Bland (Some 20000) 512 256)
+  pub with_all : AreReadAs (codes "--run=quick" ∷ codes "answer" ∷ codes "--tries=7" ∷ codes "--rows" ∷ codes "6" ∷ codes "--format" ∷ codes "json" ∷ codes "--pivots" ∷ codes "5" ∷ []) (settings.Answer formats.Json runs.Quick (Some 5) 6 7)
+  pub bench : AreReadAs (codes "bench" ∷ codes "--run" ∷ codes "quick" ∷ []) (settings.Bench 1 100 runs.Quick (Some 20000) 512 256)
+  pub capital : HaveNoReading (codes "answer" ∷ codes "--run" ∷ codes "Quick" ∷ [])
+  pub unknown : HaveNoReading (codes "answer" ∷ codes "--run" ∷ codes "fast" ∷ [])
+  pub longer : HaveNoReading (codes "answer" ∷ codes "--run" ∷ codes "quickly" ∷ [])
+  pub no_value : HaveNoReading (codes "answer" ∷ codes "--run" ∷ [])
+  pub empty : HaveNoReading (codes "answer" ∷ codes "--run=" ∷ [])
+  pub twice : HaveNoReading (codes "answer" ∷ codes "--run" ∷ codes "quick" ∷ codes "--run=bland" ∷ [])
+  pub check : HaveNoReading (codes "check" ∷ codes "--run" ∷ codes "quick" ∷ [])
+
+-- a mode that takes how targets are decided, a budget of steps and no other option
+pub record IsReadWithRuns (mode : List ℕ) (read : Run → Option ℕ → Settings) : Type 0 where
+  pub alone : AreReadAs (mode ∷ []) (read runs.Bland (Some 20000))
+  pub pivots : AreReadAs (mode ∷ codes "--pivots" ∷ codes "5" ∷ []) (read runs.Bland (Some 5))
+  pub pivots_without : AreReadAs (codes "--pivots=none" ∷ mode ∷ []) (read runs.Bland None)
   pub pivots_more : HaveNoReading (mode ∷ codes "--pivots" ∷ codes "1000001" ∷ [])
+  pub quick : AreReadAs (mode ∷ codes "--run" ∷ codes "quick" ∷ []) (read runs.Quick (Some 20000))
+  pub quick_without : AreReadAs (mode ∷ codes "--pivots=none" ∷ codes "--run=quick" ∷ []) (read runs.Quick None)
+  pub other_run : HaveNoReading (mode ∷ codes "--run" ∷ codes "none" ∷ [])
   pub format : HaveNoReading (mode ∷ codes "--format" ∷ codes "text" ∷ [])
   pub rows : HaveNoReading (mode ∷ codes "--rows" ∷ codes "512" ∷ [])
   pub tries : HaveNoReading (mode ∷ codes "--tries" ∷ codes "256" ∷ [])
@@ -130,12 +149,12 @@ pub record IsReadWithSteps (mode : List ℕ) (read : Option ℕ → Settings) : 
 
 -- mode `copy`
 abbrev pub CopyIsRead : Type 0
-CopyIsRead = IsReadWithSteps (codes "copy") settings.Copy
+CopyIsRead = IsReadWithRuns (codes "copy") settings.Copy
 
 -- mode `best`
 abbrev pub BestIsRead : Type 0
-BestIsRead = IsReadWithSteps (codes "best") settings.Best
+BestIsRead = IsReadWithRuns (codes "best") settings.Best
 
 -- mode `sharing`
 abbrev pub SharingIsRead : Type 0
-SharingIsRead = IsReadWithSteps (codes "sharing") settings.Sharing
+SharingIsRead = IsReadWithRuns (codes "sharing") settings.Sharing

@@ -9,6 +9,8 @@ use Rattle.clap.specs.Words.{Text, fault_of, matches_of, first_of}
 use Rattle.it_settings.specs.App.{itip_app, option_names}
 use Rattle.it_settings.specs.declared.types.Format.{Format}
 use Rattle.it_settings.specs.declared.types.Format.TheVariants as formats
+use Rattle.it_settings.specs.declared.types.Run.{Run}
+use Rattle.it_settings.specs.declared.types.Run.TheVariants as runs
 use Rattle.it_settings.specs.declared.types.Settings.{Settings}
 use Rattle.it_settings.specs.declared.types.Settings.TheVariants as settings
 use Rattle.it_settings.specs.declared.types.WordsFault.{WordsFault}
@@ -29,6 +31,10 @@ pivots_of text = if bytes_eq text (codes "none") then Some None else option_map 
 unfoldable pub format_of : Text → Option Format
 format_of text = lookup (bytes_eq text) ((codes "text", formats.Text) ∷ (codes "json", formats.Json) ∷ (codes "proof", formats.Proof) ∷ [])
 
+-- a run by its name
+unfoldable pub run_of : Text → Option Run
+run_of text = lookup (bytes_eq text) ((codes "bland", runs.Bland) ∷ (codes "quick", runs.Quick) ∷ [])
+
 -- ---- the modes: by the texts that were given for the mode and for each option, by name
 
 -- the number of an option, or its default where nothing was given
@@ -38,6 +44,10 @@ number_in given name least most default = option_map_or (number_of least most) (
 -- the budget of steps, or 20,000 where nothing was given
 abbrev pub pivots_in : (Text → Option Text) → Option (Option ℕ)
 pivots_in given = option_map_or pivots_of (given (codes "pivots")) (Some (Some 20000))
+
+-- how targets are decided, or by the run of Bland's rule where nothing was given
+abbrev pub run_in : (Text → Option Text) → Option Run
+run_in given = option_map_or run_of (given (codes "run")) (Some runs.Bland)
 
 -- what is read where none of these options was given
 abbrev pub without : {A : Type 0} → (Text → Option Text) → List Text → Option A → Option A
@@ -52,24 +62,29 @@ o >>= f = option_and_then f o
 unfoldable pub answer_of : (Text → Option Text) → Option Settings
 answer_of given = do
   format ← option_map_or format_of (given (codes "format")) (Some formats.Text)
+  run ← run_in given
   pivots ← pivots_in given
   rows ← number_in given (codes "rows") 1 4096 512
   tries ← number_in given (codes "tries") 1 4096 256
-  Some (settings.Answer format pivots rows tries)
+  Some (settings.Answer format run pivots rows tries)
 
 -- those of mode `bench`
 unfoldable pub bench_of : (Text → Option Text) → Option Settings
 bench_of given = do
   seed ← number_in given (codes "seed") 0 2147483647 1
   count ← number_in given (codes "count") 1 1000 100
+  run ← run_in given
   pivots ← pivots_in given
   rows ← number_in given (codes "rows") 1 4096 512
   tries ← number_in given (codes "tries") 1 4096 256
-  Some (settings.Bench seed count pivots rows tries)
+  Some (settings.Bench seed count run pivots rows tries)
 
--- the budget of steps of a mode that has no other option
-unfoldable pub steps_of : (Text → Option Text) → Option (Option ℕ)
-steps_of given = without given (codes "format" ∷ codes "rows" ∷ codes "tries" ∷ codes "seed" ∷ codes "count" ∷ []) (pivots_in given)
+-- those of a mode whose options are how targets are decided and the budget of steps
+unfoldable pub runs_of : (Text → Option Text) → (Run → Option ℕ → Settings) → Option Settings
+runs_of given read = without given (codes "format" ∷ codes "rows" ∷ codes "tries" ∷ codes "seed" ∷ codes "count" ∷ []) do
+  run ← run_in given
+  pivots ← pivots_in given
+  Some (read run pivots)
 
 -- by the mode's word, without the options of other modes; the modes not named have no reading
 abbrev pub settings_in : (Text → Option Text) → Text → Option Settings
@@ -77,9 +92,9 @@ settings_in given mode =
     if bytes_eq mode (codes "answer") then without given (codes "seed" ∷ codes "count" ∷ []) (answer_of given) else
     if bytes_eq mode (codes "check") then without given option_names (Some settings.Check) else
     if bytes_eq mode (codes "bench") then without given (codes "format" ∷ []) (bench_of given) else
-    if bytes_eq mode (codes "copy") then option_map settings.Copy (steps_of given) else
-    if bytes_eq mode (codes "best") then option_map settings.Best (steps_of given) else
-    if bytes_eq mode (codes "sharing") then option_map settings.Sharing (steps_of given) else None
+    if bytes_eq mode (codes "copy") then runs_of given settings.Copy else
+    if bytes_eq mode (codes "best") then runs_of given settings.Best else
+    if bytes_eq mode (codes "sharing") then runs_of given settings.Sharing else None
 
 -- without a mode there are none
 unfoldable pub settings_by : (Text → Option Text) → Option Settings
@@ -103,9 +118,9 @@ AreFew rows tries = ((1 ≤ rows) × (rows ≤ 4096)) × ((1 ≤ tries) × (trie
 
 -- rows and candidates are few, and a generated file has a seed below 2^31 and 1 to 1000 questions
 abbrev pub AreInRange : Settings → Type 0
-AreInRange (settings.Answer format pivots rows tries) = AreFew rows tries
+AreInRange (settings.Answer format run pivots rows tries) = AreFew rows tries
 AreInRange settings.Check = Unit {0}
-AreInRange (settings.Bench seed count pivots rows tries) = (seed < 2 ^ 31) × ((1 ≤ count) × (count ≤ 1000)) × AreFew rows tries
-AreInRange (settings.Copy pivots) = Unit {0}
-AreInRange (settings.Best pivots) = Unit {0}
-AreInRange (settings.Sharing pivots) = Unit {0}
+AreInRange (settings.Bench seed count run pivots rows tries) = (seed < 2 ^ 31) × ((1 ≤ count) × (count ≤ 1000)) × AreFew rows tries
+AreInRange (settings.Copy run pivots) = Unit {0}
+AreInRange (settings.Best run pivots) = Unit {0}
+AreInRange (settings.Sharing run pivots) = Unit {0}

@@ -1,5 +1,6 @@
 //! The command, as clap reads it.
-ghost use Rattle.std.specs.Prelude.{◌≡◌, [], map, IfOk, IfErr, true, false};
+ghost use Rattle.std.specs.Prelude.{◌≡◌, [], ◌∷◌, codes, map, IfOk, IfErr, true, false};
+ghost use Rattle.std.specs.List.{fold};
 ghost use Rattle.clap.specs.Words.{app_of, rule_of, with_rule, fault_of, found_of, rows_of, matches_of, kind_of};
 ghost use Rattle.it_settings.specs.App.{option_rule, mode_rule, bare_app, itip_app};
 
@@ -56,18 +57,26 @@ fn with_mode<'a>(command: Command<'a>, alloc: Global) -> Result<Command<'a>, All
     command.arg(mode(alloc))
 }
 
+/// The command with the options of answers: how they are written and what they may cost.
+fn with_answers<'a>(command: Command<'a>, alloc: Global) -> Result<Command<'a>, AllocError>
+    ensures { IfOk result (λ r. app_of r ≡ fold (λ a name. with_rule a (option_rule name)) (app_of command.entry) (codes "format" ∷ codes "pivots" ∷ codes "rows" ∷ codes "tries" ∷ [])) }
+{
+    let command = with_option(command, alloc, "format")?;
+    let command = with_option(command, alloc, "pivots")?;
+    let command = with_option(command, alloc, "rows")?;
+    with_option(command, alloc, "tries")
+}
+
 /// The whole command. It knows the options of every mode; which of them a mode allows is judged later.
 #[tactic(auto, unfolding(crate::specs::App::itip_app))]
 fn itip<'a>(alloc: Global) -> Result<Command<'a>, AllocError>
     ensures { IfOk result (λ r. app_of r ≡ itip_app) }
 {
     let command = with_mode(bare_command(alloc), alloc)?;
-    let command = with_option(command, alloc, "format")?;
-    let command = with_option(command, alloc, "pivots")?;
-    let command = with_option(command, alloc, "rows")?;
-    let command = with_option(command, alloc, "tries")?;
+    let command = with_answers(command, alloc)?;
     let command = with_option(command, alloc, "seed")?;
-    with_option(command, alloc, "count")
+    let command = with_option(command, alloc, "count")?;
+    with_option(command, alloc, "run")
 }
 
 /// The matches of the words, or clap's error: one of memory, or words that the command doesn't read.

@@ -1,5 +1,5 @@
 //! What command lines are read as, each table as the contract of a function.
-ghost use Rattle.it_settings.specs.Rows.{ModesAreRead, FormsAreRead, NumbersAreRead, BenchIsRead, CopyIsRead, BestIsRead, SharingIsRead, OtherModesAreRead};
+ghost use Rattle.it_settings.specs.Rows.{ModesAreRead, FormsAreRead, NumbersAreRead, BenchIsRead, RunsAreRead, CopyIsRead, BestIsRead, SharingIsRead, OtherModesAreRead};
 
 /// The word for the mode, alone and among others.
 #[tactic(auto, using(crate::proofs::RowLemmas::modes_are_read))]
@@ -25,9 +25,15 @@ pub fn bench_is_read()
     ensures { BenchIsRead }
 {}
 
-/// The modes that take a budget of steps and no other option.
+/// How targets are decided, in the modes that answer files.
+#[tactic(auto, using(crate::proofs::RowLemmas::runs_are_read))]
+pub fn runs_are_read()
+    ensures { RunsAreRead }
+{}
+
+/// The modes that take how targets are decided, a budget of steps and no other option.
 #[tactic(auto, using(crate::proofs::RowLemmas::copy_is_read, crate::proofs::RowLemmas::best_is_read, crate::proofs::RowLemmas::sharing_is_read))]
-pub fn modes_with_steps_are_read()
+pub fn modes_with_runs_are_read()
     ensures copy { CopyIsRead }
     ensures best { BestIsRead }
     ensures sharing { SharingIsRead }

@@ -1,11 +1,12 @@
 //! The values of options.
 ghost use Rattle.std.specs.Prelude.{◌≡◌, ◌≤◌, ◌<◌, ◌+◌, ◌*◌, ◌-◌, ◌&&◌, if◌then◌else◌, nat_le, None, Some, option_map, IfSome, length};
 ghost use Rattle.it_number.specs.Decimals.{value_from};
-ghost use Rattle.it_settings.specs.Settings.{number_of, pivots_of, format_of};
+ghost use Rattle.it_settings.specs.Settings.{number_of, pivots_of, format_of, run_of};
 ghost use Rattle.std.specs.Option.{option_map_or};
 ghost use Rattle.it_settings.specs.declared.types.Format.TheVariants as formats;
+ghost use Rattle.it_settings.specs.declared.types.Run.TheVariants as runs;
 
-use crate::types::Format;
+use crate::types::{Format, Run};
 
 /// The value of decimal digits.
 fn value(bytes: &[u8]) -> Option<u64>
@@ -117,5 +118,27 @@ pub fn format_or(text: Option<&str>) -> Option<Format>
     match text {
         Some(text) => format(text),
         None => Some(Format::Text),
+    }
+}
+
+/// A run by its name.
+#[tactic(auto, unfolding(crate::specs::Settings::run_of))]
+fn run(text: &str) -> Option<Run>
+    ensures { result ≡ run_of text.now }
+{
+    match text {
+        "bland" => Some(Run::Bland),
+        "quick" => Some(Run::Quick),
+        _ => None,
+    }
+}
+
+/// The run that was given, or Bland's where none was.
+pub fn run_or(text: Option<&str>) -> Option<Run>
+    ensures { result ≡ option_map_or run_of (option_map (λ s. s.now) text.entry) (Some runs.Bland) }
+{
+    match text {
+        Some(text) => run(text),
+        None => Some(Run::Bland),
     }
 }

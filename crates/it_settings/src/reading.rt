@@ -1,14 +1,15 @@
 //! The reading of the words: what the command takes, each value then judged.
-ghost use Rattle.std.specs.Prelude.{◌≡◌, [], ◌∷◌, Option, Some, codes, map, IfOk, IfSome, option_map};
+ghost use Rattle.std.specs.Prelude.{◌≡◌, [], ◌∷◌, Option, Some, codes, is_none, map, IfOk, IfSome};
+ghost use Rattle.std.specs.List.{list_all};
 ghost use Rattle.clap.specs.Words.{first_value, found_of, kind_of};
 ghost use Rattle.it_settings.specs.ValuesViews.{AreTexts, texts_of};
 ghost use Rattle.it_settings.specs.declared.types.Settings.TheVariants as settings;
 ghost use Rattle.it_settings.specs.App.{option_names};
 ghost use Rattle.it_settings.specs.ErrorKinds.{IsFaultOf};
-ghost use Rattle.it_settings.specs.Settings.{answer_of, bench_of, steps_of, settings_by, settings_of, without, TellsReading, AreInRange};
+ghost use Rattle.it_settings.specs.Settings.{answer_of, bench_of, runs_of, settings_by, settings_of, without, TellsReading, AreInRange};
 
 use crate::command::parse;
-use crate::numbers::{format_or, number_or, pivots_or, rows_or, tries_or};
+use crate::numbers::{format_or, number_or, pivots_or, rows_or, run_or, tries_or};
 use crate::types::{Settings, WordsFault};
 use clap::error::ErrorKind;
 use clap::{ArgMatches, Error};
@@ -24,6 +25,7 @@ struct Values<'a> {
     tries: Option<&'a str>,
     seed: Option<&'a str>,
     count: Option<&'a str>,
+    run: Option<&'a str>,
 }
 
 /// The values that clap matched.
@@ -38,6 +40,7 @@ fn matched_values<'a>(matches: &ArgMatches<'a>) -> Values<'a>
         tries: matches.get_str("tries"),
         seed: matches.get_str("seed"),
         count: matches.get_str("count"),
+        run: matches.get_str("run"),
     }
 }
 
@@ -51,11 +54,13 @@ fn answer(values: Values) -> Option<Settings>
         return None;
     }
     let format = format_or(values.format)?;
+    let run = run_or(values.run)?;
     let pivots = pivots_or(values.pivots)?;
     let rows = rows_or(values.rows)?;
     let tries = tries_or(values.tries)?;
     Some(Settings::Answer {
         format,
+        run,
         pivots,
         rows,
         tries,
@@ -72,7 +77,8 @@ fn check(values: Values) -> Option<Settings>
         && values.rows.is_none()
         && values.tries.is_none()
         && values.seed.is_none()
-        && values.count.is_none();
+        && values.count.is_none()
+        && values.run.is_none();
     if none { Some(Settings::Check) } else { None }
 }
 
@@ -87,56 +93,71 @@ fn bench(values: Values) -> Option<Settings>
     }
     let seed = number_or(values.seed, 0, 2147483647, 1)?;
     let count = number_or(values.count, 1, 1000, 100)?;
+    let run = run_or(values.run)?;
     let pivots = pivots_or(values.pivots)?;
     let rows = rows_or(values.rows)?;
     let tries = tries_or(values.tries)?;
     Some(Settings::Bench {
         seed,
         count,
+        run,
         pivots,
         rows,
         tries,
     })
 }
 
-/// The budget of steps of a mode that has no other option.
-#[tactic(auto, unfolding(crate::specs::Settings::steps_of))]
-fn steps(values: Values) -> Option<Option<u32>>
-    ensures { result ≡ steps_of (texts_of values.entry) }
+/// Whether no option was given but how targets are decided and the budget of steps.
+fn has_runs_alone(values: Values) -> bool
+    ensures { result ≡ list_all (λ name. is_none (texts_of values.entry name)) (codes "format" ∷ codes "rows" ∷ codes "tries" ∷ codes "seed" ∷ codes "count" ∷ []) }
 {
-    let none = values.format.is_none()
+    values.format.is_none()
         && values.rows.is_none()
         && values.tries.is_none()
         && values.seed.is_none()
-        && values.count.is_none();
-    if none { pivots_or(values.pivots) } else { None }
+        && values.count.is_none()
 }
 
 /// The settings of mode `copy`.
+#[tactic(auto, unfolding(crate::specs::Settings::runs_of))]
 fn copy(values: Values) -> Option<Settings>
-    ensures reads { result ≡ option_map settings.Copy (steps_of (texts_of values.entry)) }
+    ensures reads { result ≡ runs_of (texts_of values.entry) settings.Copy }
     ensures ranges { IfSome result AreInRange }
 {
-    let pivots = steps(values)?;
-    Some(Settings::Copy { pivots })
+    if !has_runs_alone(values) {
+        return None;
+    }
+    let run = run_or(values.run)?;
+    let pivots = pivots_or(values.pivots)?;
+    Some(Settings::Copy { run, pivots })
 }
 
 /// The settings of mode `best`.
+#[tactic(auto, unfolding(crate::specs::Settings::runs_of))]
 fn best(values: Values) -> Option<Settings>
-    ensures reads { result ≡ option_map settings.Best (steps_of (texts_of values.entry)) }
+    ensures reads { result ≡ runs_of (texts_of values.entry) settings.Best }
     ensures ranges { IfSome result AreInRange }
 {
-    let pivots = steps(values)?;
-    Some(Settings::Best { pivots })
+    if !has_runs_alone(values) {
+        return None;
+    }
+    let run = run_or(values.run)?;
+    let pivots = pivots_or(values.pivots)?;
+    Some(Settings::Best { run, pivots })
 }
 
 /// The settings of mode `sharing`.
+#[tactic(auto, unfolding(crate::specs::Settings::runs_of))]
 fn sharing(values: Values) -> Option<Settings>
-    ensures reads { result ≡ option_map settings.Sharing (steps_of (texts_of values.entry)) }
+    ensures reads { result ≡ runs_of (texts_of values.entry) settings.Sharing }
     ensures ranges { IfSome result AreInRange }
 {
-    let pivots = steps(values)?;
-    Some(Settings::Sharing { pivots })
+    if !has_runs_alone(values) {
+        return None;
+    }
+    let run = run_or(values.run)?;
+    let pivots = pivots_or(values.pivots)?;
+    Some(Settings::Sharing { run, pivots })
 }
 
 /// The settings by the mode's word.

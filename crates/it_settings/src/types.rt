@@ -8,13 +8,23 @@ pub enum Format {
     Proof,
 }
 
+/// How a target is decided.
+#[derive(Clone, Copy, Debug, PartialEq, Eq)]
+pub enum Run {
+    /// By the defined run, that of the simplex method with Bland's rule.
+    Bland,
+    /// By a quick run first, whose proposal the check judges, and where that settles nothing by the defined run.
+    Quick,
+}
+
 /// The mode with its options, each as given or its default.
 #[derive(Clone, Copy, Debug, PartialEq, Eq)]
 pub enum Settings {
     /// Answer a question file.
     Answer {
         format: Format,
-        /// Steps of a run, 1 to 1,000,000, or as many as it takes.
+        run: Run,
+        /// Steps of the defined run, 1 to 1,000,000, or as many as it takes.
         pivots: Option<u32>,
         /// Rows of an elimination, 1 to 4,096.
         rows: u32,
@@ -30,6 +40,7 @@ pub enum Settings {
         /// Its questions, 1 to 1,000.
         count: u32,
         /// As in mode `answer`.
+        run: Run,
         pivots: Option<u32>,
         rows: u32,
         tries: u32,
@@ -37,16 +48,19 @@ pub enum Settings {
     /// Answer the questions of a file whose head asks for copies of variables.
     Copy {
         /// As in mode `answer`.
+        run: Run,
         pivots: Option<u32>,
     },
     /// Find the best factors between the sides of a file's relations.
     Best {
-        /// The most steps of each of the three runs about a relation.
+        run: Run,
+        /// The most steps of each of the three defined runs about a relation.
         pivots: Option<u32>,
     },
     /// Answer what is asked of a secret sharing file.
     Sharing {
         /// As in mode `answer`, or as in mode `best` where the file asks for a factor.
+        run: Run,
         pivots: Option<u32>,
     },
 }

@@ -8,11 +8,17 @@ use crate::fixtures::LONGEST_FILE;
 use it_contain::{
     Candidate, Contained, Pair, Proposer, Recent, Shape, Singles, Subsets, contain, pair,
 };
+use it_prove::Effort;
 use it_question::questions;
 use it_question::types::Verb;
-use it_simplex::Budget;
 use it_space::{Problem, Space, VarSet};
 use std::alloc::Global;
+
+/// The defined run, with as many steps as it takes.
+const DEFINED: Effort = Effort {
+    quick: false,
+    pivots: None,
+};
 
 /// A proposer of one candidate, so many times, whatever it is begun with. It learns nothing. One that lies in `learn`, so that a
 /// failure changes what it proposes or a proof changes it otherwise than its plan says, can't be written: it has no proof.
@@ -143,7 +149,7 @@ fn is_open(
 ) -> bool
     requires { IsPair pair.now }
 {
-    match contain(alloc, pair, first, boxes, tries, Budget::none()) {
+    match contain(alloc, pair, first, boxes, tries, DEFINED) {
         Ok(end) => has_tried(&end, count),
         Err(_) => false,
     }
@@ -160,7 +166,7 @@ fn is_found(
 ) -> bool
     requires { IsPair pair.now }
 {
-    match contain(alloc, pair, first, boxes, tries, Budget::none()) {
+    match contain(alloc, pair, first, boxes, tries, DEFINED) {
         Ok(end) => has_part(&end, part),
         Err(_) => false,
     }

@@ -27,9 +27,9 @@ returns-in-Yes c =
     let u = c.in_ok-other-in-Yes.other in
     let w = certificate_view c.in-Yes.certificate in
     let o = proof_view c.in_ok-proof-in-Yes.proof in
-    if_ok c.after_two.result (λ a. answer_view a ≡ answer_after_two w o) (λ a. AnswersForms p (f ∷ g ∷ []) (answer_view a) c.args.budget) c.after_two.ensures
-    (λ a is. answers_two p f t c.in_ok-row.ensures c.args.budget g u (row_negation p.space f t u c.in_ok-other-in-Yes.ensures c.in_ok-row.ensures) w o (answer_view a) is
-    (subst (λ x. IsRightProof p t (proof_view x)) c.in-Yes.is c.in_ok-proof.ensures.right) (subst (λ x. EndsWith p t c.args.budget (proof_view x)) c.in-Yes.is c.in_ok-proof.ensures.ends) c.in_ok-proof-in-Yes.ensures.right c.in_ok-proof-in-Yes.ensures.ends)
+    if_ok c.after_two.result (λ a. answer_view a ≡ answer_after_two w o) (λ a. AnswersForms p (f ∷ g ∷ []) (answer_view a) c.args.effort) c.after_two.ensures
+    (λ a is. answers_two p f t c.in_ok-row.ensures c.args.effort g u (row_negation p.space f t u c.in_ok-other-in-Yes.ensures c.in_ok-row.ensures) w o (answer_view a) is
+    (subst (λ x. IsRightProof p t (proof_view x)) c.in-Yes.is c.in_ok-proof.ensures.right) (subst (λ x. EndsWith p t c.args.effort (proof_view x)) c.in-Yes.is c.in_ok-proof.ensures.ends) c.in_ok-proof-in-Yes.ensures.right c.in_ok-proof-in-Yes.ensures.ends)
 
 pub returns : goal.returns
 returns c =
@@ -37,7 +37,7 @@ returns c =
     let f = form_of p.space.variables (relation_view c.args.relation.now) in
     let g = negation f in
     let t = c.in_ok-row.row in
-    if_ok c.after_one.result (λ a. answer_view a ≡ answer_after_one (proof_view c.in_ok-proof.proof)) (λ a. AnswersForms p (f ∷ g ∷ []) (answer_view a) c.args.budget)
+    if_ok c.after_one.result (λ a. answer_view a ≡ answer_after_one (proof_view c.in_ok-proof.proof)) (λ a. AnswersForms p (f ∷ g ∷ []) (answer_view a) c.args.effort)
     c.after_one.ensures
-    (λ a is. answers_first p f t c.in_ok-row.ensures c.args.budget g (negated_terms t) (row_negation p.space f t (negated_terms t) refl c.in_ok-row.ensures) c.in_ok-proof.proof (answer_view a) is (λ k e. c.in_default.not-Yes k e)
+    (λ a is. answers_first p f t c.in_ok-row.ensures c.args.effort g (negated_terms t) (row_negation p.space f t (negated_terms t) refl c.in_ok-row.ensures) c.in_ok-proof.proof (answer_view a) is (λ k e. c.in_default.not-Yes k e)
     c.in_ok-proof.ensures.right c.in_ok-proof.ensures.ends)

@@ -5,6 +5,7 @@ use Rattle.it_space.specs.Problems.{problem_view}
 use Rattle.it_syntax.specs.Meaning.{Holds}
 use Rattle.it_question.specs.Questions.{question_body}
 use Rattle.it_demand.specs.SystemForms.{AreAtLeastZero}
+use Rattle.it_prove.specs.declared.types.Effort.{Effort}
 use Rattle.it_redundant.specs.ReducedElimination.{ReducedEnds, projected_view}
 use Rattle.it_canon.proofs.PosesLemmas.{one_problem}
 use Rattle.it_answer.proofs.GivenLemmas.{space_of_names, met_where_true, few_constraints, constraints_of_sets, rates_of_question}
@@ -46,5 +47,5 @@ returns c =
     let due =
     region_is_due c.args.budgets q rates givens rows end (answer_view c.in_ok-answer.answer) (one_problem q givens c.requires.givens)
     (system_rows_are q c.in_ok-system.system.space rows (of_system ∙ c.requires.givens.space) c.in_ok-system.ensures.rows)
-    (subst (λ (b : Option ℕ). ReducedEnds givens b c.args.budgets.rows rows [] [] rates end) c.budget_of-budget.ensures c.in_ok-end.ensures.ends) c.in_ok-answer.ensures in
+    c.in_ok-end.ensures.ends c.in_ok-answer.ensures in
     λ plans. nothing_found c.args.budgets plans c.args.question.now c.in_ok-answer.answer (left_of_rows c.args.budgets plans q rates (answer_view c.in_ok-answer.answer) c.requires.eliminates shown due)

@@ -9,9 +9,9 @@ use Rattle.it_cli.proofs.CopyLemmas.{misfit_text}
 use Rattle.it_cli.proofs.copying.reply.Goals as goal
 
 pub returns-in-Ok : goal.returns-in-Ok
-returns-in-Ok c = if_ok c.proof_lines.result (λ t. IsProofText c.args.pivots c.args.k (question_body c.in-Ok.extended) t.items)
-    (λ t. IsTextOf (copy_mode c.args.pivots) [] c.args.k (with_copies (map copy_view c.args.copies.now) (question_view c.args.question.now)) t.items) c.proof_lines.ensures
+returns-in-Ok c = if_ok c.proof_lines.result (λ t. IsProofText c.args.effort c.args.k (question_body c.in-Ok.extended) t.items)
+    (λ t. IsTextOf (copy_mode c.args.effort) [] c.args.k (with_copies (map copy_view c.args.copies.now) (question_view c.args.question.now)) t.items) c.proof_lines.ensures
     (λ t lines. record { reply = Extended (question_body c.in-Ok.extended) lines.answer; right = (c.in-Ok.ensures.extension, lines.right); is = lines.is })
 
 pub returns-in-Err : goal.returns-in-Err
-returns-in-Err c = misfit_text c.args.pivots (with_copies (map copy_view c.args.copies.now) (question_view c.args.question.now)) c.args.k c.in-Err.fault c.misfit_line.result c.in-Err.ensures.misfit c.misfit_line.ensures.told c.misfit_line.ensures.some
+returns-in-Err c = misfit_text c.args.effort (with_copies (map copy_view c.args.copies.now) (question_view c.args.question.now)) c.args.k c.in-Err.fault c.misfit_line.result c.in-Err.ensures.misfit c.misfit_line.ensures.told c.misfit_line.ensures.some

@@ -8,8 +8,8 @@ use Rattle.it_contain.proofs.judging.proofs_of.Goals as goal
 
 pub returns-in-None-clause-proves : goal.returns-in-None-clause-proves
 returns-in-None-clause-proves c =
-    none_at (problem_view c.args.problem.now) c.args.budget c.args.targets.now c.loop-target.target-index c.target-item.result c.loop-target-test.true c.target-item.is
-    (subst (λ (o : Option Certificate). ProvesOne (problem_view c.args.problem.now) c.args.budget c.target-item.result o) c.in-None.is c.in_ok-proof.ensures.proves)
+    none_at (problem_view c.args.problem.now) c.args.effort c.args.targets.now c.loop-target.target-index c.target-item.result c.loop-target-test.true c.target-item.is
+    (subst (λ (o : Option Certificate). ProvesOne (problem_view c.args.problem.now) c.args.effort c.target-item.result o) c.in-None.is c.in_ok-proof.ensures.proves)
 
 pub returns-clause-proves : goal.returns-clause-proves
-returns-clause-proves c = proofs_end (problem_view c.args.problem.now) c.args.budget c.args.targets.now (proof_views c.loop-target.proofs) c.loop-target.target-index c.loop-target-test.false c.loop-target.invariant.under_way
+returns-clause-proves c = proofs_end (problem_view c.args.problem.now) c.args.effort c.args.targets.now (proof_views c.loop-target.proofs) c.loop-target.target-index c.loop-target-test.false c.loop-target.invariant.under_way

@@ -6,6 +6,6 @@ use Rattle.it_contain.proofs.judging.proofs_of.Given as goal
 
 abbrev pub invariant-loop-target : goal.invariant-loop-target
 invariant-loop-target l = record {
-  under_way : AreUnderWay (problem_view l.problem) l.budget l.targets (proof_views l.proofs) l.target-index;
-  outcomes : AreOutcomes (problem_view l.problem) l.budget l.outcomes;
+  under_way : AreUnderWay (problem_view l.problem) l.effort l.targets (proof_views l.proofs) l.target-index;
+  outcomes : AreOutcomes (problem_view l.problem) l.effort l.outcomes;
 }

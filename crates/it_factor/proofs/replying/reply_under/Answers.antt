@@ -17,8 +17,8 @@ returns-in-Prove-clause-right c =
     let q = question_body c.args.question.now in
     let p = problem_view c.args.problem.now in
     let r = relation_view c.in-Prove.relation in
-    if_ok c.relation_reply.result (λ x. IsReplyByRows p c.args.budget (at_least r.sign r) (reply_view x)) (λ x. IsRightReply c.args.budget q (reply_view x)) c.relation_reply.ensures
-    (λ x by_rows. right_reply q p c.requires.problem c.args.budget r (reply_view x) (ap verb_view c.in-Prove.is) by_rows)
+    if_ok c.relation_reply.result (λ x. IsReplyByRows p c.args.effort (at_least r.sign r) (reply_view x)) (λ x. IsRightReply c.args.effort q (reply_view x)) c.relation_reply.ensures
+    (λ x by_rows. right_reply q p c.requires.problem c.args.effort r (reply_view x) (ap verb_view c.in-Prove.is) by_rows)
 
 pub returns-in-Prove-clause-printable : goal.returns-in-Prove-clause-printable
 returns-in-Prove-clause-printable c =
@@ -26,12 +26,12 @@ returns-in-Prove-clause-printable c =
     let p = problem_view c.args.problem.now in
     let r = relation_view c.in-Prove.relation in
     let m = length c.args.problem.now.constraints.items in
-    if_ok c.relation_reply.result (λ x. IsReplyByRows p c.args.budget (at_least r.sign r) (reply_view x)) (IsPrintable q m) c.relation_reply.ensures
-    (λ x by_rows. reply_printable q m (constraint_count q p c.requires.problem) c.args.budget r x c.requires.limits (ap verb_view c.in-Prove.is)
-    (right_reply q p c.requires.problem c.args.budget r (reply_view x) (ap verb_view c.in-Prove.is) by_rows))
+    if_ok c.relation_reply.result (λ x. IsReplyByRows p c.args.effort (at_least r.sign r) (reply_view x)) (IsPrintable q m) c.relation_reply.ensures
+    (λ x by_rows. reply_printable q m (constraint_count q p c.requires.problem) c.args.effort r x c.requires.limits (ap verb_view c.in-Prove.is)
+    (right_reply q p c.requires.problem c.args.effort r (reply_view x) (ap verb_view c.in-Prove.is) by_rows))
 
 pub returns-in-Eliminate-clause-right : goal.returns-in-Eliminate-clause-right
-returns-in-Eliminate-clause-right c = other_is_right c.args.budget (question_body c.args.question.now) _ (ap verb_view c.in-Eliminate.is) refl
+returns-in-Eliminate-clause-right c = other_is_right c.args.effort (question_body c.args.question.now) _ (ap verb_view c.in-Eliminate.is) refl
 
 pub returns-in-Contain-clause-right : goal.returns-in-Contain-clause-right
-returns-in-Contain-clause-right c = other_is_right c.args.budget (question_body c.args.question.now) _ (ap verb_view c.in-Contain.is) refl
+returns-in-Contain-clause-right c = other_is_right c.args.effort (question_body c.args.question.now) _ (ap verb_view c.in-Contain.is) refl

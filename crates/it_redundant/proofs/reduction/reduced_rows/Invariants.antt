@@ -8,7 +8,7 @@ use Rattle.it_redundant.proofs.reduction.reduced_rows.Given as goal
 
 abbrev pub invariant-loop-i : goal.invariant-loop-i
 invariant-loop-i l = record {
-  under_way : IsUnderWay (problem_view l.givens) l.budget (size_of l.givens.space) l.rows (kept_view l.reduced) (dropped_view l.reduced) l.i;
+  under_way : IsUnderWay (problem_view l.givens) l.effort (size_of l.givens.space) l.rows (kept_view l.reduced) (dropped_view l.reduced) l.i;
   closed : IsClosedProblem (problem_view l.givens) l.closed;
   problem : problem_view l.problem ≡ with_rows (problem_view l.givens) (map (λ k. k.0) l.reduced.kept.items ++ drop l.i l.rows);
 }

@@ -44,7 +44,7 @@ returns-in_ok-insert_row-clause-visited c = record {
   ends = visit_ends (problem_view c.args.givens.now) record { space = c.args.problem.now.space; constraints = c.remove_row.new.constraints.items } c.args.reduced.now.kept.items c.args.after.now
       (taken_out (problem_view c.args.givens.now) c.args.reduced.now.kept.items (c.len-line.result + 1) (c.len.result + c.len-2.result) (search rules) (search rules)
       (problem_view c.args.problem.now) c.args.row.now c.args.after.now c.remove_row.new.constraints.items c.requires.problem c.remove_row.ensures)
-      c.args.budget c.args.row.now (proof_view c.in_ok-proof.proof) c.in_ok-proof.ensures.ends;
+      c.args.effort c.args.row.now (proof_view c.in_ok-proof.proof) c.in_ok-proof.ensures.ends;
   kept = c.in_ok-put.ensures.kept;
   dropped = c.in_ok-put.ensures.dropped;
 }
@@ -68,7 +68,7 @@ returns-else-len-line-clause-visited c = record {
   ends = visit_ends (problem_view c.args.givens.now) record { space = c.args.problem.now.space; constraints = c.remove_row.new.constraints.items } c.args.reduced.now.kept.items c.args.after.now
       (taken_out (problem_view c.args.givens.now) c.args.reduced.now.kept.items (c.len-line.result + 1) (c.len.result + c.len-2.result) (search rules) (search rules)
       (problem_view c.args.problem.now) c.args.row.now c.args.after.now c.remove_row.new.constraints.items c.requires.problem c.remove_row.ensures)
-      c.args.budget c.args.row.now (proof_view c.in_ok-proof.proof) c.in_ok-proof.ensures.ends;
+      c.args.effort c.args.row.now (proof_view c.in_ok-proof.proof) c.in_ok-proof.ensures.ends;
   kept = c.in_ok-put.ensures.kept;
   dropped = c.in_ok-put.ensures.dropped;
 }
