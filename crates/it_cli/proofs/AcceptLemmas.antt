@@ -118,11 +118,11 @@ module _ (q : BodyView) (posed : IsProblemOf q (problem_of q)) (effort : Effort)
 
   fits_of_yes : (t : Terms) (w : CertificateView) → EndsWith (problem_of q) t effort (proof_views.Yes w) → CertificateFits (problem_of q) t w
   fits_of_yes t w (inl e) = certificate_fits (problem_of q) t w e.end e.follows
-  fits_of_yes t w (inr (quick, (certifies, fits), canonical)) = fits
+  fits_of_yes t w (inr (quick, settled)) = settled.0.1
 
   fits_of_no : (t : Terms) (values : List ℤ) → EndsWith (problem_of q) t effort (proof_views.No values) → PointFits (problem_of q) t values
   fits_of_no t values (inl e) = point_fits (problem_of q) t values e.end e.follows
-  fits_of_no t values (inr (quick, (refutes, fits), within)) = fits
+  fits_of_no t values (inr (quick, settled)) = settled.0.1
 
   proof_valid : (f : Form) (t : Terms) (w : CertificateView) → IsRowOf (problem_of q).space f t → CertifiesForm q f w → EndsWith (problem_of q) t effort (proof_views.Yes w) → proof_verdict (problem_of q) t w ≡ Valid
   proof_valid f t w row c d = (valid_yes_is (problem_of q) t w posed.limits row.coordinates).1 (certifies_row f t w row c, fits_of_yes t w d)

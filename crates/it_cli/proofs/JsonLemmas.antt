@@ -179,7 +179,7 @@ pairs_below ds few from (t ∷ ts) a all =
 -- a proof of a target has such a shape, whichever run it comes from
 scaled_proof : (p : ProblemView) (effort : Effort) (t : Terms) (w : CertificateView) → EndsWith p t effort (proof_views.Yes w) → IsScaled w
 scaled_proof p effort t w (inl e) = scaled_by_end p t w e.end e.follows
-scaled_proof p effort t w (inr (quick, right, canonical, within)) = record { scale = within; canonical = canonical }
+scaled_proof p effort t w (inr (quick, settled)) = record { scale = settled.2; canonical = settled.1 }
 
 -- so have those of targets and of obligations
 pub proofs_scaled : (p : ProblemView) (effort : Effort) (ts : List Terms) (ws : List CertificateView) → AreProofsOf p effort ts ws → All IsScaled ws
@@ -227,7 +227,7 @@ module _ (q : BodyView) (posed : IsProblemOf q (problem_of q)) where
 
   values_of_no : (effort : Effort) (t : Terms) (values : List ℤ) → EndsWith (problem_of q) t effort (proof_views.No values) → All IsWithin values
   values_of_no effort t values (inl e) = values_by_end (problem_of q) t posed.limits values e.end e.follows
-  values_of_no effort t values (inr (quick, right, within)) = within
+  values_of_no effort t values (inr (quick, settled)) = settled.1
 
   values_due : (effort : Effort) (ts : List Terms) (back : Bool) (values : List ℤ) → PointIsDue (problem_of q) effort ts back values → All IsWithin values
   values_due effort [] back values d = absurd d

@@ -226,7 +226,7 @@ run_ascends q target budget w e = for_each e.end e.follows
 
 pub proven_ascends : ProvenAscends
 proven_ascends q target effort w (inl e) = run_ascends q target effort.pivots w e
-proven_ascends q target effort w (inr (quick, right, canonical, within)) = canonical
+proven_ascends q target effort w (inr (quick, settled)) = settled.1
 
 -- ---- without a budget
 
@@ -271,3 +271,8 @@ never_pivots q target effort r h = by effort.pivots refl r h
     by (Some steps) e r h = tt
     by None e (Err fault) h = tt
     by None e (Ok proof) h = λ k is. never_out_of_steps q target effort k e (subst (EndsWith q target effort) is h)
+
+-- what the code gives by the defined run is what the target may end with
+pub defined_ends : {E : Type 0} (q : ProblemView) (target : Terms) (effort : Effort) (r : Result Proof E) → IfOk r (λ proof. EndsByRun q target effort.pivots (proof_view proof)) → IfOk r (λ proof. EndsWith q target effort (proof_view proof))
+defined_ends q target effort (Err fault) h = tt
+defined_ends q target effort (Ok proof) h = inl h

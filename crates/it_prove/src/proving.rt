@@ -1,6 +1,6 @@
 //! The answer of the defined run about one target: collapse, run, lift or spread out, check.
 //! A last call is named before it is answered, so that its contract stands at the answer.
-ghost use Rattle.std.specs.Prelude.{◌≡◌, ◌++◌, IfErr, IfOk, OnOk};
+ghost use Rattle.std.specs.Prelude.{◌≡◌, ◌++◌, ℕ, IfErr, IfOk, OnOk};
 ghost use Rattle.it_space.specs.Answers.{certificate_view};
 ghost use Rattle.it_space.specs.Problems.{IsProblem, ProblemView, problem_view};
 ghost use Rattle.it_space.specs.Rows.{IsOver, coefficient};
