@@ -52,18 +52,21 @@ module _ (givens : ProblemView) (effort other : Effort) (limits : IsProblem give
     ends_agree_from (r ∷ rs) rows last also gone lost end other_end same up (s, e, g) (t, f, h) =
         let step : s ≡ t = one_end (2 ^ givens.space.variables) most (ordered_rows rows) (r ∷ []) s t e f in
         by_step s e g (subst (λ (x : EliminatedView). GoesOn givens other (λ kept dropped. All IsSettledRow kept × SettledEnds givens other most (kept_rows kept) kept dropped rs other_end) x other_end) (sym step) h)
+        (λ kept others dropped lost agree ups. ends_agree_from rs (kept_rows kept) kept others dropped lost end other_end agree ups)
       where
         by_step : (x : EliminatedView) → EliminationEnds (2 ^ givens.space.variables) most (ordered_rows rows) (r ∷ []) x
             → GoesOn givens effort (λ kept dropped. All IsSettledRow kept × SettledEnds givens effort most (kept_rows kept) kept dropped rs end) x end
-            → GoesOn givens other (λ kept dropped. All IsSettledRow kept × SettledEnds givens other most (kept_rows kept) kept dropped rs other_end) x other_end → HaveSameRows end other_end
-        by_step (elimination.Region next) e (kept, dropped, reduces, settled, later) (others, lost, reduces_so, also, rest) =
+            → GoesOn givens other (λ kept dropped. All IsSettledRow kept × SettledEnds givens other most (kept_rows kept) kept dropped rs other_end) x other_end
+            → ((kept others : List (Terms × NeedView)) (dropped lost : List (Terms × CertificateView)) → kept_rows kept ≡ kept_rows others → All (IsOver (size_of givens.space)) (kept_rows kept)
+            → SettledEnds givens effort most (kept_rows kept) kept dropped rs end → SettledEnds givens other most (kept_rows kept) others lost rs other_end → HaveSameRows end other_end) → HaveSameRows end other_end
+        by_step (elimination.Region next) e (kept, dropped, reduces, so) (others, lost, reduces_so, also) later =
             let ups : All (IsOver (size_of givens.space)) next = list_up givens most rows r next up e in
             let count : length next ≤ 65535 = let fits : length next ≤ most = (step_list (2 ^ givens.space.variables) most (ordered_rows rows) r next e).1 in omega (arith, fits, few_rows) in
-            let agree : kept_rows kept ≡ kept_rows others = reductions_agree [] next kept others dropped lost (taken_first givens effort next count ups) reduces reduces_so settled also in
-            ends_agree_from rs (kept_rows kept) kept others dropped lost end other_end agree (all_kept givens effort (IsOver (size_of givens.space)) [] next kept dropped reduces ups) later
-            (subst (λ (xs : List Terms). SettledEnds givens other most xs others lost rs other_end) (sym agree) rest)
-        by_step (elimination.Rows rate) e g h = subst₂ HaveSameRows (sym g) (sym h) refl
-        by_step (elimination.Wide rate) e g h = subst₂ HaveSameRows (sym g) (sym h) refl
+            let agree : kept_rows kept ≡ kept_rows others = reductions_agree [] next kept others dropped lost (taken_first givens effort next count ups) reduces reduces_so so.0 also.0 in
+            later kept others dropped lost agree (all_kept givens effort (IsOver (size_of givens.space)) [] next kept dropped reduces ups) so.1
+            (subst (λ (xs : List Terms). SettledEnds givens other most xs others lost rs other_end) (sym agree) also.1)
+        by_step (elimination.Rows rate) e g h later = subst₂ HaveSameRows (sym g) (sym h) refl
+        by_step (elimination.Wide rate) e g h later = subst₂ HaveSameRows (sym g) (sym h) refl
 
 pub settled_regions_agree : SettledRegionsAgree
 settled_regions_agree givens effort other most rows rates end other_end limits few few_rows up e f = ends_agree_from givens effort other limits few most few_rows rates rows [] [] [] [] end other_end refl up e f
