@@ -1,10 +1,12 @@
 -- Proofs of obligations: of one target, of all, and of a candidate.
-use Rattle.std.proofs.Common.{◌≡◌, ℕ, zero, suc, ◌<◌, ◌≤◌, ℤ, List, [], ◌∷◌, ◌++◌, map, length, drop, get_or, sym, ap, subst, ◌∙◌, arith, Option, Some, None, append-nil}
+use Rattle.std.proofs.Common.{◌≡◌, ℕ, zero, suc, ◌<◌, ◌≤◌, ℤ, List, [], ◌∷◌, ◌++◌, map, length, drop, get_or, sym, ap, subst, ◌∙◌, arith, Option, Some, None, append-nil, append_assoc, ◌+◌}
 use Rattle.std.specs.Prelude.{Contains}
-use Rattle.std.proofs.lemmas.List.{drop_all}
+use Rattle.std.proofs.lemmas.List.{drop_all, map-append}
 use Rattle.std.proofs.lemmas.List.Elements.{Contains-get_or}
 use Rattle.it_space.specs.declared.answers.Cause.{Cause}
-use Rattle.it_space.specs.Answers.{CertificateView}
+use Rattle.it_space.specs.declared.answers.Certificate.{Certificate}
+use Rattle.it_space.specs.Answers.{CertificateView, certificate_view}
+use Rattle.it_space.proofs.ListLemmas.{drop_item}
 use Rattle.it_space.specs.Problems.{ProblemView, problem_view}
 use Rattle.it_space.specs.Rows.{Terms}
 use Rattle.it_space.specs.Spaces.{size_of}
@@ -41,6 +43,15 @@ proofs_end q effort ts found i l u = subst (λ (ws : List CertificateView). AreP
 
 pub none_at : (q : ProblemView) (effort : Effort) (ts : List Terms) (i : ℕ) (t : Terms) → i < length ts → t ≡ get_or ts i t → ProvesOne q effort t None → ProvesAll q effort ts None
 none_at q effort ts i t l is n = (t, n.0, subst (Contains ts) (sym is) (Contains-get_or ts i t l), n.1, n.2)
+
+-- one target more is proved
+pub under_way_more : (q : ProblemView) (effort : Effort) (ts : List Terms) (proofs all : List Certificate) (c : Certificate) (i : ℕ) (t : Terms) → i < length ts → t ≡ get_or ts i t → EndsWith q t effort (Yes (certificate_view c))
+    → all ≡ proofs ++ c ∷ [] → AreUnderWay q effort ts (map certificate_view proofs) i → AreUnderWay q effort ts (map certificate_view all) (i + 1)
+under_way_more q effort ts proofs all c i t l is e pushed u = record {
+  all = λ more a. subst (λ (ws : List CertificateView). AreProofsOf q effort ts ws)
+      (sym (ap (λ (cs : List Certificate). map certificate_view cs ++ more) pushed ∙ ap (λ (ws : List CertificateView). ws ++ more) (map-append certificate_view proofs (c ∷ [])) ∙ append_assoc (map certificate_view proofs) (certificate_view c ∷ []) more))
+      (u.all (certificate_view c ∷ more) (subst (λ (xs : List Terms). AreProofsOf q effort xs (certificate_view c ∷ more)) (sym (drop_item ts i t l is)) (e, a)));
+}
 
 -- ---- a candidate
 

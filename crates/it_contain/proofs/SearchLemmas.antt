@@ -1,5 +1,6 @@
 -- A list that is searched from its front.
-use Rattle.std.proofs.Common.{◌≡◌, ℕ, ◌+◌, ◌-◌, ◌<◌, ◌≤◌, List, [], ◌∷◌, ◌++◌, length, ap, sym, ◌∙◌, arith, append_assoc, length-append}
+use Rattle.std.proofs.Common.{◌≡◌, ℕ, ◌+◌, ◌-◌, ◌<◌, ◌≤◌, List, [], ◌∷◌, ◌++◌, length, take, ap, ap₂, sym, subst, ◌∙◌, arith, append_assoc, append-nil, length-append}
+use Rattle.std.proofs.Math.Seq.{take-append_seam}
 use Rattle.std.specs.List.{All}
 use Rattle.std.proofs.lemmas.List.{take_all}
 use Rattle.std.proofs.lemmas.List.Elements.{All-append, All-push, All-same}
@@ -60,3 +61,21 @@ first_later goal tries xs ys t c o f =
       unproved = All-append (IsUnproved goal) xs f.before w.0 f.unproved;
       proved = f.proved;
     }
+
+-- where nothing is left the search is open, and so it is where as many are passed as are to be tried
+pub passed_all : (goal : Goal) (tries : ℕ) (whole rest : List Candidate) (t : ℕ) → IsPast goal whole rest t → rest ≡ [] → t ≤ tries → IsOpen goal tries whole t
+passed_all goal tries whole rest t p none le =
+    let same : whole ≡ p.passed = p.parts ∙ ap (λ (zs : List Candidate). p.passed ++ zs) none ∙ append-nil p.passed in
+    let n : length whole ≡ t = ap length same ∙ p.count in
+    let long : length whole ≤ tries = omega (arith, n, le) in
+    record { unproved = subst (λ (cs : List Candidate). All (IsUnproved goal) cs) (sym same ∙ sym (take_all tries whole long)) p.unproved; tried_is = omega (arith, n, le) }
+
+pub passed_most : (goal : Goal) (tries : ℕ) (whole rest : List Candidate) (t : ℕ) → IsPast goal whole rest t → t ≡ tries → IsOpen goal tries whole t
+passed_most goal tries whole rest t p most =
+    let first : take tries whole ≡ p.passed = ap₂ (λ (k : ℕ) (cs : List Candidate). take k cs) (sym (p.count ∙ most)) p.parts ∙ take-append_seam p.passed rest in
+    let parts : length whole ≡ length p.passed + length rest = ap length p.parts ∙ length-append p.passed rest in
+    let count = p.count in
+    record { unproved = subst (λ (cs : List Candidate). All (IsUnproved goal) cs) (sym first) p.unproved; tried_is = omega (arith, parts, count, most) }
+
+pub passed_tries : (goal : Goal) (tries : ℕ) (whole rest : List Candidate) (t : ℕ) → IsPast goal whole rest t → t ≡ tries → IsOpen goal tries whole tries
+passed_tries goal tries whole rest t p most = subst (λ (n : ℕ). IsOpen goal tries whole n) most (passed_most goal tries whole rest t p most)

@@ -1,6 +1,7 @@
 use Rattle.std.proofs.Common.{rules, ap, drop, ◌∙◌, ◌+◌}
 use Rattle.it_contain.proofs.BoxLemmas.{same_length}
 use Rattle.it_contain.proofs.TryLemmas.{try_finds, try_fails, try_passes}
+use Rattle.it_contain.proofs.SearchLemmas.{passed_all, passed_tries}
 use Rattle.it_contain.specs.Search.{pair_goal}
 use Rattle.it_contain.proofs.search.try_box.Goals as goal
 
@@ -21,3 +22,15 @@ loop-count-preserved g c =
       later = ap (drop (c.args.i + 1)) not.1 ∙ c.in-Some.ensures.later ∙ c.loop-count.invariant.later;
       outcomes = search rules;
     }
+
+pub returns-in_default-clause-ends : goal.returns-in_default-clause-ends
+returns-in_default-clause-ends g c = (
+  passed_all (pair_goal c.args.goal.now.pair.now c.args.goal.now.effort) c.args.tries _ _ c.loop-count.count c.loop-count.invariant.passed c.in_default.ensures.takes.0 (search rules),
+  c.in_default.ensures.plans ∙ c.loop-count.invariant.plans,
+)
+
+pub returns-clause-ends : goal.returns-clause-ends
+returns-clause-ends g c = (
+  passed_tries (pair_goal c.args.goal.now.pair.now c.args.goal.now.effort) c.args.tries _ _ c.loop-count.count c.loop-count.invariant.passed (search rules),
+  c.loop-count.invariant.plans,
+)

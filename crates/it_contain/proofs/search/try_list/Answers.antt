@@ -1,6 +1,7 @@
-use Rattle.std.proofs.Common.{rules, drop, ◌∙◌, ◌+◌}
+use Rattle.std.proofs.Common.{rules, length, ◌≤◌, drop, ◌∙◌, ◌+◌}
+use Rattle.std.proofs.lemmas.List.{drop_all}
 use Rattle.it_space.proofs.ListLemmas.{drop_item}
-use Rattle.it_contain.proofs.SearchLemmas.{passed_more}
+use Rattle.it_contain.proofs.SearchLemmas.{passed_more, passed_all, passed_most}
 use Rattle.it_contain.proofs.TryLemmas.{try_finds, try_fails}
 use Rattle.it_contain.specs.Search.{pair_goal}
 use Rattle.it_contain.proofs.search.try_list.Goals as goal
@@ -20,3 +21,17 @@ loop-candidate-preserved g c =
       pending = not.1 ∙ c.loop-candidate.invariant.pending;
       outcomes = search rules;
     }
+
+pub returns-then-count-tries-clause-ends : goal.returns-then-count-tries-clause-ends
+returns-then-count-tries-clause-ends g c = (
+  passed_most (pair_goal c.args.goal.now.pair.now c.args.goal.now.effort) c.args.tries _ _ c.loop-candidate.count c.loop-candidate.invariant.passed (search rules),
+  c.loop-candidate.invariant.plans,
+)
+
+pub returns-clause-ends : goal.returns-clause-ends
+returns-clause-ends g c =
+    let past : length c.args.first.now ≤ c.loop-candidate.candidate-index = search rules in
+    (
+      passed_all (pair_goal c.args.goal.now.pair.now c.args.goal.now.effort) c.args.tries _ _ c.loop-candidate.count c.loop-candidate.invariant.passed (drop_all c.loop-candidate.candidate-index c.args.first.now past) c.loop-candidate.invariant.within,
+      c.loop-candidate.invariant.plans,
+    )
