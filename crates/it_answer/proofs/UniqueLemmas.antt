@@ -216,7 +216,7 @@ region_ascends answer (projections.Region kept dropped) is = subst ProofsAscend 
 region_ascends answer (projections.Rows rate) is = subst ProofsAscend (sym is) tt
 region_ascends answer (projections.Wide rate) is = subst ProofsAscend (sym is) tt
 
-search_ascends : (q : BodyView) (a b : RegionView) (effort : Effort) (tries : ℕ) (plan found : List Candidate) (answer : AnswerView) → IsDueBySearch (IsProofOf q a b effort) tries plan found answer → ProofsAscend answer
+search_ascends : (q : BodyView) (a b : RegionView) (effort : Effort) (tries : ℕ) (plan found : List Candidate) (answer : AnswerView) → IsDueBySearch (containment_goal q a b effort) tries plan found answer → ProofsAscend answer
 search_ascends q a b effort tries plan found (answer_views.Yes ws) x = absurd x
 search_ascends q a b effort tries plan found (answer_views.No is_back values) x = absurd x
 search_ascends q a b effort tries plan found (answer_views.Undecided cause) x = absurd x
