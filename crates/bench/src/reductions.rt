@@ -13,9 +13,9 @@ use crate::output::Output;
 use crate::targets::Asking;
 use it_canon::{problem, system};
 use it_eliminate::{Eliminated, step};
+use it_prove::Effort;
 use it_question::types::{Question, Verb};
 use it_redundant::{kept_system, reduce};
-use it_prove::Effort;
 use it_space::{Constraint, Kind, Origin, Problem, Row, System};
 use std::alloc::{AllocError, Global};
 

@@ -1,8 +1,10 @@
 -- The lines of a report that mode `answer` writes are those of the answers, and no verdict on one is invalid.
-use Rattle.std.proofs.Common.{◌≡◌, ℕ, ◌+◌, ◌<◌, ◌≤◌, ◌^◌, false, ◌||◌, List, [], ◌∷◌, ◌++◌, map, length, All, IfSome, refl, sym, ap, ap₂, subst, ◌∙◌, arith, append_assoc}
+use Rattle.std.proofs.Common.{◌≡◌, ℕ, ◌+◌, ◌<◌, ◌≤◌, ◌^◌, false, ◌||◌, List, [], ◌∷◌, ◌++◌, map, length, All, IfSome, Option, refl, sym, ap, ap₂, subst, ◌∙◌, arith, append_assoc}
 use Rattle.std.proofs.lemmas.List.Elements.{All-head, All-tail}
 use Rattle.std.specs.List.{list_any}
 use Rattle.it_settings.specs.declared.types.Format.TheVariants.{Json}
+use Rattle.it_settings.specs.declared.types.Run.{Run}
+use Rattle.it_settings.specs.declared.types.Run.TheVariants.{Bland, Quick}
 use Rattle.it_question.specs.Files.{IsFile}
 use Rattle.it_question.specs.Lines.{split_lines}
 use Rattle.it_question.specs.Questions.{QuestionView}
@@ -16,7 +18,7 @@ use Rattle.it_report.specs.LineVerdicts.{LineVerdict, is_invalid}
 use Rattle.it_cli.specs.Accepted.{OutputIsAccepted}
 use Rattle.it_cli.specs.Modes.{Replies}
 use Rattle.it_cli.specs.Outputs.{answer_mode, check_mode, verdict_status}
-use Rattle.it_cli.specs.Right.{budgets_of}
+use Rattle.it_cli.specs.Right.{budgets_of, effort_of}
 use Rattle.it_cli.proofs.AcceptLemmas.{right_accepted}
 use Rattle.it_cli.proofs.FeedLemmas.{split_one}
 use Rattle.it_cli.proofs.ShortTexts.{texts_are_short}
@@ -40,8 +42,13 @@ module _ (back : ReadsBack) (budgets : Budgets) (plans : List Plan) (few : IfSom
       (All-tail (λ (q : QuestionView). length q.text ≤ length bytes + 1) q qs lengths) g.3
       (any_more is_invalid before w.0 ∙ ap₂ (λ x y. x || y) clean ok) w.3
 
+-- the steps of an effort are those that are given, whichever run comes first
+steps_of_effort : (run : Run) (pivots : Option ℕ) → pivots ≡ (effort_of run pivots).pivots
+steps_of_effort Bland pivots = refl
+steps_of_effort Quick pivots = refl
+
 pub output_is_accepted : ReadsBack → OutputIsAccepted
 output_is_accepted back plans run pivots rows tries bytes out told answered checked few few_tries short a c =
     let verdicts = subst (λ (lines : List (List ℕ)). Replies check_mode lines c.replies told) c.asked c.written in
-    let none = none_invalid back (budgets_of run pivots rows tries) plans few few_tries bytes short a.items a.asked 1 1 [] a.items [] a.replies [] c.replies out told refl (texts_are_short bytes a.items a.asked) a.written refl verdicts in
+    let none = none_invalid back (budgets_of run pivots rows tries) plans (subst (λ (o : Option ℕ). IfSome o (λ n. n < 2 ^ 32)) (steps_of_effort run pivots) few) few_tries bytes short a.items a.asked 1 1 [] a.items [] a.replies [] c.replies out told refl (texts_are_short bytes a.items a.asked) a.written refl verdicts in
     c.is ∙ ap verdict_status none

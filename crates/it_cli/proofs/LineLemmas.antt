@@ -203,7 +203,7 @@ pub right_is_printable : (budgets : Budgets) (plans : List Plan) (q : BodyView) 
 right_is_printable budgets plans q m answer found k few right = by_verb q.verb refl right.shows right.due
   where
     by_verb : (verb : VerbView) → q.verb ≡ verb → ShowsBy q verb (answer_view answer) → IsDueBy budgets plans q verb (record { answer = answer_view answer; found = found }) → IsPrintable q m answer
-    by_verb (Prove r) is shown due = printable_proof efforts.effort q r m answer k few shown due.0
+    by_verb (Prove r) is shown due = printable_proof budgets.effort q r m answer k few shown due.0
     by_verb (Eliminate rates) is shown due = printable_region budgets q rates m answer (ap (names_under q.names) is) (subst (IsVerbOver q.names) is k.verb).within shown due.0
     by_verb (Contain a b tries) is shown due = printable_containment q a b tries m answer is k few shown
 

@@ -19,8 +19,8 @@ mod types;
 pub use answering::prove;
 pub use closed::ClosedProblem;
 pub use laws::{
-    defined_ends_may_come, ends_agree, ends_are_right, never_at_start, never_out_of_steps, one_outcome,
-    proven_ascends, size_is_of_start,
+    defined_ends_may_come, ends_agree, ends_are_right, never_at_start, never_out_of_steps,
+    one_outcome, proven_ascends, size_is_of_start,
 };
 pub use quick::settle;
 pub use types::{Effort, Proof, budget_of};

@@ -39,9 +39,9 @@ module _ (givens : ProblemView) (effort other : Effort) (limits : IsProblem give
       let settled : All IsSettledRow (kept_by row o ++ k) = subst (All IsSettledRow) e a in
       let also : All IsSettledRow (kept_by row p ++ l) = subst (All IsSettledRow) h b in
       let first : kept_rows (kept_by row o) ≡ kept_rows (kept_by row p) = same_kept (before ++ rows) row o p (taken_problem givens effort limits few before rows row taken) (own_up givens effort before rows row taken) ends others_end
-          (all_front IsSettledRow (kept_by row o) k settled) (all_front IsSettledRow (kept_by row p) l also) in
+      (all_front IsSettledRow (kept_by row o) k settled) (all_front IsSettledRow (kept_by row p) l also) in
       let rest : kept_rows k ≡ kept_rows l = reductions_agree (before ++ kept_rows (kept_by row o)) rows k l d g (taken_next givens effort before rows row o taken) r
-          (subst (λ (xs : List Terms). Reduces givens other (before ++ xs) rows l g) (sym first) s) (all_back IsSettledRow (kept_by row o) k settled) (all_back IsSettledRow (kept_by row p) l also) in
+      (subst (λ (xs : List Terms). Reduces givens other (before ++ xs) rows l g) (sym first) s) (all_back IsSettledRow (kept_by row o) k settled) (all_back IsSettledRow (kept_by row p) l also) in
       ap kept_rows e ∙ rows_of_parts (kept_by row o) k ∙ ap₂ (λ (xs ys : List Terms). xs ++ ys) first rest ∙ sym (ap kept_rows h ∙ rows_of_parts (kept_by row p) l)
 
   module _ (most : ℕ) (few_rows : most ≤ 65535) where

@@ -30,8 +30,7 @@ returns-then-count-tries-clause-ends g c = (
 
 pub returns-clause-ends : goal.returns-clause-ends
 returns-clause-ends g c =
-    let past : length c.args.first.now ≤ c.loop-candidate.candidate-index = search rules in
-    (
+    let past : length c.args.first.now ≤ c.loop-candidate.candidate-index = search rules in (
       passed_all (pair_goal c.args.goal.now.pair.now c.args.goal.now.effort) c.args.tries _ _ c.loop-candidate.count c.loop-candidate.invariant.passed (drop_all c.loop-candidate.candidate-index c.args.first.now past) c.loop-candidate.invariant.within,
       c.loop-candidate.invariant.plans,
     )
