@@ -15,12 +15,7 @@ use it_question::types::{FileFault, Question};
 use std::alloc::{AllocError, Global};
 
 /// What is done for the bytes of a question file.
-pub fn find_factors<K: Sink>(
-    alloc: Global,
-    effort: Effort,
-    bytes: &[u8],
-    sink: &mut K,
-) -> Status
+pub fn find_factors<K: Sink>(alloc: Global, effort: Effort, bytes: &[u8], sink: &mut K) -> Status
     requires { length bytes.now ≤ 1048576 }
     ensures { EndsForBytes K.taken K.faults (best_mode effort) sink.old sink.new bytes.now result }
 {
@@ -32,12 +27,7 @@ pub fn find_factors<K: Sink>(
 }
 
 /// Writes the line of each question, as soon as it is there.
-fn reply_all<K: Sink>(
-    alloc: Global,
-    effort: Effort,
-    questions: &[Question],
-    sink: &mut K,
-) -> Status
+fn reply_all<K: Sink>(alloc: Global, effort: Effort, questions: &[Question], sink: &mut K) -> Status
     requires { All (λ q. IsQuestion (question_body q)) questions.now }
     ensures { EndsForItems K.taken K.faults (best_mode effort) sink.old sink.new (map question_view questions.now) result }
 {

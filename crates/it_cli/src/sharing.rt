@@ -25,12 +25,7 @@ use std::alloc::{AllocError, Global};
 const MANY: &[u8] = b"misfit many\n";
 
 /// What is done for the bytes of a sharing file.
-pub fn answer_sharing<K: Sink>(
-    alloc: Global,
-    effort: Effort,
-    bytes: &[u8],
-    sink: &mut K,
-) -> Status
+pub fn answer_sharing<K: Sink>(alloc: Global, effort: Effort, bytes: &[u8], sink: &mut K) -> Status
     requires { length bytes.now ≤ 1048576 }
     ensures { EndsForBytes K.taken K.faults (sharing_mode effort) sink.old sink.new bytes.now result }
 {
