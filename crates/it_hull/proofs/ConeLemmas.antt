@@ -1,9 +1,11 @@
 -- What rays span is attained where the rays are, and rows that hold there hold at no more.
-use Rattle.std.proofs.Common.{◌≡◌, ℕ, ◌*◌, bit_and, bit_or, ℤ, pos, ◌+ℤ◌, ◌-ℤ◌, ◌*ℤ◌, ◌≤ℤ◌, List, [], ◌∷◌, refl, sym, ap, subst, arith}
+use Rattle.std.proofs.Common.{◌≡◌, ℕ, ◌*◌, bit_and, bit_or, ℤ, pos, ◌+ℤ◌, ◌-ℤ◌, ◌*ℤ◌, ◌≤ℤ◌, List, [], ◌∷◌, refl, sym, ap, subst, ◌∙◌, arith}
 use Rattle.std.specs.List.{AllByRecursion as Every}
 use Rattle.std.proofs.lemmas.Int.{ints}
 use Rattle.std.proofs.lemmas.List.Elements.{All-nil, All-cons, All-head, All-tail}
 use Rattle.it_number.proofs.Integers.{zring, mul_assoc}
+use Rattle.it_number.proofs.IntegerRing.{ring_ℤ}
+use Rattle.it_number.proofs.Ring.{ring, v as var, plus, times}
 use Rattle.it_number.proofs.SignLemmas.{product_least, sum_least, least_by_multiple}
 use Rattle.it_space.specs.declared.problems.Constraint.{Constraint}
 use Rattle.it_space.specs.declared.problems.Kind.{Kind}
@@ -19,23 +21,30 @@ use Rattle.it_hull.proofs.ValueLemmas.{value_linear, value_scaled, value_zero}
 
 -- ---- what is spanned is attained
 
-grown : (f g w : ℕ) (x r y z : ℤ) → pos f *ℤ x ≡ pos w *ℤ r +ℤ y → z ≡ pos g *ℤ y → pos (g * w) *ℤ r +ℤ z ≡ pos (g * f) *ℤ x
-grown f g w x r y z a b =
-    let e : pos g *ℤ (pos f *ℤ x) ≡ pos g *ℤ (pos w *ℤ r +ℤ y) = ap (λ t. pos g *ℤ t) a in
-    let m : pos (g * f) *ℤ x ≡ pos g *ℤ (pos f *ℤ x) = mul_assoc (pos g) (pos f) x in
-    let n : pos (g * w) *ℤ r ≡ pos g *ℤ (pos w *ℤ r) = mul_assoc (pos g) (pos w) r in
-    omega (arith, zring, e, m, n, b)
+ring_sum : (g h w r y : ℤ) → g *ℤ (h *ℤ (w *ℤ r +ℤ y)) ≡ h *ℤ (w *ℤ (g *ℤ r)) +ℤ g *ℤ (h *ℤ y)
+ring_sum g h w r y = ring ring_ℤ (g ∷ h ∷ w ∷ r ∷ y ∷ []) (times (var 0) (times (var 1) (plus (times (var 2) (var 3)) (var 4)))) (plus (times (var 1) (times (var 2) (times (var 0) (var 3)))) (times (var 0) (times (var 1) (var 4)))) refl
 
-spanned_attained : (Holds : (ℕ → ℤ) → Type 0) (kept : List ℕ) (rays : List (List ℤ)) (x : ℕ → ℤ) → IsCone Holds → Every (λ ray. Holds (point_of ray)) rays
+-- f x is w r and y, p is g r and q is h y: then g h f x is h w p and g q
+sum_of_points : (f w g h : ℕ) (x r y p q : ℤ) → pos f *ℤ x ≡ pos w *ℤ r +ℤ y → p ≡ pos g *ℤ r → q ≡ pos h *ℤ y → pos (h * w) *ℤ p +ℤ (pos g *ℤ q +ℤ pos 0) ≡ pos (g * (h * f)) *ℤ x
+sum_of_points f w g h x r y p q a b c =
+    let weights : pos (h * w) *ℤ p ≡ pos h *ℤ (pos w *ℤ (pos g *ℤ r)) = mul_assoc (pos h) (pos w) p ∙ ap (λ z. pos h *ℤ (pos w *ℤ z)) b in
+    let factors : pos (g * (h * f)) *ℤ x ≡ pos g *ℤ (pos h *ℤ (pos w *ℤ r +ℤ y)) =
+    mul_assoc (pos g) (pos (h * f)) x ∙ ap (λ z. pos g *ℤ z) (mul_assoc (pos h) (pos f) x) ∙ ap (λ z. pos g *ℤ (pos h *ℤ z)) a in
+    let rest : pos g *ℤ q ≡ pos g *ℤ (pos h *ℤ y) = ap (λ z. pos g *ℤ z) c in
+    let sum = ring_sum (pos g) (pos h) (pos w) r y in
+    omega (arith, ints, weights, factors, rest, sum)
+
+spanned_attained : (Holds : (ℕ → ℤ) → Type 0) (kept : List ℕ) (rays : List (List ℤ)) (x : ℕ → ℤ) → IsCone Holds → Every (λ ray. IsAttained kept Holds (point_of ray)) rays
     → IsSpanned kept rays x → IsAttained kept Holds x
 spanned_attained Holds kept [] x cone held s = record { factor = 1; some = omega arith; point = λ c. pos 0; same = λ c m. let z = s c m in omega (arith, ints, z); holds = cone.zero }
 spanned_attained Holds kept (ray ∷ rays) x cone held (f, w, y, some, sum, s) =
+    let r = held.0 in
     let a = spanned_attained Holds kept rays y cone held.1 s in record {
-      factor = a.factor * f;
-      some = some_product a.factor f a.some some;
-      point = λ c. pos (a.factor * w) *ℤ point_of ray c +ℤ a.point c;
-      same = λ c m. grown f a.factor w (x c) (point_of ray c) (y c) (a.point c) (sum c m) (a.same c m);
-      holds = cone.more (a.factor * w) (point_of ray) a.point held.0 a.holds;
+      factor = r.factor * (a.factor * f);
+      some = some_product r.factor (a.factor * f) r.some (some_product a.factor f a.some some);
+      point = λ c. pos (a.factor * w) *ℤ r.point c +ℤ (pos r.factor *ℤ a.point c +ℤ pos 0);
+      same = λ c m. sum_of_points f w r.factor a.factor (x c) (point_of ray c) (y c) (r.point c) (a.point c) (sum c m) (r.same c m) (a.same c m);
+      holds = cone.more (a.factor * w) r.point (λ c. pos r.factor *ℤ a.point c +ℤ pos 0) r.holds (cone.more r.factor a.point (λ c. pos 0) a.holds cone.zero);
     }
 
 -- ---- rows hold where they hold at a multiple
@@ -99,7 +108,7 @@ problems_are_cones q = record {
 
 pub hull_is_projection : HullIsProjection
 hull_is_projection q kept rows rays hull valid held x = (
-  λ a. spanned_attained (MeetsProblem q) kept rays x (problems_are_cones q) (every_of (λ (ray : List ℤ). MeetsProblem q (point_of ray)) rays held) ((hull.exact x).0 a),
+  λ a. spanned_attained (MeetsProblem q) kept rays x (problems_are_cones q) (every_of (λ (ray : List ℤ). IsAttained kept (MeetsProblem q) (point_of ray)) rays held) ((hull.exact x).0 a),
   λ a. all_of (λ (row : Terms). pos 0 ≤ℤ value row x) rows (attained_holds (MeetsProblem q) kept rows x (every_of (UsesOnly kept) rows hull.over)
       (every_of (λ (row : Terms). (p : ℕ → ℤ) → MeetsProblem q p → pos 0 ≤ℤ value row p) rows valid) a),
 )

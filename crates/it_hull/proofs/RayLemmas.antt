@@ -19,14 +19,15 @@ use Rattle.it_eliminate.specs.declared.types.Eliminated.{Eliminated}
 use Rattle.it_eliminate.specs.declared.types.Eliminated.TheVariants as ends
 use Rattle.it_eliminate.specs.Elimination.{EliminatedView, EliminationEnds, Region, Rows, Wide, next_list, ordered_rows}
 use Rattle.it_eliminate.specs.Projections.{IsPointOf, Extends, IsProjection, LacksCoordinate, RegionIsProjection}
-use Rattle.it_eliminate.specs.Views.{SystemEnds}
+use Rattle.it_eliminate.specs.Views.{eliminated_view}
 use Rattle.it_eliminate.proofs.LawLemmas.{one_end}
 use Rattle.it_eliminate.proofs.OrderLemmas.{lacks-ordered_rows}
-use Rattle.it_eliminate.proofs.RateLemmas.{next_keeps_lacking}
+use Rattle.it_eliminate.proofs.RateLemmas.{next_keeps_lacking, projection_exact}
+use Rattle.it_eliminate.proofs.StepLemmas.{next_lacks}
 use Rattle.it_hull.specs.Hulls.{UsesOnly, rows_with_multiplier, with_multiplier}
 use Rattle.it_hull.specs.Rays.{AddsRay, IsNextHull, RayEnds, ValuesFit}
-use Rattle.it_hull.specs.Theorems.{OneRayEnd}
-use Rattle.it_hull.proofs.StepLemmas.{one_more_ray}
+use Rattle.it_hull.specs.Theorems.{OneMoreRay, OneRayEnd}
+use Rattle.it_hull.proofs.StepLemmas.{eliminated_is_hull}
 use Rattle.it_hull.proofs.TermLemmas.{coefficient-with_term, over-with_term}
 
 pub one_ray_end : OneRayEnd
@@ -78,46 +79,37 @@ region_of_one base most rows r kept (inl e) = absurd (subst (IsRegionOf kept) e.
 region_of_one base most rows r kept (inr (inl e)) = absurd (subst (IsRegionOf kept) e.2 refl)
 region_of_one base most rows r kept (inr (inr e)) = sym (subst (IsRegionOf kept) e.2 refl)
 
-next_hull : (hull lifted next : System) (ray : List ℤ) (most rate : ℕ) → lifted.space ≡ hull.space → lifted.rows.items ≡ rows_with_multiplier (2 ^ hull.space.variables + rate) (point_of ray) hull.rows.items
-    → SystemEnds lifted most (rate ∷ []) (ends.Region next) → IsProjection lifted (rate ∷ []) next → IsNextHull hull ray rate next
-next_hull hull lifted next ray most rate same are e projection = record {
+module _ (at : ℕ) (ray : ℕ → ℤ) (rows next : List Terms) (list : next ≡ next_list at (ordered_rows (rows_with_multiplier at ray rows))) where
+  next_lacking : (c : ℕ) → LacksCoordinate c rows → LacksCoordinate c next
+  next_lacking c o = subst (λ (rs : List Terms). LacksCoordinate c rs) (sym list) (by_test (nat_eq c at) refl)
+    where
+      by_test : (b : Bool) → nat_eq c at ≡ b → LacksCoordinate c (next_list at (ordered_rows (rows_with_multiplier at ray rows)))
+      by_test true k = subst (λ (d : ℕ). LacksCoordinate d (next_list at (ordered_rows (rows_with_multiplier at ray rows)))) (sym (eqb-true c at k)) (next_lacks at (ordered_rows (rows_with_multiplier at ray rows)))
+      by_test false k = next_keeps_lacking c at (ordered_rows (rows_with_multiplier at ray rows)) (lacks-ordered_rows c (rows_with_multiplier at ray rows) (multiplier_lacks c at ray rows (eqb-false c at k) o))
+
+  next_over : (kept : List ℕ) → All (UsesOnly kept) rows → All (UsesOnly kept) next
+  next_over kept o k d l c n = next_lacking c (λ j f m. o j f m c n) k d l
+
+  next_exact : (x : ℕ → ℤ) → IsPointOf next x ↔ Extends (at ∷ []) (rows_with_multiplier at ray rows) x
+  next_exact x = subst (λ (rs : List Terms). IsPointOf rs x ↔ Extends (at ∷ []) (rows_with_multiplier at ray rows) x) (sym list) (projection_exact (at ∷ []) (rows_with_multiplier at ray rows) x)
+
+pub one_more_ray : OneMoreRay
+one_more_ray base most ray rate kept rows next rays away h (inl e) = absurd (subst (IsRegionOf next) e.1 refl)
+one_more_ray base most ray rate kept rows next rays away h (inr e) =
+    let at : ℕ = base + rate in
+    let list : next ≡ next_list at (ordered_rows (rows_with_multiplier at (point_of ray) rows)) = region_of_one base most (ordered_rows (rows_with_multiplier at (point_of ray) rows)) rate next e.1 in
+    eliminated_is_hull kept rows next rays ray at away h (next_over at (point_of ray) rows next list kept h.over) (next_exact at (point_of ray) rows next list)
+
+pub adds_ray : (hull lifted : System) (ray : List ℤ) (most rate : ℕ) (end : Eliminated) → lifted.space ≡ hull.space
+    → RayEnds (2 ^ hull.space.variables) most ray rate hull.rows.items (eliminated_view end) → RegionIsProjection lifted (rate ∷ []) end → AddsRay hull ray rate end
+adds_ray hull lifted ray most rate (ends.Region next) same e projection = record {
   space = projection.space ∙ same;
   system = projection.system;
-  free = free;
-  hull = λ kept rays away h. one_more_ray kept hull.rows.items next.rows.items rays ray at away h (over kept h.over) exact;
+  free = subst (λ (c : ℕ). LacksCoordinate c next.rows.items) (ap (λ (s : Space). 2 ^ s.variables + rate) same) (projection.free rate (0, omega arith, refl));
+  hull = λ kept rays away h. one_more_ray (2 ^ hull.space.variables) most ray rate kept hull.rows.items next.rows.items rays away h e;
 }
-  where
-    at : ℕ
-    at = 2 ^ hull.space.variables + rate
-
-    place : 2 ^ lifted.space.variables + rate ≡ at
-    place = ap (λ (s : Space). 2 ^ s.variables + rate) same
-
-    free : LacksCoordinate at next.rows.items
-    free = subst (λ (c : ℕ). LacksCoordinate c next.rows.items) place (projection.free rate (0, omega arith, refl))
-
-    list : next.rows.items ≡ next_list at (ordered_rows (rows_with_multiplier at (point_of ray) hull.rows.items))
-    list = region_of_one (2 ^ lifted.space.variables) most (ordered_rows lifted.rows.items) rate next.rows.items e ∙ ap (λ c. next_list c (ordered_rows lifted.rows.items)) place ∙ ap (λ (rs : List Terms). next_list at (ordered_rows rs)) are
-
-    lacking : (c : ℕ) → LacksCoordinate c hull.rows.items → LacksCoordinate c next.rows.items
-    lacking c o = by_test (nat_eq c at) refl
-      where
-        by_test : (b : Bool) → nat_eq c at ≡ b → LacksCoordinate c next.rows.items
-        by_test true k = subst (λ (d : ℕ). LacksCoordinate d next.rows.items) (sym (eqb-true c at k)) free
-        by_test false k = subst (λ (rs : List Terms). LacksCoordinate c rs) (sym list) (next_keeps_lacking c at (ordered_rows (rows_with_multiplier at (point_of ray) hull.rows.items))
-            (lacks-ordered_rows c (rows_with_multiplier at (point_of ray) hull.rows.items) (multiplier_lacks c at (point_of ray) hull.rows.items (eqb-false c at k) o)))
-
-    over : (kept : List ℕ) → All (UsesOnly kept) hull.rows.items → All (UsesOnly kept) next.rows.items
-    over kept o k d l c n = lacking c (λ j f m. o j f m c n) k d l
-
-    exact : (x : ℕ → ℤ) → IsPointOf next.rows.items x ↔ Extends (at ∷ []) (rows_with_multiplier at (point_of ray) hull.rows.items) x
-    exact x = subst (λ (rs : List Terms). IsPointOf next.rows.items x ↔ Extends (at ∷ []) rs x) are (subst (λ (c : ℕ). IsPointOf next.rows.items x ↔ Extends (c ∷ []) lifted.rows.items x) place (projection.exact x))
-
-pub adds_ray : (hull lifted : System) (ray : List ℤ) (most rate : ℕ) (end : Eliminated) → lifted.space ≡ hull.space → lifted.rows.items ≡ rows_with_multiplier (2 ^ hull.space.variables + rate) (point_of ray) hull.rows.items
-    → SystemEnds lifted most (rate ∷ []) end → RegionIsProjection lifted (rate ∷ []) end → AddsRay hull ray rate end
-adds_ray hull lifted ray most rate (ends.Region next) same are e p = next_hull hull lifted next ray most rate same are e p
-adds_ray hull lifted ray most rate (ends.Rows other) same are e p = tt
-adds_ray hull lifted ray most rate (ends.Wide other) same are e p = tt
+adds_ray hull lifted ray most rate (ends.Rows other) same e p = tt
+adds_ray hull lifted ray most rate (ends.Wide other) same e p = tt
 
 -- ---- the loop over the rows
 

@@ -1,5 +1,5 @@
 -- One more ray: its multiplier is eliminated.
-use Rattle.std.proofs.Common.{◌≡◌, ◌≢◌, inl, inr, ⊎_elim, ◌↔◌, ℕ, ◌≤◌, ℤ, pos, negsuc, neg_ℤ, ◌+ℤ◌, ◌-ℤ◌, ◌*ℤ◌, ◌≤ℤ◌, List, [], ◌∷◌, map, Bool, true, false, cond, nat_eq, ne_eqb, eq-eqb, refl, sym, ap, subst, ◌∙◌, arith}
+use Rattle.std.proofs.Common.{◌≡◌, ◌≢◌, inl, inr, ⊎_elim, ◌↔◌, ℕ, ◌≤◌, ℤ, pos, negsuc, neg_ℤ, ◌+ℤ◌, ◌-ℤ◌, ◌*ℤ◌, ◌≤ℤ◌, List, [], ◌∷◌, ◌++◌, map, Bool, true, false, cond, nat_eq, ne_eqb, eq-eqb, refl, sym, ap, subst, ◌∙◌, arith, All}
 use Rattle.std.specs.Prelude.{Contains}
 use Rattle.std.specs.List.{AllByRecursion as Every}
 use Rattle.std.proofs.lemmas.Int.{ints}
@@ -8,10 +8,10 @@ use Rattle.it_number.proofs.Integers.{zring}
 use Rattle.it_space.specs.Rows.{Terms, value, point_of}
 use Rattle.it_space.proofs.TermLemmas.{value-with_term}
 use Rattle.it_space.proofs.EveryLemmas.{all_of, every_of, every-append, every_front, every_back, every-map, every_mapped}
-use Rattle.it_eliminate.specs.Projections.{Extends}
+use Rattle.it_eliminate.specs.Projections.{Extends, IsPointOf}
 use Rattle.it_eliminate.proofs.MemberLemmas.{Member, contains_of, member_of}
-use Rattle.it_hull.specs.Hulls.{UsesOnly, first_rows, rows_with_multiplier, with_multiplier}
-use Rattle.it_hull.specs.Theorems.{FirstIsHull, OneMoreRay}
+use Rattle.it_hull.specs.Hulls.{IsHull, UsesOnly, first_rows, rows_with_multiplier, with_multiplier}
+use Rattle.it_hull.specs.Theorems.{FirstIsHull}
 use Rattle.it_hull.proofs.SpanLemmas.{spanned_more, spanned_parts}
 use Rattle.it_hull.proofs.ValueLemmas.{value_sum}
 
@@ -98,8 +98,10 @@ module _ (kept : List ℕ) (at : ℕ) (away : ¬ (Contains kept at)) (ray : ℕ 
 
 -- ---- the laws
 
-pub one_more_ray : OneMoreRay
-one_more_ray kept rows next rays ray at away h over exact = record {
+-- rows from which the multiplier of one more ray is eliminated are the hull with this ray
+pub eliminated_is_hull : (kept : List ℕ) (rows next : List Terms) (rays : List (List ℤ)) (ray : List ℤ) (at : ℕ) → ¬ (Contains kept at) → IsHull kept rows rays → All (UsesOnly kept) next
+    → ((x : ℕ → ℤ) → IsPointOf next x ↔ Extends (at ∷ []) (rows_with_multiplier at (point_of ray) rows) x) → IsHull kept next (rays ++ ray ∷ [])
+eliminated_is_hull kept rows next rays ray at away h over exact = record {
   over = over;
   exact = λ x. (
     λ a. let l = leaves kept at away (point_of ray) rows x only ((exact x).0 a) in

@@ -1,10 +1,10 @@
 -- What hulls are good for.
-use Rattle.std.specs.Prelude.{◌≡◌, ◌↔◌, ℕ, ◌-◌, ◌^◌, ◌<◌, ◌≤◌, ℤ, pos, ◌+ℤ◌, ◌*ℤ◌, ◌≤ℤ◌, List, [], ◌∷◌, ◌++◌, All, Contains}
+use Rattle.std.specs.Prelude.{◌≡◌, ◌↔◌, ℕ, ◌+◌, ◌-◌, ◌^◌, ◌<◌, ◌≤◌, ℤ, pos, ◌+ℤ◌, ◌*ℤ◌, ◌≤ℤ◌, List, [], ◌∷◌, ◌++◌, All, Contains}
 use Rattle.it_space.specs.Problems.{ProblemView, AreMet}
 use Rattle.it_space.specs.Rows.{Terms, IsOver, point_of, value}
 use Rattle.it_polymatroid.specs.Polymatroid.{IsPolymatroid}
-use Rattle.it_eliminate.specs.Elimination.{EliminatedView}
-use Rattle.it_eliminate.specs.Projections.{IsPointOf, Extends}
+use Rattle.it_eliminate.specs.Elimination.{EliminatedView, Region}
+use Rattle.it_eliminate.specs.Projections.{IsPointOf}
 use Rattle.it_hull.specs.Hulls.{IsAttained, IsHull, UsesOnly, first_rows, rows_with_multiplier}
 use Rattle.it_hull.specs.Rays.{RayEnds}
 
@@ -14,10 +14,10 @@ use Rattle.it_hull.specs.Rays.{RayEnds}
 abbrev pub FirstIsHull : Type 0
 FirstIsHull = (kept : List ℕ) → IsHull kept (first_rows kept) []
 
--- rows from which the multiplier of one more ray is eliminated are the hull with this ray
+-- what one more ray makes of a hull's rows is the hull with this ray, where its multiplier's coordinate isn't kept
 abbrev pub OneMoreRay : Type 0
-OneMoreRay = (kept : List ℕ) (rows next : List Terms) (rays : List (List ℤ)) (ray : List ℤ) (at : ℕ) → ¬ (Contains kept at) → IsHull kept rows rays → All (UsesOnly kept) next
-    → ((x : ℕ → ℤ) → IsPointOf next x ↔ Extends (at ∷ []) (rows_with_multiplier at (point_of ray) rows) x) → IsHull kept next (rays ++ ray ∷ [])
+OneMoreRay = (base most : ℕ) (ray : List ℤ) (rate : ℕ) (kept : List ℕ) (rows next : List Terms) (rays : List (List ℤ)) → ¬ (Contains kept (base + rate)) → IsHull kept rows rays
+    → RayEnds base most ray rate rows (Region next) → IsHull kept next (rays ++ ray ∷ [])
 
 -- one more ray has one end
 abbrev pub OneRayEnd : Type 0
@@ -38,11 +38,11 @@ MeetsProblem q p = IsPolymatroid q.space.variables p × AreMet p q.constraints
 abbrev pub ProblemsAreCones : Type 0
 ProblemsAreCones = (q : ProblemView) → IsCone (MeetsProblem q)
 
--- Rows that hold wherever a problem is met, and are the hull of points that meet it, hold exactly at what is attained: they are the
--- projection of these points onto the kept coordinates.
+-- Rows that hold wherever a problem is met, and are the hull of rays that are attained, hold exactly at what is attained: they are the
+-- projection of what meets the problem onto the kept coordinates.
 abbrev pub HullIsProjection : Type 0
 HullIsProjection = (q : ProblemView) (kept : List ℕ) (rows : List Terms) (rays : List (List ℤ)) → IsHull kept rows rays
-    → All (λ row. (p : ℕ → ℤ) → MeetsProblem q p → pos 0 ≤ℤ value row p) rows → All (λ ray. MeetsProblem q (point_of ray)) rays
+    → All (λ row. (p : ℕ → ℤ) → MeetsProblem q p → pos 0 ≤ℤ value row p) rows → All (λ ray. IsAttained kept (MeetsProblem q) (point_of ray)) rays
     → (x : ℕ → ℤ) → IsPointOf rows x ↔ IsAttained kept (MeetsProblem q) x
 
 -- ---- reduction

@@ -6,7 +6,7 @@ pub fn first_is_hull()
     ensures { FirstIsHull }
 {}
 
-/// Elimination of the multiplier of one more ray gives the hull with it, and has one end.
+/// One more ray gives the hull with it, and has one end.
 pub fn one_more_ray()
     ensures hull { OneMoreRay }
     ensures end { OneRayEnd }
@@ -18,8 +18,8 @@ pub fn reduced_is_hull()
     ensures met { RatesMeet }
 {}
 
-/// The polymatroids and rates that meet a problem are a cone. Rows that hold there, and are the hull of points in it, are its
-/// projection.
+/// The polymatroids and rates that meet a problem are a cone. Rows that hold there, and are the hull of rays that are
+/// attained there, are its projection.
 pub fn hull_is_projection()
     ensures cone { ProblemsAreCones }
     ensures projection { HullIsProjection }

@@ -1,5 +1,4 @@
-use Rattle.it_hull.proofs.RayLemmas.{one_ray_end}
-use Rattle.it_hull.proofs.StepLemmas.{one_more_ray}
+use Rattle.it_hull.proofs.RayLemmas.{one_more_ray, one_ray_end}
 use Rattle.it_hull.proofs.laws.one_more_ray.Goals as goal
 
 pub returns : goal.returns
