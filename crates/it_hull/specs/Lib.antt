@@ -1,0 +1,4 @@
+pub mod Hulls
+pub mod Rays
+pub mod Theorems
+pub mod Places
