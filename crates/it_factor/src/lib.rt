@@ -3,6 +3,7 @@
 
 mod laws;
 mod lines;
+mod quick;
 mod replying;
 mod types;
 
