@@ -1,5 +1,6 @@
 -- What quick runs find of factors is right.
-use Rattle.std.proofs.Common.{◌≡◌, ◌≢◌, ◌+◌, ℕ, zero, suc, ℤ, pos, negsuc, neg_ℤ, ◌-ℤ◌, ◌*ℤ◌, ◌≤ℤ◌, List, length, refl, sym, subst, ◌∙◌, arith}
+use Rattle.std.proofs.Common.{◌≡◌, ◌≢◌, ◌+◌, ℕ, zero, suc, ℤ, pos, negsuc, neg_ℤ, ◌-ℤ◌, ◌*ℤ◌, ◌≤ℤ◌, ◌<◌, List, length, refl, sym, subst, ◌∙◌, arith}
+use Rattle.std.proofs.lemmas.Int.{ints}
 use Rattle.it_number.proofs.Integers.{mul_comm, zring}
 use Rattle.it_rational.specs.Rational.{Rational, quotient, signed_quotient}
 use Rattle.it_rational.proofs.Names.{quotient_names}
@@ -14,7 +15,7 @@ use Rattle.it_best.specs.Factors.{IsFactor, IsPoint, ground_of}
 use Rattle.it_best.proofs.JudgeSteps.{row_certifies}
 use Rattle.it_factor.specs.declared.quick.Reason.{Reason}
 use Rattle.it_factor.specs.declared.quick.Reason.TheVariants.{Tight, Below}
-use Rattle.it_factor.specs.QuickSteps.{IsQuickBest, IsReason, answer_by}
+use Rattle.it_factor.specs.QuickSteps.{IsQuickBest, IsReason, IsStep, answer_by, fall_of}
 
 -- a fraction in lowest terms is that of its parts
 pub ratio_is : (above below : ℤ) → above ≢ pos 0 → pos (signed_quotient below above).den *ℤ below ≡ (signed_quotient below above).num *ℤ above
@@ -36,11 +37,19 @@ point_is q row values r = record { complete = r.complete; holds = (r.polymatroid
 pub over_point : (q : ProblemView) (row : Terms) (values : List ℤ) → IsPoint (ground_of q) values → IsOver (size_of q.space) row → IsOver (length values) row
 over_point q row values i up = subst (λ n. IsOver n row) (sym i.complete) up
 
+one_least : (n : ℕ) → 0 < n → pos 1 ≤ℤ pos n
+one_least n h = omega (arith, ints, h)
+
 -- a number with a certificate is a factor, and its reason makes it the answer
 pub answer_is_right : (q : ProblemView) (left right : Terms) (x : Rational) (reason : Reason) (w : CertificateView) → IsReason q left right x reason
     → CertifiesRow q (factor_row (size_of q.space) left right x) w → IsQuickBest q left right (answer_by x reason w)
 answer_is_right q left right x (Tight values) w i c = (record { factor = factor_is; point = i.point; some = i.some; equal = i.equal }, tt)
   where
     factor_is : IsFactor (ground_of q) (value left) (value right) x.num (pos x.den) w
-    factor_is = record { from_one = omega (arith, x.positive); lowest = x.lowest; certified = row_certifies q left right x w c }
-answer_is_right q left right x (Below below) w i c = ((record { from_one = omega (arith, x.positive); lowest = x.lowest; certified = row_certifies q left right x w c }, i), tt)
+    factor_is = record { from_one = one_least x.den x.positive; lowest = x.lowest; certified = row_certifies q left right x w c }
+answer_is_right q left right x (Below below) w i c = ((record { from_one = one_least x.den x.positive; lowest = x.lowest; certified = row_certifies q left right x w c }, i), tt)
+
+-- a trial whose reason doesn't depend on its number goes on with another one
+pub fall_is_right : (q : ProblemView) (left right : Terms) (x y : Rational) (reason : Reason) → IsReason q left right x reason → IsStep q left right (fall_of reason y)
+fall_is_right q left right x y (Below below) i = i
+fall_is_right q left right x y (Tight point) i = tt

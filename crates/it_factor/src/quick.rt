@@ -12,7 +12,7 @@ ghost use Rattle.it_best.specs.BestViews.{best_view};
 ghost use Rattle.it_best.specs.Ends.{factor_row};
 ghost use Rattle.it_best.specs.Factors.{IsPoint, ground_of};
 ghost use Rattle.it_best.specs.PhaseSteps.{AreSides};
-ghost use Rattle.it_factor.specs.QuickSteps.{IsAtMostZero, IsQuickBest, IsStep, IsTrial, answer_view};
+ghost use Rattle.it_factor.specs.QuickSteps.{IsQuickBest, IsStep, IsTrial, answer_view, fall_of};
 
 use it_best::factor_row;
 use it_best::types::Best;
@@ -91,16 +91,32 @@ fn answer(trial: Trial, proof: Certificate) -> Best
     }
 }
 
-/// What a point leads to, with a certificate that the left side is at most 0, where there is one.
+/// What a point leads to at which the left side is below 0, and the ratio of the sides is the factor, after a trial.
+fn after_fall(trial: Trial, factor: Fraction) -> Step
+    ensures { result ≡ fall_of trial.reason factor }
+{
+    let Trial { factor: _, reason } = trial;
+    match reason {
+        Reason::Below(below) => {
+            Step::Next(Trial {
+                factor,
+                reason: Reason::Below(below),
+            })
+        }
+        Reason::Tight(_) => Step::Open,
+    }
+}
+
+/// What a point leads to after the last trial, if there was one.
 fn by_point(
     problem: &Problem,
     left: &Row,
     right: &Row,
-    below: Option<Certificate>,
+    last: Option<Trial>,
     point: Point,
 ) -> Step
     requires sides { AreSides (problem_view problem.now) left.now right.now }
-    requires below { IfSome below (IsAtMostZero (problem_view problem.now) left.now) }
+    requires last { IfSome last (IsTrial (problem_view problem.now) left.now right.now) }
     requires point { IsPoint (ground_of (problem_view problem.now)) point }
     ensures { IsStep (problem_view problem.now) left.now right.now result }
 {
@@ -122,21 +138,9 @@ fn by_point(
             reason: Reason::Tight(point),
         });
     }
-    match below {
-        Some(below) => Step::Next(Trial {
-            factor,
-            reason: Reason::Below(below),
-        }),
+    match last {
+        Some(trial) => after_fall(trial, factor),
         None => Step::Open,
-    }
-}
-
-/// The certificate that the left side is at most 0, where a trial has one.
-fn below_of(trial: Trial) -> Option<Certificate> {
-    let Trial { factor: _, reason } = trial;
-    match reason {
-        Reason::Tight(_) => None,
-        Reason::Below(below) => Some(below),
     }
 }
 
@@ -157,7 +161,7 @@ fn by_row(
 {
     match settle(alloc, quick, problem, row, STEPS)? {
         Some(Proof::Yes(proof)) => Ok(Step::Found(answer(trial, proof))),
-        Some(Proof::No(point)) => Ok(by_point(problem, left, right, below_of(trial), point)),
+        Some(Proof::No(point)) => Ok(by_point(problem, left, right, Some(trial), point)),
         _ => Ok(Step::Open),
     }
 }
