@@ -22,11 +22,6 @@ answer_by x (reasons.Below below) w = Unbounded x.num (pos x.den) w (certificate
 abbrev pub answer_view : Trial → CertificateView → BestView
 answer_view trial w = answer_by trial.factor trial.reason w
 
--- what follows on a trial by a point with a smaller ratio, at which the left side is below 0
-abbrev pub fall_of : Reason → Rational → Step
-fall_of (reasons.Below below) x = steps.Next (record { factor = x; reason = reasons.Below below })
-fall_of (reasons.Tight point) x = steps.Open
-
 module _ (q : ProblemView) (left : Terms) where
   -- the certificate is one of that the left side is at most 0
   abbrev pub IsAtMostZero : Certificate → Type 0

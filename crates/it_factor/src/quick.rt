@@ -1,7 +1,8 @@
 //! The factor by quick runs, with Dinkelbach's method (W. Dinkelbach, "On nonlinear fractional programming", 1967). A run about a number
 //! times the left side less the right one proves that the number is a factor, or it refutes it by a point, at which the ratio of the
 //! sides is the next number: a factor that holds there with equality. So the first number that is proved is the least factor. Where the
-//! left side is at most 0 the numbers fall, and there is no least factor. All that is answered comes from certificates and points that
+//! left side is at most 0 the numbers fall, and there is no least factor; where it is above 0 at one point and below 0 at another that
+//! refutes the number, both together show that no factor holds. All that is answered comes from certificates and points that
 //! the check finds valid.
 ghost use Rattle.std.specs.Prelude.{◌≡◌, ◌≢◌, ◌*ℤ◌, pos, IfOk};
 ghost use Rattle.std.specs.Option.{IfSome};
@@ -12,8 +13,9 @@ ghost use Rattle.it_best.specs.BestViews.{best_view};
 ghost use Rattle.it_best.specs.Ends.{factor_row};
 ghost use Rattle.it_best.specs.Factors.{IsPoint, ground_of};
 ghost use Rattle.it_best.specs.PhaseSteps.{AreSides};
-ghost use Rattle.it_factor.specs.QuickSteps.{IsQuickBest, IsStep, IsTrial, answer_view, fall_of};
+ghost use Rattle.it_factor.specs.QuickSteps.{IsQuickBest, IsStep, IsTrial, answer_view};
 
+use crate::joining::joined;
 use it_best::factor_row;
 use it_best::types::Best;
 use it_columns::opposite_row;
@@ -91,56 +93,74 @@ fn answer(trial: Trial, proof: Certificate) -> Best
     }
 }
 
-/// What a point leads to at which the left side is below 0, and the ratio of the sides is the factor, after a trial.
-fn after_fall(trial: Trial, factor: Fraction) -> Step
-    ensures { result ≡ fall_of trial.reason factor }
+/// What a point leads to at which the left side is below 0 and a factor would hold with equality, after a trial. Where the left side was
+/// above 0 at a point too no factor holds.
+fn after_fall(
+    alloc: Global,
+    problem: &Problem,
+    left: &Row,
+    right: &Row,
+    trial: Trial,
+    factor: Fraction,
+    point: &Point,
+) -> Result<Step, AllocError>
+    requires sides { AreSides (problem_view problem.now) left.now right.now }
+    requires trial { IsTrial (problem_view problem.now) left.now right.now trial }
+    requires point { IsPoint (ground_of (problem_view problem.now)) point.now }
+    ensures { IfOk result (IsStep (problem_view problem.now) left.now right.now) }
 {
     let Trial { factor: _, reason } = trial;
     match reason {
         Reason::Below(below) => {
-            Step::Next(Trial {
+            Ok(Step::Next(Trial {
                 factor,
                 reason: Reason::Below(below),
-            })
+            }))
         }
-        Reason::Tight(_) => Step::Open,
+        Reason::Tight(above) => {
+            match joined(alloc, problem, left, right, &above, point)? {
+                Some(point) => Ok(Step::Found(Best::Never(point))),
+                None => Ok(Step::Open),
+            }
+        }
     }
 }
 
 /// What a point leads to after the last trial, if there was one.
 fn by_point(
+    alloc: Global,
     problem: &Problem,
     left: &Row,
     right: &Row,
     last: Option<Trial>,
     point: Point,
-) -> Step
+) -> Result<Step, AllocError>
     requires sides { AreSides (problem_view problem.now) left.now right.now }
     requires last { IfSome last (IsTrial (problem_view problem.now) left.now right.now) }
     requires point { IsPoint (ground_of (problem_view problem.now)) point }
-    ensures { IsStep (problem_view problem.now) left.now right.now result }
+    ensures { IfOk result (IsStep (problem_view problem.now) left.now right.now) }
 {
     let Ok(above) = value(left, &point) else {
-        return Step::Open;
+        return Ok(Step::Open);
     };
     let Ok(under) = value(right, &point) else {
-        return Step::Open;
+        return Ok(Step::Open);
     };
     if above == 0 && under > 0 {
-        return Step::Found(Best::Never(point));
+        return Ok(Step::Found(Best::Never(point)));
     }
     let Some(factor) = ratio(above, under) else {
-        return Step::Open;
+        return Ok(Step::Open);
     };
     if above > 0 {
-        return Step::Next(Trial {
+        return Ok(Step::Next(Trial {
             factor,
             reason: Reason::Tight(point),
-        });
+        }));
     }
     match last {
-        Some(trial) => after_fall(trial, factor),
-        None => Step::Open,
+        Some(trial) => after_fall(alloc, problem, left, right, trial, factor, &point),
+        None => Ok(Step::Open),
     }
 }
 
@@ -161,7 +181,7 @@ fn by_row(
 {
     match settle(alloc, quick, problem, row, STEPS)? {
         Some(Proof::Yes(proof)) => Ok(Step::Found(answer(trial, proof))),
-        Some(Proof::No(point)) => Ok(by_point(problem, left, right, Some(trial), point)),
+        Some(Proof::No(point)) => by_point(alloc, problem, left, right, Some(trial), point),
         _ => Ok(Step::Open),
     }
 }
@@ -203,13 +223,13 @@ fn first(
             factor: Fraction::whole(0),
             reason: Reason::Below(below),
         })),
-        Some(Proof::No(point)) => Ok(by_point(problem, left, right, None, point)),
+        Some(Proof::No(point)) => by_point(alloc, problem, left, right, None, point),
         _ => Ok(Step::Open),
     }
 }
 
 /// What quick runs find of the factors by which the left side is at least the right one. None where they find nothing, which says
-/// nothing of the factors: where a run gives up, a number passes the limit, or the left side is above 0 at one point and below it at another.
+/// nothing of the factors: where a run gives up, or a number passes the limit.
 pub fn quick_factor(
     alloc: Global,
     problem: &Problem,
