@@ -1,5 +1,5 @@
 -- What quick runs find of factors is right.
-use Rattle.std.proofs.Common.{◌≡◌, ◌≢◌, ◌+◌, ℕ, zero, suc, ℤ, pos, negsuc, neg_ℤ, ◌-ℤ◌, ◌*ℤ◌, ◌≤ℤ◌, ◌<◌, List, length, refl, sym, subst, ◌∙◌, arith}
+use Rattle.std.proofs.Common.{◌≡◌, ◌≢◌, ℕ, zero, suc, ℤ, pos, negsuc, neg_ℤ, ◌*ℤ◌, ◌≤ℤ◌, ◌<◌, List, length, refl, sym, subst, ◌∙◌, arith}
 use Rattle.std.proofs.lemmas.Int.{ints}
 use Rattle.it_number.proofs.Integers.{mul_comm, zring}
 use Rattle.it_rational.specs.Rational.{Rational, quotient, signed_quotient}
@@ -15,7 +15,6 @@ use Rattle.it_check.specs.Verdicts.{no_verdict}
 use Rattle.it_check.specs.declared.verdicts.Verdict.TheVariants.{Valid}
 use Rattle.it_check.proofs.Truth.{valid_no_is}
 use Rattle.it_check.specs.Meaning.{CertifiesRow, RefutesRow}
-use Rattle.it_best.specs.BestViews.{BestView}
 use Rattle.it_best.specs.Ends.{factor_row}
 use Rattle.it_best.specs.Factors.{HasNoFactor, IsFactor, IsPoint, ground_of}
 use Rattle.it_best.proofs.JudgeSteps.{row_certifies}

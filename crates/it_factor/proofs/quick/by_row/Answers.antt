@@ -5,7 +5,6 @@ use Rattle.it_space.specs.Rows.{Terms, IsOver}
 use Rattle.it_space.specs.Spaces.{size_of}
 use Rattle.it_check.specs.Meaning.{CertifiesRow}
 use Rattle.it_prove.specs.ProofViews.{IsSettled, Yes}
-use Rattle.it_best.specs.BestViews.{BestView}
 use Rattle.it_best.proofs.JudgeSteps.{row_up}
 use Rattle.it_factor.specs.QuickSteps.{IsQuickBest}
 use Rattle.it_factor.proofs.QuickLemmas.{answer_is_right}
