@@ -54,7 +54,7 @@ fn push_coefficient(
 
 /// The numerator of a factor times the left side less its denominator times the right one. `Wide` where a product or a difference
 /// passes the limit.
-fn factor_row(
+pub fn factor_row(
     alloc: Global,
     problem: &Problem,
     left: &Row,

@@ -2,3 +2,4 @@ pub mod RightLemmas
 pub mod TruthLemmas
 pub mod UniqueLemmas
 pub mod PrintLemmas
+pub mod QuickLemmas

@@ -4,3 +4,4 @@ pub mod RightReplies
 pub mod RowReplies
 pub mod Lines
 pub mod LineSteps
+pub mod QuickSteps

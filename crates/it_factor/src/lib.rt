@@ -1,8 +1,10 @@
 //! Questions in mode `best`: the right reply to one, which is what is found of the factors of `prove E >= F`, and its line.
 #![tactic(auto)]
 
+mod joining;
 mod laws;
 mod lines;
+mod quick;
 mod replying;
 mod types;
 

@@ -1,5 +1,6 @@
 //! The replies to questions.
-ghost use Rattle.std.specs.Prelude.{◌≡◌, length, IfOk};
+ghost use Rattle.std.specs.Prelude.{◌≡◌, length, true, IfOk};
+ghost use Rattle.std.specs.Option.{IfSome};
 ghost use Rattle.it_space.specs.Problems.{IsProblem, problem_view};
 ghost use Rattle.it_syntax.specs.Givens.{IsRelationOf};
 ghost use Rattle.it_syntax.specs.Meaning.{relation_view};
@@ -10,18 +11,21 @@ ghost use Rattle.it_demand.specs.Origins.{AreStated};
 ghost use Rattle.it_demand.specs.QuestionSpaces.{space_of};
 ghost use Rattle.it_canon.specs.QuestionDemands.{IsProblemOf, question_demands, question_origins};
 ghost use Rattle.it_best.specs.BestViews.{best_view};
+ghost use Rattle.it_best.specs.PhaseSteps.{AreSides};
 ghost use Rattle.it_factor.specs.Lines.{IsPrintable};
+ghost use Rattle.it_factor.specs.QuickSteps.{IsQuickBest};
 ghost use Rattle.it_factor.specs.Replies.{reply_view};
 ghost use Rattle.it_factor.specs.RightReplies.{IsRightReply};
 ghost use Rattle.it_factor.specs.RowReplies.{IsFoundByRows, IsRelationReply};
 
+use crate::quick::quick_factor;
 use crate::types::{RepliedProblem, Reply};
 use it_best::best;
 use it_best::types::Best;
 use it_canon::{problem, sides};
 use it_prove::{Effort, budget_of};
 use it_question::types::{Question, Verb};
-use it_space::Problem;
+use it_space::{Problem, Row};
 use it_syntax::types::{Relation, Sign};
 use std::alloc::{AllocError, Global};
 
@@ -95,6 +99,29 @@ fn factors(
     ensures { IfOk result (λ b. IsFoundByRows (problem_view problem.now) effort (relation_view relation.now) (best_view b)) }
 {
     let (left, right) = sides(alloc, relation, problem.space)?;
-    let found = best(alloc, problem, &left, &right, budget_of(effort.pivots))?;
-    Ok(found)
+    match found_first(alloc, problem, &left, &right, effort)? {
+        Some(found) => Ok(found),
+        None => {
+            let found = best(alloc, problem, &left, &right, budget_of(effort.pivots))?;
+            Ok(found)
+        }
+    }
+}
+
+/// What quick runs find of the factors, where they come first.
+fn found_first(
+    alloc: Global,
+    problem: &Problem,
+    left: &Row,
+    right: &Row,
+    effort: Effort,
+) -> Result<Option<Best>, AllocError>
+    requires { AreSides (problem_view problem.now) left.now right.now }
+    ensures { IfOk result (λ o. IfSome o (λ b. (effort.quick ≡ true) × IsQuickBest (problem_view problem.now) left.now right.now (best_view b))) }
+{
+    if effort.quick {
+        quick_factor(alloc, problem, left, right)
+    } else {
+        Ok(None)
+    }
 }

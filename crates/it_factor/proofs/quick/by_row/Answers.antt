@@ -1,0 +1,24 @@
+use Rattle.std.proofs.Common.{rules, sym, subst}
+use Rattle.it_space.specs.Answers.{certificate_view}
+use Rattle.it_space.specs.Problems.{problem_view}
+use Rattle.it_space.specs.Rows.{Terms, IsOver}
+use Rattle.it_space.specs.Spaces.{size_of}
+use Rattle.it_check.specs.Meaning.{CertifiesRow}
+use Rattle.it_prove.specs.ProofViews.{IsSettled, Yes}
+use Rattle.it_best.proofs.JudgeSteps.{row_up}
+use Rattle.it_factor.specs.QuickSteps.{IsQuickBest}
+use Rattle.it_factor.proofs.QuickLemmas.{answer_is_right}
+use Rattle.it_factor.proofs.quick.by_row.Goals as goal
+
+pub settle-requires-clause-target : goal.settle-requires-clause-target
+settle-requires-clause-target c =
+    let size = size_of c.args.problem.now.space in
+    subst (IsOver size) (sym c.requires.row) (row_up size c.args.left.now c.args.right.now c.args.trial.factor)
+
+pub returns-in-Some-Yes : goal.returns-in-Some-Yes
+returns-in-Some-Yes c =
+    let q = problem_view c.args.problem.now in
+    let w = certificate_view c.in-Some-Yes.proof in
+    let settled : IsSettled q c.args.row.now (Yes w) = search rules in
+    subst (IsQuickBest q c.args.left.now c.args.right.now) (sym c.answer.ensures)
+    (answer_is_right q c.args.left.now c.args.right.now c.args.trial.factor c.args.trial.reason w c.requires.trial (subst (λ (row : Terms). CertifiesRow q row w) c.requires.row settled.0.0))
