@@ -39,10 +39,7 @@ ratio_is (negsuc d) below h = across (quotient (neg_ℤ below) (suc d)).num (pos
 pub point_is : (q : ProblemView) (row : Terms) (values : List ℤ) → RefutesRow q row values → IsPoint (ground_of q) values
 point_is q row values r = record { complete = r.complete; holds = (r.polymatroid, r.met) }
 
--- a row over the coordinates reaches no further than a point
-pub over_point : (q : ProblemView) (row : Terms) (values : List ℤ) → IsPoint (ground_of q) values → IsOver (size_of q.space) row → IsOver (length values) row
-over_point q row values i up = subst (λ n. IsOver n row) (sym i.complete) up
-
+-- a number above 0, as a whole one
 one_least : (n : ℕ) → 0 < n → pos 1 ≤ℤ pos n
 one_least n h = omega (arith, ints, h)
 

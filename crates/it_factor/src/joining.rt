@@ -41,8 +41,8 @@ fn combined_values(
     Ok(values)
 }
 
-/// The point, where the check finds that it meets the problem and that the right side, of which the row is turned, is above 0 there, and
-/// where the left side is 0.
+/// The point, where the left side is 0 there, and the check finds that it meets the problem and that the right side is above 0, of which
+/// the row is turned.
 fn judged(problem: &Problem, left: &Row, right: &Row, turned: &Row, point: Point) -> Option<Point>
     requires sides { AreSides (problem_view problem.now) left.now right.now }
     requires turned { turned.now ≡ negated_terms right.now }
@@ -62,7 +62,7 @@ fn judged(problem: &Problem, left: &Row, right: &Row, turned: &Row, point: Point
 }
 
 /// A point at which no factor holds, by one at which the left side is above 0 and another at which it is below it: a sum of multiples of
-/// both, at which it is 0. None where a number passes the limit, or where the right side isn't above 0 there.
+/// both, at which it is 0. None where a number passes the limit, or the right side isn't above 0 there.
 pub fn joined(
     alloc: Global,
     problem: &Problem,

@@ -1,9 +1,9 @@
 //! The factor by quick runs, with Dinkelbach's method (W. Dinkelbach, "On nonlinear fractional programming", 1967). A run about a number
 //! times the left side less the right one proves that the number is a factor, or it refutes it by a point, at which the ratio of the
 //! sides is the next number: a factor that holds there with equality. So the first number that is proved is the least factor. Where the
-//! left side is at most 0 the numbers fall, and there is no least factor; where it is above 0 at one point and below 0 at another that
-//! refutes the number, both together show that no factor holds. All that is answered comes from certificates and points that
-//! the check finds valid.
+//! left side is at most 0 the numbers fall, and there is no least factor; where it is above 0 at one point and below it at another that
+//! refutes the number, both together show that no factor holds. All that is answered comes from certificates and points that the check
+//! finds valid.
 ghost use Rattle.std.specs.Prelude.{◌≡◌, ◌≢◌, ◌*ℤ◌, pos, IfOk};
 ghost use Rattle.std.specs.Option.{IfSome};
 ghost use Rattle.it_space.specs.Answers.{certificate_view};
