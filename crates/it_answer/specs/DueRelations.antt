@@ -1,5 +1,5 @@
 -- Which answer to `prove` is due, by the runs about the rows of the relation's targets.
-use Rattle.std.specs.Prelude.{◌⊎◌, ℕ, ℤ, List, [], ◌∷◌, map, Bool, true, false}
+use Rattle.std.specs.Prelude.{◌⊎◌, ℤ, List, [], ◌∷◌, map, Bool, true, false}
 use Rattle.it_space.specs.declared.answers.Cause.{Cause}
 use Rattle.it_space.specs.Answers.{AnswerView, CertificateView}
 use Rattle.it_space.specs.Answers.AnswerView.{Yes, No, Undecided}

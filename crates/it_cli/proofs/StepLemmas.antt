@@ -1,5 +1,5 @@
 -- Without a budget no run ends for want of steps.
-use Rattle.std.proofs.Common.{◌≡◌, inl, inr, ℕ, List, [], ◌∷◌, map, Option, None, subst}
+use Rattle.std.proofs.Common.{◌≡◌, inl, inr, ℕ, List, [], ◌∷◌, map, None}
 use Rattle.it_space.specs.declared.answers.Cause.TheVariants as causes
 use Rattle.it_space.specs.Answers.AnswerView.{Undecided}
 use Rattle.it_space.specs.Problems.{ProblemView}

@@ -1,5 +1,5 @@
 -- What mode `sharing` replies to a file: a right answer to the question that it makes, or that its sets are too many.
-use Rattle.std.specs.Prelude.{◌≡◌, ℕ, ◌+◌, ◌<◌, ◌≤◌, true, false, List, [], ◌∷◌, ◌++◌, Option, codes, decimal}
+use Rattle.std.specs.Prelude.{◌≡◌, ℕ, ◌+◌, ◌<◌, ◌≤◌, true, false, List, [], ◌∷◌, ◌++◌, codes, decimal}
 use Rattle.it_prove.specs.declared.types.Effort.{Effort}
 use Rattle.it_space.specs.Answers.{AnswerView}
 use Rattle.it_print.specs.Lines.{answer_line}

@@ -1,5 +1,5 @@
 -- Proofs of obligations: of one target, of all, and of a candidate.
-use Rattle.std.proofs.Common.{◌≡◌, ℕ, zero, suc, ◌<◌, ◌≤◌, ℤ, List, [], ◌∷◌, ◌++◌, map, length, drop, get_or, sym, ap, subst, ◌∙◌, arith, Option, Some, None, append-nil, append_assoc, ◌+◌}
+use Rattle.std.proofs.Common.{◌≡◌, ℕ, ◌<◌, ◌≤◌, ℤ, List, [], ◌∷◌, ◌++◌, map, length, drop, get_or, sym, ap, subst, ◌∙◌, Option, Some, None, append-nil, append_assoc, ◌+◌}
 use Rattle.std.specs.Prelude.{Contains}
 use Rattle.std.proofs.lemmas.List.{drop_all, map-append}
 use Rattle.std.proofs.lemmas.List.Elements.{Contains-get_or}
@@ -13,7 +13,7 @@ use Rattle.it_space.specs.Spaces.{size_of}
 use Rattle.it_demand.specs.RowsOfForms.{terms_of_form}
 use Rattle.it_prove.specs.declared.types.Proof.{Proof}
 use Rattle.it_prove.specs.declared.types.Proof.TheVariants as proofs
-use Rattle.it_prove.specs.ProofViews.{ProofView, Yes, No, Undecided, proof_view, EndsWith, AreProofsOf}
+use Rattle.it_prove.specs.ProofViews.{Yes, No, Undecided, proof_view, EndsWith, AreProofsOf}
 use Rattle.it_prove.specs.declared.types.Effort.{Effort}
 use Rattle.it_region.specs.declared.types.Candidate.{Candidate}
 use Rattle.it_region.specs.declared.types.Pair.{Pair}

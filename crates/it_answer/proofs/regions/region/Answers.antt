@@ -1,12 +1,11 @@
-use Rattle.std.proofs.Common.{◌≡◌, ◌∙◌, ◌<◌, ◌↔◌, ℕ, ℤ, pos, [], Option, All, sym, subst}
+use Rattle.std.proofs.Common.{◌≡◌, ◌∙◌, ◌<◌, ◌↔◌, ℕ, ℤ, pos, All, sym, subst}
 use Rattle.it_space.specs.declared.spaces.Space.{Space}
 use Rattle.it_space.specs.Answers.{answer_view}
 use Rattle.it_space.specs.Problems.{problem_view}
 use Rattle.it_syntax.specs.Meaning.{Holds}
 use Rattle.it_question.specs.Questions.{question_body}
 use Rattle.it_demand.specs.SystemForms.{AreAtLeastZero}
-use Rattle.it_prove.specs.declared.types.Effort.{Effort}
-use Rattle.it_redundant.specs.ReducedElimination.{ReducedEnds, projected_view}
+use Rattle.it_redundant.specs.ReducedElimination.{projected_view}
 use Rattle.it_canon.proofs.PosesLemmas.{one_problem}
 use Rattle.it_answer.proofs.GivenLemmas.{space_of_names, met_where_true, few_constraints, constraints_of_sets, rates_of_question}
 use Rattle.it_answer.proofs.AnswerLemmas.{left_of_rows, nothing_found}
