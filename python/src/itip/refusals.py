@@ -1,0 +1,33 @@
+"""What a refusal means, by docs/questions.md, and what to write, by docs/slips.txt."""
+
+from __future__ import annotations
+
+import re
+import warnings
+
+TYPE_CHECKING = False
+if TYPE_CHECKING:
+    from os import PathLike
+
+
+def meaning(docs: str | PathLike[str], word: str) -> str:
+    """What the table of refusals says of a word."""
+    with open(f"{docs}/questions.md", encoding="latin-1") as page:
+        for row in page:
+            first, _, rest = row.partition(" | ")
+            if first == f"| `{word}`":
+                return rest.partition(" | ")[0]
+    return ""
+
+
+def hint(docs: str | PathLike[str], word: str, before: bytes, rest: bytes) -> str:
+    """What to write in place of a slip: the first of the file that fits what stands before and after the place in its line."""
+    with open(f"{docs}/slips.txt", "rb") as slips, warnings.catch_warnings():
+        warnings.simplefilter("ignore", FutureWarning)  # awk's [][ is no set of sets
+        for row in slips:
+            if not row.startswith(word.encode() + b"\t"):
+                continue
+            _, stands_before, stands_after, said, *_ = row.split(b"\t")
+            if re.search(stands_before, before) and re.search(stands_after, rest):
+                return said.decode()
+    return ""
