@@ -1,17 +1,16 @@
 """The command ./ask: what question files ask, answered in the field's own notation (docs/ask.md).
 
-It runs two programs: `itip` answers, and `tell` writes the answers anew. Bytes that are no UTF-8 go through all texts unchanged.
+It runs two programs: `itip` answers, and `tell` writes the answers anew.
 """
 
 from __future__ import annotations
 
-import os
 import re
 import signal
 import subprocess
 import sys
-from contextlib import suppress
 
+from .console import as_bytes, as_text, put, run, say, show
 from .errors import ItipError
 from .reports import MOST_BYTES, UNDECIDED, decoded, why_open
 
@@ -21,7 +20,6 @@ if TYPE_CHECKING:
 
 USAGE = "usage: ./ask [--steps] [--short] [--needs] [--latex [--document]] FILE.."
 MODES = ("copy", "best", "sharing")
-ANEW = "It is asked anew without a budget, which may take long; Ctrl-C ends it"
 
 
 class WordsError(Exception):
@@ -67,7 +65,7 @@ class Asker:
         for name in self.words.files:
             if len(self.words.files) > 1:
                 self._put(f"# {name}\n")
-            statuses.append(self._answer_file(name))
+            statuses.append(self._answer(name))
         return next(filter(None, statuses), 0)
 
     def document_all(self) -> int:
@@ -79,7 +77,7 @@ class Asker:
         put(END)
         return status
 
-    def _answer_file(self, name: str) -> int:
+    def _answer(self, name: str) -> int:
         try:
             with open(name, "rb") as file:
                 text = as_text(file.read(MOST_BYTES + 1))
@@ -93,8 +91,10 @@ class Asker:
             return 3
         for number, variable in unused(text):
             say(f"{name}, question {number}: no line says anything of the variable {variable}")
-        told_status, told = self._told(name, written) if self.words.mode == "answer" else self._told_in_mode(name, text, written)
-        return status or self._put(told) or told_status
+        lines = written.split("\n")[:-1]
+        told_status, told = self._told(name, lines) if self.words.mode == "answer" else self._told_in_mode(name, text, lines)
+        put_status = self._put(told)
+        return status or put_status or told_status
 
     def _put(self, told: str) -> int:
         if "--latex" not in self.words.options:
@@ -106,89 +106,101 @@ class Asker:
     # The programs
 
     def _itip(self, mode: str, text: str, pivots: str = "", errors: int | None = None) -> tuple[int, str]:
-        """The status of `itip` and what it writes of a file: in mode `answer` a report. `errors` is where its standard error goes."""
+        """The status of `itip` and what it writes of a file: in mode `answer` a report."""
         words = [mode, *(("--format", "json") if mode == "answer" else ()), *(("--pivots", pivots) if pivots else ())]
         return run([self.prover, *words], text, errors)
 
-    def _tell(self, report: str, words: Sequence[str] = ()) -> tuple[int, str]:
-        return run([self.teller, *words], report)
+    def _tell(self, report: Sequence[str], words: Sequence[str] = ()) -> tuple[int, str]:
+        return run([self.teller, *words], "".join(line + "\n" for line in report))
 
     # What is told
 
-    def _told(self, name: str, written: str) -> tuple[int, str]:
-        """The status of `tell`, and the answers of a report in its words."""
-        report = [self._settled(name, number, line) for number, line in enumerate(written.split("\n")[:-1], 1)]
-        status, told = self._tell("".join(line + "\n" for line in report), self.words.telling)
-        if "--needs" in self.words.options:
-            answers = grouped(told)
-            for number, line in enumerate(report, 1):
-                if line.startswith('{"answer":"region"'):
-                    answers[number - 1] = self._with_needs(name, number, line, answers[number - 1])
-            told = "".join(line + "\n" for answer in answers for line in answer)
-        return status, told
+    def _told(self, name: str, lines: Sequence[str]) -> tuple[int, str]:
+        """The status of `tell`, and what it writes of a report."""
+        report = [self._settled(name, number, line) for number, line in enumerate(lines, 1)]
+        status, told = self._tell(report, self.words.telling)
+        if "--needs" not in self.words.options:
+            return status, told
+        answers = grouped(told)
+        for number, (line, answer) in enumerate(zip(report, answers), 1):
+            if line.startswith('{"answer":"region"'):
+                answer[1:] = self._with_needs(name, number, line, answer[1:])
+        return status, "".join(line + "\n" for answer in answers for line in answer)
 
     def _settled(self, name: str, number: int, line: str) -> str:
         """The line of a report, or a new one where more steps may say more."""
         why = why_open(line)
         if not why:
             return line
-        say(f"{name}, question {number}: {why}. {ANEW}")
+        say_anew(name, number, why)
         status, anew = self._itip("answer", decoded(line)["question"], "none")
         return anew.split("\n")[0] if status == 0 and anew.count("\n") == 1 else line
 
-    def _with_needs(self, name: str, number: int, line: str, told: list[str]) -> list[str]:
-        """A told region, each needed row with a point at which all others hold and it doesn't."""
+    def _with_needs(self, name: str, number: int, line: str, told: Sequence[str]) -> list[str]:
+        """The told rows of a region, each needed one with a point at which all others hold and it doesn't."""
         from .needs import need_questions, with_points
 
-        first, *rows = told
-        rows = [row[2:] for row in rows]
+        rows = [row[2:] for row in told]
         status, report = self._itip("answer", need_questions(decoded(line)["question"], rows), "none", subprocess.DEVNULL)
+        lines = report.split("\n")
         if status:
-            say(f"{name}, question {number}: why its rows are needed can't be asked: {report.partition(chr(10))[0]}")
-            return told
-        return [first, *("  " + row for row in with_points(rows, grouped(self._tell(report)[1])))]
+            say(f"{name}, question {number}: why its rows are needed can't be asked: {lines[0]}")
+            return list(told)
+        _, answers = self._tell(lines[:-1])
+        return ["  " + row for row in with_points(rows, grouped(answers))]
 
-    def _told_in_mode(self, name: str, file: str, written: str) -> tuple[int, str]:
-        """The same of the lines that another mode writes."""
+    def _told_in_mode(self, name: str, file: str, lines: Sequence[str]) -> tuple[int, str]:
+        """The same of the lines of another mode."""
         from . import modes
 
         told: list[str] = []
         statuses = [0]
-        for line in written.split("\n")[:-1]:
+        for line in lines:
             number, word, *_ = line.split(" ")
             if not number.isdigit() or word in ("misfit", "other"):
                 told.append(line)
                 continue
             asked = modes.asked(self.words.mode, file, int(number))
             if line.startswith(f"{number} undecided pivots"):
-                say(f"{name}, question {number}: {UNDECIDED}. {ANEW}")
+                say_anew(name, int(number), UNDECIDED)
                 status, anew = self._itip(self.words.mode, asked.alone, "none")
-                line = f"{number} " + anew.rstrip("\n").split("\n")[-1].partition(" ")[2] if status == 0 else line
+                line = f"{number} " + anew.split("\n")[-2].partition(" ")[2] if status == 0 else line
             first, parts = modes.shown(line, asked.made)
             told.append(first)
             for part in parts:
-                status, found = self._tell(part.report, self.words.telling) if part.report else (0, f"\n  {part.plain}\n")
+                status, below = self._told_below(part.report) if part.report else (0, [f"  {part.plain}"])
                 statuses.append(status)
-                told += [f"  {verdict.partition(' ')[2]}" for verdict in found.split("\n")[:1] if status] + found.split("\n")[1:-1]
+                told += below
         return max(statuses), "".join(line + "\n" for line in told)
+
+    def _told_below(self, line: str) -> tuple[int, list[str]]:
+        """The status of `tell`, and what it writes below the first line of an answer; of an invalid one that, in its place."""
+        status, told = self._tell([line], self.words.telling)
+        first, *below = told.split("\n")[:-1] or [""]
+        return status, below if status != 1 else [f"  {first.partition(' ')[2]}"]
 
     def _explain(self, name: str, text: str, refusal: str) -> None:
         """Says what a refusal means, and what to write."""
         from .refusals import hint, meaning
 
-        _, place, *words = refusal.split()
+        place, *words = refusal.split()[1:]
         if place == "long":
             say(f"{name} has more than {MOST_BYTES} bytes")
             return
         number, column = map(int, place.split(":"))
         say(f"{name}, line {number}, column {column}:")
-        line = as_bytes(text).split(b"\n")[number - 1].removesuffix(b"\r")
+        line = [*as_bytes(text).split(b"\n"), b""][number - 1].removesuffix(b"\r")
         before, rest = line[: column - 1], line[column - 1 :]
         shown = [as_text(line), as_text(re.sub(rb"[^\t]", b" ", before)) + "^"] if line else []
         for word in words:
-            shown += [f"{word}: {said}" for said in [meaning(self.docs, word)] if said]
-            shown += [said for said in [hint(self.docs, word, before, rest)] if said]
-        write(2, "".join(f"    {said}\n" for said in shown))
+            means, said = meaning(self.docs, word), hint(self.docs, word, before, rest)
+            shown += [f"{word}: {means}"] if means else []
+            shown += [said] if said else []
+        show(*(f"    {part}" for part in shown))
+
+
+def say_anew(name: str, number: int, why: str) -> None:
+    say(f"{name}, question {number}: {why}. It is asked anew without a budget, which may take long; Ctrl-C ends it")
 
 
 def unused(text: str) -> Iterator[tuple[int, str]]:
@@ -218,44 +230,6 @@ def grouped(told: str) -> list[list[str]]:
         else:
             answers.append([line])
     return answers
-
-
-def run(command: Sequence[str], text: str, errors: int | None = None) -> tuple[int, str]:
-    """The status of a program, as a shell has it, and what it writes. Files that are open here are open there."""
-    done = subprocess.run(command, input=as_bytes(text), stdout=subprocess.PIPE, stderr=errors, close_fds=False, check=False)
-    return done.returncode if done.returncode >= 0 else 128 - done.returncode, as_text(done.stdout)
-
-
-def as_text(data: bytes) -> str:
-    return data.decode("utf-8", "surrogateescape")
-
-
-def as_bytes(text: str) -> bytes:
-    return text.encode("utf-8", "surrogateescape")
-
-
-def write(place: int, text: str) -> None:
-    """Writes to standard output, 1, or standard error, 2."""
-    left = as_bytes(text)
-    while left:
-        left = left[os.write(place, left) :]
-
-
-def put(text: str) -> int:
-    """Writes to standard output: the status."""
-    try:
-        write(1, text)
-    except BrokenPipeError:
-        return 5
-    except OSError as fault:
-        say(f"standard output can't be written: {fault.strerror}")
-        return 5
-    return 0
-
-
-def say(*lines: str) -> None:
-    with suppress(OSError):
-        write(2, "".join(f"ask: {line}\n" for line in lines))
 
 
 def _end(number: int, _: object) -> None:

@@ -12,6 +12,8 @@ from .evidence import generator_numbers, point
 from .questions import Prove, Question, cut, parse
 from .sharing import read_sharing
 
+MOST = 2**64 - 1  # in a question file
+
 
 class Asked(NamedTuple):
     """A question of a file: what the mode makes of it, and a file of the mode with it alone."""
@@ -21,7 +23,7 @@ class Asked(NamedTuple):
 
 
 class Shown(NamedTuple):
-    """What shows an answer: a line of a report, and the same as the mode's line has it."""
+    """What shows an answer: a line of a report, nothing where no question holds its numbers, and the same as the mode's line has it."""
 
     report: str
     plain: str
@@ -68,7 +70,9 @@ def _asking(question: Question, goal: Prove) -> Question:
 
 
 def _report(answer: str, question: Question, **keys: Any) -> str:
-    return json.dumps({"answer": answer, "question": question.text(), **keys})
+    text = question.text()
+    is_held = all(int(number) <= MOST for number in re.findall("[0-9]+", text))
+    return json.dumps({"answer": answer, "question": text, **keys}) if is_held else ""
 
 
 def _yes(question: Question, proofs: str) -> Shown:

@@ -37,7 +37,7 @@ SENTENCES = {
 def typeset(told: str) -> str:
     """What is told, line for line."""
     paper = Paper()
-    for line in told.removesuffix("\n").split("\n"):
+    for line in told.removesuffix("\n").split("\n") if told else []:
         paper.take(line)
     paper.close_answer()
     return "".join(part + "\n" for part in paper.parts)
@@ -98,8 +98,9 @@ class Paper:
 
     def _substitution(self, part: str) -> str:
         name, _, chosen = part.partition(":=")
-        written = r"\emptyset" if chosen == "0" else formula(f"({chosen})" if "," in chosen else chosen, self.names)
-        return f"{formula(name, self.names)} := {written}"
+        left = formula(name, self.names)
+        right = formula(f"({chosen})" if "," in chosen else chosen, self.names)
+        return left + " := " + (r"\emptyset" if chosen == "0" else right)
 
     def _put_line(self, line: str) -> None:
         """A relation, which waits for more; a point; its facts; or what is no formula."""
@@ -131,7 +132,8 @@ class Paper:
         """The values of a point, as many in a line as fit."""
         values = text.split()
         columns = max(1, WIDTH // (max(map(len, values), default=0) + 6))
-        written = [formula(value, self.names).replace("=", " &= ") for value in values]
+        pairs = [[*value.split("="), ""] for value in values]
+        written = [f"{formula(left, self.names)} &= {right}" for left, right, *_ in pairs]
         lines = [written[place : place + columns] for place in range(0, len(written), columns)]
         return ", \\\\\n  ".join(map(", & ".join, lines))
 

@@ -3,7 +3,6 @@
 from __future__ import annotations
 
 import re
-import warnings
 
 TYPE_CHECKING = False
 if TYPE_CHECKING:
@@ -12,7 +11,7 @@ if TYPE_CHECKING:
 
 def meaning(docs: str | PathLike[str], word: str) -> str:
     """What the table of refusals says of a word."""
-    with open(f"{docs}/questions.md", encoding="latin-1") as page:
+    with open(f"{docs}/questions.md", encoding="utf-8") as page:
         for row in page:
             first, _, rest = row.partition(" | ")
             if first == f"| `{word}`":
@@ -22,8 +21,7 @@ def meaning(docs: str | PathLike[str], word: str) -> str:
 
 def hint(docs: str | PathLike[str], word: str, before: bytes, rest: bytes) -> str:
     """What to write in place of a slip: the first of the file that fits what stands before and after the place in its line."""
-    with open(f"{docs}/slips.txt", "rb") as slips, warnings.catch_warnings():
-        warnings.simplefilter("ignore", FutureWarning)  # awk's [][ is no set of sets
+    with open(f"{docs}/slips.txt", "rb") as slips:
         for row in slips:
             if not row.startswith(word.encode() + b"\t"):
                 continue
