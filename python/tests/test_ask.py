@@ -152,18 +152,21 @@ class Calls(Asks):
         self.assertEqual(self.ask(path, prover="/nowhere")[::2], (7, "ask: /nowhere can't be run (No such file or directory), so there is no answer\n"))
 
     def test_interrupts(self):
-        """A signal ends the program too."""
-        for number, due in [(signal.SIGINT, 130), (signal.SIGTERM, 143), (signal.SIGHUP, 129)]:
-            slow = self.program("open(__file__ + '.pid', 'w').write(f'{os.getpid()}\\n')\ntime.sleep(60)\n")
+        """An interrupt ends the program too, and so does any signal while it runs without a budget."""
+        sleep = "open(__file__ + '.pid', 'w').write(f'{os.getpid()}\\n')\ntime.sleep(60)\n"
+        anew = f"if '--pivots' not in sys.argv:\n    sys.exit(honest('--pivots', '1'))\n{sleep}"
+        begin = "import os, signal, sys; signal.signal(signal.SIGINT, signal.SIG_DFL); os.execv(sys.argv[1], sys.argv[1:])"
+        path = self.file("vars X, Y, Z\nprove H(X) + H(Y) + H(Z) >= H(X,Y,Z)\n")
+        for number, due, body in [(signal.SIGINT, 130, sleep), (signal.SIGINT, 130, anew), (signal.SIGTERM, 143, anew), (signal.SIGHUP, 129, anew)]:
+            slow = self.program(body)
             note = Path(f"{slow.prover}.pid")
-            command = self.command(self.file("vars X\nprove H(X) >= 0\n"), prover=slow.prover)
-            begin = "import os, signal, sys; signal.signal(signal.SIGINT, signal.SIG_DFL); os.execv(sys.argv[1], sys.argv[1:])"
-            call = subprocess.Popen([sys.executable, "-c", begin, *command], stdout=subprocess.PIPE, stderr=subprocess.PIPE)
+            command = [sys.executable, "-c", begin, *self.command(path, prover=slow.prover)]
+            call = subprocess.Popen(command, stdout=subprocess.PIPE, stderr=subprocess.PIPE)
             while not (note.exists() and note.read_text().endswith("\n")):
                 time.sleep(0.05)
             call.send_signal(number)
             told, said = call.communicate(timeout=30)
-            self.assertEqual((call.returncode, told, said), (due, b"", b""))
+            self.assertEqual((call.returncode, told, b"Traceback" in said), (due, b"", False))
             self.ends(note.read_text().strip())
 
     def ends(self, process):
@@ -358,7 +361,7 @@ class Loading(unittest.TestCase):
 
     def test_lazy(self):
         """The package loads what a name needs when it is used, and ./ask little of it."""
-        heavy = "[name for name in ('itip.everything', 'itip.notation', 'dataclasses', 'typing', 'pathlib') if name in sys.modules]"
+        heavy = "[name for name in ('itip.everything', 'itip.notation', 'typing', 'enum', 're', 'json', 'subprocess') if name in sys.modules]"
         self.assertEqual(self.run_python(f"import itip, itip.ask\nprint(*{heavy})"), [])
         self.assertIn("itip.everything", self.run_python(f"import itip\nitip.H\nprint(*{heavy})"))
 

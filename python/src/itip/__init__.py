@@ -10,7 +10,6 @@ yes
 from __future__ import annotations
 
 import sys
-from importlib import import_module
 from types import ModuleType
 
 TYPE_CHECKING = False
@@ -30,6 +29,8 @@ class _Package(ModuleType):
 
     def __getattr__(self, name: str) -> Any:
         if name == "__all__" or not name.startswith("__"):
+            from importlib import import_module
+
             everything = import_module(".everything", __name__)
             self.__dict__.update({known: getattr(everything, known) for known in ("__all__", *everything.__all__)})
             if name in self.__dict__:

@@ -5,21 +5,17 @@ It runs two programs: `itip` answers, and `tell` writes the answers anew.
 
 from __future__ import annotations
 
-import re
-import signal
-import subprocess
-import sys
-
-from .console import as_bytes, as_text, put, run, say, show
+from .console import as_bytes, as_text, end_by_signals, put, run, say, show
 from .errors import ItipError
 from .reports import MOST_BYTES, UNDECIDED, decoded, why_open
 
-TYPE_CHECKING = False  # (typing takes longer to load than an answer takes)
+TYPE_CHECKING = False
 if TYPE_CHECKING:
     from collections.abc import Iterator, Sequence
 
 USAGE = "usage: ./ask [--steps] [--short] [--needs] [--latex [--document]] FILE.."
 MODES = ("copy", "best", "sharing")
+WORDS = bytes(code if bytes([code]).isalnum() or code == ord("_") else ord(" ") for code in range(256))  # all but words as blanks
 
 
 class WordsError(Exception):
@@ -105,10 +101,12 @@ class Asker:
 
     # The programs
 
-    def _itip(self, mode: str, text: str, pivots: str = "", errors: int | None = None) -> tuple[int, str]:
-        """The status of `itip` and what it writes of a file: in mode `answer` a report."""
+    def _itip(self, mode: str, text: str, pivots: str = "", is_heard: bool = True) -> tuple[int, str]:
+        """The status of `itip` and what it writes of a file: in mode `answer` a report. Where not heard it has no standard error."""
         words = [mode, *(("--format", "json") if mode == "answer" else ()), *(("--pivots", pivots) if pivots else ())]
-        return run([self.prover, *words], text, errors)
+        if pivots == "none":
+            end_by_signals()
+        return run([self.prover, *words], text, is_heard)
 
     def _tell(self, report: Sequence[str], words: Sequence[str] = ()) -> tuple[int, str]:
         return run([self.teller, *words], "".join(line + "\n" for line in report))
@@ -141,7 +139,7 @@ class Asker:
         from .needs import need_questions, with_points
 
         rows = [row[2:] for row in told]
-        status, report = self._itip("answer", need_questions(decoded(line)["question"], rows), "none", subprocess.DEVNULL)
+        status, report = self._itip("answer", need_questions(decoded(line)["question"], rows), "none", is_heard=False)
         lines = report.split("\n")
         if status:
             say(f"{name}, question {number}: why its rows are needed can't be asked: {lines[0]}")
@@ -181,22 +179,16 @@ class Asker:
 
     def _explain(self, name: str, text: str, refusal: str) -> None:
         """Says what a refusal means, and what to write."""
-        from .refusals import hint, meaning
+        from .refusals import explained
 
-        place, *words = refusal.split()[1:]
+        place, word, *_ = [*refusal.split()[1:], ""]
         if place == "long":
             say(f"{name} has more than {MOST_BYTES} bytes")
             return
         number, column = map(int, place.split(":"))
         say(f"{name}, line {number}, column {column}:")
         line = [*as_bytes(text).split(b"\n"), b""][number - 1].removesuffix(b"\r")
-        before, rest = line[: column - 1], line[column - 1 :]
-        shown = [as_text(line), as_text(re.sub(rb"[^\t]", b" ", before)) + "^"] if line else []
-        for word in words:
-            means, said = meaning(self.docs, word), hint(self.docs, word, before, rest)
-            shown += [f"{word}: {means}"] if means else []
-            shown += [said] if said else []
-        show(*(f"    {part}" for part in shown))
+        show(*(f"    {as_text(part)}" for part in explained(self.docs, word, line, column)))
 
 
 def say_anew(name: str, number: int, why: str) -> None:
@@ -209,8 +201,8 @@ def unused(text: str) -> Iterator[tuple[int, str]]:
     names: list[str] = []
     head: set[str] = set()
     used: set[str] = set()
-    for line in [*text.split("\n"), "vars"]:
-        first, *others = re.findall("[A-Za-z0-9_]+", line.partition("#")[0]) or [""]
+    for line in [*as_bytes(text).split(b"\n"), b"vars"]:
+        first, *others = line.partition(b"#")[0].translate(WORDS).decode().split() or [""]
         if first == "vars":
             yield from ((number, name) for name in names if name not in used)
             head = head if number else used
@@ -232,15 +224,8 @@ def grouped(told: str) -> list[list[str]]:
     return answers
 
 
-def _end(number: int, _: object) -> None:
-    sys.exit(128 + number)
-
-
 def main(docs: str, prover: str, teller: str, lack: str, *words: str) -> int:
     """The status of a call. Where there is no program `lack` says why."""
-    for number in (signal.SIGHUP, signal.SIGTERM):
-        if signal.getsignal(number) is not signal.SIG_IGN:
-            signal.signal(number, _end)
     try:
         read = Words(words)
         if lack:

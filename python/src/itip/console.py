@@ -1,16 +1,16 @@
-"""What a command reads, writes and runs. Bytes that are no UTF-8 go through its texts unchanged."""
+"""What a command reads, writes and runs. Bytes that are no UTF-8 go through its texts unchanged.
+
+It loads `os` alone: `subprocess` and `signal` take longer to load than the programs take for a small file.
+"""
 
 from __future__ import annotations
 
 import os
-import subprocess
-from contextlib import suppress
+import sys
 
 from .errors import MissingProgram
 
-TYPE_CHECKING = False  # (typing takes longer to load than ./ask takes to answer)
-if TYPE_CHECKING:
-    from collections.abc import Sequence
+KILL = 9
 
 
 def as_text(data: bytes) -> str:
@@ -21,14 +21,43 @@ def as_bytes(text: str) -> bytes:
     return text.encode("utf-8", "surrogateescape")
 
 
-def run(command: Sequence[str], text: str, errors: int | None = None) -> tuple[int, str]:
-    """The status of a program, as a shell has it, and what it writes. What is open here is open there; `errors` is where its standard
-    error goes."""
+def run(command: list[str], text: str, is_heard: bool = True) -> tuple[int, str]:
+    """The status of a program, as a shell has it, and what it writes, with its standard error or without. An exception ends it.
+
+    Its input is a file in memory, so it may write before it has read all.
+    """
+    given = os.memfd_create("given")
+    _write(given, text)
+    os.lseek(given, 0, os.SEEK_SET)
+    reading, writing = os.pipe()
+    places: list[tuple[object, ...]] = [(os.POSIX_SPAWN_DUP2, given, 0), (os.POSIX_SPAWN_DUP2, writing, 1)]
+    if not is_heard:
+        places.append((os.POSIX_SPAWN_OPEN, 2, os.devnull, os.O_WRONLY, 0))
     try:
-        done = subprocess.run(command, input=as_bytes(text), stdout=subprocess.PIPE, stderr=errors, close_fds=False, check=False)
+        process = os.posix_spawn(command[0], command, os.environ, file_actions=places)
     except OSError as fault:
         raise MissingProgram(f"{command[0]} can't be run ({fault.strerror}), so there is no answer") from None
-    return done.returncode if done.returncode >= 0 else 128 - done.returncode, as_text(done.stdout)
+    finally:
+        os.close(given)
+        os.close(writing)
+    try:
+        with open(reading, "rb") as file:
+            written = as_text(file.read())
+    except BaseException:
+        os.kill(process, KILL)
+        os.waitpid(process, 0)
+        raise
+    status = os.waitstatus_to_exitcode(os.waitpid(process, 0)[1])
+    return status if status >= 0 else 128 - status, written
+
+
+def end_by_signals() -> None:
+    """From here on a signal that ends this process ends its program too, as an interrupt does."""
+    import signal
+
+    for number in (signal.SIGHUP, signal.SIGTERM):
+        if signal.getsignal(number) is signal.SIG_DFL:
+            signal.signal(number, lambda number, _: sys.exit(128 + number))
 
 
 def put(text: str) -> int:
@@ -49,8 +78,11 @@ def say(*lines: str) -> None:
 
 
 def show(*lines: str) -> None:
-    with suppress(OSError):
+    """Writes lines to standard error, if that can be written."""
+    try:
         _write(2, "".join(line + "\n" for line in lines))
+    except OSError:
+        pass
 
 
 def _write(place: int, text: str) -> None:

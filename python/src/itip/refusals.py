@@ -29,3 +29,11 @@ def hint(docs: str | PathLike[str], word: str, before: bytes, rest: bytes) -> st
             if re.search(stands_before, before) and re.search(stands_after, rest):
                 return said.decode()
     return ""
+
+
+def explained(docs: str | PathLike[str], word: str, line: bytes, column: int) -> list[bytes]:
+    """The line, unless it is empty, a caret below the place, the word's meaning and what to write."""
+    before, rest = line[: column - 1], line[column - 1 :]
+    means, says = meaning(docs, word), hint(docs, word, before, rest)
+    shown = [line, re.sub(rb"[^\t]", b" ", before) + b"^"] if line else []
+    return shown + ([f"{word}: {means}".encode()] if means else []) + ([says.encode()] if says else [])

@@ -2,8 +2,6 @@
 
 from __future__ import annotations
 
-import json
-
 from .errors import Forged
 
 TYPE_CHECKING = False
@@ -17,6 +15,8 @@ UNSETTLED = "has rows that may not be needed"
 
 def decoded(line: str) -> dict[str, Any]:
     """A line of a report as an object."""
+    import json  # (which takes long to load, and many calls need no object)
+
     try:
         found = json.loads(line)
     except ValueError:
