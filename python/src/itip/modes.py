@@ -10,7 +10,6 @@ from typing import Any, NamedTuple
 from .copies import copied, read_copies
 from .evidence import generator_numbers, point
 from .questions import Prove, Question, cut, parse
-from .sharing import read_sharing
 
 MOST = 2**64 - 1  # in a question file
 
@@ -33,6 +32,8 @@ def asked(mode: str, file: str, number: int) -> Asked:
     """A question by its number, from 1, of a file that the program has answered. In mode `copy` it can have the copies."""
     head, *questions = cut(file)
     if mode == "sharing":
+        from .sharing import read_sharing
+
         who, asks = read_sharing(head)
         lines = ["vars " + ", ".join((who.secret, *who.parties)), *(f"given {part.text()}" for part in who.given())]
         return Asked(parse("\n".join([*lines, re.sub("^best ", "prove ", asks)]) + "\n"), file)
