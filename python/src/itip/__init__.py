@@ -7,41 +7,42 @@ yes
   I(X;Y) - I(X;Z) = I(X;Y|Z) - I(X;Z|Y)
 """
 
-from .answers import Answer, Contained, No, Open, Projected, Undecided, Yes
-from .asking import ask, prove, prove_all
-from .codes import Code, code_at, code_for
-from .copies import Copy, copy
-from .curves import Corner, Curve, Face, tradeoff
-from .errors import (
-    Forged,
-    ItipError,
-    MissingProgram,
-    NotationError,
-    ProgramFailed,
-    Refused,
-    TimedOut,
-    UndecidedError,
-    WorkerLost,
-)
-from .evidence import Certificate, Generator, Point
-from .factors import Factor, best
-from .latex import aligned
-from .notation import Constraint, H, I, Relation, Sum, Variable, func, indep, markov, rates, rv
-from .pictures import Picture, curve_picture
-from .polygons import Polygon, entropies, gaussian
-from .problems import Edge, Problem, caching, index_coding, network, regenerating
-from .program import Itip, Notice, configure
-from .reading import assumption, relation
-from .regions import Region, contained, region
-from .search import Search, find_copies
-from .sharing import Sharing, sharing
+from __future__ import annotations
+
+import sys
+from types import ModuleType
+
+TYPE_CHECKING = False
+if TYPE_CHECKING:
+    from typing import Any
+
+    from .everything import *
 
 __version__ = "0.1"
-__all__ = [
-    "Answer", "Certificate", "Code", "Constraint", "Contained", "Copy", "Corner", "Curve", "Edge", "Face", "Factor", "Forged",
-    "Generator", "H", "I", "Itip", "ItipError", "MissingProgram", "No", "NotationError", "Notice", "Open", "Picture", "Point",
-    "Polygon", "Problem", "ProgramFailed", "Projected", "Refused", "Region", "Relation", "Search", "Sharing", "Sum", "TimedOut",
-    "Undecided", "UndecidedError", "Variable", "WorkerLost", "Yes", "aligned", "ask", "assumption", "best", "caching", "code_at", "code_for",
-    "configure", "contained", "copy", "curve_picture", "entropies", "find_copies", "func", "gaussian", "indep", "index_coding",
-    "markov", "network", "prove", "prove_all", "rates", "regenerating", "region", "relation", "rv", "sharing", "tradeoff",
-]
+
+
+class _Package(ModuleType):
+    """The package, which loads what it hands out when a name of it is first used: ./ask needs little of it.
+
+    Two names are also those of modules, and stay what `everything` says where such a module is loaded.
+    """
+
+    def __getattr__(self, name: str) -> Any:
+        if name == "__all__" or not name.startswith("__"):
+            from importlib import import_module
+
+            everything = import_module(".everything", __name__)
+            self.__dict__.update({known: getattr(everything, known) for known in ("__all__", *everything.__all__)})
+            if name in self.__dict__:
+                return self.__dict__[name]
+        raise AttributeError(f"module {__name__!r} has no attribute {name!r}")
+
+    def __setattr__(self, name: str, value: object) -> None:
+        if name not in ("ask", "sharing") or not isinstance(value, ModuleType):
+            super().__setattr__(name, value)
+
+    def __dir__(self) -> list[str]:
+        return sorted({*super().__dir__(), *self.__all__})
+
+
+sys.modules[__name__].__class__ = _Package

@@ -13,9 +13,10 @@ from .errors import Forged, NotationError, UndecidedError
 from .evidence import Certificate, Point, Proof, certificates, point, row, subset
 from .latex import WIDTH, aligned
 from .notation import Names, Relation, Sum
-from .program import Itip, decoded
+from .program import Itip
 from .questions import Contain, Eliminate, Prove, Question
 from .reading import relation
+from .reports import decoded
 
 
 @dataclass(frozen=True, eq=False, repr=False)

@@ -2,7 +2,6 @@
 
 from __future__ import annotations
 
-import re
 from collections.abc import Iterable, Sequence
 from concurrent.futures import Executor
 from typing import Any, Optional, Union
@@ -12,7 +11,7 @@ from .copies import Copy, copied
 from .errors import ProgramFailed
 from .notation import Relation, Sum
 from .program import Budget, Itip, default
-from .questions import Given, Prove, Question, as_relation, listed, parse, question
+from .questions import Given, Prove, Question, as_relation, cut, listed, parse, question
 from .workers import spread_report
 
 
@@ -75,14 +74,7 @@ def ask(text: str, *, pivots: Budget = "usual", program: Optional[Itip] = None) 
     """
     at = program or default()
     lines = at.file_report(text, pivots)
-    questions = _questions(text)
+    questions = cut(text)[1:]
     if len(lines) != len(questions):
         raise ProgramFailed(f"{len(questions)} questions got {len(lines)} answers")
     return [read(parse(one), line, at) for one, line in zip(questions, lines)]
-
-
-def _questions(text: str) -> list[str]:
-    """The questions of a file as reports have them: without comments, and without blanks at the ends of lines."""
-    lines = (line.partition("#")[0].replace("\t", " ").strip(" \r") for line in text.split("\n"))
-    plain = "".join(line + "\n" for line in lines if line)
-    return re.split(r"(?m)^(?=vars\b)", plain)[1:]

@@ -9,6 +9,7 @@ from .errors import NotationError
 from .evidence import subset
 from .notation import Assumption, Names, Variable, Variables, entropy, names_of
 from .questions import Question
+from .reading import Reader
 
 
 @dataclass(frozen=True, repr=False)
@@ -40,6 +41,24 @@ def copy(name: Variable, of: Variable, over: Variables = ()) -> Copy:
     return Copy(name.name, of.name, names_of(over))
 
 
+def read_copies(head: str) -> list[Copy]:
+    """The copies of a head that the program has read, in the form in which `cut` hands it out.
+
+    >>> read_copies("copy R of A over C, D\\ncopy S of R over 0\\n")
+    [copy R of A over C, D, copy S of R over 0]
+    """
+    found = []
+    for line in head.splitlines():
+        reader = Reader(line)
+        reader.take("copy")
+        name = reader.name()
+        reader.take("of")
+        of = reader.name()
+        reader.take("over")
+        found.append(Copy(name, of, () if reader.takes("0") else reader.names()))
+    return found
+
+
 def copied(question: Question, copies: Sequence[Copy]) -> Question:
     """The question with copies of its variables, as mode `copy` makes it."""
     variables, given = question.variables, question.given
@@ -51,4 +70,11 @@ def copied(question: Question, copies: Sequence[Copy]) -> Question:
             raise NotationError(f"{one}: the question has no variable {missing[0]}; name it by about=[H({missing[0]})]")
         given += tuple(one.given(variables))
         variables += (one.name,)
-    return replace(question, variables=variables, given=given)
+    source = None if question.source is None else _with_lines(question, variables, given[len(question.given) :])
+    return replace(question, variables=variables, given=given, source=source)
+
+
+def _with_lines(question: Question, variables: Names, given: Sequence[Assumption]) -> str:
+    """The text of the question with these variables, and with these lines before the last one."""
+    _, *lines, goal = question.text().splitlines()
+    return "\n".join(["vars " + ", ".join(variables), *lines, *(f"given {part.text()}" for part in given), goal]) + "\n"

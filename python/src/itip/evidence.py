@@ -99,6 +99,13 @@ def line_generators(question: Question) -> list[Generator]:
     return found
 
 
+def generator_numbers(question: Question) -> dict[str, int]:
+    """The numbers of generators in reports, by their names."""
+    elementals = (elemental(question.variables, number).text() for number in range(elemental_count(len(question.variables))))
+    names = [*elementals, *(generator.name for generator in line_generators(question))]
+    return {name: number for number, name in enumerate(names)}
+
+
 def certificates(question: Question, relation: Relation, proofs: Sequence[Proof]) -> Iterator[Certificate]:
     """The proofs of a relation with their names: one, or of an equation two, forward and back."""
     lines = line_generators(question)

@@ -12,60 +12,27 @@ Each object is written in the notation of question files (docs/questions.md) by 
 from __future__ import annotations
 
 import re
-from collections.abc import Callable, Iterable, Iterator, Mapping, Sequence
+from collections.abc import Iterable, Iterator, Sequence
 from dataclasses import dataclass
 from fractions import Fraction
 from typing import NoReturn, Optional, Tuple, Union
 
 from .errors import NotationError
+from .latex import Names as LatexNames, formula
 
 Names = Tuple[str, ...]
 Key = Union[str, "frozenset[str]"]  # a rate's name, or the names of a joint entropy
 NAME = re.compile(r"[A-Za-z][A-Za-z0-9_]{0,15}")
-INDEXED = re.compile(r"([A-Za-z]+)_?([A-Za-z0-9_]*)")
-
-
-# How it is written
-
-
-@dataclass(frozen=True)
-class Style:
-    """How names, numbers and signs are written."""
-
-    name: Callable[[str], str]
-    fraction: str
-    times: str
-    bar: str
-    words: Mapping[str, str]
-
-
-def latex_name(name: str) -> str:
-    r"""X1 and X_1 are X_{1}, and a name of several letters is set as one word.
-
-    >>> latex_name("X1"), latex_name("Key")
-    ('X_{1}', '\\mathit{Key}')
-    """
-    found = INDEXED.fullmatch(name)
-    letters, index = found.groups() if found else (name, "")
-    body = letters if len(letters) == 1 else rf"\mathit{{{letters}}}"
-    return body + ("_{" + index.replace("_", r"\_") + "}" if index else "")
-
-
-TEXT = Style(str, "{}/{}", " ", "|", {"<=": "<=", ">=": ">=", "=": "="})
-LATEX = Style(latex_name, r"\tfrac{{{}}}{{{}}}", r"\,", r"\mid ", {"<=": r"\le", ">=": r"\ge", "=": "="})
 
 
 class Written:
     """What has a text and a LaTeX form; notebooks show the latter."""
 
-    def write(self, style: Style) -> str:
+    def text(self) -> str:
         raise NotImplementedError
 
-    def text(self) -> str:
-        return self.write(TEXT)
-
     def latex(self) -> str:
-        return self.write(LATEX)
+        return formula(self.text())
 
     def __repr__(self) -> str:
         return self.text()
@@ -117,8 +84,8 @@ class Variable(Inside, Written):
     def tokens(self) -> tuple[Variable | str, ...]:
         return (self,)
 
-    def write(self, style: Style) -> str:
-        return style.name(self.name)
+    def text(self) -> str:
+        return self.name
 
 
 @dataclass(frozen=True, repr=False)
@@ -175,13 +142,10 @@ class Entropy(Written):
     right: Names = ()
     condition: Names = ()
 
-    def write(self, style: Style) -> str:
-        def written(names: Names) -> str:
-            return ",".join(map(style.name, names))
-
-        right = ";" + written(self.right) if self.right else ""
-        condition = style.bar + written(self.condition) if self.condition else ""
-        return f"{'I' if self.right else 'H'}({written(self.left)}{right}{condition})"
+    def text(self) -> str:
+        right = ";" + ",".join(self.right) if self.right else ""
+        condition = "|" + ",".join(self.condition) if self.condition else ""
+        return f"{'I' if self.right else 'H'}({','.join(self.left)}{right}{condition})"
 
     def names(self) -> Names:
         return self.left + self.right + self.condition
@@ -201,8 +165,8 @@ class Entropy(Written):
 class Rate(Written):
     name: str
 
-    def write(self, style: Style) -> str:
-        return style.name(self.name)
+    def text(self) -> str:
+        return self.name
 
     def joint(self) -> Iterator[tuple[int, Key]]:
         yield 1, self.name
@@ -284,13 +248,12 @@ class Sum(Written):
         """Whether both are the same joint entropies and rates, as I(X & Y) and H(X) - H(X | Y) are."""
         return not (self - other).joint()
 
-    def write(self, style: Style) -> str:
+    def text(self) -> str:
         parts: list[str] = []
         for number, atom in self.terms:
-            above, below = abs(number.numerator), number.denominator
-            sign = "- " if number.numerator < 0 else "+ " if parts else ""
-            size = str(above) if below == 1 else style.fraction.format(above, below)
-            parts.append(sign + ("" if size == "1" else size + style.times) + atom.write(style))
+            sign = "- " if number < 0 else "+ " if parts else ""
+            size = abs(number)
+            parts.append(sign + ("" if size == 1 else f"{size} ") + atom.text())
         return " ".join(parts) or "0"
 
 
@@ -370,8 +333,8 @@ class Relation(Written):
     def __bool__(self) -> NoReturn:
         raise NotationError("a relation is neither true nor false before it is asked, by prove(..). A chain a <= b <= c is two relations")
 
-    def write(self, style: Style) -> str:
-        return f"{self.left.write(style)} {style.words[self.sign]} {self.right.write(style)}"
+    def text(self) -> str:
+        return f"{self.left.text()} {self.sign} {self.right.text()}"
 
     def target(self) -> Sum:
         """What the relation says is at least 0; for an equation, what is 0."""
@@ -390,16 +353,19 @@ class Constraint(Written):
     lists: tuple[Names, ...]
     condition: Names = ()
 
-    def write(self, style: Style) -> str:
-        parts = [",".join(map(style.name, part)) for part in self.lists]
-        condition = ",".join(map(style.name, self.condition))
-        if style is TEXT:
-            between = {"markov": " -> ", "indep": "; ", "func": " of "}[self.word]
-            return f"{self.word} {between.join(parts)}" + (f" | {condition}" if condition else "")
+    def text(self) -> str:
+        between = {"markov": " -> ", "indep": "; ", "func": " of "}[self.word]
+        condition = " | " + ",".join(self.condition) if self.condition else ""
+        return f"{self.word} {between.join(map(','.join, self.lists))}{condition}"
+
+    def latex(self) -> str:
         if self.word == "func":
-            return rf"H({parts[0]}{style.bar}{parts[1]}) = 0"
-        grouped = [text if len(part) == 1 else f"({text})" for text, part in zip(parts, self.lists)]
-        return (r" \to " if self.word == "markov" else r" \perp ").join(grouped) + (rf" {style.bar}{condition}" if condition else "")
+            return (self.sums()[0] == 0).latex()
+        names = LatexNames()
+        parts = [formula(",".join(part), names) for part in self.lists]
+        grouped = [tex if len(part) == 1 else f"({tex})" for tex, part in zip(parts, self.lists)]
+        condition = r" \mid " + formula(",".join(self.condition), names) if self.condition else ""
+        return (r" \to " if self.word == "markov" else r" \perp ").join(grouped) + condition
 
     def atoms(self) -> Iterator[Atom]:
         for part in (*self.lists, self.condition):

@@ -2,7 +2,6 @@
 
 from __future__ import annotations
 
-import json
 import os
 import re
 import signal
@@ -15,9 +14,10 @@ from pathlib import Path
 from typing import Any, Optional, Union
 
 from .errors import Forged, MissingProgram, ProgramFailed, Refused, TimedOut
+from .refusals import hint, meaning
+from .reports import MOST_BYTES, decoded, why_open
 
 MOST_QUESTIONS = 1000
-MOST_BYTES = 1_048_576
 LONG = f"a file has at most {MOST_BYTES} bytes"
 ENDS = {2: "the words have no reading", 4: "a read failed", 5: "a write failed", 6: "there was too little memory"}
 
@@ -124,7 +124,7 @@ class Itip:
         budget = self.pivots if pivots == "usual" else pivots
         lines = self._judged(text, budget, words)
         if budget == "usual":
-            lines = [self._settled(line, words) if _is_open(line) else line for line in lines]
+            lines = [self._settled(line, words) if why_open(line) else line for line in lines]
         return lines
 
     def _judged(self, text: str, budget: Budget, words: Sequence[str]) -> list[str]:
@@ -174,12 +174,13 @@ class Itip:
         source = source.replace("\r\n", "\n")
         if not line:
             return Refused(word, 0, 0, source, LONG)
-        meaning, hint = "", ""
+        at = b"".join(source.encode().split(b"\n")[line - 1 : line])
+        means, says = "", ""
         with suppress(MissingProgram, OSError):
             docs = self.repository() / "docs"
-            meaning = _meaning(docs / "questions.md", word)
-            hint = _hint(docs / "slips.txt", word, source.encode().split(b"\n")[line - 1 : line], column)
-        return Refused(word, line, column, source, meaning, hint)
+            means = meaning(docs, word)
+            says = hint(docs, word, at[: column - 1], at[column - 1 :])
+        return Refused(word, line, column, source, means, says)
 
 
 def _how_to_build(program: Path, why: str) -> str:
@@ -198,30 +199,6 @@ def _end(process: subprocess.Popen[bytes]) -> None:
             process.wait(seconds)
 
 
-def _meaning(page: Path, word: str) -> str:
-    """What the table of refusals says of a word."""
-    for row in page.read_text().splitlines():
-        first, _, rest = row.partition(" | ")
-        if first == f"| `{word}`":
-            return rest.partition(" | ")[0]
-    return ""
-
-
-def _hint(slips: Path, word: str, lines: list[bytes], column: int) -> str:
-    """What to write in place of a slip: the first of the file that fits what stands before and after the place."""
-    line = lines[0] if lines else b""
-    before, rest = line[: column - 1], line[column - 1 :]
-    with warnings.catch_warnings():
-        warnings.simplefilter("ignore", FutureWarning)  # awk's [][ is no set of sets
-        for row in slips.read_bytes().splitlines():
-            if not row.startswith(word.encode() + b"\t"):
-                continue
-            _, stands_before, stands_after, said, *_ = row.split(b"\t")
-            if re.search(stands_before, before) and re.search(stands_after, rest):
-                return said.decode()
-    return ""
-
-
 def _batches(questions: Sequence[str]) -> Iterator[list[str]]:
     """The questions in as few files as the limits of a file allow."""
     batch: list[str] = []
@@ -235,24 +212,6 @@ def _batches(questions: Sequence[str]) -> Iterator[list[str]]:
         size += length
     if batch:
         yield batch
-
-
-def _is_open(line: str) -> bool:
-    """Whether more steps may say more: the answer is undecided by steps, or a row is unsettled."""
-    if line.startswith('{"answer":"region"'):
-        return '"mark":"unsettled"' in line
-    return line.startswith('{"answer":"undecided"') and '"cause":"pivots"' in line
-
-
-def decoded(line: str) -> dict[str, Any]:
-    """A line of a report as an object."""
-    try:
-        found = json.loads(line)
-    except ValueError:
-        found = None
-    if not isinstance(found, dict):
-        raise Forged(f"a line of the report is no object: {line[:200]!r}")
-    return found
 
 
 _default = Itip()

@@ -8,7 +8,8 @@ from math import lcm
 from typing import NoReturn
 
 from .errors import NotationError
-from .notation import TEXT, Assumption, Constraint, Entropy, Names, Rate, Relation, Sum, Term, checked_name
+from .latex import SIGNS
+from .notation import Assumption, Constraint, Entropy, Names, Rate, Relation, Sum, Term, checked_name
 
 TOKEN = re.compile(r"[A-Za-z][A-Za-z0-9_]*|[0-9]+|->|>=|<=|:=|[(),;|+\-=/]")
 BETWEEN = {"markov": "->", "indep": ";", "func": "of"}
@@ -109,7 +110,7 @@ class Reader:
 
     def relation(self) -> Relation:
         left = self.sum()
-        sign = self.takes(*TEXT.words) or self.fault("a relation has one of the signs <=, >= and = here")
+        sign = self.takes(*SIGNS) or self.fault("a relation has one of the signs <=, >= and = here")
         right = self.sum()
         return Relation(self.multiple * left, sign, self.multiple * right) if self.is_whole else Relation(left, sign, right)
 

@@ -12,7 +12,7 @@ from .errors import NotationError
 from .evidence import subset
 from .factors import Factor, best
 from .notation import Assumption, Constraint, Names, Relation, Sum, Variable, Variables, entropy, names_of, rates
-from .questions import as_relation
+from .reading import Reader
 
 
 @dataclass(frozen=True)
@@ -66,6 +66,23 @@ class Sharing:
         """The same as a file of mode `sharing`, which asks by this line."""
         lines = [f"secret {self.secret}", "parties " + ", ".join(self.parties), *("qualified " + ", ".join(known) for known in self.qualified)]
         return "\n".join([*lines, asks]) + "\n"
+
+
+def read_sharing(file: str) -> tuple[Sharing, str]:
+    """A sharing file that the program has read, in the form in which `cut` hands it out: who shares, and the line that asks.
+
+    >>> read_sharing("secret s\\nparties a, b\\nqualified a, b\\nprove H(a) >= H(s)\\n")
+    (Sharing(secret='s', parties=('a', 'b'), qualified=(('a', 'b'),)), 'prove H(a) >= H(s)')
+    """
+    *lines, asks = file.splitlines()
+    (secret,), parties, *qualified = map(_listed, lines)
+    return Sharing(secret, parties, tuple(qualified)), asks
+
+
+def _listed(line: str) -> Names:
+    reader = Reader(line)
+    reader.take()
+    return reader.names()
 
 
 def sharing(secret: Variable, *qualified: Variables, parties: Variables = ()) -> Sharing:

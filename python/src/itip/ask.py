@@ -1,0 +1,243 @@
+"""The command ./ask: what question files ask, answered in the field's own notation (docs/ask.md).
+
+It runs two programs: `itip` answers, and `tell` writes the answers anew.
+"""
+
+from __future__ import annotations
+
+from .console import as_bytes, as_text, end_by_signals, put, run, say, show
+from .errors import ItipError
+from .reports import MOST_BYTES, UNDECIDED, decoded, why_open
+
+TYPE_CHECKING = False
+if TYPE_CHECKING:
+    from collections.abc import Iterator, Sequence
+
+USAGE = "usage: ./ask [--steps] [--short] [--needs] [--latex [--document]] FILE.."
+MODES = ("copy", "best", "sharing")
+WORDS = bytes(code if bytes([code]).isalnum() or code == ord("_") else ord(" ") for code in range(256))  # all but words as blanks
+
+
+class WordsError(Exception):
+    """The words of the call have no reading."""
+
+
+class Words:
+    """What the words of a call ask for."""
+
+    def __init__(self, words: Sequence[str]) -> None:
+        self.files = list(words)
+        self.mode = "answer"
+        self.options: set[str] = set()
+        self.telling: list[str] = []  # the words for `tell`
+        while self.files and self.files[0].startswith("-"):
+            word = self.files.pop(0)
+            if word == "--":
+                break
+            self._take(word)
+        if not self.files or ("--document" in self.options and "--latex" not in self.options):
+            raise WordsError
+
+    def _take(self, word: str) -> None:
+        if word in ("--steps", "--short"):
+            self.telling.append(word)
+        elif word in ("--latex", "--document", "--needs"):
+            self.options.add(word)
+        elif word.startswith("--") and word[2:] in MODES and self.mode in ("answer", word[2:]):
+            self.mode = word[2:]
+        else:
+            raise WordsError
+
+
+class Asker:
+    """A call: its words, the folder of the docs, and the paths of both programs."""
+
+    def __init__(self, words: Words, docs: str, prover: str, teller: str) -> None:
+        self.words, self.docs, self.prover, self.teller = words, docs, prover, teller
+
+    def answer_all(self) -> int:
+        """Answers the files. The status is the first other than 0."""
+        statuses = []
+        for name in self.words.files:
+            if len(self.words.files) > 1:
+                self._put(f"# {name}\n")
+            statuses.append(self._answer(name))
+        return next(filter(None, statuses), 0)
+
+    def document_all(self) -> int:
+        """The same between a preamble and the end of a document."""
+        from .paper import END, PREAMBLE
+
+        put(PREAMBLE)
+        status = self.answer_all()
+        put(END)
+        return status
+
+    def _answer(self, name: str) -> int:
+        try:
+            with open(name, "rb") as file:
+                text = as_text(file.read(MOST_BYTES + 1))
+        except OSError as fault:
+            say(f"{name} can't be read: {fault.strerror}")
+            return 4
+        status, written = self._itip(self.words.mode, text)
+        if status == 3:
+            self._put(written)
+            self._explain(name, text, written)
+            return 3
+        for number, variable in unused(text):
+            say(f"{name}, question {number}: no line says anything of the variable {variable}")
+        lines = written.split("\n")[:-1]
+        told_status, told = self._told(name, lines) if self.words.mode == "answer" else self._told_in_mode(name, text, lines)
+        put_status = self._put(told)
+        return status or put_status or told_status
+
+    def _put(self, told: str) -> int:
+        if "--latex" not in self.words.options:
+            return put(told)
+        from .paper import typeset
+
+        return put(typeset(told))
+
+    # The programs
+
+    def _itip(self, mode: str, text: str, pivots: str = "", is_heard: bool = True) -> tuple[int, str]:
+        """The status of `itip` and what it writes of a file: in mode `answer` a report. Where not heard it has no standard error."""
+        words = [mode, *(("--format", "json") if mode == "answer" else ()), *(("--pivots", pivots) if pivots else ())]
+        if pivots == "none":
+            end_by_signals()
+        return run([self.prover, *words], text, is_heard)
+
+    def _tell(self, report: Sequence[str], words: Sequence[str] = ()) -> tuple[int, str]:
+        return run([self.teller, *words], "".join(line + "\n" for line in report))
+
+    # What is told
+
+    def _told(self, name: str, lines: Sequence[str]) -> tuple[int, str]:
+        """The status of `tell`, and what it writes of a report."""
+        report = [self._settled(name, number, line) for number, line in enumerate(lines, 1)]
+        status, told = self._tell(report, self.words.telling)
+        if "--needs" not in self.words.options:
+            return status, told
+        answers = grouped(told)
+        for number, (line, answer) in enumerate(zip(report, answers), 1):
+            if line.startswith('{"answer":"region"'):
+                answer[1:] = self._with_needs(name, number, line, answer[1:])
+        return status, "".join(line + "\n" for answer in answers for line in answer)
+
+    def _settled(self, name: str, number: int, line: str) -> str:
+        """The line of a report, or a new one where more steps may say more."""
+        why = why_open(line)
+        if not why:
+            return line
+        say_anew(name, number, why)
+        status, anew = self._itip("answer", decoded(line)["question"], "none")
+        return anew.split("\n")[0] if status == 0 and anew.count("\n") == 1 else line
+
+    def _with_needs(self, name: str, number: int, line: str, told: Sequence[str]) -> list[str]:
+        """The told rows of a region, each needed one with a point at which all others hold and it doesn't."""
+        from .needs import need_questions, with_points
+
+        rows = [row[2:] for row in told]
+        status, report = self._itip("answer", need_questions(decoded(line)["question"], rows), "none", is_heard=False)
+        lines = report.split("\n")
+        if status:
+            say(f"{name}, question {number}: why its rows are needed can't be asked: {lines[0]}")
+            return list(told)
+        _, answers = self._tell(lines[:-1])
+        return ["  " + row for row in with_points(rows, grouped(answers))]
+
+    def _told_in_mode(self, name: str, file: str, lines: Sequence[str]) -> tuple[int, str]:
+        """The same of the lines of another mode."""
+        from . import modes
+
+        told: list[str] = []
+        statuses = [0]
+        for line in lines:
+            number, word, *_ = line.split(" ")
+            if not number.isdigit() or word in ("misfit", "other"):
+                told.append(line)
+                continue
+            asked = modes.asked(self.words.mode, file, int(number))
+            if line.startswith(f"{number} undecided pivots"):
+                say_anew(name, int(number), UNDECIDED)
+                status, anew = self._itip(self.words.mode, asked.alone, "none")
+                line = f"{number} " + anew.split("\n")[-2].partition(" ")[2] if status == 0 else line
+            first, parts = modes.shown(line, asked.made)
+            told.append(first)
+            for part in parts:
+                status, below = self._told_below(part.report) if part.report else (0, [f"  {part.plain}"])
+                statuses.append(status)
+                told += below
+        return max(statuses), "".join(line + "\n" for line in told)
+
+    def _told_below(self, line: str) -> tuple[int, list[str]]:
+        """The status of `tell`, and what it writes below the first line of an answer; of an invalid one that, in its place."""
+        status, told = self._tell([line], self.words.telling)
+        first, *below = told.split("\n")[:-1] or [""]
+        return status, below if status != 1 else [f"  {first.partition(' ')[2]}"]
+
+    def _explain(self, name: str, text: str, refusal: str) -> None:
+        """Says what a refusal means, and what to write."""
+        from .refusals import explained
+
+        place, word, *_ = [*refusal.split()[1:], ""]
+        if place == "long":
+            say(f"{name} has more than {MOST_BYTES} bytes")
+            return
+        number, column = map(int, place.split(":"))
+        say(f"{name}, line {number}, column {column}:")
+        line = [*as_bytes(text).split(b"\n"), b""][number - 1].removesuffix(b"\r")
+        show(*(f"    {as_text(part)}" for part in explained(self.docs, word, line, column)))
+
+
+def say_anew(name: str, number: int, why: str) -> None:
+    say(f"{name}, question {number}: {why}. It is asked anew without a budget, which may take long; Ctrl-C ends it")
+
+
+def unused(text: str) -> Iterator[tuple[int, str]]:
+    """The variables that only `vars` and `aux` lines name, with the numbers of their questions. What a head names isn't among them."""
+    number = 0
+    names: list[str] = []
+    head: set[str] = set()
+    used: set[str] = set()
+    for line in [*as_bytes(text).split(b"\n"), b"vars"]:
+        first, *others = line.partition(b"#")[0].translate(WORDS).decode().split() or [""]
+        if first == "vars":
+            yield from ((number, name) for name in names if name not in used)
+            head = head if number else used
+            number, names, used = number + 1, [], set(head)
+        if first in ("vars", "aux"):
+            names += others
+        else:
+            used.update(others)
+
+
+def grouped(told: str) -> list[list[str]]:
+    """The lines of each answer that is told, its first line among them."""
+    answers: list[list[str]] = []
+    for line in told.split("\n")[:-1]:
+        if line.startswith("  ") and answers:
+            answers[-1].append(line)
+        else:
+            answers.append([line])
+    return answers
+
+
+def main(docs: str, prover: str, teller: str, lack: str, *words: str) -> int:
+    """The status of a call. Where there is no program `lack` says why."""
+    try:
+        read = Words(words)
+        if lack:
+            say(*lack.split("\n"))
+            return 7
+        asker = Asker(read, docs, prover, teller)
+        return asker.document_all() if "--document" in read.options else asker.answer_all()
+    except WordsError:
+        say(USAGE)
+        return 2
+    except ItipError as fault:
+        say(str(fault))
+        return 7
+    except KeyboardInterrupt:
+        return 130

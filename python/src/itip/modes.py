@@ -1,0 +1,98 @@
+"""The lines that the modes copy, best and sharing write, as lines of reports, which `tell` reads (docs/answers.md)."""
+
+from __future__ import annotations
+
+import json
+import re
+from dataclasses import replace
+from typing import Any, NamedTuple
+
+from .copies import copied, read_copies
+from .evidence import generator_numbers, point
+from .questions import Prove, Question, cut, parse
+
+MOST = 2**64 - 1  # in a question file
+
+
+class Asked(NamedTuple):
+    """A question of a file: what the mode makes of it, and a file of the mode with it alone."""
+
+    made: Question
+    alone: str
+
+
+class Shown(NamedTuple):
+    """What shows an answer: a line of a report, nothing where no question holds its numbers, and the same as the mode's line has it."""
+
+    report: str
+    plain: str
+
+
+def asked(mode: str, file: str, number: int) -> Asked:
+    """A question by its number, from 1, of a file that the program has answered. In mode `copy` it can have the copies."""
+    head, *questions = cut(file)
+    if mode == "sharing":
+        from .sharing import read_sharing
+
+        who, asks = read_sharing(head)
+        lines = ["vars " + ", ".join((who.secret, *who.parties)), *(f"given {part.text()}" for part in who.given())]
+        return Asked(parse("\n".join([*lines, re.sub("^best ", "prove ", asks)]) + "\n"), file)
+    text = questions[number - 1]
+    return Asked(copied(parse(text), read_copies(head)) if mode == "copy" else parse(text), head + text)
+
+
+def shown(line: str, question: Question) -> tuple[str, list[Shown]]:
+    """The line's beginning, without its details, and what shows that it is true of the question."""
+    number, word, *details = line.split(" ", 2)
+    text = "".join(details)
+    if word == "yes":
+        return f"{number} yes", [_yes(question, text)]
+    if word == "no":
+        return f"{number} no", [_no(question, text)]
+    if word == "none":
+        return f"{number} none", [_no(question, text)]
+    if word not in ("best", "unbounded"):
+        return line, []
+    assert isinstance(question.goal, Prove)
+    factor, text = text.split(" ", 1)
+    above, below = map(int, factor.split("/"))
+    greater, less = question.goal.relation.left, question.goal.relation.right
+    holds = _asking(question, Prove(above * greater >= below * less))
+    if word == "best":
+        proof, values = text.split(" at ")
+        smaller = _asking(question, Prove((above - 1) * greater >= below * less))
+        return f"{number} best {factor}", [_yes(holds, proof), _no(smaller, values)]
+    proof, other = text.split(" and ")
+    return f"{number} unbounded {factor}", [_yes(holds, proof), _yes(_asking(question, Prove(0 * greater >= greater)), other)]
+
+
+def _asking(question: Question, goal: Prove) -> Question:
+    return replace(question, goal=goal, source=None)
+
+
+def _report(answer: str, question: Question, **keys: Any) -> str:
+    text = question.text()
+    is_held = all(int(number) <= MOST for number in re.findall("[0-9]+", text))
+    return json.dumps({"answer": answer, "question": text, **keys}) if is_held else ""
+
+
+def _yes(question: Question, proofs: str) -> Shown:
+    """A yes from its proofs `L : w G + ..`, with ` and ` between them. A generator without a number says nothing."""
+    numbers = generator_numbers(question)
+    found = [_proof(proof, numbers) for proof in proofs.split(" and ")]
+    return Shown(_report("yes", question, proofs=found), f"as weights {proofs}")
+
+
+def _proof(text: str, numbers: dict[str, int]) -> dict[str, Any]:
+    scale, _, terms = text.partition(" : ")
+    weighed = [term.split(" ", 1) for term in terms.split(" + ") if term != "0"]
+    return {"scale": scale, "weights": [[numbers[name], weight] for weight, name in weighed if name in numbers]}
+
+
+def _no(question: Question, values: str) -> Shown:
+    """A no from its values `h(X)=1 ..`; of an equation that side fails which is negative at them."""
+    assert isinstance(question.goal, Prove)
+    numbers = re.findall("=(-?[0-9]+)", values)
+    at = point([int(number) for number in numbers], question.variables, question.rates)
+    side = "forward" if at[question.goal.relation.target()] < 0 else "back"
+    return Shown(_report("no", question, point=numbers, side=side), f"as point {values}")

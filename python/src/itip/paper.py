@@ -1,0 +1,154 @@
+"""What `tell` tells, as LaTeX for a paper: a sentence for each answer, and the lines below it as lines of align* (docs/ask.md)."""
+
+from __future__ import annotations
+
+import re
+
+from .latex import WIDTH, Names, align, escaped, formula, is_relation
+
+PREAMBLE = r"""\documentclass{article}
+\usepackage[margin=1in]{geometry}
+\usepackage{amsmath}
+\allowdisplaybreaks
+\begin{document}
+"""
+END = "\\end{document}\n"
+NAME, LIST = "[A-Za-z][A-Za-z0-9_]*", "[A-Za-z0-9_,]+"
+# the facts of a point: what is set as a formula, and the words around it
+FACTS = (
+    (re.compile(rf"((?:H\({LIST}\)|{NAME}) = (?:-?[0-9]+|{NAME}))"), "{}"),
+    (re.compile(f"({NAME}) constant"), r"{}\text{{ constant}}"),
+    (re.compile(f"func ([A-Za-z0-9_]+) of ({LIST})"), r"{}\text{{ a function of }}{}"),
+    (re.compile("indep ([A-Za-z0-9_;]+)"), r"{}\text{{ independent}}"),
+)
+SENTENCES = {
+    "yes": "This has a proof from Shannon's inequalities and what is given:",
+    "no": "This does not follow from Shannon's inequalities: at the following point what is given holds, and this fails.",
+    "region": "The region is given by these {} rows:",
+    "region 0": "The region is given by no row.",
+    "region 1": "The region is given by this row:",
+    "open": "No substitution was proved, of {} that were tried.",
+    "best": "The least factor is ${}$: it holds by the proof, and at the point below the two sides are equal with it:",
+    "none": "No factor holds: at the following point the left side is 0, and the right side is above 0.",
+    "unbounded": "The factor ${}$ holds, and so does each smaller number, since the left side is never above 0:",
+}
+
+
+def typeset(told: str) -> str:
+    """What is told, line for line."""
+    paper = Paper()
+    for line in told.removesuffix("\n").split("\n") if told else []:
+        paper.take(line)
+    paper.close_answer()
+    return "".join(part + "\n" for part in paper.parts)
+
+
+class Paper:
+    """LaTeX in the making. Names are set alike in all of it."""
+
+    def __init__(self) -> None:
+        self.parts: list[str] = []
+        self.names = Names()
+        self.first = ""  # of the answer that waits, and the lines below it
+        self.below: list[str] = []
+        self.rows: list[tuple[str, str]] = []  # of its relations, those that wait, each with its comment
+
+    def take(self, line: str) -> None:
+        if line.startswith("  "):
+            self.below.append(line[2:])
+            return
+        self.close_answer()
+        if re.match("[0-9]+ [a-z]", line):
+            self.first = line
+        elif line.startswith("# "):
+            self.parts.append(rf"\section*{{\texttt{{{escaped(line[2:])}}}}}")
+        else:
+            self._put_letters(line)
+
+    def close_answer(self) -> None:
+        """Sets the answer that waits, if there is one."""
+        if not self.first:
+            return
+        self.parts.append(self._sentence())
+        is_step = False
+        for line in self.below:
+            if line.startswith(" ") != is_step:
+                self._close_relations()
+                is_step = not is_step
+                if is_step:
+                    self.parts.append("Step by step:")
+            self._put_line(line)
+        self._close_relations()
+        self.first, self.below = "", []
+
+    def _sentence(self) -> str:
+        """The sentence for the first line. Without a formula below it, it ends with a point."""
+        number, word, *rest = self.first.split()
+        if word == "contained":
+            parts = [f"${self._substitution(part)}$" for part in rest]
+            listed = " and ".join(filter(None, [", ".join(parts[:-1]), *parts[-1:]]))
+            said = "The first region is contained in the second" + (f", with {listed}" if parts else "") + ":"
+        elif word == "undecided":
+            said = rf"This stayed undecided: \texttt{{{escaped(self.first[len(number) + 11 :])}}}."
+        elif word in SENTENCES:
+            said = SENTENCES.get(" ".join([word, *rest]), SENTENCES[word]).format(*rest, "")
+        else:
+            said = rf"\texttt{{{escaped(self.first[len(number) + 1 :])}}}"
+        return rf"\paragraph{{{number}.}} " + (said if self.below else re.sub(":$", ".", said))
+
+    def _substitution(self, part: str) -> str:
+        name, _, chosen = part.partition(":=")
+        left = formula(name, self.names)
+        right = formula(f"({chosen})" if "," in chosen else chosen, self.names)
+        return left + " := " + (r"\emptyset" if chosen == "0" else right)
+
+    def _put_line(self, line: str) -> None:
+        """A relation, which waits for more; a point; its facts; or what is no formula."""
+        text, *comments = re.split(" *# ", line.lstrip(" "), maxsplit=1)
+        comment = "".join(comments)
+        if text.startswith("as row "):
+            text = text[len("as row ") :]
+            comment = "as the report has it" + (", " + comment if comment else "")
+        if is_relation(text):
+            self.rows.append((text, comment))
+            return
+        self._close_relations()
+        is_point = text.startswith("as point ")
+        lines = self._point(text[len("as point ") :]) if is_point else self._facts(text)
+        if lines:
+            self.parts.append("\\begin{align*}\n  " + lines + "\n\\end{align*}")
+        else:
+            self._put_letters(line)
+
+    def _close_relations(self) -> None:
+        if self.rows:
+            self.parts.append(align(self.rows, self.names))
+            self.rows = []
+
+    def _put_letters(self, line: str) -> None:
+        self.parts.append(rf"\par{{\raggedright\texttt{{{escaped(line)}}}\par}}")
+
+    def _point(self, text: str) -> str:
+        """The values of a point, as many in a line as fit."""
+        values = text.split()
+        columns = max(1, WIDTH // (max(map(len, values), default=0) + 6))
+        pairs = [[*value.split("="), ""] for value in values]
+        written = [f"{formula(left, self.names)} &= {right}" for left, right, *_ in pairs]
+        lines = [written[place : place + columns] for place in range(0, len(written), columns)]
+        return ", \\\\\n  ".join(map(", & ".join, lines))
+
+    def _facts(self, text: str) -> str:
+        """Facts with `, ` between them. Nothing, where one is none."""
+        out, used = "&", 0
+        for place, fact in enumerate(text.split(", ")):
+            found = next(((match, words) for pattern, words in FACTS if (match := pattern.fullmatch(fact))), None)
+            if found is None:
+                return ""
+            if place:
+                is_full = used + len(fact) > WIDTH
+                out += ", \\\\\n  &" if is_full else r",\quad "
+                used = 0 if is_full else used
+            match, words = found
+            out += words.format(*(formula(part, self.names) for part in match.groups()))
+            used += len(fact) + 6
+        return out

@@ -1,0 +1,33 @@
+"""Reports: what `itip answer --format json` writes, a line for each question (docs/answers.md)."""
+
+from __future__ import annotations
+
+from .errors import Forged
+
+TYPE_CHECKING = False
+if TYPE_CHECKING:
+    from typing import Any
+
+MOST_BYTES = 1_048_576
+UNDECIDED = "is undecided after so many steps"
+UNSETTLED = "has rows that may not be needed"
+
+
+def decoded(line: str) -> dict[str, Any]:
+    """A line of a report as an object."""
+    import json  # (which takes long to load, and many calls need no object)
+
+    try:
+        found = json.loads(line)
+    except ValueError:
+        found = None
+    if not isinstance(found, dict):
+        raise Forged(f"a line of the report is no object: {line[:200]!r}")
+    return found
+
+
+def why_open(line: str) -> str:
+    """Why more steps may say more: the answer is undecided by steps, or a row is unsettled. Nothing where they can't."""
+    if line.startswith('{"answer":"region"'):
+        return UNSETTLED if '"mark":"unsettled"' in line else ""
+    return UNDECIDED if line.startswith('{"answer":"undecided"') and '"cause":"pivots"' in line else ""
