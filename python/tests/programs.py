@@ -10,17 +10,21 @@ from pathlib import Path
 from itip import Itip
 from itip.program import default
 
+BLAND = Itip(run="bland")  # which a budget of one step leaves undecided
+FEW_STEPS = "sys.exit(honest() if '--pivots' in sys.argv else honest('--pivots', '1'))\n"
+
 
 class WithPrograms(unittest.TestCase):
     def program(self, body, **settings):
-        """A program that does what the body says; there, `honest()` calls the true one with the same words and input."""
+        """A program that does what the body says; there, `honest()` calls the true one with the same input and words, but for its defined run."""
         folder = tempfile.TemporaryDirectory()
         self.addCleanup(folder.cleanup)
         path = Path(folder.name) / "itip"
         head = (
             f"#!{sys.executable}\nimport os, subprocess, sys, time\n"
             "def honest(*more):\n"
-            f"    return subprocess.call([{str(default().prover_path())!r}, *sys.argv[1:], *more])\n"
+            "    words = ['bland' if word == 'quick' else word for word in sys.argv[1:]]\n"
+            f"    return subprocess.call([{str(default().prover_path())!r}, *words, *more])\n"
         )
         path.write_text(head + body)
         path.chmod(path.stat().st_mode | stat.S_IXUSR)

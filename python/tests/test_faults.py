@@ -12,7 +12,7 @@ from unittest import mock
 from itip import Forged, H, I, Itip, MissingProgram, No, Notice, ProgramFailed, Refused, TimedOut, Undecided, ask, markov, prove, rv
 from itip.answers import read
 
-from .programs import WithPrograms
+from .programs import BLAND, FEW_STEPS, WithPrograms
 
 X, Y, Z = rv("X Y Z")
 ROOT = Path(__file__).resolve().parents[2]
@@ -125,10 +125,9 @@ class Programs(WithPrograms):
 
     def test_settled(self):
         """What the usual budget leaves undecided is asked once more without one, and with a budget of one's own it isn't."""
-        body = "sys.exit(honest() if '--pivots' in sys.argv else honest('--pivots', '1'))\n"
         relation = "H(X) + H(Y) + H(Z) >= H(X,Y,Z) + I(X;Y|Z)"
-        self.assertIsInstance(prove(relation, pivots=1), Undecided)
-        program = self.program(body)
+        self.assertIsInstance(prove(relation, program=BLAND, pivots=1), Undecided)
+        program = self.program(FEW_STEPS)
         self.assertEqual(prove(relation, program=program).word, prove(relation).word)
         self.assertEqual(program.calls, 2)
         self.assertIsInstance(prove(relation, program=program, pivots=1), Undecided)

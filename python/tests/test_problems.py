@@ -7,6 +7,8 @@ from fractions import Fraction as F
 import itip.curves
 from itip import H, I, Itip, ItipError, NotationError, Edge, Problem, caching, copy, index_coding, network, rates, regenerating, rv, tradeoff
 
+from .programs import BLAND
+
 X, Y = rv("X Y")
 A, B, C, D = rv("A B C D")
 M, N, R, S = rates("M N R S")
@@ -52,7 +54,7 @@ class Curves(unittest.TestCase):
         with self.assertRaisesRegex(ItipError, "always 0"):
             tradeoff(R, S, H(X), [R >= 0, S >= 0, H(X) == 0])
         with self.assertRaisesRegex(ItipError, "undecided pivots 1"):
-            caching(2, 2, [(1, 2), (2, 1)]).tradeoff(M, R, H(A), pivots=1)
+            caching(2, 2, [(1, 2), (2, 1)]).tradeoff(M, R, H(A), pivots=1, program=BLAND)
 
     def test_calls(self):
         """All edges of a round go into one call."""

@@ -11,7 +11,7 @@ from itip import H, I, Itip, Refused, Undecided, find_copies, prove, relation, r
 from itip.questions import Prove, question
 from itip.search import candidates
 
-from .programs import WithPrograms
+from .programs import BLAND, WithPrograms
 
 A, B, C, D = rv("A B C D")
 ZHANG_YEUNG = relation("2 I(C;D) <= I(A;B) + I(A;C,D) + 3 I(C;D|A) + I(C;D|B)")
@@ -44,7 +44,7 @@ class Searches(WithPrograms):
         out_of_time = find_copies(DOUGHERTY_FREILING_ZEGER, seconds=0)
         self.assertEqual((bool(out_of_time), out_of_time.tried), (False, 0))
         self.assertGreater(out_of_time.left, 100)
-        few_steps = find_copies(ZHANG_YEUNG, pivots=1, limit=7, batch=3)
+        few_steps = find_copies(ZHANG_YEUNG, pivots=1, limit=7, batch=3, program=BLAND)
         self.assertEqual((few_steps.tried, few_steps.undecided), (7, 7))
 
     def test_room(self):

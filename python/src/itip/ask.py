@@ -103,7 +103,7 @@ class Asker:
 
     def _itip(self, mode: str, text: str, pivots: str = "", is_heard: bool = True) -> tuple[int, str]:
         """The status of `itip` and what it writes of a file: in mode `answer` a report. Where not heard it has no standard error."""
-        words = [mode, *(("--format", "json") if mode == "answer" else ()), *(("--pivots", pivots) if pivots else ())]
+        words = [mode, *(("--format", "json") if mode == "answer" else ()), "--run", "quick", *(("--pivots", pivots) if pivots else ())]
         if pivots == "none":
             end_by_signals()
         return run([self.prover, *words], text, is_heard)

@@ -59,7 +59,7 @@ def best(greater: Sum, less: Sum, given: Given = None, **settings: Any) -> Facto
     """The least c with c E >= F wherever what is given holds; E mustn't be negative there.
 
     It asks by `prove`, c = 0 first. A point at which c E >= F fails has a larger c at which it just holds, which is asked next, until one
-    has a proof. So functions make it easier, and ten variables are no bar, where mode `best` of the program ends at six or seven.
+    has a proof. So functions make it easier, and ten variables are no bar, where the defined run of mode `best` ends at six or seven.
 
     >>> from itip import *
     >>> X, Y, Z = rv("X Y Z")

@@ -41,14 +41,16 @@ class Itip:
     """How to call the programs.
 
     `home` is the repository: without it ITIP_HOME, or the folders around this package. `prover` and `teller` are paths of the
-    programs, where they lie elsewhere. `pivots` is the budget of steps of each run, None for none; "usual" is that of the program,
-    and what stays undecided by it is asked once more without a budget, as `./ask` does. `timeout` is how many seconds one call of a
-    program may take. With `judge` each answer goes through `itip check` before it is handed out.
+    programs, where they lie elsewhere. `run` is "quick" or "bland": with "bland" each answer is the one that docs/answers.md fixes.
+    `pivots` is the budget of steps of each defined run, None for none; "usual" is that of the program, and what stays undecided by
+    it is asked once more without a budget, as `./ask` does. `timeout` is how many seconds one call of a program may take. With
+    `judge` each answer goes through `itip check` before it is handed out.
     """
 
     home: Optional[AnyPath] = None
     prover: Optional[AnyPath] = None
     teller: Optional[AnyPath] = None
+    run: str = "quick"
     pivots: Budget = "usual"
     timeout: Optional[float] = None
     judge: bool = False
@@ -129,7 +131,7 @@ class Itip:
 
     def _judged(self, text: str, budget: Budget, words: Sequence[str]) -> list[str]:
         pivots = [] if budget == "usual" else ["--pivots", "none" if budget is None else str(budget)]
-        lines = self.itip(["answer", "--format", "json", *pivots, *words], text).splitlines()
+        lines = self.itip(["answer", "--format", "json", "--run", self.run, *pivots, *words], text).splitlines()
         if self.judge:
             for line, verdict in zip(lines, self.check(lines)):
                 if verdict.startswith("invalid"):
