@@ -155,7 +155,9 @@ class Calls(Asks):
         """An interrupt ends the program too, and so does any signal while it runs without a budget."""
         sleep = "open(__file__ + '.pid', 'w').write(f'{os.getpid()}\\n')\ntime.sleep(60)\n"
         anew = f"if '--pivots' not in sys.argv:\n    sys.exit(honest('--pivots', '1'))\n{sleep}"
-        begin = "import os, signal, sys; signal.signal(signal.SIGINT, signal.SIG_DFL); os.execv(sys.argv[1], sys.argv[1:])"
+        # (a job that a shell starts with `&`, or by nohup, begins by ignoring some)
+        default = "for number in (signal.SIGINT, signal.SIGTERM, signal.SIGHUP): signal.signal(number, signal.SIG_DFL)"
+        begin = f"import os, signal, sys\n{default}\nos.execv(sys.argv[1], sys.argv[1:])"
         path = self.file("vars X, Y, Z\nprove H(X) + H(Y) + H(Z) >= H(X,Y,Z)\n")
         for number, due, body in [(signal.SIGINT, 130, sleep), (signal.SIGINT, 130, anew), (signal.SIGTERM, 143, anew), (signal.SIGHUP, 129, anew)]:
             slow = self.program(body)
@@ -173,9 +175,12 @@ class Calls(Asks):
 
     def ends(self, process):
         """An orphan's end may wait to be read."""
-        status = Path(f"/proc/{process}/stat")
         for _ in range(100):
-            if not status.exists() or status.read_text().rpartition(")")[2].split()[0] == "Z":
+            try:
+                state = Path(f"/proc/{process}/stat").read_text().rpartition(")")[2].split()[0]
+            except OSError:
+                return
+            if state == "Z":
                 return
             time.sleep(0.05)
         self.fail("the program goes on")
