@@ -238,10 +238,16 @@ class Modes(Asks):
     """Modes copy, best and sharing, whose own lines stand beside the examples: from the literature, and another implementation."""
 
     def firsts(self, path):
-        """The lines of the mode beside a file, without their details."""
-        details = {"yes": 2, "no": 2, "none": 2, "best": 3, "unbounded": 3}
-        lines = [line.split(" ") for line in path.with_suffix(".out").read_text().splitlines()]
-        return [" ".join(line[: details.get(line[1], len(line))]) for line in lines]
+        """The lines of the mode beside a file, without their details: those of quick runs, where they say more."""
+        quick = path.with_suffix(".quick")
+        stored = quick if quick.exists() else path.with_suffix(".out")
+        return [self.first(line) for line in stored.read_text().splitlines()]
+
+    @staticmethod
+    def first(line):
+        """A line without its details; any factor shows that factors are unbounded."""
+        words = line.split(" ")
+        return " ".join(words[: {"yes": 2, "no": 2, "none": 2, "best": 3, "unbounded": 2}.get(words[1], len(words))])
 
     def judge(self, mode, folder, pattern):
         """Each file is answered as its mode answers it, by proofs that are equations: how many."""
@@ -249,7 +255,7 @@ class Modes(Asks):
         status, told, _ = self.ask(f"--{mode}", *map(str, paths))
         answers = grouped(told)
         due = [line for path in paths for line in (f"# {path}", *self.firsts(path))]
-        self.assertEqual((status, [first for first, *_ in answers]), (0, due))
+        self.assertEqual((status, [self.first(first) for first, *_ in answers]), (0, due))
         proofs = []
         for first, *below in answers:
             word = first.split()[1]
