@@ -11,7 +11,7 @@ import unittest
 from pathlib import Path
 
 from itip import copy, prove, relation, rv, sharing
-from itip.ask import grouped, unused
+from itip.ask import MODES, SETTINGS, grouped, mode_of, unused
 from itip.program import default
 
 from .programs import FEW_STEPS, WithPrograms
@@ -19,7 +19,7 @@ from .programs import FEW_STEPS, WithPrograms
 ROOT = Path(__file__).resolve().parents[2]
 EXAMPLES = ROOT / "examples"
 SOURCES = ROOT / "python" / "src"
-USAGE = b"ask: usage: ./ask [--steps] [--short] [--needs] [--latex [--document]] FILE..\n"
+USAGE = b"ask: usage: ./ask [WORDS] FILE.., with the words that ./ask --help lists\n"
 BOOT = "import sys; sys.path.insert(0, sys.argv[1]); from itip.ask import main; sys.exit(main(*sys.argv[2:]))"
 ANEW = "It is asked anew without a budget, which may take long; Ctrl-C ends it\n"
 # the region of Slepian and Wolf, as docs/questions.md has it
@@ -78,12 +78,47 @@ class Calls(Asks):
         self.assertEqual((done.returncode, done.stdout), (0, b"1 region 3\n  R >= H(X|Y)\n  Q >= H(Y|X)\n  R + Q >= H(X,Y)\n"))
 
     def test_words(self):
+        path = self.file("vars X\nprove H(X) >= 0\n")
         for words in [
-            [], ["--steps"], ["--latx", "f"], ["-", "f"], ["--help"], ["--document", "f"], ["--"], ["--copy", "--best", "f"], ["--answer", "f"],
-            ["-copy", "f"], ["--latex=1", "f"],
+            [], ["--steps"], ["--latx", "f"], ["--help", "f"], ["--document", "f"], ["--"], ["--copy", "--best", "f"], ["--answer", "f"],
+            ["-copy", "f"], ["--latex=1", "f"], ["--pivots"], ["--pivots", "7"], ["--run", "fast", path], ["--pivots", "few", path],
+            ["--tries", "7", "--copy", path],
         ]:  # fmt: skip
             done = subprocess.run(self.command(*words), capture_output=True, check=False)
             self.assertEqual((done.returncode, done.stdout, done.stderr), (2, b"", USAGE), words)
+
+    def test_help(self):
+        """It lists each word, and docs/ask.md the same list."""
+        status, shown, said = self.ask("--help")
+        self.assertEqual((status, said), (0, ""))
+        words = re.findall("--[a-z]+", shown)
+        known = [*MODES, "steps", "short", "latex", "document", "needs", "version"]
+        self.assertEqual(sorted(set(words) - {"--help"}), sorted([*SETTINGS, *(f"--{word}" for word in known)]))
+        self.assertIn(f"```\n{shown}```\n", (ROOT / "docs" / "ask.md").read_text())
+        self.assertEqual(self.ask("--version"), (0, "ask 1\n", ""))
+
+    def test_settings(self):
+        """They go to the program as they are, and with a budget of one's own nothing is asked anew."""
+        path = self.file("vars X, Y, Z\nprove H(X) + H(Y) + H(Z) >= H(X,Y,Z)\n")
+        self.assertEqual(self.ask("--run", "bland", "--pivots", "1", path), (0, "1 undecided pivots 1\n", ""))
+        self.assertEqual(self.asks(PATH + "prove H(b) + H(c) >= 3 H(s)\n", "--run", "bland", "--pivots", "1"), ["sharing 3 3", "1 undecided pivots 1"])
+        self.assertEqual(self.ask("--rows", "1", self.file(BINNED)), (0, "1 undecided rows S\n", ""))
+        outside = self.file("vars X, Y\nrates R\nregion\nrow R <= H(X,Y)\nregion\nrow R <= H(X)\ncontain\n")
+        self.assertEqual(self.ask("--tries", "1", outside)[:2], (0, "1 open 1\n"))
+
+    def test_input(self):
+        """`-` is standard input."""
+        for text, due in [(b"vars X\nprove H(X) >= 0\n", (0, b"1 yes\n  H(X) = H(X)\n", b"")), (b"vars\n", (3, b"refused 1:5 word\n", b"ask: standard input, line 1, column 5:"))]:
+            done = subprocess.run(self.command("-"), input=text, capture_output=True, check=False)
+            self.assertEqual((done.returncode, done.stdout, done.stderr[: len(due[2])]), due)
+
+    def test_modes_of_files(self):
+        """A file says by its first word whether it has a head of copies, or is a sharing file."""
+        copies = "copy R of A over C, D\nvars A, C, D\nprove I(A;C|D) >= 0\n"
+        path = PATH + "prove H(b) + H(c) >= 3 H(s)\n"
+        for text, mode in [(copies, "--copy"), (f"\n# a head\n\t{copies}", "--copy"), (path, "--sharing"), (path.replace("\n", "\r\n"), "--sharing")]:
+            self.assertEqual(self.asks(text), self.asks(text, mode))
+        self.assertEqual([mode_of(text) for text in ("", "#copy", "copying", "secrets s", "secret\ts", "vars copy")], ["answer"] * 4 + ["sharing", "answer"])
 
     def test_no_program(self):
         command = self.command("f")

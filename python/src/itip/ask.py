@@ -13,8 +13,25 @@ TYPE_CHECKING = False
 if TYPE_CHECKING:
     from collections.abc import Iterator, Sequence
 
-USAGE = "usage: ./ask [--steps] [--short] [--needs] [--latex [--document]] FILE.."
+USAGE = "usage: ./ask [WORDS] FILE.., with the words that ./ask --help lists"
+HELP = """usage: ./ask [WORDS] FILE..
+Answers question files in the field's own notation (docs/ask.md); - is standard input.
+--steps      below each proof its steps
+--short      proofs with the least sum of terms, which may take long
+--needs      behind each needed row of a region a point at which it alone fails
+--latex      for LaTeX; with --document as a whole document
+--copy       a file with a head of copies, which a file that begins with `copy` is without this word
+--sharing    a sharing file, which a file that begins with `secret` is without this word
+--best       least factors
+--run bland  by the run with Bland's rule alone; without it quick runs come first
+--pivots N   so many steps for each run with Bland's rule, or none; what is undecided then isn't asked anew
+--rows N     so many rows in an elimination
+--tries N    so many candidates in a containment
+--version    which program this is
+"""
+VERSION = "ask 1\n"
 MODES = ("copy", "best", "sharing")
+SETTINGS = ("--run", "--pivots", "--rows", "--tries")
 WORDS = bytes(code if bytes([code]).isalnum() or code == ord("_") else ord(" ") for code in range(256))  # all but words as blanks
 
 
@@ -27,10 +44,11 @@ class Words:
 
     def __init__(self, words: Sequence[str]) -> None:
         self.files = list(words)
-        self.mode = "answer"
+        self.mode = ""  # where none is named each file tells its own
         self.options: set[str] = set()
         self.telling: list[str] = []  # the words for `tell`
-        while self.files and self.files[0].startswith("-"):
+        self.settings = {"--run": "quick"}  # those for `itip`, each with its value
+        while self.files and self.files[0].startswith("-") and self.files[0] != "-":
             word = self.files.pop(0)
             if word == "--":
                 break
@@ -43,8 +61,10 @@ class Words:
             self.telling.append(word)
         elif word in ("--latex", "--document", "--needs"):
             self.options.add(word)
-        elif word.startswith("--") and word[2:] in MODES and self.mode in ("answer", word[2:]):
+        elif word.startswith("--") and word[2:] in MODES and self.mode in ("", word[2:]):
             self.mode = word[2:]
+        elif word in SETTINGS and self.files:
+            self.settings[word] = self.files.pop(0)
         else:
             raise WordsError
 
@@ -75,12 +95,16 @@ class Asker:
 
     def _answer(self, name: str) -> int:
         try:
-            with open(name, "rb") as file:
+            with open(0 if name == "-" else name, "rb") as file:
                 text = as_text(file.read(MOST_BYTES + 1))
         except OSError as fault:
             say(f"{name} can't be read: {fault.strerror}")
             return 4
-        status, written = self._itip(self.words.mode, text)
+        name = "standard input" if name == "-" else name
+        mode = self.words.mode or mode_of(text)
+        status, written = self._itip(mode, text)
+        if status == 2:
+            raise WordsError
         if status == 3:
             self._put(written)
             self._explain(name, text, written)
@@ -88,7 +112,7 @@ class Asker:
         for number, variable in unused(text):
             say(f"{name}, question {number}: no line says anything of the variable {variable}")
         lines = written.split("\n")[:-1]
-        told_status, told = self._told(name, lines) if self.words.mode == "answer" else self._told_in_mode(name, text, lines)
+        told_status, told = self._told(name, lines) if mode == "answer" else self._told_in_mode(mode, name, text, lines)
         put_status = self._put(told)
         return status or put_status or told_status
 
@@ -103,7 +127,8 @@ class Asker:
 
     def _itip(self, mode: str, text: str, pivots: str = "", is_heard: bool = True) -> tuple[int, str]:
         """The status of `itip` and what it writes of a file: in mode `answer` a report. Where not heard it has no standard error."""
-        words = [mode, *(("--format", "json") if mode == "answer" else ()), "--run", "quick", *(("--pivots", pivots) if pivots else ())]
+        settings = {**self.words.settings, "--pivots": pivots} if pivots else self.words.settings
+        words = [mode, *(("--format", "json") if mode == "answer" else ()), *(word for pair in settings.items() for word in pair)]
         if pivots == "none":
             end_by_signals()
         return run([self.prover, *words], text, is_heard)
@@ -128,7 +153,7 @@ class Asker:
     def _settled(self, name: str, number: int, line: str) -> str:
         """The line of a report, or a new one where more steps may say more."""
         why = why_open(line)
-        if not why:
+        if not why or "--pivots" in self.words.settings:
             return line
         say_anew(name, number, why)
         status, anew = self._itip("answer", decoded(line)["question"], "none")
@@ -147,7 +172,7 @@ class Asker:
         _, answers = self._tell(lines[:-1])
         return ["  " + row for row in with_points(rows, grouped(answers))]
 
-    def _told_in_mode(self, name: str, file: str, lines: Sequence[str]) -> tuple[int, str]:
+    def _told_in_mode(self, mode: str, name: str, file: str, lines: Sequence[str]) -> tuple[int, str]:
         """The same of the lines of another mode."""
         from . import modes
 
@@ -158,10 +183,10 @@ class Asker:
             if not number.isdigit() or word in ("misfit", "other"):
                 told.append(line)
                 continue
-            asked = modes.asked(self.words.mode, file, int(number))
-            if line.startswith(f"{number} undecided pivots"):
+            asked = modes.asked(mode, file, int(number))
+            if line.startswith(f"{number} undecided pivots") and "--pivots" not in self.words.settings:
                 say_anew(name, int(number), UNDECIDED)
-                status, anew = self._itip(self.words.mode, asked.alone, "none")
+                status, anew = self._itip(mode, asked.alone, "none")
                 line = f"{number} " + anew.split("\n")[-2].partition(" ")[2] if status == 0 else line
             first, parts = modes.shown(line, asked.made)
             told.append(first)
@@ -189,6 +214,15 @@ class Asker:
         say(f"{name}, line {number}, column {column}:")
         line = [*as_bytes(text).split(b"\n"), b""][number - 1].removesuffix(b"\r")
         show(*(f"    {as_text(part)}" for part in explained(self.docs, word, line, column)))
+
+
+def mode_of(text: str) -> str:
+    """The mode of a file, by its first word: files with a head begin with `copy`, and sharing files with `secret`."""
+    for line in text.split("\n"):
+        first, *_ = line.partition("#")[0].replace("\t", " ").strip(" \r").split(" ")
+        if first:
+            return {"copy": "copy", "secret": "sharing"}.get(first, "answer")
+    return "answer"
 
 
 def say_anew(name: str, number: int, why: str) -> None:
@@ -224,8 +258,16 @@ def grouped(told: str) -> list[list[str]]:
     return answers
 
 
+def refuse() -> int:
+    """Says what the words may be."""
+    say(USAGE)
+    return 2
+
+
 def main(docs: str, prover: str, teller: str, lack: str, *words: str) -> int:
     """The status of a call. Where there is no program `lack` says why."""
+    if words[:1] in (("--help",), ("--version",)):
+        return put(HELP if words[0] == "--help" else VERSION) if len(words) == 1 else refuse()
     try:
         read = Words(words)
         if lack:
@@ -234,8 +276,7 @@ def main(docs: str, prover: str, teller: str, lack: str, *words: str) -> int:
         asker = Asker(read, docs, prover, teller)
         return asker.document_all() if "--document" in read.options else asker.answer_all()
     except WordsError:
-        say(USAGE)
-        return 2
+        return refuse()
     except ItipError as fault:
         say(str(fault))
         return 7
