@@ -1,0 +1,4 @@
+use Rattle.it_outer.proofs.extremes.is_greater.Goals as goal
+
+pub loop-at-preserved : goal.loop-at-preserved
+loop-at-preserved c = ?

@@ -1,0 +1,4 @@
+use Rattle.it_outer.proofs.search.frame.Goals as goal
+
+pub returns : goal.returns
+returns c = ?
