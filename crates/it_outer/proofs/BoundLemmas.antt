@@ -122,23 +122,31 @@ module _ (s : Search) (h : IsSearch s) where
 
   -- ---- the ends of passes
 
-  undecided_right : (end : OuterView) (cause : CauseView) → end ≡ Undecided cause → IsRightOuter s.problem s.kept end
-  undecided_right end cause e = subst (λ (o : OuterView). IsRightOuter s.problem s.kept o) (sym e) tt
+  -- bounds are of a hull that goes on, with proofs of its rows
+  abbrev IsWell : OuterView → Type 0
+  IsWell (Bounds rows ws rays) = IsGoing rows rays × AreProofsOf s.problem s.limits.effort rows ws
+  IsWell (Undecided cause) = Unit {0}
 
-  proved_right : (rows : List Terms) (rays : List (List ℤ)) (ws : List CertificateView) (end : OuterView) → IsGoing rows rays → AreProofsOf s.problem s.limits.effort rows ws → end ≡ Bounds rows ws rays → IsRightOuter s.problem s.kept end
-  proved_right rows rays ws end g z e = subst (λ (o : OuterView). IsRightOuter s.problem s.kept o) (sym e)
-      (record { certified = certified_rows s.problem s.limits.effort rows ws h.problem (every_of (IsOver (size_of s.problem.space)) rows g.over) z; attained = g.attained; hull = g.hull })
+  undecided_well : (end : OuterView) (cause : CauseView) → end ≡ Undecided cause → IsWell end
+  undecided_well end cause e = subst (λ (o : OuterView). IsWell o) (sym e) tt
 
-  pass_right : (more : ℕ) (rows : List Terms) (rays : List (List ℤ)) (end : OuterView) → IsGoing rows rays → PassEnds s more rows rays end → IsRightOuter s.problem s.kept end
-  pass_right zero rows rays end g (Proved ws, v, a) = proved_right rows rays ws end g v a
-  pass_right zero rows rays end g (Refuted values, v, a) = undecided_right end Rays a
-  pass_right zero rows rays end g (Left row cause, v, a) = undecided_right end (Run row cause) a
-  pass_right (suc more) rows rays end g (Proved ws, v, a) = proved_right rows rays ws end g v a
-  pass_right (suc more) rows rays end g (Left row cause, v, a) = undecided_right end (Run row cause) a
-  pass_right (suc more) rows rays end g (Refuted values, v, (Hull next, n, later)) =
-      pass_right more next (rays ++ values ∷ []) end (next_going rows next rays values g (refuting_point s.problem s.limits.effort rows v.0 values h.problem g.over v.1) n) later
-  pass_right (suc more) rows rays end g (Refuted values, v, (TooMany, n, later)) = undecided_right end Rows later
-  pass_right (suc more) rows rays end g (Refuted values, v, (TooWide, n, later)) = undecided_right end Width later
+  proved_well : (rows : List Terms) (rays : List (List ℤ)) (ws : List CertificateView) (end : OuterView) → IsGoing rows rays → AreProofsOf s.problem s.limits.effort rows ws → end ≡ Bounds rows ws rays → IsWell end
+  proved_well rows rays ws end g z e = subst (λ (o : OuterView). IsWell o) (sym e) (g, z)
+
+  well_right : (end : OuterView) → IsWell end → IsRightOuter s.problem s.kept end
+  well_right (Bounds rows ws rays) w = record { certified = certified_rows s.problem s.limits.effort rows ws h.problem (every_of (IsOver (size_of s.problem.space)) rows w.0.over) w.1; attained = w.0.attained; hull = w.0.hull }
+  well_right (Undecided cause) w = tt
+
+  pass_well : (more : ℕ) (rows : List Terms) (rays : List (List ℤ)) (end : OuterView) → IsGoing rows rays → PassEnds s more rows rays end → IsWell end
+  pass_well zero rows rays end g (Proved ws, v, a) = proved_well rows rays ws end g v a
+  pass_well zero rows rays end g (Refuted values, v, a) = undecided_well end Rays a
+  pass_well zero rows rays end g (Left row cause, v, a) = undecided_well end (Run row cause) a
+  pass_well (suc more) rows rays end g (Proved ws, v, a) = proved_well rows rays ws end g v a
+  pass_well (suc more) rows rays end g (Left row cause, v, a) = undecided_well end (Run row cause) a
+  pass_well (suc more) rows rays end g (Refuted values, v, (Hull next, n, later)) =
+      pass_well more next (rays ++ values ∷ []) end (next_going rows next rays values g (refuting_point s.problem s.limits.effort rows v.0 values h.problem g.over v.1) n) later
+  pass_well (suc more) rows rays end g (Refuted values, v, (TooMany, n, later)) = undecided_well end Rows later
+  pass_well (suc more) rows rays end g (Refuted values, v, (TooWide, n, later)) = undecided_well end Width later
 
   -- the first hull
   first_over : (cs : List ℕ) → Every (λ c. (2 ^ s.problem.space.variables ≤ c) × (c ≤ size_of s.problem.space)) cs → Every (IsOver (size_of s.problem.space)) (first_rows cs)
@@ -154,19 +162,25 @@ module _ (s : Search) (h : IsSearch s) where
   begun : IsGoing (first_rows s.kept) []
   begun = record { hull = first_is_hull s.kept; over = first_rows_over; attained = All-nil (IsRay s.problem) }
 
-  pass_with_right : (rays : List (List ℤ)) (end : OuterView) → All (IsRay s.problem) rays → PassWithEnds s rays end → IsRightOuter s.problem s.kept end
-  pass_with_right rays end r (Hull rows, e, later) =
-      pass_right (s.limits.rays - length rays) rows rays end (hull_going (first_rows s.kept) rows [] rays begun (every_of (IsRay s.problem) rays r) e) later
-  pass_with_right rays end r (TooMany, e, later) = undecided_right end Rows later
-  pass_with_right rays end r (TooWide, e, later) = undecided_right end Width later
+  pass_with_well : (rays : List (List ℤ)) (end : OuterView) → All (IsRay s.problem) rays → PassWithEnds s rays end → IsWell end
+  pass_with_well rays end r (Hull rows, e, later) =
+      pass_well (s.limits.rays - length rays) rows rays end (hull_going (first_rows s.kept) rows [] rays begun (every_of (IsRay s.problem) rays r) e) later
+  pass_with_well rays end r (TooMany, e, later) = undecided_well end Rows later
+  pass_with_well rays end r (TooWide, e, later) = undecided_well end Width later
 
-  second_right : (first end : OuterView) → IsRightOuter s.problem s.kept first → SecondEnds s first end → IsRightOuter s.problem s.kept end
-  second_right (Bounds rows ws rays) end r (inl e) = undecided_right end Width e.1
-  second_right (Bounds rows ws rays) end r (inr e) = pass_with_right _ end (all_extreme (IsRay s.problem) s.kept rows rays r.attained) e.1
-  second_right (Undecided cause) end r e = undecided_right end cause e
+  second_well : (first end : OuterView) → IsWell first → SecondEnds s first end → IsWell end
+  second_well (Bounds rows ws rays) end r (inl e) = undecided_well end Width e.1
+  second_well (Bounds rows ws rays) end r (inr e) = pass_with_well _ end (all_extreme (IsRay s.problem) s.kept rows rays r.0.attained) e.1
+  second_well (Undecided cause) end r e = undecided_well end cause e
+
+  pub bounds_over : (rows : List Terms) (ws : List CertificateView) (rays : List (List ℤ)) → PassWithEnds s [] (Bounds rows ws rays) → All (IsOver (size_of s.problem.space)) rows
+  bounds_over rows ws rays e = (pass_with_well [] (Bounds rows ws rays) (All-nil (IsRay s.problem)) e).0.over
+
+  pub bounds_rays : (rows : List Terms) (ws : List CertificateView) (rays : List (List ℤ)) → PassWithEnds s [] (Bounds rows ws rays) → All (λ values. length values ≡ size_of s.problem.space) rays
+  bounds_rays rows ws rays e k d l = ((pass_with_well [] (Bounds rows ws rays) (All-nil (IsRay s.problem)) e).0.attained k d l).complete
 
 pub search_is_right : EndsAreRight
-search_is_right s end h (first, p, e) = second_right s h first end (pass_with_right s h [] first (All-nil (IsRay s.problem)) p) e
+search_is_right s end h (first, p, e) = well_right s h end (second_well s h first end (pass_with_well s h [] first (All-nil (IsRay s.problem)) p) e)
 
 -- ---- the law
 

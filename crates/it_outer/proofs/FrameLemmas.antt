@@ -1,9 +1,10 @@
 -- What a search without some rates is about.
-use Rattle.std.proofs.Common.{◌≡◌, inl, inr, ℕ, zero, suc, ◌+◌, ◌-◌, ◌^◌, ◌<◌, ◌≤◌, List, [], ◌∷◌, map, length, slice_index_or, Bool, true, false, ◌||◌, nat_eq, eq-eqb, if◌then◌else◌, refl, sym, ap, subst, ◌∙◌, arith, All}
+use Rattle.std.proofs.Common.{◌≡◌, inl, inr, ℕ, zero, suc, ◌+◌, ◌-◌, ◌^◌, ◌<◌, ◌≤◌, List, [], ◌∷◌, map, length, slice_index_or, Bool, true, false, ◌||◌, nat_eq, eq-eqb, if◌then◌else◌, refl, sym, ap, ap₂, subst, ◌∙◌, arith, All}
 use Rattle.std.specs.Prelude.{Contains}
 use Rattle.std.specs.List.{list_any, AllByRecursion as Every}
 use Rattle.std.proofs.lemmas.Bool.{false≢true}
 use Rattle.std.proofs.lemmas.Nat.{pow_pos}
+use Rattle.std.proofs.lemmas.List.{get_or_default}
 use Rattle.it_space.specs.declared.spaces.Space.{Space}
 use Rattle.it_space.specs.Problems.{ProblemView, IsProblem, problem_view}
 use Rattle.it_space.specs.Spaces.{size_of}
@@ -21,20 +22,16 @@ record IsLeft (gone : List ℕ) (from to rate : ℕ) : Type 0 where
   below : rate < to
   stays : list_any (λ r. nat_eq r rate) gone ≡ false
 
-later_left : (gone : List ℕ) (from to rate : ℕ) → IsLeft gone (from + 1) to rate → IsLeft gone from to rate
-later_left gone from to rate l = record { least = omega (arith, l.least); below = l.below; stays = l.stays }
-
 are_left : (gone : List ℕ) (from count : ℕ) → Every (IsLeft gone from (from + count)) (rates_left gone from count)
 are_left gone from zero = tt
 are_left gone from (suc count) = by_test (list_any (λ r. nat_eq r from) gone) refl
+    (every-same (IsLeft gone (from + 1) (from + 1 + count)) (IsLeft gone from (from + suc count)) (rates_left gone (from + 1) count)
+    (λ rate l. record { least = omega (arith, l.least); below = omega (arith, l.below); stays = l.stays }) (are_left gone (from + 1) count))
   where
-    rest : Every (IsLeft gone from (from + suc count)) (rates_left gone (from + 1) count)
-    rest = every-same (IsLeft gone (from + 1) (from + 1 + count)) (IsLeft gone from (from + suc count)) (rates_left gone (from + 1) count)
-        (λ rate l. record { least = omega (arith, l.least); below = omega (arith, l.below); stays = l.stays }) (are_left gone (from + 1) count)
-
-    by_test : (b : Bool) → list_any (λ r. nat_eq r from) gone ≡ b → Every (IsLeft gone from (from + suc count)) (if b then rates_left gone (from + 1) count else from ∷ rates_left gone (from + 1) count)
-    by_test true e = rest
-    by_test false e = (record { least = omega arith; below = omega arith; stays = e }, rest)
+    by_test : (b : Bool) → list_any (λ r. nat_eq r from) gone ≡ b → Every (IsLeft gone from (from + suc count)) (rates_left gone (from + 1) count)
+        → Every (IsLeft gone from (from + suc count)) (if b then rates_left gone (from + 1) count else from ∷ rates_left gone (from + 1) count)
+    by_test true e rest = rest
+    by_test false e rest = (record { least = omega arith; below = omega arith; stays = e }, rest)
 
 lower_from : (from to : ℕ) (cs : List ℕ) → from ≤ to → AscendFrom to cs → AscendFrom from cs
 lower_from from to [] l a = tt
@@ -83,7 +80,20 @@ pub without_is_search : (q : ProblemView) (gone : List ℕ) (limits : Limits) �
 without_is_search q gone limits h below some few = record {
   problem = h;
   spare = below 0 0 (omega (arith, some));
-  away = gone_away q.space gone (slice_index_or gone 0 0) (0, omega (arith, some), refl);
+  away = gone_away q.space gone (slice_index_or gone 0 0) (0, omega (arith, some), get_or_default gone 0 (slice_index_or gone 0 0) 0 (omega (arith, some)));
   rates = all_of (λ (c : ℕ). (2 ^ q.space.variables ≤ c) × (c ≤ size_of q.space)) (kept_coordinates q.space gone) (kept_within q.space gone);
   few_rows = few;
 }
+
+pub is_frame : (f : Frame) (gone : List ℕ) → IsProblem (problem_view f.problem.now) → All (λ r. r < f.problem.now.space.rates) gone → 1 ≤ length gone → f.limits.rows ≤ 65535
+    → problem_view f.constants ≡ constants f.problem.now.space → f.spare ≡ slice_index_or gone 0 0 → f.kept.items ≡ kept_coordinates f.problem.now.space gone → IsFrame f × (search_of f ≡ search_without (problem_view f.problem.now) gone f.limits)
+is_frame f gone h below some few constant spare kept =
+    let same : search_of f ≡ search_without (problem_view f.problem.now) gone f.limits =
+    ap₂ (λ (r : ℕ) (cs : List ℕ). let s : Search = record { problem = problem_view f.problem.now; spare = r; kept = cs; limits = f.limits } in s) spare kept in (
+      record {
+        constants = constant;
+        search = subst (λ (s : Search). IsSearch s) (sym same) (without_is_search (problem_view f.problem.now) gone f.limits h below some few);
+        places = subst (λ (cs : List ℕ). ArePlaces (size_of f.problem.now.space) cs) (sym kept) (kept_places f.problem.now.space gone);
+      },
+      same,
+    )

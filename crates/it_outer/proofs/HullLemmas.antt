@@ -43,6 +43,9 @@ module _ (s : Search) (h : IsSearch s) (hull : System) (g : IsHullSystem s hull)
   pub spare_is_rate : s.spare < hull.space.rates
   spare_is_rate = subst (λ (x : Space). s.spare < x.rates) (sym g.space) h.spare
 
+  pub hull_over : All (IsOver (size_of s.problem.space)) hull.rows.items
+  hull_over = subst (λ (x : Space). All (IsOver (size_of x)) hull.rows.items) g.space g.system.rows
+
   pub hull_lacks : LacksCoordinate (2 ^ hull.space.variables + s.spare) hull.rows.items
   hull_lacks = subst (λ (x : Space). LacksCoordinate (2 ^ x.variables + s.spare) hull.rows.items) (sym g.space) g.free
 

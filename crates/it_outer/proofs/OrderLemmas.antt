@@ -4,9 +4,12 @@ use Rattle.std.specs.List.{AllWithin, flat_map, insert, list_any, AllByRecursion
 use Rattle.std.specs.Global.{Vec}
 use Rattle.std.proofs.lemmas.Grind.{take_at_read}
 use Rattle.std.proofs.lemmas.List.{append-nil, get_or_default, get_or-drop, drop-drop, drop_all, take_all}
-use Rattle.std.proofs.lemmas.List.Elements.{All-nil, All-head, All-tail}
+use Rattle.std.proofs.lemmas.List.Elements.{AllWithin-more}
+use Rattle.std.proofs.lemmas.Bool.{false≢true}
 use Rattle.it_number.specs.Limit.{IsWithin}
-use Rattle.it_space.specs.Rows.{Ascends, Terms, point_of, single_term}
+use Rattle.std.specs.Int.Signed.{lt_z}
+use Rattle.std.specs.Ordering.{int_eq}
+use Rattle.it_space.specs.Rows.{Ascends, Terms, coefficient, point_of, single_term}
 use Rattle.it_space.proofs.EveryLemmas.{all_of, every_of}
 use Rattle.it_space.proofs.ListLemmas.{drop_item}
 use Rattle.it_space.proofs.TermLemmas.{ascends-single_term}
@@ -62,17 +65,38 @@ module _ (kept : List ℕ) (p : List ℤ) where
 
 pub within_step : (ps qs : List Bool) (i : ℕ) (t : Bool) → i < length ps → t ≡ get_or ps i t → is_within (drop i ps) (drop i qs) ≡ ((not t || get_or qs i false) && is_within (drop (i + 1) ps) (drop (i + 1) qs))
 within_step ps qs i t l at = ap (λ xs. is_within xs (drop i qs)) (drop_item ps i t l at)
-    ∙ ap₂ (λ b xs. (not t || b) && is_within (drop (i + 1) ps) xs) (first_of i qs) (rest_of i qs)
-  where
-    first_of : (i : ℕ) (xs : List Bool) → get_or (drop i xs) 0 false ≡ get_or xs i false
-    first_of zero xs = refl
-    first_of (suc i) [] = refl
-    first_of (suc i) (x ∷ xs) = first_of i xs
+    ∙ ap₂ (λ b xs. (not t || b) && is_within (drop (i + 1) ps) xs) (get_or-drop i qs 0 false ∙ ap (λ k. get_or qs k false) (let e : i + 0 ≡ i = omega arith in e)) (drop-drop 1 i qs)
 
-    rest_of : (i : ℕ) (xs : List Bool) → drop 1 (drop i xs) ≡ drop (i + 1) xs
-    rest_of zero xs = refl
-    rest_of (suc i) [] = refl
-    rest_of (suc i) (x ∷ xs) = rest_of i xs
+pub within_here : (ps qs : List Bool) (i : ℕ) (t : Bool) → i < length ps → t ≡ get_or ps i t → t ≡ true → get_or qs i false ≡ false → is_within (drop i ps) (drop i qs) ≡ is_within ps qs → is_within ps qs ≡ false
+within_here ps qs i t l at is loose e = sym e ∙ within_step ps qs i t l at ∙ ap₂ (λ b c. (not b || c) && is_within (drop (i + 1) ps) (drop (i + 1) qs)) is loose
+
+pub within_later : (ps qs : List Bool) (i : ℕ) (t : Bool) → i < length ps → t ≡ get_or ps i t → (not t || get_or qs i false) ≡ true → is_within (drop i ps) (drop i qs) ≡ is_within ps qs → is_within (drop (i + 1) ps) (drop (i + 1) qs) ≡ is_within ps qs
+within_later ps qs i t l at is e = sym (within_step ps qs i t l at ∙ ap (λ b. b && is_within (drop (i + 1) ps) (drop (i + 1) qs)) is) ∙ e
+
+-- a place of which the first list says nothing, or the second says the same
+pub loose_or : (t u : Bool) → t ≡ false → (not t || u) ≡ true
+loose_or true u e = absurd (false≢true (sym e))
+loose_or false u e = refl
+
+pub tight_or : (t u : Bool) → u ≡ true → (not t || u) ≡ true
+tight_or true u e = e
+tight_or false u e = refl
+
+-- ---- lists that loops build
+
+pub flat_more : (f : ℕ → Terms) (kept : List ℕ) (i : ℕ) (xs ys all : Terms) → i < length kept → ys ≡ xs ++ f (get_or kept i 0) → xs ++ flat_map f (drop i kept) ≡ all → ys ++ flat_map f (drop (i + 1) kept) ≡ all
+flat_more f kept i xs ys all l pushed e = ap (λ zs. zs ++ flat_map f (drop (i + 1) kept)) pushed ∙ append_assoc xs (f (get_or kept i 0)) (flat_map f (drop (i + 1) kept))
+    ∙ ap (λ cs. xs ++ flat_map f cs) (sym (drop_item kept i (get_or kept i 0) l (sym (get_or_default kept i (get_or kept i 0) 0 l)))) ∙ e
+
+pub map_more : {X Y : Type 0} (f : X → Y) (xs : List X) (ys zs all : List Y) (i : ℕ) (x : X) (y : Y) → i < length xs → zs ≡ ys ++ y ∷ [] → y ≡ f x → x ≡ get_or xs i x → ys ++ map f (drop i xs) ≡ all → zs ++ map f (drop (i + 1) xs) ≡ all
+map_more {Y = Y} f xs ys zs all i x y l pushed is at e = ap (λ rs. rs ++ map f (drop (i + 1) xs)) pushed ∙ append_assoc ys (y ∷ []) (map f (drop (i + 1) xs))
+    ∙ ap (λ (z : Y). ys ++ z ∷ map f (drop (i + 1) xs)) is ∙ ap (λ rs. ys ++ map f rs) (sym (drop_item xs i x l at)) ∙ e
+
+pub within_more : {X : Type 0} (P : X → Type 0) (xs : List X) (i : ℕ) (x : X) → i < length xs → x ≡ get_or xs i x → P x → AllWithin P xs 0 i → AllWithin P xs 0 (i + 1)
+within_more P xs i x l at p a = AllWithin-more P xs 0 i a (λ d. subst P (at ∙ get_or_default xs i x d l) p)
+
+pub within_all : {X : Type 0} (P : X → Type 0) (xs : List X) (i : ℕ) → length xs ≤ i → AllWithin P xs 0 i → All P xs
+within_all P xs i l a k d below = a k d (omega arith) (omega (arith, below, l))
 
 -- ---- the extreme rays
 
@@ -88,3 +112,16 @@ wanted_more kept test rays old new all i ray b l at is made e =
 
 pub wanted_done : (kept : List ℕ) (test : List ℤ → Bool) (rays old all : List (List ℤ)) (i : ℕ) → length rays ≤ i → ordered_after kept old (filter test (drop i rays)) ≡ all → old ≡ all
 wanted_done kept test rays old all i l e = ap (λ xs. ordered_after kept old (filter test xs)) (sym (drop_all i rays l)) ∙ e
+
+pub flat_done : (f : ℕ → Terms) (kept : List ℕ) (i : ℕ) (xs all : Terms) → length kept ≤ i → xs ++ flat_map f (drop i kept) ≡ all → xs ≡ all
+flat_done f kept i xs all l e = sym (append-nil xs) ∙ ap (λ cs. xs ++ flat_map f cs) (sym (drop_all i kept l)) ∙ e
+
+pub greater_later : (kept : List ℕ) (xs ys : Terms) (i : ℕ) → i < length kept → int_eq (coefficient xs (get_or kept i 0)) (coefficient ys (get_or kept i 0)) ≡ true → is_greater (drop i kept) xs ys ≡ is_greater kept xs ys
+    → is_greater (drop (i + 1) kept) xs ys ≡ is_greater kept xs ys
+greater_later kept xs ys i l same e =
+    let c : ℕ = get_or kept i 0 in
+    sym (ap (λ b. if b then is_greater (drop (i + 1) kept) xs ys else lt_z (coefficient ys c) (coefficient xs c)) same) ∙ greater_here kept xs ys i c l (sym (get_or_default kept i c 0 l)) e
+
+pub any_of_lists : (f : List Bool → Bool) (vs : List (Vec Bool)) → list_any f (map (λ v. v.items) vs) ≡ list_any (λ v. f v.items) vs
+any_of_lists f [] = refl
+any_of_lists f (v ∷ vs) = ap (λ b. f v.items || b) (any_of_lists f vs)

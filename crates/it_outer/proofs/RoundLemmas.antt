@@ -1,5 +1,5 @@
 -- Visits and rounds as calls make them.
-use Rattle.std.proofs.Common.{◌≡◌, ℕ, suc, zero, ◌+◌, ◌-◌, ◌<◌, ◌≤◌, ℤ, List, [], ◌∷◌, ◌++◌, map, length, take, drop, get_or, refl, sym, ap, subst, ◌∙◌, arith, All}
+use Rattle.std.proofs.Common.{◌≡◌, ◌⊎◌, inr, ℕ, suc, zero, ◌+◌, ◌-◌, ◌<◌, ◌≤◌, ℤ, List, [], ◌∷◌, ◌++◌, map, length, take, drop, get_or, refl, sym, ap, subst, ◌∙◌, arith, All}
 use Rattle.std.specs.List.{AllZip}
 use Rattle.std.proofs.lemmas.Grind.{take_at_read}
 use Rattle.std.proofs.lemmas.List.{take-append-drop, take_all}
@@ -12,15 +12,19 @@ use Rattle.it_prove.specs.ProofViews as proofs
 use Rattle.it_prove.specs.ProofViews.{ProofView, EndsWith, AreProofsOf}
 use Rattle.it_prove.specs.declared.types.Effort.{Effort}
 use Rattle.std.specs.Global.{Vec}
+use Rattle.std.specs.Prelude.{IfOk, Result, Ok, Err}
+use Rattle.it_space.specs.declared.points.Point.{Point}
+use Rattle.it_outer.specs.declared.types.Next.TheVariants as nexts
 use Rattle.it_space.specs.declared.problems.System.{System}
 use Rattle.it_hull.specs.Hulls.{first_rows}
 use Rattle.it_outer.specs.declared.types.Next.{Next}
 use Rattle.it_outer.specs.declared.types.Outer.{Outer}
 use Rattle.it_outer.specs.declared.types.Round.{Round}
 use Rattle.it_outer.specs.declared.types.Round.TheVariants as rounds
-use Rattle.it_outer.specs.Outer.{Search, OuterView, Rays, Undecided, outer_view}
-use Rattle.it_outer.specs.Rounds.{IsAfterRound, IsVisit, IsWithPoint, RoundEnds, next_view, visit_view}
-use Rattle.it_outer.specs.Search.{AfterHull, AfterVisit, HullEnds, HullView, IsFirstWith, NextHull, PassEnds, PassWithEnds, VisitEnds}
+use Rattle.it_outer.specs.Outer.{Search, OuterView, Rays, Undecided, Width, outer_view}
+use Rattle.it_outer.specs.Extremes.{extreme_rays}
+use Rattle.it_outer.specs.Rounds.{AreOfSpace, IsAfterRound, IsHullSystem, IsRound, IsVisit, IsWithPoint, RoundEnds, next_view, visit_view}
+use Rattle.it_outer.specs.Search.{AfterHull, AfterVisit, AllFit, HullEnds, HullView, IsFirstWith, NextHull, PassEnds, PassWithEnds, VisitEnds}
 use Rattle.it_outer.specs.declared.types.Visit.{Visit}
 use Rattle.it_outer.specs.declared.types.Visit.TheVariants as visits
 use Rattle.it_outer.proofs.BoundLemmas.{refuting_point}
@@ -103,3 +107,30 @@ with_hull s rows rays point n m round is e f = λ more end r. (next_view n, e, s
 pub pass_by : (s : Search) (rays : List (List ℤ)) (n m : Next) (end : OuterView) → n ≡ m → HullEnds s (first_rows s.kept) rays (next_view n)
     → AfterHull (λ rows end. PassEnds s (s.limits.rays - length rays) rows rays end) (next_view m) end → PassWithEnds s rays end
 pass_by s rays n m end is e a = (next_view n, e, subst (λ (w : Next). AfterHull (λ rows end. PassEnds s (s.limits.rays - length rays) rows rays end) (next_view w) end) (sym is) a)
+
+pub refuted_round : {E : Type 0} (s : Search) (rows : List Terms) (rays : List (List ℤ)) (v : Visit) (point : Point) (r : Result Round E) → v ≡ visits.Refuted point → VisitEnds s.problem s.limits.effort rows (visit_view v)
+    → IfOk r (IsWithPoint s rows rays point) → IfOk r (IsAfterRound s rows rays)
+refuted_round s rows rays v point (Err x) is e p = tt
+refuted_round s rows rays v point (Ok round) is e p = visited s rows rays v (visits.Refuted point) round is e p
+
+pub hull_pass : {E : Type 0} (s : Search) (rays : List (List ℤ)) (n : Next) (hull : System) (r : Result Outer E) → n ≡ nexts.Hull hull → HullEnds s (first_rows s.kept) rays (next_view n)
+    → IfOk r (λ o. PassEnds s (s.limits.rays - length rays) hull.rows.items rays (outer_view o)) → IfOk r (λ o. PassWithEnds s rays (outer_view o))
+hull_pass s rays n hull (Err x) is e p = tt
+hull_pass s rays n hull (Ok o) is e p = pass_by s rays n (nexts.Hull hull) (outer_view o) is e p
+
+pub last_result : {E : Type 0} (s : Search) (most : ℕ) (first : List Terms) (begun : List (List ℤ)) (rows : List Terms) (rays : List (List ℤ)) (i : ℕ) (r : Result Outer E) → most ≤ i → IfOk r (λ o. PassEnds s zero rows rays (outer_view o))
+    → PassLeads s most first begun rows rays i → IfOk r (λ o. PassEnds s (most - length begun) first begun (outer_view o))
+last_result s most first begun rows rays i (Err x) l e p = tt
+last_result s most first begun rows rays i (Ok o) l e p = last_ends s most first begun rows rays i (outer_view o) l e p
+
+pub round_first : (s : Search) (most : ℕ) (rows : List Terms) (rays : List (List ℤ)) (i : ℕ) → i ≡ length rays → PassLeads s most rows rays rows rays i
+round_first s most rows rays i is = record { leads = λ end e. subst (λ k. PassEnds s (most - k) rows rays end) is e }
+
+-- rounds keep what calls take
+pub round_kept : (s : Search) (round : Round) (hull : System) (found : Vec (List ℤ)) → round ≡ rounds.Goes hull found → IsRound s round → IsHullSystem s hull × AreOfSpace s found.items
+round_kept s round hull found is r = subst (λ (x : Round). IsRound s x) is r
+
+pub second_result : {E : Type 0} (s : Search) (rows : List Terms) (rays found : List (List ℤ)) (r : Result Outer E) → found ≡ extreme_rays s.kept rows rays → AllFit rows rays → IfOk r (λ o. PassWithEnds s found (outer_view o))
+    → IfOk r (λ o. ((¬ (AllFit rows rays)) × (outer_view o ≡ Undecided Width)) ⊎ (AllFit rows rays × PassWithEnds s (extreme_rays s.kept rows rays) (outer_view o)))
+second_result s rows rays found (Err x) is fit e = tt
+second_result s rows rays found (Ok o) is fit e = inr (fit, subst (λ (rs : List (List ℤ)). PassWithEnds s rs (outer_view o)) is e)

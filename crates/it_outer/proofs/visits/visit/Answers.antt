@@ -23,8 +23,8 @@ pub returns-in-No-clause-ends : goal.returns-in-No-clause-ends
 returns-in-No-clause-ends c = (c.row-item.result, first_with (problem_view c.args.problem.now) c.args.effort c.args.rows.now (map certificate_view c.loop-row.proofs.items) c.loop-row.row-index c.row-item.result (No c.in-No.point) c.loop-row-test.true c.row-item.is
     (subst (λ (p : Proof). EndsWith (problem_view c.args.problem.now) c.row-item.result c.args.effort (proof_view p)) c.in-No.is c.in_ok-proof.ensures.ends) c.loop-row.invariant.proved)
 
-pub returns-in_ok-left-in-Undecided-clause-ends : goal.returns-in_ok-left-in-Undecided-clause-ends
-returns-in_ok-left-in-Undecided-clause-ends c =
+pub returns-in-Undecided-clause-ends : goal.returns-in-Undecided-clause-ends
+returns-in-Undecided-clause-ends c =
     let same : c.in_ok-left-in-Undecided.left ≡ c.row-item.result = search rules in
     subst (λ (row : Terms). IsFirstWith (problem_view c.args.problem.now) c.args.effort c.args.rows.now row (Undecided c.in-Undecided.cause)) (sym same)
     (first_with (problem_view c.args.problem.now) c.args.effort c.args.rows.now (map certificate_view c.loop-row.proofs.items) c.loop-row.row-index c.row-item.result (Undecided c.in-Undecided.cause) c.loop-row-test.true c.row-item.is

@@ -1,4 +1,0 @@
-use Rattle.it_outer.proofs.extremes.put_wanted.Goals as goal
-
-pub returns : goal.returns
-returns c = ?
