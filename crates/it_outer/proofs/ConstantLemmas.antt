@@ -1,5 +1,5 @@
 -- The problem in which all variables are constant.
-use Rattle.std.proofs.Common.{pow_mono, ◌≡◌, ℕ, zero, suc, ◌+◌, ◌-◌, ◌*◌, ◌^◌, ◌<◌, ◌≤◌, ℤ, pos, List, [], ◌∷◌, length, refl, sym, ap, subst, ◌∙◌, arith, All}
+use Rattle.std.proofs.Common.{pow_mono, add-one, ◌≡◌, ℕ, zero, suc, ◌+◌, ◌-◌, ◌*◌, ◌^◌, ◌<◌, ◌≤◌, ℤ, pos, List, [], ◌∷◌, length, refl, sym, ap, subst, ◌∙◌, arith, All}
 use Rattle.std.specs.List.{AllByRecursion as Every}
 use Rattle.std.proofs.lemmas.Nat.{pow_pos}
 use Rattle.std.proofs.Math.Nat.{pow-suc}
@@ -21,7 +21,7 @@ line_count i zero = refl
 line_count i (suc count) = let k = line_count (i + 1) count in omega (arith, k)
 
 line_over : (n size k : ℕ) → 2 ^ n ≤ size + 1 → k < n → IsOver size (constant_line k).row
-line_over n size k few l = all_of (λ (t : ℕ × ℤ). (1 ≤ t.0) × (t.0 ≤ size)) ((2 ^ k, pos 1) ∷ []) ((pow_pos k, (let m : 2 ^ (k + 1) ≤ 2 ^ n = pow_mono (let b : k + 1 ≤ n = omega (arith, l) in b) in let d : 2 ^ (k + 1) ≡ 2 ^ k * 2 = pow-suc 2 k in omega (arith, m, d, few, pow_pos k))), tt)
+line_over n size k few l = all_of (λ (t : ℕ × ℤ). (1 ≤ t.0) × (t.0 ≤ size)) ((2 ^ k, pos 1) ∷ []) ((pow_pos k, (let m : 2 ^ (k + 1) ≤ 2 ^ n = pow_mono (let b : k + 1 ≤ n = omega (arith, l) in b) in let d : 2 ^ (k + 1) ≡ 2 ^ k * 2 = ap (λ m. 2 ^ m) (add-one k) ∙ pow-suc 2 k in omega (arith, m, d, few, pow_pos k))), tt)
 
 pub constants_speak_of_sets : (s : Space) → All (λ c. IsOver (2 ^ s.variables - 1) c.row) (constants s).constraints
 constants_speak_of_sets s = all_of (λ (c : Constraint). IsOver (2 ^ s.variables - 1) c.row) (constant_lines 0 s.variables)

@@ -15,6 +15,9 @@ module _ (P : List ℤ → Type 0) (kept : List ℕ) where
       by_test true ih = (h, a)
       by_test false ih = (a.0, ih)
 
+  pub all_put : (p : List ℤ) (qs : List (List ℤ)) → P p → All P qs → All P (put_in_order kept p qs)
+  all_put p qs h a = all_of P (put_in_order kept p qs) (every_put p qs h (every_of P qs a))
+
   every_ordered : (done ps : List (List ℤ)) → Every P done → Every P ps → Every P (ordered_after kept done ps)
   every_ordered done [] d a = d
   every_ordered done (p ∷ ps) d a = every_ordered (put_in_order kept p done) ps (every_put p done a.0 d) a.1

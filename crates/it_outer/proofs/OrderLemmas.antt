@@ -3,7 +3,7 @@ use Rattle.std.proofs.Common.{◌≡◌, ◌≢◌, inl, inr, ℕ, zero, suc, �
 use Rattle.std.specs.List.{AllWithin, flat_map, insert, list_any, AllByRecursion as Every}
 use Rattle.std.specs.Global.{Vec}
 use Rattle.std.proofs.lemmas.Grind.{take_at_read}
-use Rattle.std.proofs.lemmas.List.{append-nil, get_or_default, get_or-drop, drop-drop, drop_all, take_all}
+use Rattle.std.proofs.lemmas.List.{append-nil, get_or-map, get_or_default, get_or-drop, drop-drop, drop_all, take_all}
 use Rattle.std.proofs.lemmas.List.Elements.{AllWithin-more}
 use Rattle.std.proofs.lemmas.Bool.{false≢true}
 use Rattle.it_number.specs.Limit.{IsWithin}
@@ -13,7 +13,7 @@ use Rattle.it_space.specs.Rows.{Ascends, Terms, coefficient, point_of, single_te
 use Rattle.it_space.proofs.EveryLemmas.{all_of, every_of}
 use Rattle.it_space.proofs.ListLemmas.{drop_item}
 use Rattle.it_space.proofs.TermLemmas.{ascends-single_term}
-use Rattle.it_outer.specs.Extremes.{direction, is_extreme, is_greater, is_outdone, is_within, ordered_after, put_in_order}
+use Rattle.it_outer.specs.Extremes.{direction, is_extreme, is_greater, is_outdone, is_within, ordered_after, put_in_order, tight_at}
 use Rattle.it_outer.specs.Rounds.{ArePlaces, AscendFrom}
 
 -- ---- directions
@@ -125,3 +125,24 @@ greater_later kept xs ys i l same e =
 pub any_of_lists : (f : List Bool → Bool) (vs : List (Vec Bool)) → list_any f (map (λ v. v.items) vs) ≡ list_any (λ v. f v.items) vs
 any_of_lists f [] = refl
 any_of_lists f (v ∷ vs) = ap (λ b. f v.items || b) (any_of_lists f vs)
+
+pub not_all : {X : Type 0} (P : X → Type 0) (xs : List X) (i : ℕ) (x : X) → i < length xs → x ≡ get_or xs i x → ¬ (P x) → ¬ (All P xs)
+not_all P xs i x l at n a = n (subst P (sym at) (a i x l))
+
+any_mapped : (f : List Bool → Bool) (g : List ℤ → List Bool) (ps : List (List ℤ)) → list_any f (map g ps) ≡ list_any (λ p. f (g p)) ps
+any_mapped f g [] = refl
+any_mapped f g (p ∷ ps) = ap (λ b. f (g p) || b) (any_mapped f g ps)
+
+item_of : {X Y : Type 0} (f : X → Y) (vs : List X) (i : ℕ) (d : X) → get_or (map f vs) i (f d) ≡ f (get_or vs i d)
+item_of f [] i d = refl
+item_of f (v ∷ vs) zero d = refl
+item_of f (v ∷ vs) (suc i) d = item_of f vs i d
+
+-- what the lists say of a ray
+pub extreme_is : (rows : List Terms) (rays : List (List ℤ)) (lists : List (Vec Bool)) (i : ℕ) (own : Vec Bool) (ray : List ℤ) → map (λ v. v.items) lists ≡ map (tight_at rows) rays → i < length rays → ray ≡ get_or rays i ray → own ≡ get_or lists i own
+    → not (list_any (is_outdone own.items) (map (λ v. v.items) lists)) ≡ is_extreme rows rays ray
+extreme_is rows rays lists i own ray are l at is =
+    ap₂ (λ (t : List Bool) ts. not (list_any (is_outdone t) ts)) tight are ∙ ap not (any_mapped (is_outdone (tight_at rows ray)) (tight_at rows) rays)
+  where
+    tight : own.items ≡ tight_at rows ray
+    tight = ap (λ v. v.items) is ∙ sym (item_of (λ v. v.items) lists i own) ∙ ap (λ xs. get_or xs i own.items) are ∙ get_or-map (tight_at rows) rays i ray own.items l ∙ ap (tight_at rows) (sym at)

@@ -91,8 +91,11 @@ pub visited : (s : Search) (rows : List Terms) (rays : List (List ℤ)) (v u : V
     → ((more : ℕ) (end : OuterView) → RoundEnds s more round end
     → AfterVisit (λ values end. (h : HullView) × NextHull s rows values h × AfterHull (λ next end. PassEnds s more next (rays ++ values ∷ []) end) h end) rows rays (visit_view u) end)
     → IsAfterRound s rows rays round
-visited s rows rays v u round is e f = λ more end r. (visit_view v, e,
-  subst (λ (w : Visit). AfterVisit (λ values end. (h : HullView) × NextHull s rows values h × AfterHull (λ next end. PassEnds s more next (rays ++ values ∷ []) end) h end) rows rays (visit_view w) end) (sym is) (f more end r))
+visited s rows rays v u round is e f = λ more end r. (
+  visit_view v,
+  e,
+  subst (λ (w : Visit). AfterVisit (λ values end. (h : HullView) × NextHull s rows values h × AfterHull (λ next end. PassEnds s more next (rays ++ values ∷ []) end) h end) rows rays (visit_view w) end) (sym is) (f more end r),
+)
 
 pub visited_last : (s : Search) (rows : List Terms) (rays : List (List ℤ)) (v u : Visit) (end : OuterView) → v ≡ u → VisitEnds s.problem s.limits.effort rows (visit_view v)
     → AfterVisit (λ values end. end ≡ Undecided Rays) rows rays (visit_view u) end → PassEnds s zero rows rays end
@@ -134,3 +137,6 @@ pub second_result : {E : Type 0} (s : Search) (rows : List Terms) (rays found : 
     → IfOk r (λ o. ((¬ (AllFit rows rays)) × (outer_view o ≡ Undecided Width)) ⊎ (AllFit rows rays × PassWithEnds s (extreme_rays s.kept rows rays) (outer_view o)))
 second_result s rows rays found (Err x) is fit e = tt
 second_result s rows rays found (Ok o) is fit e = inr (fit, subst (λ (rs : List (List ℤ)). PassWithEnds s rs (outer_view o)) is e)
+
+pub second_wide : (rows slice : List Terms) (rays points : List (List ℤ)) → slice ≡ rows → points ≡ rays → ¬ (AllFit slice points) → ¬ (AllFit rows rays)
+second_wide rows slice rays points e f n a = n (subst (λ (rs : List Terms). AllFit rs points) (sym e) (subst (λ (ps : List (List ℤ)). AllFit rows ps) (sym f) a))

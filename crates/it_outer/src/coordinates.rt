@@ -25,12 +25,7 @@ fn goes(gone: &[u8], rate: u8) -> bool
 }
 
 /// Puts a rate's coordinate after others, unless the rate goes.
-fn push_kept(
-    kept: &mut Vec<u32>,
-    space: Space,
-    gone: &[u8],
-    rate: u8,
-) -> Result<(), AllocError>
+fn push_kept(kept: &mut Vec<u32>, space: Space, gone: &[u8], rate: u8) -> Result<(), AllocError>
     requires { IsSpace space }
     ensures { OnOk result (kept.new.items ≡ kept.old.items ++ own_coordinate space gone.now rate) }
 {
@@ -41,11 +36,7 @@ fn push_kept(
 }
 
 /// The coordinates of the rates that don't go.
-pub fn kept_coordinates(
-    alloc: Global,
-    space: Space,
-    gone: &[u8],
-) -> Result<Vec<u32>, AllocError>
+pub fn kept_coordinates(alloc: Global, space: Space, gone: &[u8]) -> Result<Vec<u32>, AllocError>
     requires { IsSpace space }
     ensures { IfOk result (λ v. v.items ≡ kept_coordinates space gone.now) }
 {

@@ -151,11 +151,7 @@ fn tight_at(alloc: Global, rows: &[Row], ray: &Point) -> Result<Vec<bool>, RowFa
 }
 
 /// The same at each ray.
-fn tight_lists(
-    alloc: Global,
-    rows: &[Row],
-    rays: &[Point],
-) -> Result<Vec<Vec<bool>>, RowFault>
+fn tight_lists(alloc: Global, rows: &[Row], rays: &[Point]) -> Result<Vec<Vec<bool>>, RowFault>
     requires { All (λ ray. All (IsOver (length ray)) rows.now) rays.now }
     ensures lists { IfOk result (λ v. lists_of v.items ≡ map (tight_at rows.now) rays.now) }
     ensures fit { OnOk result (AllFit rows.now rays.now) }
@@ -163,8 +159,10 @@ fn tight_lists(
 {
     let mut lists = Vec::new(alloc);
     for ray in rays {
-        let tight = tight_at(alloc, rows, ray)?;
-        lists.push(tight)?;
+        match tight_at(alloc, rows, ray) {
+            Ok(tight) => lists.push(tight)?,
+            Err(fault) => return Err(fault),
+        }
     }
     Ok(lists)
 }

@@ -75,12 +75,7 @@ pub fn next_hull(
 }
 
 /// What one more ray makes of a hull, if there is one.
-fn after_ray(
-    alloc: Global,
-    frame: &Frame<'_>,
-    next: Next,
-    ray: &Point,
-) -> Result<Next, AllocError>
+fn after_ray(alloc: Global, frame: &Frame<'_>, next: Next, ray: &Point) -> Result<Next, AllocError>
     requires frame { IsFrame frame.now }
     requires next { IsNext (search_of frame.now) next }
     requires ray { length ray.now ≡ size_of frame.now.problem.now.space }

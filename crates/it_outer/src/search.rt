@@ -11,9 +11,9 @@ ghost use Rattle.it_outer.specs.declared.types.Outer.TheVariants as OuterEnds;
 
 use crate::constants::constants;
 use crate::coordinates::kept_coordinates;
+use crate::extremes::extreme_rays;
 use crate::outcomes::Outcomes;
 use crate::passes::pass;
-use crate::extremes::extreme_rays;
 use crate::types::{Bounds, Frame, Limits, Outer, OuterCause};
 use it_space::{Problem, RowFault};
 use std::alloc::{AllocError, Global};

@@ -5,7 +5,8 @@ use Rattle.it_outer.specs.Extremes.{extreme_rays}
 use Rattle.it_outer.specs.Rounds.{search_of}
 use Rattle.it_outer.specs.Search.{AllFit}
 use Rattle.it_outer.proofs.ExtremeLemmas.{all_extreme}
-use Rattle.it_outer.proofs.RoundLemmas.{second_result}
+use Rattle.it_outer.proofs.RoundLemmas.{second_result, second_wide}
+use Rattle.it_space.specs.Rows.{Terms}
 use Rattle.it_outer.proofs.search.second_pass.Goals as goal
 
 pub extreme_rays-requires : goal.extreme_rays-requires
@@ -25,9 +26,9 @@ pass-requires-clause-rays c =
 pub returns-in-Ok : goal.returns-in-Ok
 returns-in-Ok c =
     let is : c.in-Ok.rays.items ≡ extreme_rays c.args.frame.now.kept.items c.args.first.now.hull.rows.items c.args.first.now.rays.items = search rules in
-    let fit : AllFit c.args.first.now.hull.rows.items c.args.first.now.rays.items = search rules in
+    let fit : AllFit c.args.first.now.hull.rows.items c.args.first.now.rays.items = subst (λ (rs : List Terms). AllFit rs c.args.first.now.rays.items) c.as_slice-2.ensures.value (subst (λ (rs : List (List ℤ)). AllFit c.as_slice-2.result.now rs) c.as_slice-3.ensures.value c.in-Ok.ensures.fit) in
     second_result (search_of c.args.frame.now) c.args.first.now.hull.rows.items c.args.first.now.rays.items c.in-Ok.rays.items c.pass.result is fit c.pass.ensures.ends
 
 pub returns-in-Err-Wide : goal.returns-in-Err-Wide
 returns-in-Err-Wide c =
-    let wide : ¬ (AllFit c.args.first.now.hull.rows.items c.args.first.now.rays.items) = search rules in inl (wide, refl)
+    inl (second_wide c.args.first.now.hull.rows.items c.as_slice-2.result.now c.args.first.now.rays.items c.as_slice-3.result.now c.as_slice-2.ensures.value c.as_slice-3.ensures.value (c.in-Err-Wide.ensures.wide c.in-Err-Wide.field-0-is), refl)

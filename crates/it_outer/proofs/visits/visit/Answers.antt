@@ -20,8 +20,11 @@ loop-row-preserved c =
     }
 
 pub returns-in-No-clause-ends : goal.returns-in-No-clause-ends
-returns-in-No-clause-ends c = (c.row-item.result, first_with (problem_view c.args.problem.now) c.args.effort c.args.rows.now (map certificate_view c.loop-row.proofs.items) c.loop-row.row-index c.row-item.result (No c.in-No.point) c.loop-row-test.true c.row-item.is
-    (subst (λ (p : Proof). EndsWith (problem_view c.args.problem.now) c.row-item.result c.args.effort (proof_view p)) c.in-No.is c.in_ok-proof.ensures.ends) c.loop-row.invariant.proved)
+returns-in-No-clause-ends c = (
+  c.row-item.result,
+  first_with (problem_view c.args.problem.now) c.args.effort c.args.rows.now (map certificate_view c.loop-row.proofs.items) c.loop-row.row-index c.row-item.result (No c.in-No.point) c.loop-row-test.true c.row-item.is
+      (subst (λ (p : Proof). EndsWith (problem_view c.args.problem.now) c.row-item.result c.args.effort (proof_view p)) c.in-No.is c.in_ok-proof.ensures.ends) c.loop-row.invariant.proved,
+)
 
 pub returns-in-Undecided-clause-ends : goal.returns-in-Undecided-clause-ends
 returns-in-Undecided-clause-ends c =

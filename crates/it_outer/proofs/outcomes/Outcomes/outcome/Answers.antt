@@ -1,6 +1,6 @@
 use Rattle.std.proofs.Common.{refl, sym, ap, subst, ◌∙◌}
 use Rattle.std.specs.Option.{option_copied}
-use Rattle.it_space.specs.Answers.{CertificateView}
+use Rattle.it_space.specs.Answers.{CertificateView, certificate_view}
 use Rattle.it_space.specs.Problems.{problem_view}
 use Rattle.it_space.specs.Rows.{Terms}
 use Rattle.it_prove.specs.ProofViews.{EndsWith, Yes}
@@ -12,7 +12,7 @@ prove-requires-clause-closed c = closed_of (problem_view c.args.problem.now) c.a
 
 pub returns-in-Some-clause-ends : goal.returns-in-Some-clause-ends
 returns-in-Some-clause-ends c = subst (λ (w : CertificateView). EndsWith (problem_view c.args.problem.now) c.args.row.now c.args.effort (Yes w)) (sym c.in_ok-kept.ensures)
-    (subst (λ (t : Terms). EndsWith (problem_view c.args.problem.now) t c.args.effort (Yes _)) c.terms.ensures.value
+    (subst (λ (t : Terms). EndsWith (problem_view c.args.problem.now) t c.args.effort (Yes (certificate_view c.in-Some.certificate.now))) c.terms.ensures.value
     (kept_ends (problem_view c.args.problem.now) c.args.effort _ (λ s t. refl) c.args.self.now c.terms.result.now c.in-Some.certificate.now (sym (ap option_copied c.in-Some.is) ∙ c.get.ensures.value) c.requires.outcomes))
 
 pub returns : goal.returns
