@@ -1,10 +1,10 @@
 -- What a search ends with is right, and bounds are the projection.
-use Rattle.std.proofs.Common.{◌≡◌, ◌↔◌, inl, inr, ℕ, zero, suc, ◌+◌, ◌-◌, ◌^◌, ◌<◌, ◌≤◌, ℤ, pos, negsuc, append-nil, ◌+ℤ◌, ◌*ℤ◌, ◌≤ℤ◌, List, [], ◌∷◌, ◌++◌, map, length, refl, sym, ap, subst, ◌∙◌, arith, append_assoc, All}
+use Rattle.std.proofs.Common.{◌≡◌, inl, inr, ℕ, zero, suc, ◌+◌, ◌-◌, ◌^◌, ◌≤◌, ℤ, pos, negsuc, append-nil, ◌≤ℤ◌, List, [], ◌∷◌, ◌++◌, length, sym, subst, arith, append_assoc, All}
 use Rattle.std.specs.Prelude.{Contains}
 use Rattle.std.specs.List.{AllZip, AllByRecursion as Every}
 use Rattle.std.proofs.lemmas.Int.{ints}
 use Rattle.std.proofs.lemmas.Nat.{pow_pos}
-use Rattle.std.proofs.lemmas.List.Elements.{All-nil, All-cons, All-head, All-tail, All-append}
+use Rattle.std.proofs.lemmas.List.Elements.{All-nil, All-cons, All-head, All-append}
 use Rattle.it_space.specs.Answers.{CertificateView}
 use Rattle.it_space.specs.Problems.{ProblemView, IsProblem}
 use Rattle.it_space.specs.Rows.{Terms, IsOver, point_of, value}
@@ -12,27 +12,26 @@ use Rattle.it_space.specs.Spaces.{size_of}
 use Rattle.it_space.proofs.EveryLemmas.{all_of, every_of}
 use Rattle.it_eliminate.specs.Elimination.{EliminatedView}
 use Rattle.it_eliminate.specs.Elimination as elimination
-use Rattle.it_eliminate.specs.Projections.{IsPointOf}
-use Rattle.it_eliminate.proofs.MemberLemmas.{all_back, all_member, member_of, Member}
+use Rattle.it_eliminate.proofs.MemberLemmas.{all_back, all_member, member_of}
 use Rattle.it_check.specs.Meaning.{CertifiesRow}
 use Rattle.it_check.proofs.Truth.{yes_is_true}
 use Rattle.it_prove.specs.ProofViews as proofs
-use Rattle.it_prove.specs.ProofViews.{EndsWith, AreProofsOf}
+use Rattle.it_prove.specs.ProofViews.{AreProofsOf}
 use Rattle.it_prove.specs.declared.types.Effort.{Effort}
 use Rattle.it_prove.proofs.RightLemmas.{ends_are_right}
-use Rattle.it_redundant.specs.Reduction.{NeedView, Reduces, kept_rows}
+use Rattle.it_redundant.specs.Reduction.{kept_rows}
 use Rattle.it_redundant.proofs.ProjectionLemmas.{list_up, step_list}
 use Rattle.it_redundant.proofs.ReductionLemmas.{all_kept, hold_alike}
-use Rattle.it_hull.specs.Hulls.{IsAttained, IsHull, UsesOnly, first_rows, rows_with_multiplier, zero_rows}
+use Rattle.it_hull.specs.Hulls.{IsAttained, IsHull, UsesOnly, first_rows, rows_with_multiplier}
 use Rattle.it_hull.specs.Rays.{RayEnds}
 use Rattle.it_hull.specs.Theorems.{MeetsProblem}
 use Rattle.it_hull.proofs.ConeLemmas.{hull_is_projection}
 use Rattle.it_hull.proofs.RateLemmas.{rates_meet, reduced_is_hull}
 use Rattle.it_hull.proofs.RayLemmas.{multiplier_over, one_more_ray}
 use Rattle.it_hull.proofs.StepLemmas.{first_is_hull}
-use Rattle.it_outer.specs.Bounds.{AreBounds, IsRay, IsRightOuter}
+use Rattle.it_outer.specs.Bounds.{IsRay, IsRightOuter}
 use Rattle.it_outer.specs.Outer.{Search, OuterView, Bounds, Undecided, CauseView, Run, Rows, Width, Rays, constants}
-use Rattle.it_outer.specs.Search.{VisitView, Proved, Refuted, Left, IsFirstWith, VisitEnds, HullView, Hull, TooMany, TooWide, AfterStep, NextHull, PassEnds, HullEnds, PassWithEnds, SecondEnds, SearchEnds}
+use Rattle.it_outer.specs.Search.{Proved, Refuted, Left, IsFirstWith, Hull, TooMany, TooWide, AfterStep, NextHull, PassEnds, HullEnds, PassWithEnds, SecondEnds}
 use Rattle.it_outer.specs.Theorems.{BoundsAreProjection, EndsAreRight, IsSearch}
 use Rattle.it_outer.proofs.ConstantLemmas.{constants_are_problem, constants_speak_of_sets, few_constants}
 use Rattle.it_outer.proofs.ExtremeLemmas.{all_extreme}

@@ -1,7 +1,5 @@
 -- A search has one end, where no quick run comes first.
 use Rattle.std.proofs.Common.{◌≡◌, inl, inr, ℕ, zero, suc, ◌-◌, ◌^◌, ℤ, List, [], ◌∷◌, ◌++◌, length, false, refl, sym, ap, subst, ◌∙◌}
-use Rattle.std.specs.List.{AllZip}
-use Rattle.it_space.specs.declared.answers.Cause.{Cause}
 use Rattle.it_space.specs.Answers.{CertificateView}
 use Rattle.it_space.specs.Problems.{ProblemView}
 use Rattle.it_space.specs.Rows.{Terms}
@@ -16,8 +14,8 @@ use Rattle.it_redundant.proofs.ReductionLemmas.{one_reduction}
 use Rattle.it_hull.specs.Hulls.{first_rows}
 use Rattle.it_hull.proofs.RayLemmas.{one_ray_end}
 use Rattle.it_outer.specs.Extremes.{extreme_rays}
-use Rattle.it_outer.specs.Outer.{Search, OuterView, Bounds, Undecided, Rows, Width, Rays, Run, constants}
-use Rattle.it_outer.specs.Search.{VisitView, Proved, Refuted, Left, IsFirstWith, VisitEnds, HullView, Hull, TooMany, TooWide, AfterStep, NextHull, AfterHull, AfterVisit, PassEnds, AfterRay, HullEnds, AllFit, PassWithEnds, SecondEnds, SearchEnds}
+use Rattle.it_outer.specs.Outer.{Search, OuterView, Bounds, Undecided, Rows, Rays, constants}
+use Rattle.it_outer.specs.Search.{VisitView, Proved, Refuted, Left, IsFirstWith, VisitEnds, HullView, Hull, TooMany, TooWide, AfterStep, NextHull, AfterHull, AfterVisit, PassEnds, AfterRay, HullEnds, PassWithEnds, SecondEnds}
 use Rattle.it_outer.specs.Theorems.{OneSearchEnd}
 
 -- ---- a visit row by row

@@ -3,7 +3,7 @@ use Rattle.std.proofs.Common.{◌≡◌, ℕ, ℤ, List, [], ◌∷◌, Bool, tr
 use Rattle.std.specs.Prelude.{filter}
 use Rattle.std.specs.List.{AllByRecursion as Every}
 use Rattle.it_space.specs.Rows.{Terms}
-use Rattle.it_space.proofs.EveryLemmas.{all_of, every_of, every-filter, every_all, every-same}
+use Rattle.it_space.proofs.EveryLemmas.{all_of, every_of, every-filter, every-same}
 use Rattle.it_outer.specs.Extremes.{direction, extreme_rays, is_extreme, is_greater, ordered_after, put_in_order}
 
 module _ (P : List ℤ → Type 0) (kept : List ℕ) where

@@ -1,5 +1,5 @@
 -- The extreme rays in order as loops make them.
-use Rattle.std.proofs.Common.{◌≡◌, ◌≢◌, inl, inr, ℕ, zero, suc, ◌+◌, ◌<◌, ◌≤◌, ℤ, pos, List, [], ◌∷◌, ◌++◌, map, filter, length, take, drop, get_or, not, ◌&&◌, ◌||◌, Bool, true, false, if◌then◌else◌, refl, sym, ap, ap₂, subst, ◌∙◌, arith, append_assoc, All}
+use Rattle.std.proofs.Common.{◌≡◌, ◌≢◌, ℕ, zero, suc, ◌+◌, ◌<◌, ◌≤◌, ℤ, List, [], ◌∷◌, ◌++◌, map, filter, length, take, drop, get_or, not, ◌&&◌, ◌||◌, Bool, true, false, if◌then◌else◌, refl, sym, ap, ap₂, subst, ◌∙◌, arith, append_assoc, All}
 use Rattle.std.specs.List.{AllWithin, flat_map, insert, list_any, AllByRecursion as Every}
 use Rattle.std.specs.Global.{Vec}
 use Rattle.std.proofs.lemmas.Grind.{take_at_read}
@@ -9,12 +9,11 @@ use Rattle.std.proofs.lemmas.Bool.{false≢true}
 use Rattle.it_number.specs.Limit.{IsWithin}
 use Rattle.std.specs.Int.Signed.{lt_z}
 use Rattle.std.specs.Ordering.{int_eq}
-use Rattle.it_space.specs.Rows.{Ascends, Terms, coefficient, point_of, single_term}
-use Rattle.it_space.proofs.EveryLemmas.{all_of, every_of}
+use Rattle.it_space.specs.Rows.{Ascends, Terms, coefficient, single_term}
 use Rattle.it_space.proofs.ListLemmas.{drop_item}
 use Rattle.it_space.proofs.TermLemmas.{ascends-single_term}
 use Rattle.it_outer.specs.Extremes.{direction, is_extreme, is_greater, is_outdone, is_within, ordered_after, put_in_order, tight_at}
-use Rattle.it_outer.specs.Rounds.{ArePlaces, AscendFrom}
+use Rattle.it_outer.specs.Rounds.{AscendFrom}
 
 -- ---- directions
 
