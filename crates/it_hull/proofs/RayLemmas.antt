@@ -18,14 +18,14 @@ use Rattle.it_space.proofs.EveryLemmas.{all_of, every_of, every-append, every-ma
 use Rattle.it_eliminate.specs.declared.types.Eliminated.{Eliminated}
 use Rattle.it_eliminate.specs.declared.types.Eliminated.TheVariants as ends
 use Rattle.it_eliminate.specs.Elimination.{EliminatedView, EliminationEnds, Region, Rows, Wide, next_list, ordered_rows}
-use Rattle.it_eliminate.specs.Projections.{IsPointOf, Extends, IsProjection, LacksCoordinate, RegionIsProjection}
+use Rattle.it_eliminate.specs.Projections.{IsPointOf, Extends, LacksCoordinate, RegionIsProjection}
 use Rattle.it_eliminate.specs.Views.{eliminated_view}
 use Rattle.it_eliminate.proofs.LawLemmas.{one_end}
 use Rattle.it_eliminate.proofs.OrderLemmas.{lacks-ordered_rows}
 use Rattle.it_eliminate.proofs.RateLemmas.{next_keeps_lacking, projection_exact}
 use Rattle.it_eliminate.proofs.StepLemmas.{next_lacks}
 use Rattle.it_hull.specs.Hulls.{UsesOnly, rows_with_multiplier, with_multiplier}
-use Rattle.it_hull.specs.Rays.{AddsRay, IsNextHull, RayEnds, ValuesFit}
+use Rattle.it_hull.specs.Rays.{AddsRay, RayEnds, ValuesFit}
 use Rattle.it_hull.specs.Theorems.{OneMoreRay, OneRayEnd}
 use Rattle.it_hull.proofs.StepLemmas.{eliminated_is_hull}
 use Rattle.it_hull.proofs.TermLemmas.{coefficient-with_term, over-with_term}

@@ -5,7 +5,7 @@ use Rattle.it_space.specs.Rows.{Terms, IsOver, point_of, value}
 use Rattle.it_polymatroid.specs.Polymatroid.{IsPolymatroid}
 use Rattle.it_eliminate.specs.Elimination.{EliminatedView, Region}
 use Rattle.it_eliminate.specs.Projections.{IsPointOf}
-use Rattle.it_hull.specs.Hulls.{IsAttained, IsHull, UsesOnly, first_rows, rows_with_multiplier}
+use Rattle.it_hull.specs.Hulls.{IsAttained, IsHull, UsesOnly, first_rows}
 use Rattle.it_hull.specs.Rays.{RayEnds}
 
 -- ---- the method

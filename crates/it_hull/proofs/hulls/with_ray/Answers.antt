@@ -1,4 +1,4 @@
-use Rattle.std.proofs.Common.{rules, ◌≡◌, ◌^◌, refl, inl, ap, ◌∙◌}
+use Rattle.std.proofs.Common.{rules, ◌≡◌, ◌^◌, refl, inl}
 use Rattle.it_space.specs.declared.problems.System.{System}
 use Rattle.it_space.specs.Rows.{point_of}
 use Rattle.it_eliminate.specs.Views.{eliminated_view}

@@ -1,0 +1,10 @@
+pub mod ConstantLemmas
+pub mod ExtremeLemmas
+pub mod BoundLemmas
+pub mod EndLemmas
+pub mod LoopLemmas
+pub mod OutcomeLemmas
+pub mod HullLemmas
+pub mod RoundLemmas
+pub mod OrderLemmas
+pub mod FrameLemmas

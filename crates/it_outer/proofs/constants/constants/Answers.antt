@@ -1,0 +1,17 @@
+use Rattle.std.proofs.Common.{rules, ◌≡◌, ◌∷◌, [], ◌++◌, List, ap}
+use Rattle.it_space.specs.declared.problems.Constraint.{Constraint}
+use Rattle.it_space.specs.Problems.{ProblemView}
+use Rattle.it_outer.specs.Outer.{constant_lines}
+use Rattle.it_outer.proofs.LoopLemmas.{line_more, lines_done}
+use Rattle.it_outer.proofs.constants.constants.Goals as goal
+
+pub loop-variable-preserved : goal.loop-variable-preserved
+loop-variable-preserved c =
+    let pushed : c.push.new.self.items ≡ c.loop-variable.constraints.items ++ c.in_ok-line.line ∷ [] = search rules in
+    line_more c.loop-variable.variable c.args.space.variables c.loop-variable.constraints.items c.push.new.self.items (constant_lines 0 c.args.space.variables) c.in_ok-line.line c.loop-variable-test.true pushed c.in_ok-line.ensures c.loop-variable.invariant
+
+pub returns : goal.returns
+returns c =
+    let are : c.loop-variable.constraints.items ≡ constant_lines 0 c.args.space.variables =
+    lines_done c.loop-variable.variable c.args.space.variables c.loop-variable.constraints.items (constant_lines 0 c.args.space.variables) c.loop-variable-test.false c.loop-variable.invariant in
+    ap (λ (cs : List Constraint). let q : ProblemView = record { space = c.args.space; constraints = cs } in q) are

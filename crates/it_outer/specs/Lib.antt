@@ -1,0 +1,6 @@
+pub mod Outer
+pub mod Extremes
+pub mod Search
+pub mod Bounds
+pub mod Theorems
+pub mod Rounds

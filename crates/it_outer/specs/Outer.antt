@@ -1,0 +1,70 @@
+-- What a search for outer bounds in rates is about, and what it ends with.
+use Rattle.std.specs.Prelude.{◌≡◌, ℕ, zero, suc, ◌+◌, ◌^◌, ℤ, pos, List, [], ◌∷◌, map, slice_index_or, nat_eq, if◌then◌else◌}
+use Rattle.std.specs.List.{list_any}
+use Rattle.it_space.specs.declared.answers.Cause.{Cause}
+use Rattle.it_space.specs.declared.problems.Constraint.{Constraint}
+use Rattle.it_space.specs.declared.problems.Kind.TheVariants.{Equation}
+use Rattle.it_space.specs.declared.problems.Origin.TheVariants.{Given}
+use Rattle.it_space.specs.declared.spaces.Space.{Space}
+use Rattle.it_space.specs.Answers.{CertificateView, certificate_view}
+use Rattle.it_space.specs.Problems.{ProblemView}
+use Rattle.it_space.specs.Rows.{Terms}
+use Rattle.it_outer.specs.declared.types.Limits.{Limits}
+use Rattle.it_outer.specs.declared.types.Outer.{Outer}
+use Rattle.it_outer.specs.declared.types.Outer.TheVariants as ends
+use Rattle.it_outer.specs.declared.types.OuterCause.{OuterCause}
+use Rattle.it_outer.specs.declared.types.OuterCause.TheVariants as causes
+
+-- a search: the problem, the rate at which multipliers of rays stand, the coordinates that are kept, and what it may take
+pub record Search : Type 0 where
+  pub problem : ProblemView
+  pub spare : ℕ
+  pub kept : List ℕ
+  pub limits : Limits
+
+-- the rates from a number on, so many, without those that go
+abbrev pub rates_left : List ℕ → ℕ → ℕ → List ℕ
+rates_left gone rate zero = []
+rates_left gone rate (suc count) = if list_any (λ r. nat_eq r rate) gone then rates_left gone (rate + 1) count else rate ∷ rates_left gone (rate + 1) count
+
+-- the coordinates of the rates that don't go
+abbrev pub kept_coordinates : Space → List ℕ → List ℕ
+kept_coordinates s gone = map (λ r. 2 ^ s.variables + r) (rates_left gone 0 s.rates)
+
+-- the search for the bounds of a problem without some rates, the first of which has the multipliers
+abbrev pub search_without : ProblemView → List ℕ → Limits → Search
+search_without q gone limits = record { problem = q; spare = slice_index_or gone 0 0; kept = kept_coordinates q.space gone; limits = limits }
+
+-- lines that say of so many variables, from one on, that each is constant
+abbrev pub constant_lines : ℕ → ℕ → List Constraint
+constant_lines variable zero = []
+constant_lines variable (suc count) = record { row = (2 ^ variable, pos 1) ∷ []; kind = Equation; origin = Given (variable + 1) 1 1 } ∷ constant_lines (variable + 1) count
+
+-- the problem of a space in which all variables are constant
+abbrev pub constants : Space → ProblemView
+constants s = record { space = s; constraints = constant_lines 0 s.variables }
+
+-- why bounds stay undecided: the run about a row of the hull has no end within its bounds; one more ray leaves too many rows; a
+-- number passes the limit; a row is refuted, and no more rays are allowed
+pub data CauseView : Type 0 where
+  Run : (row : Terms) (cause : Cause) → CauseView
+  Rows : CauseView
+  Width : CauseView
+  Rays : CauseView
+
+-- rows with a certificate of each, and rays; or neither, and why
+pub data OuterView : Type 0 where
+  Bounds : (rows : List Terms) (proofs : List CertificateView) (rays : List (List ℤ)) → OuterView
+  Undecided : (cause : CauseView) → OuterView
+
+-- a cause as contracts see it
+abbrev pub cause_view : OuterCause → CauseView
+cause_view (causes.Run row cause) = Run row cause
+cause_view causes.Rows = Rows
+cause_view causes.Width = Width
+cause_view causes.Rays = Rays
+
+-- an end as contracts see it
+abbrev pub outer_view : Outer → OuterView
+outer_view (ends.Bounds b) = Bounds b.hull.rows.items (map certificate_view b.proofs.items) b.rays.items
+outer_view (ends.Undecided cause) = Undecided (cause_view cause)

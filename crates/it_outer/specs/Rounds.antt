@@ -1,0 +1,129 @@
+-- The search round by round. No public clause cites this module.
+use Rattle.std.specs.Prelude.{◌≡◌, ◌↔◌, ℕ, suc, ◌+◌, ◌-◌, ◌^◌, ◌≤◌, ℤ, pos, List, [], ◌∷◌, ◌++◌, map, length, All, Bool, nat_eq, if◌then◌else◌}
+use Rattle.std.specs.List.{list_any}
+use Rattle.std.specs.Global.{Vec}
+use Rattle.it_space.specs.declared.problems.Constraint.{Constraint}
+use Rattle.it_space.specs.declared.problems.Kind.TheVariants.{Equation}
+use Rattle.it_space.specs.declared.problems.Origin.TheVariants.{Given}
+use Rattle.it_space.specs.declared.problems.System.{System}
+use Rattle.it_space.specs.declared.spaces.Space.{Space}
+use Rattle.it_space.specs.Answers.{certificate_view}
+use Rattle.it_space.specs.Problems.{ProblemView, IsProblem, IsSystem, problem_view}
+use Rattle.it_space.specs.Rows.{Terms}
+use Rattle.it_space.specs.Spaces.{size_of}
+use Rattle.it_eliminate.specs.Projections.{LacksCoordinate}
+use Rattle.it_prove.specs.ClosedProblems.{IsClosedProblem}
+use Rattle.it_prove.specs.ProofViews.{Yes, EndsWith}
+use Rattle.it_prove.specs.declared.types.Effort.{Effort}
+use Rattle.it_outer.specs.declared.outcomes.Outcomes.{Outcomes}
+use Rattle.it_outer.specs.declared.types.Frame.{Frame}
+use Rattle.it_outer.specs.declared.types.Next.{Next}
+use Rattle.it_outer.specs.declared.types.Next.TheVariants as nexts
+use Rattle.it_outer.specs.declared.types.Round.{Round}
+use Rattle.it_outer.specs.declared.types.Round.TheVariants as rounds
+use Rattle.it_outer.specs.declared.types.Visit.{Visit}
+use Rattle.it_outer.specs.declared.types.Visit.TheVariants as visits
+use Rattle.it_outer.specs.Outer.{Search, OuterView, constants, outer_view}
+use Rattle.it_outer.specs.Search.{VisitView, Proved, Refuted, Left, HullView, Hull, TooMany, TooWide, AfterHull, HullEnds, NextHull, PassEnds}
+use Rattle.it_outer.specs.Theorems.{IsSearch}
+
+-- the line that says that a variable is constant
+abbrev pub constant_line : ℕ → Constraint
+constant_line variable = record { row = (2 ^ variable, pos 1) ∷ []; kind = Equation; origin = Given (variable + 1) 1 1 }
+
+-- a rate's coordinate, unless the rate goes
+abbrev pub own_coordinate : Space → List ℕ → ℕ → List ℕ
+own_coordinate s gone rate = if list_any (λ r. nat_eq r rate) gone then [] else (2 ^ s.variables + rate) ∷ []
+
+-- the search that a frame is of
+abbrev pub search_of : Frame → Search
+search_of f = record { problem = problem_view f.problem.now; spare = f.spare; kept = f.kept.items; limits = f.limits }
+
+-- numbers in ascending order, from this one on
+abbrev pub AscendFrom : ℕ → List ℕ → Type 0
+AscendFrom from [] = Unit {0}
+AscendFrom from (c ∷ cs) = (from ≤ c) × AscendFrom (c + 1) cs
+
+-- coordinates from 1 to a number, in ascending order
+pub record ArePlaces (size : ℕ) (kept : List ℕ) : Type 0 where
+  pub within : All (λ c. (1 ≤ c) × (c ≤ size)) kept
+  pub ascend : AscendFrom 0 kept
+
+-- a frame that calls make
+pub record IsFrame (f : Frame) : Type 0 where
+  pub constants : problem_view f.constants ≡ constants f.problem.now.space
+  pub search : IsSearch (search_of f)
+  pub places : ArePlaces (size_of f.problem.now.space) f.kept.items
+
+-- each row that is kept stands with the certificate that it ended with; and what is made once of the problem is of it
+unfoldable pub AreOutcomes : ProblemView → Effort → Outcomes → Type 0
+AreOutcomes q effort o = All (λ e. EndsWith q e.0.items effort (Yes (certificate_view e.1))) o.by_row.entries × IsClosedProblem q o.closed
+
+-- what contracts see of a visit
+abbrev pub visit_view : Visit → VisitView
+visit_view (visits.Proved ws) = Proved (map certificate_view ws.items)
+visit_view (visits.Refuted point) = Refuted point
+visit_view (visits.Left row cause) = Left row cause
+
+-- and of a hull
+abbrev pub next_view : Next → HullView
+next_view (nexts.Hull system) = Hull system.rows.items
+next_view nexts.TooMany = TooMany
+next_view nexts.TooWide = TooWide
+
+-- a hull's system as calls take it: of the problem's space, without the multipliers' rate
+pub record IsHullSystem (s : Search) (hull : System) : Type 0 where
+  pub space : hull.space ≡ s.problem.space
+  pub system : IsSystem hull
+  pub free : LacksCoordinate (2 ^ s.problem.space.variables + s.spare) hull.rows.items
+
+-- points of the problem's space
+abbrev pub AreOfSpace : Search → List (List ℤ) → Type 0
+AreOfSpace s points = All (λ values. length values ≡ size_of s.problem.space) points
+
+-- where there is a hull, it is one that calls take
+abbrev pub IsNext : Search → Next → Type 0
+IsNext s (nexts.Hull system) = IsHullSystem s system
+IsNext s nexts.TooMany = Unit {0}
+IsNext s nexts.TooWide = Unit {0}
+
+-- a visit's point is of the space
+abbrev pub IsVisit : Search → Visit → Type 0
+IsVisit s (visits.Proved ws) = Unit {0}
+IsVisit s (visits.Refuted point) = length point ≡ size_of s.problem.space
+IsVisit s (visits.Left row cause) = Unit {0}
+
+-- what a pass goes on with is what calls take
+abbrev pub IsRound : Search → Round → Type 0
+IsRound s (rounds.Goes hull rays) = IsHullSystem s hull × AreOfSpace s rays.items
+IsRound s (rounds.Ends end) = Unit {0}
+
+-- one more ray after what there is of a hull
+abbrev pub IsAfterRay : Search → HullView → List ℤ → HullView → Type 0
+IsAfterRay s (Hull rows) ray end = NextHull s rows ray end
+IsAfterRay s TooMany ray end = end ≡ TooMany
+IsAfterRay s TooWide ray end = end ≡ TooWide
+
+-- what the rays that are left make of what there is of a hull
+abbrev pub Resumes : Search → HullView → List (List ℤ) → HullView → Type 0
+Resumes s (Hull rows) rays end = HullEnds s rows rays end
+Resumes s TooMany rays end = end ≡ TooMany
+Resumes s TooWide rays end = end ≡ TooWide
+
+-- with so many rays more the round ends so
+abbrev pub RoundEnds : Search → ℕ → Round → OuterView → Type 0
+RoundEnds s more (rounds.Goes hull rays) end = PassEnds s more hull.rows.items rays.items end
+RoundEnds s more (rounds.Ends other) end = end ≡ outer_view other
+
+-- a point was put in as a ray: as the pass ends from there, it ends
+abbrev pub IsWithPoint : Search → List Terms → List (List ℤ) → List ℤ → Round → Type 0
+IsWithPoint s rows rays point round = (more : ℕ) (end : OuterView) → RoundEnds s more round end
+    → (h : HullView) × NextHull s rows point h × AfterHull (λ next end. PassEnds s more next (rays ++ point ∷ []) end) h end
+
+-- a round was made: as the pass ends from there, it ends with one ray more
+abbrev pub IsAfterRound : Search → List Terms → List (List ℤ) → Round → Type 0
+IsAfterRound s rows rays round = (more : ℕ) (end : OuterView) → RoundEnds s more round end → PassEnds s (suc more) rows rays end
+
+-- the lists of some vectors
+abbrev pub lists_of : List (Vec Bool) → List (List Bool)
+lists_of vs = map (λ v. v.items) vs

@@ -1,0 +1,41 @@
+//! The problem in which all variables are constant. Under it the one closed set is empty, so that runs are over rates alone.
+ghost use Rattle.std.specs.Prelude.{◌≡◌, ◌+◌, ◌^◌, ◌∷◌, [], ◌<◌, pos, IfOk};
+ghost use Rattle.it_space.specs.declared.problems.Kind.TheVariants.{Equation};
+ghost use Rattle.it_space.specs.declared.problems.Origin.TheVariants.{Given};
+ghost use Rattle.it_space.specs.Problems.{problem_view};
+ghost use Rattle.it_space.specs.Spaces.{IsSpace};
+ghost use Rattle.it_outer.specs.Outer.{constants};
+ghost use Rattle.it_outer.specs.Rounds.{constant_line};
+
+use it_space::{Constraint, Kind, Origin, Problem, Row, Space};
+use std::alloc::{AllocError, Global};
+
+/// The line that says that a variable, counted from 0, is constant.
+fn constant_line(alloc: Global, variable: u8) -> Result<Constraint, AllocError>
+    requires { variable < 10 }
+    ensures { IfOk result (λ c. c ≡ constant_line variable) }
+{
+    let terms = vec![in alloc; (1u32 << variable, 1)]?;
+    Ok(Constraint {
+        row: Row::new(terms),
+        kind: Kind::Equation,
+        origin: Origin::Given {
+            line: variable as u16 + 1,
+            part: 1,
+            parts: 1,
+        },
+    })
+}
+
+/// The problem of a space in which each variable is constant.
+pub fn constants(alloc: Global, space: Space) -> Result<Problem, AllocError>
+    requires { IsSpace space }
+    ensures { IfOk result (λ q. problem_view q ≡ constants space) }
+{
+    let mut constraints = Vec::new(alloc);
+    for variable in 0..space.variables {
+        let line = constant_line(alloc, variable)?;
+        constraints.push(line)?;
+    }
+    Ok(Problem { space, constraints })
+}

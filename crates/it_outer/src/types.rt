@@ -1,0 +1,79 @@
+//! What a search for outer bounds may take, and what it ends with.
+use it_prove::Effort;
+use it_space::{Cause, Certificate, Point, Problem, Row, System};
+
+/// What a search may take.
+#[derive(Clone, Copy, Debug, PartialEq, Eq)]
+pub struct Limits {
+    /// The most rows that one more ray may leave, before those that follow are dropped.
+    pub rows: usize,
+    /// The most rays.
+    pub rays: usize,
+    /// What is done for each run.
+    pub effort: Effort,
+}
+
+/// Why bounds stay undecided.
+#[derive(Debug, Drop)]
+pub enum OuterCause {
+    /// The run about this row of a hull has no end within its bounds, and why.
+    Run(Row, Cause),
+    /// One more ray leaves more rows than are allowed.
+    Rows,
+    /// A number of a hull passes 2^127 - 1.
+    Width,
+    /// So many rays were found, and a row of their hull is still refuted.
+    Rays,
+}
+
+/// The rows at the kept coordinates, as a system over the problem's space; a certificate of each, under the problem; and points
+/// that meet the problem, the rays, which span all that the rows allow.
+#[derive(Debug, Drop)]
+pub struct Bounds {
+    pub hull: System,
+    pub proofs: Vec<Certificate>,
+    pub rays: Vec<Point>,
+}
+
+/// What a search ends with.
+#[derive(Debug, Drop)]
+pub enum Outer {
+    Bounds(Bounds),
+    Undecided(OuterCause),
+}
+
+/// What a search is about: the problem, the one of its space in which all variables are constant, the kept coordinates, the rate at
+/// which multipliers of rays stand, and what it may take.
+#[derive(Drop)]
+pub struct Frame<'a> {
+    pub problem: &'a Problem,
+    pub constants: Problem,
+    pub kept: Vec<u32>,
+    pub spare: u8,
+    pub limits: Limits,
+}
+
+/// What a visit of rows comes to: a certificate of each, or the first one that has none.
+#[derive(Debug, Drop)]
+pub enum Visit {
+    Proved(Vec<Certificate>),
+    /// A point refutes it.
+    Refuted(Point),
+    /// The run about it has no end within its bounds.
+    Left(Row, Cause),
+}
+
+/// A hull, or why there is none.
+#[derive(Debug, Drop)]
+pub enum Next {
+    Hull(System),
+    TooMany,
+    TooWide,
+}
+
+/// A pass that goes on with a hull and its rays, or its end.
+#[derive(Debug, Drop)]
+pub enum Round {
+    Goes(System, Vec<Point>),
+    Ends(Outer),
+}

@@ -1,0 +1,41 @@
+//! A visit of the rows of a hull.
+ghost use Rattle.std.specs.Prelude.{◌≡◌, All, IfOk, OnOk};
+ghost use Rattle.it_space.specs.Problems.{IsProblem, problem_view};
+ghost use Rattle.it_space.specs.Rows.{IsOver};
+ghost use Rattle.it_space.specs.Spaces.{size_of};
+ghost use Rattle.it_outer.specs.Rounds.{AreOutcomes, visit_view};
+ghost use Rattle.it_outer.specs.Search.{VisitEnds};
+
+use crate::outcomes::Outcomes;
+use crate::types::Visit;
+use it_prove::{Effort, Proof};
+use it_space::{Problem, Row};
+use std::alloc::{AllocError, Global};
+
+/// Proves the rows one after the other, up to the first that has no proof.
+pub fn visit(
+    alloc: Global,
+    problem: &Problem,
+    rows: &[Row],
+    effort: Effort,
+    outcomes: &mut Outcomes,
+) -> Result<Visit, AllocError>
+    requires problem { IsProblem (problem_view problem.now) }
+    requires rows { All (IsOver (size_of problem.now.space)) rows.now }
+    requires outcomes { AreOutcomes (problem_view problem.now) effort outcomes.old }
+    ensures ends { IfOk result (λ v. VisitEnds (problem_view problem.now) effort rows.now (visit_view v)) }
+    ensures outcomes { OnOk result (AreOutcomes (problem_view problem.now) effort outcomes.new) }
+{
+    let mut proofs = Vec::new(alloc);
+    for row in rows {
+        match outcomes.outcome(alloc, problem, row, effort)? {
+            Proof::Yes(proof) => proofs.push(proof)?,
+            Proof::No(point) => return Ok(Visit::Refuted(point)),
+            Proof::Undecided(cause) => {
+                let left = row.copy(alloc)?;
+                return Ok(Visit::Left(left, cause));
+            }
+        }
+    }
+    Ok(Visit::Proved(proofs))
+}
