@@ -1,6 +1,5 @@
-use Rattle.std.proofs.Common.{rules, ◌≡◌, ◌≤◌, ◌++◌, length, get_or, subst, sym, FitsSigned, to_z-of_z}
-use Rattle.std.specs.List.{AllByRecursion as Every, flat_map}
-use Rattle.std.proofs.lemmas.List.{append-nil, drop_all}
+use Rattle.std.proofs.Common.{rules, ◌≡◌, ◌++◌, get_or, subst, sym}
+use Rattle.std.specs.List.{flat_map}
 use Rattle.it_number.specs.Limit.{IsWithin}
 use Rattle.it_space.specs.Rows.{IsCanonical, Terms, point_of, single_term}
 use Rattle.it_space.proofs.EveryLemmas.{every_of}

@@ -1,4 +1,4 @@
-use Rattle.std.proofs.Common.{rules, ◌≡◌, get_or, false, not}
+use Rattle.std.proofs.Common.{rules, get_or, false, not}
 use Rattle.it_outer.proofs.OrderLemmas.{any_later}
 use Rattle.it_outer.proofs.extremes.has_loose.Goals as goal
 

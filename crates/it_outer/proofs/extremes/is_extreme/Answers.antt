@@ -1,5 +1,4 @@
 use Rattle.std.proofs.Common.{rules, ◌≡◌, ◌∙◌, false, true, not, sym, ap}
-use Rattle.std.specs.List.{list_any}
 use Rattle.it_outer.specs.Extremes.{is_outdone}
 use Rattle.it_outer.proofs.OrderLemmas.{any_here, any_later, any_none, any_of_lists}
 use Rattle.it_outer.proofs.extremes.is_extreme.Goals as goal

@@ -1,8 +1,6 @@
-use Rattle.std.proofs.Common.{rules, ◌≡◌, ◌∙◌, ◌∷◌, drop, ◌+◌, true, sym, ap, get_or, if◌then◌else◌}
+use Rattle.std.proofs.Common.{rules, ◌≡◌, true, get_or}
 use Rattle.std.specs.Ordering.{int_eq}
-use Rattle.std.specs.Int.Signed.{lt_z}
 use Rattle.it_space.specs.Rows.{coefficient}
-use Rattle.it_outer.specs.Extremes.{is_greater}
 use Rattle.it_outer.proofs.OrderLemmas.{greater_later}
 use Rattle.it_outer.proofs.extremes.is_greater.Goals as goal
 

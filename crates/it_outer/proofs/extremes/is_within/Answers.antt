@@ -1,5 +1,5 @@
 use Rattle.std.proofs.Common.{rules, ◌≡◌, get_or, true, false, not, ◌||◌}
-use Rattle.it_outer.proofs.OrderLemmas.{loose_or, tight_or, within_here, within_later}
+use Rattle.it_outer.proofs.OrderLemmas.{loose_or, tight_or, within_later}
 use Rattle.it_outer.proofs.extremes.is_within.Goals as goal
 use Rattle.it_outer.proofs.extremes.is_within.Goals.{else-list-i-via-then-list-i+else-not-flag_at, else-list-i-via-else-list-i}
 

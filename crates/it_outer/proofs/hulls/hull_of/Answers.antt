@@ -1,4 +1,3 @@
-use Rattle.std.proofs.Common.{refl}
 use Rattle.std.proofs.lemmas.List.{drop_all}
 use Rattle.it_hull.specs.Hulls.{first_rows}
 use Rattle.it_outer.specs.Rounds.{next_view, search_of}

@@ -1,4 +1,3 @@
-use Rattle.std.proofs.Common.{refl}
 use Rattle.it_space.specs.Problems.{problem_view}
 use Rattle.it_outer.specs.Rounds.{search_of}
 use Rattle.it_outer.proofs.HullLemmas.{few_next, hull_lacks, next_ends, next_system, ray_of_hull, region_next, region_rays, spare_is_rate, too_many_ends, too_wide_ends, under_constants}

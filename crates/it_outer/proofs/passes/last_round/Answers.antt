@@ -1,4 +1,4 @@
-use Rattle.std.proofs.Common.{rules, refl}
+use Rattle.std.proofs.Common.{refl}
 use Rattle.it_space.specs.Problems.{problem_view}
 use Rattle.it_outer.specs.declared.types.Outer.TheVariants as ends
 use Rattle.it_outer.specs.declared.types.OuterCause.TheVariants as causes

@@ -1,8 +1,5 @@
-use Rattle.std.proofs.Common.{rules, subst, ap, sym, ◌∙◌, List}
-use Rattle.std.specs.Result.{IfOk}
+use Rattle.std.proofs.Common.{subst}
 use Rattle.it_space.specs.Problems.{problem_view}
-use Rattle.it_space.specs.Rows.{Terms, IsOver}
-use Rattle.it_space.specs.Spaces.{size_of}
 use Rattle.it_outer.specs.declared.types.Outer.TheVariants as ends
 use Rattle.it_outer.specs.declared.types.OuterCause.TheVariants as causes
 use Rattle.it_outer.specs.declared.types.Round.TheVariants as rounds

@@ -1,5 +1,5 @@
-use Rattle.std.proofs.Common.{rules, ◌≡◌, length, subst}
-use Rattle.it_outer.specs.Rounds.{AreOfSpace, IsHullSystem, search_of}
+use Rattle.std.proofs.Common.{rules, ◌≡◌, length}
+use Rattle.it_outer.specs.Rounds.{search_of}
 use Rattle.it_outer.proofs.RoundLemmas.{last_result, round_ends, round_first, round_goes, round_kept}
 use Rattle.it_outer.proofs.passes.rounds.Goals as goal
 

@@ -1,6 +1,5 @@
-use Rattle.std.proofs.Common.{rules, refl, inl, inr, subst, sym, ◌≡◌, length, List, ℤ, All}
+use Rattle.std.proofs.Common.{rules, refl, inl, subst, sym, ◌≡◌, length, List, ℤ, All}
 use Rattle.it_space.specs.Spaces.{size_of}
-use Rattle.it_hull.specs.Hulls.{first_rows}
 use Rattle.it_outer.specs.Extremes.{extreme_rays}
 use Rattle.it_outer.specs.Rounds.{search_of}
 use Rattle.it_outer.specs.Search.{AllFit}
