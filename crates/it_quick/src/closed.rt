@@ -4,6 +4,8 @@ ghost use Rattle.it_space.specs.Problems.{IsProblem, problem_view};
 use crate::closures::{Closures, Companions, with, without};
 use crate::places::Places;
 use crate::programs::{Column, Entry, Inequality, Program};
+use crate::resuming::resume;
+use crate::running::{End, State};
 use it_closure::Dependences;
 use it_elemental::{Elemental, count, parts};
 use it_space::{Constraint, Kind, Problem, Row, VarSet};
@@ -21,6 +23,11 @@ const MOST: u128 = 1 << 15;
 fn mixed(number: usize) -> i64 {
     let bits = (number as u64).wrapping_mul(0x9E37_79B9_7F4A_7C15) >> 58;
     i64::from(bits as u8)
+}
+
+/// The cost of the column of a constraint by its number, in a run that begins from nothing.
+fn constraint_cost(number: usize) -> i64 {
+    CONSTRAINT_COST.wrapping_add(mixed(number))
 }
 
 /// The number in 32 bits, where it is small.
@@ -103,6 +110,9 @@ pub struct ClosedProgram {
     pub closures: Closures,
     pub places: Places,
     pub program: Program,
+    // the state in which the last run has ended, and the columns that weren't inequalities'
+    last: Option<State>,
+    before: Vec<Column>,
 }
 
 impl ClosedProgram {
@@ -121,6 +131,8 @@ impl ClosedProgram {
             closures,
             places,
             program,
+            last: None,
+            before: Vec::new(alloc),
         };
         closed.push_inequalities(dependences)?;
         Ok(closed)
@@ -154,7 +166,7 @@ impl ClosedProgram {
     ) -> Result<bool, AllocError>
         requires { IsProblem (problem_view problem.now) }
     {
-        self.program.others.clear();
+        self.before = std::mem::replace(&mut self.program.others, Vec::new(alloc));
         let mut generator = count(problem.space.variables);
         for constraint in problem.constraints.as_slice() {
             if !self.push_constraint(alloc, constraint, generator)? {
@@ -163,6 +175,57 @@ impl ClosedProgram {
             generator = generator.saturating_add(1);
         }
         self.put_right(alloc, target)
+    }
+
+    /// How a run about the target that was posed ends within so many steps. It begins at the basis at which the last run has ended, where
+    /// there is one; where it then gives up, from nothing.
+    pub fn run(&mut self, alloc: Global, steps: u32) -> Result<End, AllocError> {
+        if let Some(state) = self.last.take() {
+            let end = self.run_on(alloc, state, steps)?;
+            if self.last.is_some() {
+                return Ok(end);
+            }
+            self.put_first_costs();
+        }
+        let state = State::start(alloc, &self.program)?;
+        self.run_from(alloc, state, steps)
+    }
+
+    /// How a run from the basis of another one ends.
+    fn run_on(
+        &mut self,
+        alloc: Global,
+        mut state: State,
+        steps: u32,
+    ) -> Result<End, AllocError> {
+        if resume(&mut state, self.before.as_slice(), &mut self.program) {
+            self.run_from(alloc, state, steps)
+        } else {
+            Ok(End::GaveUp)
+        }
+    }
+
+    /// How a run from a state ends. The state is kept for the next, unless it gives up.
+    fn run_from(
+        &mut self,
+        alloc: Global,
+        mut state: State,
+        steps: u32,
+    ) -> Result<End, AllocError> {
+        let end = state.run(alloc, &self.program, steps)?;
+        self.last = match end {
+            End::GaveUp => None,
+            _ => Some(state),
+        };
+        Ok(end)
+    }
+
+    /// Lets the columns of constraints cost what they do in a run from nothing.
+    fn put_first_costs(&mut self) {
+        let first = self.program.inequalities.len();
+        for k in 0..self.program.others.len() {
+            self.program.others[k].cost = constraint_cost(first.wrapping_add(k));
+        }
     }
 
     /// Puts the right side of a target. False where a number is large.
@@ -204,10 +267,9 @@ impl ClosedProgram {
         generator: u32,
         negated: bool,
     ) -> Result<(), AllocError> {
-        let cost = CONSTRAINT_COST.wrapping_add(mixed(self.program.columns()));
         self.program.others.push(Column {
             entries,
-            cost,
+            cost: constraint_cost(self.program.columns()),
             generator,
             negated,
         })?;

@@ -41,7 +41,7 @@ fn price_at(prices: &[i64], place: u16) -> i64 {
 }
 
 /// A number other than 0 of a column at a place.
-#[derive(Clone, Copy)]
+#[derive(Clone, Copy, PartialEq, Eq)]
 pub struct Entry {
     pub place: u16,
     pub number: i32,
@@ -59,6 +59,11 @@ pub struct Column {
 }
 
 impl Column {
+    /// Whether it has the entries of another one.
+    pub fn is_alike(&self, other: &Column) -> bool {
+        self.entries.as_slice() == other.entries.as_slice()
+    }
+
     /// Its value at a row.
     pub fn value(&self, row: &[i32]) -> i64 {
         let mut sum: i64 = 0;

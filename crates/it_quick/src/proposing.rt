@@ -11,7 +11,7 @@ use crate::closures::Companions;
 use crate::lifting::certificate;
 use crate::numbers::number_at;
 use crate::places::Places;
-use crate::running::{ColumnWeight, End, run};
+use crate::running::{ColumnWeight, End};
 use it_closure::Dependences;
 use it_space::{Certificate, Point, Problem, Row, RowFault, Space};
 use std::alloc::{AllocError, Global};
@@ -109,7 +109,7 @@ fn by_run(
     if !closed.pose(alloc, problem, target)? {
         return Ok(None);
     }
-    match run(alloc, &closed.program, steps)? {
+    match closed.run(alloc, steps)? {
         End::Weights(weights) => {
             by_weights(
                 alloc,

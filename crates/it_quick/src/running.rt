@@ -29,9 +29,9 @@ pub struct ColumnWeight {
 
 /// The state of a run.
 #[derive(Drop)]
-struct State {
-    rows: Vec<InverseRow>,
-    prices: Prices,
+pub struct State {
+    pub rows: Vec<InverseRow>,
+    pub prices: Prices,
 }
 
 /// A row that isn't as it should be.
@@ -118,7 +118,7 @@ fn weights(alloc: Global, rows: &[InverseRow]) -> Result<End, AllocError> {
 
 impl State {
     /// The start: the artificial columns are basic, and nothing has a price.
-    fn start(alloc: Global, program: &Program) -> Result<State, AllocError> {
+    pub fn start(alloc: Global, program: &Program) -> Result<State, AllocError> {
         let width = program.width();
         // whole stretches
         let room = (width / STRETCH).saturating_add(1).saturating_mul(STRETCH);
@@ -168,6 +168,21 @@ impl State {
         self.pivot(program, index, leaving, entering.column)
     }
 
+    /// How the run ends within so many steps.
+    pub fn run(
+        &mut self,
+        alloc: Global,
+        program: &Program,
+        steps: u32,
+    ) -> Result<End, AllocError> {
+        for _ in 0..steps {
+            if let Some(end) = self.step(alloc, program)? {
+                return Ok(end);
+            }
+        }
+        Ok(End::GaveUp)
+    }
+
     /// One step; how the run ends, where it ends with it.
     fn step(&mut self, alloc: Global, program: &Program) -> Result<Option<End>, AllocError> {
         let Some(Faulty { index, .. }) = steepest(self.rows.as_slice()) else {
@@ -206,13 +221,3 @@ fn update(
     row.put_in_lowest_terms() && row.update(leaving, program.entry(column, row.numbers()))
 }
 
-/// How the run ends within so many steps.
-pub fn run(alloc: Global, program: &Program, steps: u32) -> Result<End, AllocError> {
-    let mut state = State::start(alloc, program)?;
-    for _ in 0..steps {
-        if let Some(end) = state.step(alloc, program)? {
-            return Ok(end);
-        }
-    }
-    Ok(End::GaveUp)
-}
