@@ -4,7 +4,8 @@ ghost use Rattle.it_space.specs.Problems.{IsProblem, problem_view};
 use crate::closures::{Closures, Companions, with, without};
 use crate::places::Places;
 use crate::programs::{Column, Entry, Inequality, Program};
-use crate::resuming::resume;
+use crate::resuming::resumed;
+use crate::rows::InverseRow;
 use crate::running::{End, State};
 use it_closure::Dependences;
 use it_elemental::{Elemental, count, parts};
@@ -16,6 +17,9 @@ const CONSTRAINT_COST: i64 = 256;
 
 const INEQUALITY_COST: i64 = 1024;
 
+/// A run from the basis of another one may take a step for so many of one from nothing.
+const STEPS_FOR_ONE: u32 = 4;
+
 /// No number of a constraint or a target is larger.
 const MOST: u128 = 1 << 15;
 
@@ -23,11 +27,6 @@ const MOST: u128 = 1 << 15;
 fn mixed(number: usize) -> i64 {
     let bits = (number as u64).wrapping_mul(0x9E37_79B9_7F4A_7C15) >> 58;
     i64::from(bits as u8)
-}
-
-/// The cost of the column of a constraint by its number, in a run that begins from nothing.
-fn constraint_cost(number: usize) -> i64 {
-    CONSTRAINT_COST.wrapping_add(mixed(number))
 }
 
 /// The number in 32 bits, where it is small.
@@ -110,8 +109,8 @@ pub struct ClosedProgram {
     pub closures: Closures,
     pub places: Places,
     pub program: Program,
-    // the state in which the last run has ended, and the columns that weren't inequalities'
-    last: Option<State>,
+    // the basis at which the last run has ended, and the columns of constraints that were there
+    last: Option<Vec<InverseRow>>,
     before: Vec<Column>,
 }
 
@@ -166,6 +165,19 @@ impl ClosedProgram {
     ) -> Result<bool, AllocError>
         requires { IsProblem (problem_view problem.now) }
     {
+        let is_posed = self.put_constraints(alloc, problem)? && self.put_right(alloc, target)?;
+        if !is_posed {
+            // no run has these columns
+            self.last = None;
+        }
+        Ok(is_posed)
+    }
+
+    /// Puts the columns of a problem's constraints in the place of those that are there. False where a number is large.
+    fn put_constraints(&mut self, alloc: Global, problem: &Problem) -> Result<bool, AllocError>
+        requires { IsProblem (problem_view problem.now) }
+    {
+        self.program.put_costs_back();
         self.before = std::mem::replace(&mut self.program.others, Vec::new(alloc));
         let mut generator = count(problem.space.variables);
         for constraint in problem.constraints.as_slice() {
@@ -174,18 +186,17 @@ impl ClosedProgram {
             }
             generator = generator.saturating_add(1);
         }
-        self.put_right(alloc, target)
+        Ok(true)
     }
 
-    /// How a run about the target that was posed ends within so many steps. It begins at the basis at which the last run has ended, where
-    /// there is one; where it then gives up, from nothing.
+    /// How a run about the target that was posed ends within so many steps. It begins at the basis at which the last run has ended, if
+    /// there is one, and where it then gives up once more from nothing.
     pub fn run(&mut self, alloc: Global, steps: u32) -> Result<End, AllocError> {
-        if let Some(state) = self.last.take() {
-            let end = self.run_on(alloc, state, steps)?;
-            if self.last.is_some() {
-                return Ok(end);
+        if let Some(rows) = self.last.take() {
+            match self.run_on(alloc, rows, steps / STEPS_FOR_ONE)? {
+                End::GaveUp => self.program.put_costs_back(),
+                end => return Ok(end),
             }
-            self.put_first_costs();
         }
         let state = State::start(alloc, &self.program)?;
         self.run_from(alloc, state, steps)
@@ -195,37 +206,23 @@ impl ClosedProgram {
     fn run_on(
         &mut self,
         alloc: Global,
-        mut state: State,
+        rows: Vec<InverseRow>,
         steps: u32,
     ) -> Result<End, AllocError> {
-        if resume(&mut state, self.before.as_slice(), &mut self.program) {
-            self.run_from(alloc, state, steps)
-        } else {
-            Ok(End::GaveUp)
+        match resumed(alloc, rows, self.before.as_slice(), &mut self.program)? {
+            Some(state) => self.run_from(alloc, state, steps),
+            None => Ok(End::GaveUp),
         }
     }
 
-    /// How a run from a state ends. The state is kept for the next, unless it gives up.
-    fn run_from(
-        &mut self,
-        alloc: Global,
-        mut state: State,
-        steps: u32,
-    ) -> Result<End, AllocError> {
+    /// How a run from a state ends. Its basis is kept for the next, unless it gives up.
+    fn run_from(&mut self, alloc: Global, mut state: State, steps: u32) -> Result<End, AllocError> {
         let end = state.run(alloc, &self.program, steps)?;
         self.last = match end {
             End::GaveUp => None,
-            _ => Some(state),
+            _ => Some(state.into_rows()),
         };
         Ok(end)
-    }
-
-    /// Lets the columns of constraints cost what they do in a run from nothing.
-    fn put_first_costs(&mut self) {
-        let first = self.program.inequalities.len();
-        for k in 0..self.program.others.len() {
-            self.program.others[k].cost = constraint_cost(first.wrapping_add(k));
-        }
     }
 
     /// Puts the right side of a target. False where a number is large.
@@ -267,9 +264,10 @@ impl ClosedProgram {
         generator: u32,
         negated: bool,
     ) -> Result<(), AllocError> {
+        let cost = CONSTRAINT_COST.wrapping_add(mixed(self.program.columns()));
         self.program.others.push(Column {
             entries,
-            cost: constraint_cost(self.program.columns()),
+            cost,
             generator,
             negated,
         })?;

@@ -2,7 +2,7 @@
 ghost use Rattle.std.specs.Prelude.{◌≡◌, ◌<◌, ◌≤◌, ◌^◌, unsigned_abs};
 
 use crate::numbers::at;
-use crate::programs::{Column, Program};
+use crate::programs::Program;
 use crate::rows::RIGHT;
 use it_vectors::numbers::greatest_size;
 use it_vectors::{Divisor, lowest_terms, narrow, product, short_product};
@@ -48,19 +48,6 @@ fn raised(price: i64, factor: i64, number: i32, times: i64) -> Option<i64> {
     narrow(sum, MOST_ON_THE_WAY)
 }
 
-/// The least whole number that isn't below a quotient; the dividend where the divisor isn't above 1.
-fn rounded_up(dividend: i64, divisor: i64) -> i64 {
-    if divisor <= 1 {
-        return dividend;
-    }
-    let quotient = dividend / divisor;
-    if quotient.wrapping_mul(divisor) < dividend {
-        quotient.wrapping_add(1)
-    } else {
-        quotient
-    }
-}
-
 /// Prices by place: whole numbers over one denominator.
 #[derive(Drop)]
 pub struct Prices {
@@ -80,11 +67,6 @@ impl Prices {
     /// The denominator as a number with a sign.
     fn signed_bottom(&self) -> i64 {
         i64::try_from(self.bottom).unwrap_or(i64::MAX)
-    }
-
-    /// The least whole cost of a column at which it doesn't cost less than nothing.
-    pub fn least_cost(&self, column: &Column) -> i64 {
-        rounded_up(column.price(self.numbers.as_slice()), self.signed_bottom())
     }
 
     /// The column that enters for a row: the first of those with an entry above 0 that cost least for each unit of it.

@@ -1,27 +1,22 @@
-//! A run that begins at the basis at which another one has ended, about another right side and among other columns.
+//! The state in which a run begins at the basis of another one, about another right side and among other columns.
 //!
-//! Inequalities stay under their numbers, and another column is found by its entries. A basic column that isn't there any more
-//! stays basic, as an artificial one that has to leave. Where columns come and go the prices stay as they are: what a constraint's column
-//! costs is ours to say, and it is enough that none costs less than nothing, and a basic one exactly nothing.
+//! Inequalities stay under their numbers, and the column of a constraint is found by its entries. A basic column that isn't there any more
+//! stays basic, as an artificial one that has to leave. What columns cost is ours to say: nothing has a price at first, and
+//! with basic columns that cost nothing no column costs less than nothing.
 
 use crate::programs::{Column, Program};
-use crate::pricing::Prices;
 use crate::rows::InverseRow;
 use crate::running::State;
+use std::alloc::{AllocError, Global};
 
-/// A column may move by so many places where it is looked for first.
+/// Where a column moves, it is mostly by no more places than these.
 const NEAR: usize = 2;
-
-/// No column may cost more.
-const MOST_COST: i64 = 1 << 20;
 
 /// Where a column with the same entries stands from one place on up to another.
 fn found(columns: &[Column], column: &Column, from: usize, to: usize) -> Option<usize> {
-    for k in from..to {
-        if let Some(other) = columns.get(k) {
-            if other.is_alike(column) {
-                return Some(k);
-            }
+    for place in from..to {
+        if columns.get(place)?.is_alike(column) {
+            return Some(place);
         }
     }
     None
@@ -31,7 +26,7 @@ fn found(columns: &[Column], column: &Column, from: usize, to: usize) -> Option<
 fn place_now(columns: &[Column], column: &Column, place: usize) -> Option<usize> {
     let near = place.saturating_sub(NEAR);
     match found(columns, column, near, columns.len()) {
-        Some(k) => Some(k),
+        Some(now) => Some(now),
         None => found(columns, column, 0, near),
     }
 }
@@ -47,54 +42,29 @@ fn number_now(program: &Program, before: &[Column], number: usize) -> Option<usi
     Some(first.wrapping_add(now))
 }
 
-/// Puts the columns' numbers and the right side of a program into rows. False where a number is too large.
-fn put_rows(rows: &mut Vec<InverseRow>, before: &[Column], program: &Program) -> bool {
+/// Puts the numbers of columns and the right side of a program into a row. False where its value is too large.
+fn put_row(row: &mut InverseRow, before: &[Column], program: &Program) -> bool {
+    if let Some(number) = row.basic() {
+        row.rename(number_now(program, before, number));
+    }
+    row.put_right(program.right.as_slice())
+}
+
+/// The state at a basis of another program, which has the same inequalities and had these other columns. None where a number is too
+/// large.
+pub fn resumed(
+    alloc: Global,
+    mut rows: Vec<InverseRow>,
+    before: &[Column],
+    program: &mut Program,
+) -> Result<Option<State>, AllocError> {
     for i in 0..rows.len() {
-        if let Some(number) = rows[i].basic() {
-            rows[i].rename(number_now(program, before, number));
+        if !put_row(&mut rows[i], before, program) {
+            return Ok(None);
         }
-        if !rows[i].put_right(program.right.as_slice()) {
-            return false;
-        }
-    }
-    true
-}
-
-/// Lets no column cost less than nothing. False where one would have to cost much.
-fn put_costs(columns: &mut Vec<Column>, prices: &Prices) -> bool {
-    for k in 0..columns.len() {
-        let least = prices.least_cost(&columns[k]);
-        if least > MOST_COST {
-            return false;
-        }
-        if columns[k].cost < least {
-            columns[k].cost = least;
+        if let Some(column) = rows[i].basic() {
+            program.waive_cost(column)?;
         }
     }
-    true
-}
-
-/// Lets the basic columns cost exactly nothing.
-fn put_basic_costs(rows: &[InverseRow], program: &mut Program, prices: &Prices) {
-    for row in rows {
-        if let Some(number) = row.basic() {
-            let place = number.wrapping_sub(program.inequalities.len());
-            if place < program.others.len() {
-                program.others[place].cost = prices.least_cost(&program.others[place]);
-            }
-        }
-    }
-}
-
-/// Makes of the state in which a run has ended one in which a run of another program may begin, which has the same inequalities, and
-/// other columns than those that were there before. False where a number is too large.
-pub fn resume(state: &mut State, before: &[Column], program: &mut Program) -> bool {
-    if !put_rows(&mut state.rows, before, program) {
-        return false;
-    }
-    if !put_costs(&mut program.others, &state.prices) {
-        return false;
-    }
-    put_basic_costs(state.rows.as_slice(), program, &state.prices);
-    true
+    Ok(Some(State::at_basis(alloc, program, rows)?))
 }

@@ -33,7 +33,7 @@ fn sum_of_squares(numbers: &[i32]) -> u64 {
     sum
 }
 
-/// The sum of the products with the numbers of a right side. None where it is large.
+/// The value of numbers at a right side. None where it is large.
 fn value_at(numbers: &[i32], right: &[i32]) -> Option<i32> {
     let mut sum: i128 = 0;
     for k in RIGHT + 1..right.len() {
@@ -139,8 +139,7 @@ impl InverseRow {
         }
     }
 
-    /// Has the column under which the basic one goes now; none where it isn't there any more. Then it is one that has to leave, as an
-    /// artificial one.
+    /// Takes another column for the basic one; with none the basic one has to leave, as an artificial one.
     pub fn rename(&mut self, column: Option<usize>) {
         self.basic = column;
     }

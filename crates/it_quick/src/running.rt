@@ -30,8 +30,8 @@ pub struct ColumnWeight {
 /// The state of a run.
 #[derive(Drop)]
 pub struct State {
-    pub rows: Vec<InverseRow>,
-    pub prices: Prices,
+    rows: Vec<InverseRow>,
+    prices: Prices,
 }
 
 /// A row that isn't as it should be.
@@ -127,8 +127,32 @@ impl State {
             let right = at(program.right.as_slice(), place, 0);
             rows.push(InverseRow::unit(alloc, room, place, right)?)?;
         }
-        let prices = Prices::start(alloc, width)?;
+        State::at_basis(alloc, program, rows)
+    }
+
+    /// The state at the basis of these rows, in which nothing has a price.
+    pub fn at_basis(
+        alloc: Global,
+        program: &Program,
+        rows: Vec<InverseRow>,
+    ) -> Result<State, AllocError> {
+        let prices = Prices::start(alloc, program.width())?;
         Ok(State { rows, prices })
+    }
+
+    /// The rows of the inverse of its basis.
+    pub fn into_rows(self) -> Vec<InverseRow> {
+        self.rows
+    }
+
+    /// How the run ends within so many steps.
+    pub fn run(&mut self, alloc: Global, program: &Program, steps: u32) -> Result<End, AllocError> {
+        for _ in 0..steps {
+            if let Some(end) = self.step(alloc, program)? {
+                return Ok(end);
+            }
+        }
+        Ok(End::GaveUp)
     }
 
     /// Puts a column into the basis in place of that of a row. False where a number becomes too large.
@@ -168,21 +192,6 @@ impl State {
         self.pivot(program, index, leaving, entering.column)
     }
 
-    /// How the run ends within so many steps.
-    pub fn run(
-        &mut self,
-        alloc: Global,
-        program: &Program,
-        steps: u32,
-    ) -> Result<End, AllocError> {
-        for _ in 0..steps {
-            if let Some(end) = self.step(alloc, program)? {
-                return Ok(end);
-            }
-        }
-        Ok(End::GaveUp)
-    }
-
     /// One step; how the run ends, where it ends with it.
     fn step(&mut self, alloc: Global, program: &Program) -> Result<Option<End>, AllocError> {
         let Some(Faulty { index, .. }) = steepest(self.rows.as_slice()) else {
@@ -220,4 +229,3 @@ fn update(
     }
     row.put_in_lowest_terms() && row.update(leaving, program.entry(column, row.numbers()))
 }
-
