@@ -189,33 +189,25 @@ impl ClosedProgram {
         Ok(true)
     }
 
-    /// How a run about the target that was posed ends within so many steps. It begins at the basis at which the last run has ended, if
-    /// there is one, and where it then gives up once more from nothing.
+    /// How a run about the target that was posed ends within so many steps, from nothing.
     pub fn run(&mut self, alloc: Global, steps: u32) -> Result<End, AllocError> {
-        if let Some(rows) = self.last.take() {
-            match self.run_on(alloc, rows, steps / STEPS_FOR_ONE)? {
-                End::GaveUp => self.program.put_costs_back(),
-                end => return Ok(end),
-            }
-        }
+        self.program.put_costs_back();
         let state = State::start(alloc, &self.program)?;
         self.run_from(alloc, state, steps)
     }
 
-    /// How a run from the basis of another one ends.
-    fn run_on(
-        &mut self,
-        alloc: Global,
-        rows: Vec<InverseRow>,
-        steps: u32,
-    ) -> Result<End, AllocError> {
+    /// How the same run ends from the basis at which the last one has ended, within fewer steps. It gives up where there is none.
+    pub fn run_on(&mut self, alloc: Global, steps: u32) -> Result<End, AllocError> {
+        let Some(rows) = self.last.take() else {
+            return Ok(End::GaveUp);
+        };
         match resumed(alloc, rows, self.before.as_slice(), &mut self.program)? {
-            Some(state) => self.run_from(alloc, state, steps),
+            Some(state) => self.run_from(alloc, state, steps / STEPS_FOR_ONE),
             None => Ok(End::GaveUp),
         }
     }
 
-    /// How a run from a state ends. Its basis is kept for the next, unless it gives up.
+    /// How a run ends from a state. Its basis is kept for the next, unless it gives up.
     fn run_from(&mut self, alloc: Global, mut state: State, steps: u32) -> Result<End, AllocError> {
         let end = state.run(alloc, &self.program, steps)?;
         self.last = match end {
