@@ -17,6 +17,7 @@ mod places;
 mod pricing;
 mod programs;
 mod proposing;
+mod resuming;
 mod rows;
 mod running;
 
