@@ -11,22 +11,24 @@ use Rattle.it_prove.specs.declared.types.Effort.{Effort}
 use Rattle.it_contain.specs.Proposals.{Plan, plan_after_all}
 use Rattle.it_answer.specs.Replies.{Reply}
 use Rattle.it_answer.specs.RightAnswers.{OneRightAnswer}
+use Rattle.it_bounds.specs.RightReplies as bounds
 use Rattle.it_factor.specs.RightReplies.{OneRightReply}
+use Rattle.it_outer.specs.declared.types.Limits.{Limits}
 use Rattle.it_sharing.specs.SharingFiles.{SharingFaultIsOne, SharingIsOne, SharingOrFault}
 use Rattle.it_sharing.specs.Sharings.{SharingView, made_question}
 use Rattle.it_report.specs.Meaning as reports
 use Rattle.it_settings.specs.declared.types.Format.{Format}
 use Rattle.it_settings.specs.declared.types.Run.{Run}
 use Rattle.it_settings.specs.declared.types.Run.TheVariants.{Bland, Quick}
-use Rattle.it_settings.specs.declared.types.Settings.TheVariants.{Answer, Check, Bench, Copy, Best, Sharing}
+use Rattle.it_settings.specs.declared.types.Settings.TheVariants.{Answer, Check, Bench, Copy, Best, Outer, Sharing}
 use Rattle.it_answer.specs.declared.types.Budgets.{Budgets}
 use Rattle.it_gen.specs.GeneratedFiles.{generated_file}
 use Rattle.it_cli.specs.Copies.{CopyQuestion, CopyReply, Extended, IsRightCopy, IsRightProof, Misfit, with_copies}
 use Rattle.it_cli.specs.Counts.{AreCounted, IsBenchLine, bench_line, no_counts}
 use Rattle.it_cli.specs.Laws.{ModesAreDetermined, ModesHaveOneReading, OneOutput}
 use Rattle.it_cli.specs.Modes.{HasOneReading, IsDetermined, Mode, Replies, WholeOutput}
-use Rattle.it_cli.specs.Outputs.{answer_mode, bench_mode, best_mode, check_mode, copy_mode, mode_of, sharing_mode}
-use Rattle.it_cli.specs.Right.{budgets_of, effort_of}
+use Rattle.it_cli.specs.Outputs.{answer_mode, bench_mode, best_mode, check_mode, copy_mode, mode_of, outer_mode, sharing_mode}
+use Rattle.it_cli.specs.Right.{budgets_of, effort_of, limits_of}
 use Rattle.it_cli.specs.SharingReplies.{Answered, Factored, IsRightSharing, Many, SharingReply}
 use Rattle.it_cli.specs.declared.status.Status.{Status}
 use Rattle.it_cli.proofs.CountLemmas.{one_count}
@@ -87,6 +89,9 @@ heads_are_one one effort = record {
 relations_are_one : FileIsOne → FileFaultIsOne → FileOrFault → (effort : Effort) → HasOneReading (best_mode effort)
 relations_are_one one_file one_fault apart effort = record { one_reading = one_file; one_fault = one_fault; apart = apart }
 
+bounded_are_one : FileIsOne → FileFaultIsOne → FileOrFault → (limits : Limits) → HasOneReading (outer_mode limits)
+bounded_are_one one_file one_fault apart limits = record { one_reading = one_file; one_fault = one_fault; apart = apart }
+
 -- a sharing file has one reading or one fault
 pub record SharingsAreOne : Type 0 where
   pub file : SharingIsOne
@@ -107,6 +112,7 @@ module _ (one_file : FileIsOne) (one_fault : FileFaultIsOne) (apart : FileOrFaul
   modes_have_one_reading plans (Bench seed count run pivots rows tries) = nothing_is_one (budgets_of run pivots rows tries) plans seed count
   modes_have_one_reading plans (Copy run pivots) = heads_are_one copies (effort_of run pivots)
   modes_have_one_reading plans (Best run pivots) = relations_are_one one_file one_fault apart (effort_of run pivots)
+  modes_have_one_reading plans (Outer run pivots rows tries) = bounded_are_one one_file one_fault apart (limits_of run pivots rows tries)
   modes_have_one_reading plans (Sharing run pivots) = sharing_files_are_one sharings (effort_of run pivots)
 
 -- ---- and one reply to an item, where no quick run comes first
@@ -147,7 +153,7 @@ module _ (one_answer : OneRightAnswer) (effort : Effort) (defined : effort.quick
   one_sharing one_factor x (Answered a) (Answered b) (few, asked, right) (few', asked', right') = ap Answered (same_proof (made_question x).body a b right right')
   one_sharing one_factor x (Factored a) (Factored b) (few, asked, right) (few', asked', right') = ap Factored (one_factor effort (made_question x).body a b defined right right')
 
-module _ (reading : ModesHaveOneReading) (one_answer : OneRightAnswer) (one_file : FileIsOne) (one_verdict : reports.OneVerdict) (copies : CopiesAreOne) (one_factor : OneRightReply) where
+module _ (reading : ModesHaveOneReading) (one_answer : OneRightAnswer) (one_file : FileIsOne) (one_verdict : reports.OneVerdict) (copies : CopiesAreOne) (one_factor : OneRightReply) (one_bound : bounds.OneRightReply) where
   pub modes_are_determined : ModesAreDetermined
   modes_are_determined plans (Answer format run pivots rows tries) bland = record {
     reading = reading plans (Answer format run pivots rows tries);
@@ -166,6 +172,10 @@ module _ (reading : ModesHaveOneReading) (one_answer : OneRightAnswer) (one_file
   modes_are_determined plans (Best run pivots) bland = record {
     reading = reading plans (Best run pivots);
     one_reply = λ s x a b f g. one_factor (effort_of run pivots) x.body a b (not_quick run pivots bland) f g;
+  }
+  modes_are_determined plans (Outer run pivots rows tries) bland = record {
+    reading = reading plans (Outer run pivots rows tries);
+    one_reply = λ s x a b f g. one_bound (limits_of run pivots rows tries) x.body a b (not_quick run pivots bland) f g;
   }
   modes_are_determined plans (Sharing run pivots) bland = record {
     reading = reading plans (Sharing run pivots);

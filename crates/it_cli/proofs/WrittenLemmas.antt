@@ -2,7 +2,7 @@
 use Rattle.std.proofs.Common.{◌≡◌, ℕ, ◌+◌, inl, List, [], ◌∷◌, ◌++◌, All, Some, refl, sym, ap, subst, ◌∙◌}
 use Rattle.std.proofs.lemmas.List.Elements.{All-nil, All-cons, All-head, All-tail, All-map}
 use Rattle.it_settings.specs.declared.types.Settings.{Settings}
-use Rattle.it_settings.specs.declared.types.Settings.TheVariants.{Answer, Copy, Best, Sharing}
+use Rattle.it_settings.specs.declared.types.Settings.TheVariants.{Answer, Copy, Best, Outer, Sharing}
 use Rattle.it_space.specs.Answers.{AnswerView}
 use Rattle.it_question.specs.Limits.{IsQuestion}
 use Rattle.it_question.specs.Questions.{QuestionView}
@@ -16,18 +16,22 @@ use Rattle.it_answer.specs.Replies.{Reply}
 use Rattle.it_answer.specs.Shows as answers
 use Rattle.it_answer.specs.Shows.{Shows}
 use Rattle.it_answer.specs.Truth.{IsTrueAnswer}
+use Rattle.it_bounds.specs.Lines.{reply_lines}
+use Rattle.it_bounds.specs.Replies as bounds
+use Rattle.it_bounds.specs.RightReplies as bounds
+use Rattle.it_bounds.specs.Truth as bounds
 use Rattle.it_factor.specs.Lines.{reply_line}
 use Rattle.it_factor.specs.Replies.{ReplyView}
 use Rattle.it_factor.specs.RightReplies as factors
 use Rattle.it_factor.specs.Truth.{IsTrueReply}
 use Rattle.it_cli.specs.Copies.{AsksWithCopies, CopyQuestion, copy_text, with_copies}
 use Rattle.it_cli.specs.Modes.{Mode, WholeOutput}
-use Rattle.it_cli.specs.Outputs.{IsOutput, answer_mode, best_mode, copy_mode, most_bytes, sharing_mode}
-use Rattle.it_cli.specs.Right.{answer_lines, budgets_of, effort_of}
+use Rattle.it_cli.specs.Outputs.{IsOutput, answer_mode, best_mode, copy_mode, most_bytes, outer_mode, sharing_mode}
+use Rattle.it_cli.specs.Right.{answer_lines, budgets_of, effort_of, limits_of}
 use Rattle.it_canon.specs.QuestionDemands.{question_origins}
 use Rattle.it_cli.specs.SharingReplies.{AsksOfSharing, sharing_text}
 use Rattle.it_cli.specs.Truth.{IsTrueCopy, IsTrueSharing}
-use Rattle.it_cli.specs.Written.{AnswersAreTrue, AnswersShow, AreLinesFor, AreReplyLines, CopiesAreTrue, FactorsAreTrue, SharingIsTrue, ShownAnswers, TrueAnswers, TrueCopies, TrueFactors, TrueSharing, WritesSuch}
+use Rattle.it_cli.specs.Written.{AnswersAreTrue, AnswersShow, AreLinesFor, AreReplyLines, BoundsAreTrue, CopiesAreTrue, FactorsAreTrue, SharingIsTrue, ShownAnswers, TrueAnswers, TrueBounds, TrueCopies, TrueFactors, TrueSharing, WritesSuch}
 use Rattle.it_cli.specs.declared.status.Status.{Status}
 use Rattle.it_cli.specs.declared.status.Status.TheVariants.{Done}
 use Rattle.it_cli.proofs.LawLemmas.{headline}
@@ -85,6 +89,15 @@ pub factors_are_true : factors.WhatIsShownIsTrue → FactorsAreTrue
 factors_are_true shown_is_true run pivots = writes_such (Best run pivots) 1048576 TrueFactors refl (λ plans bytes out o.
     lines_for (best_mode (effort_of run pivots)) (λ reply. reply) (λ k q reply. reply_line k q.body (question_origins q.body) reply) (λ k q reply. refl) Any (λ (q : QuestionView) (reply : ReplyView). IsTrueReply q.body reply)
     (λ earlier q reply any. right_reply_is_true shown_is_true (effort_of run pivots) q.body reply) (λ bytes qs asked i d l. tt) bytes out Done o)
+
+-- what a reply to the question shows is true
+abbrev IsTrueWhereShown : QuestionView → Type 0
+IsTrueWhereShown q = (reply : bounds.ReplyView) → bounds.ShowsReply q.body reply → bounds.IsTrueReply q.body reply
+
+pub bounds_are_true : bounds.WhatIsShownIsTrue → BoundsAreTrue
+bounds_are_true shown_is_true run pivots rows tries = writes_such (Outer run pivots rows tries) 1048576 (TrueBounds (limits_of run pivots rows tries)) refl (λ plans bytes out o.
+    lines_for (outer_mode (limits_of run pivots rows tries)) (λ reply. reply) (λ k q reply. reply_lines (limits_of run pivots rows tries) k q.body (question_origins (bounds.under_all_lines q.body)) reply) (λ k q reply. refl)
+    IsTrueWhereShown (λ (q : QuestionView) (reply : bounds.ReplyView). bounds.IsTrueReply q.body reply) (λ earlier q reply within right. within reply right.shows) shown_is_true bytes out Done o)
 
 -- what the file says is within the limits
 abbrev IsWithinSharing : SharingView → Type 0

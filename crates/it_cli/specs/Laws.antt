@@ -5,7 +5,7 @@ use Rattle.it_outside.specs.Causes.{next_count}
 use Rattle.it_settings.specs.declared.types.Run.{Run}
 use Rattle.it_settings.specs.declared.types.Run.TheVariants.{Bland}
 use Rattle.it_settings.specs.declared.types.Settings.{Settings}
-use Rattle.it_settings.specs.declared.types.Settings.TheVariants.{Answer, Check, Bench, Copy, Best, Sharing}
+use Rattle.it_settings.specs.declared.types.Settings.TheVariants.{Answer, Check, Bench, Copy, Best, Outer, Sharing}
 use Rattle.it_settings.specs.Settings.{settings_of}
 use Rattle.it_space.specs.Answers.AnswerView.{Undecided}
 use Rattle.it_space.specs.declared.answers.Cause.TheVariants.{Pivots}
@@ -106,6 +106,7 @@ AreByBland Check = Unit {0}
 AreByBland (Bench seed count run pivots rows tries) = run ≡ Bland
 AreByBland (Copy run pivots) = run ≡ Bland
 AreByBland (Best run pivots) = run ≡ Bland
+AreByBland (Outer run pivots rows tries) = run ≡ Bland
 AreByBland (Sharing run pivots) = run ≡ Bland
 
 -- in each mode bytes ask for one list of items, or have one first fault, and not both

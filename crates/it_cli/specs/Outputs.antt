@@ -4,7 +4,7 @@ use Rattle.std.specs.List.{list_any}
 use Rattle.it_outside.specs.Traffic.{IsPrefix}
 use Rattle.it_settings.specs.declared.types.Format.{Format}
 use Rattle.it_settings.specs.declared.types.Settings.{Settings}
-use Rattle.it_settings.specs.declared.types.Settings.TheVariants.{Answer, Check, Bench, Copy, Best, Sharing}
+use Rattle.it_settings.specs.declared.types.Settings.TheVariants.{Answer, Check, Bench, Copy, Best, Outer, Sharing}
 use Rattle.it_question.specs.Files.{FileFaultAt, IsFile}
 use Rattle.it_question.specs.Lines.{split_lines}
 use Rattle.it_question.specs.Questions.{QuestionView}
@@ -15,10 +15,14 @@ use Rattle.it_answer.specs.declared.types.Budgets.{Budgets}
 use Rattle.it_answer.specs.Replies.{Reply}
 use Rattle.it_report.specs.Judging.{IsVerdict}
 use Rattle.it_report.specs.LineVerdicts.{LineVerdict, is_invalid, verdict_line}
+use Rattle.it_outer.specs.declared.types.Limits.{Limits}
 use Rattle.it_prove.specs.declared.types.Effort.{Effort}
+use Rattle.it_bounds.specs.Lines.{reply_lines}
+use Rattle.it_bounds.specs.RightReplies as bounds
+use Rattle.it_bounds.specs.Truth.{under_all_lines}
 use Rattle.it_factor.specs.Lines.{reply_line}
 use Rattle.it_factor.specs.RightReplies.{IsRightReply}
-use Rattle.it_cli.specs.Right.{IsRightAfter, answer_lines, budgets_of, effort_of}
+use Rattle.it_cli.specs.Right.{IsRightAfter, answer_lines, budgets_of, effort_of, limits_of}
 use Rattle.it_canon.specs.QuestionDemands.{question_origins}
 use Rattle.it_cli.specs.Counts.{IsBenchLine}
 use Rattle.it_cli.specs.Copies.{AsksWithCopies, IsRightCopy, copy_text}
@@ -86,6 +90,11 @@ abbrev pub best_mode : Effort → Mode
 best_mode effort = done_mode IsFile FileFaultAt (λ earlier q reply. IsRightReply effort q.body reply)
     (λ k q reply. reply_line k q.body (question_origins q.body) reply)
 
+-- one right reply to each question of a file that asks for outer bounds
+abbrev pub outer_mode : Limits → Mode
+outer_mode limits = done_mode IsFile FileFaultAt (λ earlier q reply. bounds.IsRightReply limits q.body reply)
+    (λ k q reply. reply_lines limits k q.body (question_origins (under_all_lines q.body)) reply)
+
 -- one right reply to what a sharing file asks
 abbrev pub sharing_mode : Effort → Mode
 sharing_mode effort = done_mode AsksOfSharing SharingFaultAt (λ earlier. IsRightSharing effort) (λ k x reply. sharing_text x reply)
@@ -97,6 +106,7 @@ mode_of plans Check = check_mode
 mode_of plans (Bench seed count run pivots rows tries) = bench_mode (budgets_of run pivots rows tries) plans seed count
 mode_of plans (Copy run pivots) = copy_mode (effort_of run pivots)
 mode_of plans (Best run pivots) = best_mode (effort_of run pivots)
+mode_of plans (Outer run pivots rows tries) = outer_mode (limits_of run pivots rows tries)
 mode_of plans (Sharing run pivots) = sharing_mode (effort_of run pivots)
 
 -- ---- its output

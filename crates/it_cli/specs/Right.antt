@@ -20,6 +20,7 @@ use Rattle.it_answer.specs.Forms.{all_demands, demand_at}
 use Rattle.it_region.specs.AnswerForms.{answer_forms}
 use Rattle.it_answer.specs.Replies.{Reply}
 use Rattle.it_answer.specs.RightAnswers.{IsRightAnswer}
+use Rattle.it_outer.specs.declared.types.Limits.{Limits}
 use Rattle.it_prove.specs.declared.types.Effort.{Effort}
 
 -- what is done to decide a target: a quick run first, or not, and the steps of the defined run, if they are bounded
@@ -30,6 +31,10 @@ effort_of Quick pivots = record { quick = true; pivots = pivots }
 -- how much an answer may cost: the effort for a target, the rows after a rate and the candidates that are tried
 abbrev pub budgets_of : Run → Option ℕ → ℕ → ℕ → Budgets
 budgets_of run pivots rows tries = record { effort = effort_of run pivots; rows = rows; tries = tries }
+
+-- how much a search for outer bounds may take: the rows that one more ray leaves, the rays, and the effort for a row
+abbrev pub limits_of : Run → Option ℕ → ℕ → ℕ → Limits
+limits_of run pivots rows tries = record { rows = rows; rays = tries; effort = effort_of run pivots }
 
 -- the boxes had these plans before the first question, and know of the candidates that were found for earlier ones
 abbrev pub IsRightAfter : Budgets → List Plan → List Candidate → QuestionView → Reply → Type 0

@@ -1,20 +1,24 @@
 -- What a call that is done has written, whichever replies are due: lines of answers that show what they say, and in each mode that
 -- answers lines of replies that are true.
 use Rattle.std.specs.Prelude.{◌≡◌, ℕ, ◌+◌, List, [], ◌∷◌, ◌++◌, Option, Some}
+use Rattle.it_outer.specs.declared.types.Limits.{Limits}
 use Rattle.it_settings.specs.Settings.{settings_of}
 use Rattle.it_settings.specs.declared.types.Format.{Format}
 use Rattle.it_settings.specs.declared.types.Run.{Run}
 use Rattle.it_settings.specs.declared.types.Settings.{Settings}
-use Rattle.it_settings.specs.declared.types.Settings.TheVariants.{Answer, Copy, Best, Sharing}
+use Rattle.it_settings.specs.declared.types.Settings.TheVariants.{Answer, Copy, Best, Outer, Sharing}
 use Rattle.it_space.specs.Answers.{AnswerView}
 use Rattle.it_question.specs.Files.{IsFile}
 use Rattle.it_question.specs.Questions.{QuestionView}
 use Rattle.it_answer.specs.Shows.{Shows}
 use Rattle.it_answer.specs.Truth.{IsTrueAnswer}
+use Rattle.it_bounds.specs.Lines.{reply_lines}
+use Rattle.it_bounds.specs.Replies as bounds
+use Rattle.it_bounds.specs.Truth as bounds
 use Rattle.it_factor.specs.Lines.{reply_line}
 use Rattle.it_factor.specs.Replies.{ReplyView}
 use Rattle.it_factor.specs.Truth.{IsTrueReply}
-use Rattle.it_cli.specs.Right.{answer_lines}
+use Rattle.it_cli.specs.Right.{answer_lines, limits_of}
 use Rattle.it_canon.specs.QuestionDemands.{question_origins}
 use Rattle.it_cli.specs.Copies.{AsksWithCopies, copy_text}
 use Rattle.it_cli.specs.SharingReplies.{AsksOfSharing, sharing_text}
@@ -57,6 +61,11 @@ TrueCopies = AreLinesFor AsksWithCopies IsTrueCopy (λ k x reply. copy_text k re
 abbrev pub TrueFactors : List ℕ → List ℕ → Type 0
 TrueFactors = AreLinesFor IsFile (λ (q : QuestionView) (reply : ReplyView). IsTrueReply q.body reply) (λ k q reply. reply_line k q.body (question_origins q.body) reply)
 
+-- those of a true reply to each question of a file that asks for outer bounds, made within these limits
+abbrev pub TrueBounds : Limits → List ℕ → List ℕ → Type 0
+TrueBounds limits = AreLinesFor IsFile (λ (q : QuestionView) (reply : bounds.ReplyView). bounds.IsTrueReply q.body reply)
+    (λ k q reply. reply_lines limits k q.body (question_origins (bounds.under_all_lines q.body)) reply)
+
 -- those of a true reply to what a sharing file asks
 abbrev pub TrueSharing : List ℕ → List ℕ → Type 0
 TrueSharing = AreLinesFor AsksOfSharing IsTrueSharing (λ k x reply. sharing_text x reply)
@@ -78,6 +87,10 @@ CopiesAreTrue = (run : Run) (pivots : Option ℕ) → WritesSuch (Copy run pivot
 -- in mode `best`
 abbrev pub FactorsAreTrue : Type 0
 FactorsAreTrue = (run : Run) (pivots : Option ℕ) → WritesSuch (Best run pivots) TrueFactors
+
+-- in mode `outer`
+abbrev pub BoundsAreTrue : Type 0
+BoundsAreTrue = (run : Run) (pivots : Option ℕ) (rows tries : ℕ) → WritesSuch (Outer run pivots rows tries) (TrueBounds (limits_of run pivots rows tries))
 
 -- and in mode `sharing`
 abbrev pub SharingIsTrue : Type 0

@@ -2,9 +2,10 @@
 ghost use Rattle.it_answer.specs.RightAnswers.{AYesAscends, NoStepIsZero, OneRightAnswer};
 ghost use Rattle.it_cli.specs.Accepted.{OutputIsAccepted, ReportsAreAccepted};
 ghost use Rattle.it_cli.specs.Laws.{BenchReadsNothing, CountsAddUp, CountsArePrefix, CountsAreWritten, FaultIsDue, Headline, IsComplete, LongIsDue, ModesAreDetermined, ModesHaveOneReading, NoLineIsOutOfSteps, OneOutput, SureEnds, UsageIsDue, VerdictsArePrefix, VerdictsAreWritten};
-ghost use Rattle.it_cli.specs.Written.{AnswersAreTrue, AnswersShow, CopiesAreTrue, FactorsAreTrue, SharingIsTrue};
+ghost use Rattle.it_cli.specs.Written.{AnswersAreTrue, AnswersShow, BoundsAreTrue, CopiesAreTrue, FactorsAreTrue, SharingIsTrue};
 
 use it_answer::{answers_are_determined, shown_answers_are_true};
+use it_bounds::shown_bounds_are_true;
 use it_certificate::answers_read_back;
 use it_copy::{copied_questions_are_within, copies_are_determined, heads_are_one, yes_by_copies};
 use it_factor::{replies_are_determined, shown_factors_are_true};
@@ -67,6 +68,7 @@ pub fn modes_are_determined()
     heads_are_one();
     copies_are_determined();
     replies_are_determined();
+    it_bounds::replies_are_determined();
 }
 
 /// What modes `check` and `bench` have written of an output in part is a prefix of a whole output.
@@ -110,6 +112,15 @@ pub fn factors_are_true()
     ensures { FactorsAreTrue }
 {
     shown_factors_are_true();
+}
+
+/// Each reply whose lines are written after `Done` in mode `outer` is true of its question. Its rows hold exactly at the rates of which
+/// some whole multiple is that of a polymatroid at which all lines are true, with some values of the rates that go; its rays are
+/// such, and span all that the rows allow; and no row that is marked as needed follows from the others.
+pub fn bounds_are_true()
+    ensures { BoundsAreTrue }
+{
+    shown_bounds_are_true();
 }
 
 /// The reply whose lines are written after `Done` in mode `sharing` is true of the file. A yes: the relation holds wherever a

@@ -5,10 +5,11 @@ ghost use Rattle.it_settings.specs.Settings.{AreInRange};
 ghost use Rattle.it_cli.specs.Ends.{Ends, call_of};
 ghost use Rattle.it_cli.specs.InnerEnds.{EndsForBytes, EndsForSettings};
 ghost use Rattle.it_cli.specs.Outputs.{mode_of, most_bytes};
-ghost use Rattle.it_cli.specs.Right.{budgets_of, effort_of};
+ghost use Rattle.it_cli.specs.Right.{budgets_of, effort_of, limits_of};
 
 use crate::answering::answer_file;
 use crate::benching::bench;
+use crate::bounding::find_bounds;
 use crate::checking::check_report;
 use crate::copying::answer_with_copies;
 use crate::factoring::find_factors;
@@ -18,6 +19,7 @@ use crate::status::Status;
 use crate::telling::tell;
 use it_answer::Budgets;
 use it_contain::Proposer;
+use it_outer::Limits;
 use it_outside::{InFault, Sink, Source, read_all};
 use it_prove::Effort;
 use it_settings::settings;
@@ -109,6 +111,7 @@ fn limit(settings: Settings) -> Option<usize>
         Settings::Bench { .. } => None,
         Settings::Copy { .. } => Some(1048576),
         Settings::Best { .. } => Some(1048576),
+        Settings::Outer { .. } => Some(1048576),
         Settings::Sharing { .. } => Some(1048576),
     }
 }
@@ -138,6 +141,17 @@ fn budgets_of(run: Run, pivots: Option<u32>, rows: u32, tries: u32) -> Budgets
         effort: effort_of(run, pivots),
         rows: rows as u16,
         tries,
+    }
+}
+
+/// What a search for outer bounds may take.
+fn limits_of(run: Run, pivots: Option<u32>, rows: u32, tries: u32) -> Limits
+    ensures { result ≡ limits_of run pivots rows tries }
+{
+    Limits {
+        rows: rows as usize,
+        rays: tries as usize,
+        effort: effort_of(run, pivots),
     }
 }
 
@@ -181,6 +195,15 @@ fn reply<K: Sink>(
         }
         Settings::Best { run, pivots } => {
             find_factors(alloc, effort_of(run, pivots), bytes, sink)
+        }
+        Settings::Outer {
+            run,
+            pivots,
+            rows,
+            tries,
+        } => {
+            let limits = limits_of(run, pivots, rows, tries);
+            find_bounds(alloc, limits, bytes, sink)
         }
         Settings::Sharing { run, pivots } => {
             answer_sharing(alloc, effort_of(run, pivots), bytes, sink)

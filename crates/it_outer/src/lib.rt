@@ -12,5 +12,6 @@ mod search;
 mod types;
 mod visits;
 
+pub use constants::constants;
 pub use search::outer;
 pub use types::{Bounds, Limits, Outer, OuterCause};

@@ -9,7 +9,7 @@ use Rattle.clap.specs.declared.error.kind.ErrorKind.TheVariants as kinds
 use Rattle.clap.proofs.WalkLemmas.{first_value-rows}
 use Rattle.it_settings.specs.App.{itip_app}
 use Rattle.it_settings.specs.ErrorKinds.{IsFaultOf}
-use Rattle.it_settings.specs.Settings.{settings_of, settings_by, answer_of, bench_of, runs_of, TellsReading}
+use Rattle.it_settings.specs.Settings.{settings_of, settings_by, answer_of, bench_of, runs_of, outer_of, TellsReading}
 use Rattle.it_settings.specs.ValuesViews.{AreTexts, by_name, texts_of}
 use Rattle.it_settings.specs.declared.reading.Values.{Values}
 use Rattle.it_settings.specs.declared.types.Settings.{Settings}
@@ -18,7 +18,7 @@ use Rattle.it_settings.specs.declared.types.WordsFault.TheVariants.{Usage, Memor
 
 by_their_names : (given : Text → Option Text)
     → settings_by (by_name (given (codes "mode")) (given (codes "format")) (given (codes "pivots")) (given (codes "rows")) (given (codes "tries")) (given (codes "seed")) (given (codes "count")) (given (codes "run"))) ≡ settings_by given
-unfolding settings_by answer_of bench_of runs_of
+unfolding settings_by answer_of bench_of runs_of outer_of
 by_their_names given = refl
 
 pub same_settings : (given : Text → Option Text) (v : Values) → AreTexts given v → settings_by (texts_of v) ≡ settings_by given

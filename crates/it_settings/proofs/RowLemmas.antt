@@ -2,8 +2,8 @@
 use Rattle.std.proofs.Common.{refl}
 use Rattle.clap.proofs.OnLiterals.{clap_on_literals}
 use Rattle.it_settings.specs.App.{option_rule, mode_rule, bare_app, itip_app}
-use Rattle.it_settings.specs.Settings.{settings_of, settings_by, answer_of, bench_of, runs_of, number_of, pivots_of, format_of, run_of}
-use Rattle.it_settings.specs.Rows.{ModesAreRead, FormsAreRead, NumbersAreRead, BenchIsRead, RunsAreRead, CopyIsRead, BestIsRead, SharingIsRead, OtherModesAreRead}
+use Rattle.it_settings.specs.Settings.{settings_of, settings_by, answer_of, bench_of, runs_of, outer_of, number_of, pivots_of, format_of, run_of}
+use Rattle.it_settings.specs.Rows.{ModesAreRead, FormsAreRead, NumbersAreRead, BenchIsRead, RunsAreRead, CopyIsRead, BestIsRead, SharingIsRead, OuterIsRead, OtherModesAreRead}
 
 pub modes_are_read : ModesAreRead
 unfolding clap_on_literals settings_of settings_by answer_of bench_of number_of pivots_of format_of run_of itip_app bare_app mode_rule option_rule
@@ -182,6 +182,20 @@ sharing_is_read = record {
   format = refl;
   rows = refl;
   tries = refl;
+  seed = refl;
+  count = refl;
+  two_modes = refl;
+}
+
+pub outer_is_read : OuterIsRead
+unfolding clap_on_literals settings_of settings_by answer_of bench_of runs_of outer_of number_of pivots_of format_of run_of itip_app bare_app mode_rule option_rule
+outer_is_read = record {
+  alone = refl;
+  all_options = refl;
+  rows_most = refl;
+  rows_more = refl;
+  tries_zero = refl;
+  format = refl;
   seed = refl;
   count = refl;
   two_modes = refl;

@@ -158,3 +158,15 @@ BestIsRead = IsReadWithRuns (codes "best") settings.Best
 -- mode `sharing`
 abbrev pub SharingIsRead : Type 0
 SharingIsRead = IsReadWithRuns (codes "sharing") settings.Sharing
+
+-- the options of mode `outer`
+pub record OuterIsRead : Type 0 where
+  pub alone : AreReadAs (codes "outer" ∷ []) (settings.Outer runs.Bland (Some 20000) 512 256)
+  pub all_options : AreReadAs (codes "outer" ∷ codes "--tries=7" ∷ codes "--rows" ∷ codes "6" ∷ codes "--run" ∷ codes "quick" ∷ codes "--pivots=none" ∷ []) (settings.Outer runs.Quick None 6 7)
+  pub rows_most : AreReadAs (codes "outer" ∷ codes "--rows" ∷ codes "4096" ∷ []) (settings.Outer runs.Bland (Some 20000) 4096 256)
+  pub rows_more : HaveNoReading (codes "outer" ∷ codes "--rows" ∷ codes "4097" ∷ [])
+  pub tries_zero : HaveNoReading (codes "outer" ∷ codes "--tries" ∷ codes "0" ∷ [])
+  pub format : HaveNoReading (codes "outer" ∷ codes "--format" ∷ codes "text" ∷ [])
+  pub seed : HaveNoReading (codes "outer" ∷ codes "--seed" ∷ codes "1" ∷ [])
+  pub count : HaveNoReading (codes "outer" ∷ codes "--count" ∷ codes "1" ∷ [])
+  pub two_modes : HaveNoReading (codes "outer" ∷ codes "answer" ∷ [])

@@ -86,6 +86,15 @@ runs_of given read = without given (codes "format" ∷ codes "rows" ∷ codes "t
   pivots ← pivots_in given
   Some (read run pivots)
 
+-- those of mode `outer`
+unfoldable pub outer_of : (Text → Option Text) → Option Settings
+outer_of given = without given (codes "format" ∷ codes "seed" ∷ codes "count" ∷ []) do
+  run ← run_in given
+  pivots ← pivots_in given
+  rows ← number_in given (codes "rows") 1 4096 512
+  tries ← number_in given (codes "tries") 1 4096 256
+  Some (settings.Outer run pivots rows tries)
+
 -- by the mode's word, without the options of other modes; the modes not named have no reading
 abbrev pub settings_in : (Text → Option Text) → Text → Option Settings
 settings_in given mode =
@@ -94,6 +103,7 @@ settings_in given mode =
     if bytes_eq mode (codes "bench") then without given (codes "format" ∷ []) (bench_of given) else
     if bytes_eq mode (codes "copy") then runs_of given settings.Copy else
     if bytes_eq mode (codes "best") then runs_of given settings.Best else
+    if bytes_eq mode (codes "outer") then outer_of given else
     if bytes_eq mode (codes "sharing") then runs_of given settings.Sharing else None
 
 -- without a mode there are none
@@ -123,4 +133,5 @@ AreInRange settings.Check = Unit {0}
 AreInRange (settings.Bench seed count run pivots rows tries) = (seed < 2 ^ 31) × ((1 ≤ count) × (count ≤ 1000)) × AreFew rows tries
 AreInRange (settings.Copy run pivots) = Unit {0}
 AreInRange (settings.Best run pivots) = Unit {0}
+AreInRange (settings.Outer run pivots rows tries) = AreFew rows tries
 AreInRange (settings.Sharing run pivots) = Unit {0}

@@ -1,5 +1,5 @@
 //! What command lines are read as, each table as the contract of a function.
-ghost use Rattle.it_settings.specs.Rows.{ModesAreRead, FormsAreRead, NumbersAreRead, BenchIsRead, RunsAreRead, CopyIsRead, BestIsRead, SharingIsRead, OtherModesAreRead};
+ghost use Rattle.it_settings.specs.Rows.{ModesAreRead, FormsAreRead, NumbersAreRead, BenchIsRead, RunsAreRead, CopyIsRead, BestIsRead, SharingIsRead, OuterIsRead, OtherModesAreRead};
 
 /// The word for the mode, alone and among others.
 #[tactic(auto, using(crate::proofs::RowLemmas::modes_are_read))]
@@ -37,6 +37,12 @@ pub fn modes_with_runs_are_read()
     ensures copy { CopyIsRead }
     ensures best { BestIsRead }
     ensures sharing { SharingIsRead }
+{}
+
+/// The options of mode `outer`.
+#[tactic(auto, using(crate::proofs::RowLemmas::outer_is_read))]
+pub fn outer_is_read()
+    ensures { OuterIsRead }
 {}
 
 /// Options of another mode have no reading.

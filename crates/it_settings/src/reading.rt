@@ -6,7 +6,7 @@ ghost use Rattle.it_settings.specs.ValuesViews.{AreTexts, texts_of};
 ghost use Rattle.it_settings.specs.declared.types.Settings.TheVariants as settings;
 ghost use Rattle.it_settings.specs.App.{option_names};
 ghost use Rattle.it_settings.specs.ErrorKinds.{IsFaultOf};
-ghost use Rattle.it_settings.specs.Settings.{answer_of, bench_of, runs_of, settings_by, settings_of, without, TellsReading, AreInRange};
+ghost use Rattle.it_settings.specs.Settings.{answer_of, bench_of, outer_of, runs_of, settings_by, settings_of, without, TellsReading, AreInRange};
 
 use crate::command::parse;
 use crate::numbers::{format_or, number_or, pivots_or, rows_or, run_or, tries_or};
@@ -146,6 +146,27 @@ fn best(values: Values) -> Option<Settings>
     Some(Settings::Best { run, pivots })
 }
 
+/// The settings of mode `outer`.
+#[tactic(auto, unfolding(crate::specs::Settings::outer_of))]
+fn outer(values: Values) -> Option<Settings>
+    ensures reads { result ≡ outer_of (texts_of values.entry) }
+    ensures ranges { IfSome result AreInRange }
+{
+    if values.format.is_some() || values.seed.is_some() || values.count.is_some() {
+        return None;
+    }
+    let run = run_or(values.run)?;
+    let pivots = pivots_or(values.pivots)?;
+    let rows = rows_or(values.rows)?;
+    let tries = tries_or(values.tries)?;
+    Some(Settings::Outer {
+        run,
+        pivots,
+        rows,
+        tries,
+    })
+}
+
 /// The settings of mode `sharing`.
 #[tactic(auto, unfolding(crate::specs::Settings::runs_of))]
 fn sharing(values: Values) -> Option<Settings>
@@ -172,6 +193,7 @@ fn settings_by_mode(values: Values) -> Option<Settings>
         Some("bench") => bench(values),
         Some("copy") => copy(values),
         Some("best") => best(values),
+        Some("outer") => outer(values),
         Some("sharing") => sharing(values),
         _ => None,
     }

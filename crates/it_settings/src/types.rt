@@ -57,6 +57,16 @@ pub enum Settings {
         /// The most steps of each of the three defined runs about a relation.
         pivots: Option<u32>,
     },
+    /// Find the outer bounds in rates alone of a file's eliminations.
+    Outer {
+        /// As in mode `answer`.
+        run: Run,
+        pivots: Option<u32>,
+        /// Rows that one more ray may leave, 1 to 4,096.
+        rows: u32,
+        /// Rays, 1 to 4,096.
+        tries: u32,
+    },
     /// Answer what is asked of a secret sharing file.
     Sharing {
         /// As in mode `answer`, or as in mode `best` where the file asks for a factor.

@@ -1,0 +1,6 @@
+pub mod Replies
+pub mod Truth
+pub mod RightReplies
+pub mod RowReplies
+pub mod Lines
+pub mod LineSteps

@@ -1,0 +1,296 @@
+//! The lines of mode `outer`.
+ghost use Rattle.std.specs.Prelude.{◌≡◌, ◌≤◌, ◌++◌, All, IfOk, OnOk, codes, decimal, flat_map, length};
+ghost use Rattle.it_space.specs.Spaces.{size_of};
+ghost use Rattle.it_demand.specs.QuestionSpaces.{space_of};
+ghost use Rattle.it_syntax.specs.NamesViews.{NamesView};
+ghost use Rattle.it_question.specs.Limits.{IsQuestion};
+ghost use Rattle.it_question.specs.Questions.{question_body, verb_view};
+ghost use Rattle.it_question.specs.ProblemLines.{problem_names};
+ghost use Rattle.it_canon.specs.TrueLines.{variable_count};
+ghost use Rattle.it_print.specs.Lines.{AreListed, IsRowOver, cause_text, origins_of};
+ghost use Rattle.it_outer.specs.Outer.{cause_view};
+ghost use Rattle.it_outer.specs.Rounds.{ArePlaces};
+ghost use Rattle.it_bounds.specs.Lines.{AreOfNames, IsCausePrintable, IsOfRun, IsPrintable, bounds_cause_text, gone_rates, rates_kept, ray_line, reply_lines};
+ghost use Rattle.it_bounds.specs.LineSteps.{IsThere, count_line, proof_text, row_line, row_lines};
+ghost use Rattle.it_bounds.specs.Replies.{reply_view};
+
+use crate::rays::{kept_coordinates, write_rates};
+use crate::types::Reply;
+use it_canon::problem_names;
+use it_outer::{Limits, OuterCause};
+use it_print::{row_text, sum_text, values_text, write_number, write_signed};
+use it_question::types::{Question, Verb};
+use it_space::{Cause, Certificate, Constraint, Kind, Mark, Point, Row};
+use it_syntax::Names;
+use std::alloc::{AllocError, Global};
+
+/// The lines of a reply to question k, counted from 1, which was made within these limits, with the constraints of the problem that all
+/// its lines pose, which are the generators after the elemental inequalities. A bound has one line more than it has rows and rays, every
+/// other reply has one line.
+pub fn reply_lines(
+    alloc: Global,
+    limits: Limits,
+    k: usize,
+    question: &Question,
+    constraints: &[Constraint],
+    reply: &Reply,
+) -> Result<Vec<u8>, AllocError>
+    requires question { IsQuestion (question_body question.now) }
+    requires printable { IsPrintable (question_body question.now) (length constraints.now) reply.now }
+    ensures { IfOk result (λ t. t.items ≡ reply_lines limits k (question_body question.now) (origins_of constraints.now) (reply_view reply.now)) }
+{
+    match reply {
+        Reply::Bounded { rows, proofs, rays } => bounds_lines(
+            alloc,
+            k,
+            question,
+            constraints,
+            rows.as_slice(),
+            proofs.as_slice(),
+            rays.as_slice(),
+        ),
+        Reply::Undecided(cause) => undecided_line(alloc, limits, k, problem_names(question), cause),
+        Reply::Size => word_line(alloc, k, b" undecided size\n"),
+        Reply::Other => word_line(alloc, k, b" other\n"),
+    }
+}
+
+/// The line of a reply that is the same words for each question.
+fn word_line(alloc: Global, k: usize, words: &[u8]) -> Result<Vec<u8>, AllocError>
+    ensures { IfOk result (λ t. t.items ≡ decimal k ++ words.now) }
+{
+    let mut out = Vec::new(alloc);
+    write_number(&mut out, k)?;
+    out.extend_from_slice(words)?;
+    Ok(out)
+}
+
+/// The lines of a bound.
+#[tactic(auto, unfolding(crate::specs::Lines::bounds_lines))]
+fn bounds_lines(
+    alloc: Global,
+    k: usize,
+    question: &Question,
+    constraints: &[Constraint],
+    rows: &[(Mark, Row)],
+    proofs: &[Certificate],
+    rays: &[Point],
+) -> Result<Vec<u8>, AllocError>
+    requires question { IsQuestion (question_body question.now) }
+    requires as_many { length rows.now ≡ length proofs.now }
+    requires rows { All (λ row. IsRowOver (problem_names (question_body question.now)) row.1) rows.now }
+    requires there { AreListed (variable_count (question_body question.now)) (length constraints.now) proofs.now }
+    requires rays { AreOfNames (problem_names (question_body question.now)) rays.now }
+    ensures { IfOk result (λ t. t.items ≡ count_line k (length rows.now) (length rays.now) ++ row_lines (question_body question.now) constraints.now k rows.now proofs.now ++ flat_map (ray_line k (problem_names (question_body question.now)) (rates_kept (question_body question.now))) rays.now) }
+{
+    let mut out = Vec::new(alloc);
+    write_count(&mut out, k, rows.len(), rays.len())?;
+    write_rows(alloc, &mut out, k, question, constraints, rows, proofs)?;
+    write_rays(alloc, &mut out, k, question, rays)?;
+    Ok(out)
+}
+
+/// The line that says how many rows and rays there are.
+fn write_count(out: &mut Vec<u8>, k: usize, rows: usize, rays: usize) -> Result<(), AllocError>
+    ensures { OnOk result (out.new.items ≡ out.old.items ++ count_line k rows rays) }
+{
+    write_number(out, k)?;
+    out.extend_from_slice(b" outer ")?;
+    write_number(out, rows)?;
+    out.extend_from_slice(b" ")?;
+    write_number(out, rays)?;
+    out.extend_from_slice(b"\n")
+}
+
+/// The lines of rows with their certificates.
+fn write_rows(
+    alloc: Global,
+    out: &mut Vec<u8>,
+    k: usize,
+    question: &Question,
+    constraints: &[Constraint],
+    rows: &[(Mark, Row)],
+    proofs: &[Certificate],
+) -> Result<(), AllocError>
+    requires some { 1 ≤ variable_count (question_body question.now) }
+    requires as_many { length rows.now ≡ length proofs.now }
+    requires rows { All (λ row. IsRowOver (problem_names (question_body question.now)) row.1) rows.now }
+    requires there { AreListed (variable_count (question_body question.now)) (length constraints.now) proofs.now }
+    ensures { OnOk result (out.new.items ≡ out.old.items ++ row_lines (question_body question.now) constraints.now k rows.now proofs.now) }
+{
+    for i in 0..rows.len() {
+        write_row(alloc, out, k, question, constraints, &rows[i], &proofs[i])?;
+    }
+    Ok(())
+}
+
+/// The line of a row with its certificate.
+#[tactic(auto, unfolding(crate::specs::Lines::proven_row_line))]
+fn write_row(
+    alloc: Global,
+    out: &mut Vec<u8>,
+    k: usize,
+    question: &Question,
+    constraints: &[Constraint],
+    row: &(Mark, Row),
+    proof: &Certificate,
+) -> Result<(), AllocError>
+    requires some { 1 ≤ variable_count (question_body question.now) }
+    requires row { IsRowOver (problem_names (question_body question.now)) row.now.1 }
+    requires there { IsThere (variable_count (question_body question.now)) (length constraints.now) proof.now }
+    ensures { OnOk result (out.new.items ≡ out.old.items ++ row_line (question_body question.now) constraints.now k row.now proof.now) }
+{
+    write_number(out, k)?;
+    out.extend_from_slice(b" row ")?;
+    out.extend_from_slice(row.0.word().as_bytes())?;
+    out.extend_from_slice(b" ")?;
+    let text = row_text(alloc, &row.1, Kind::Inequality, problem_names(question))?;
+    out.extend_from_slice(text.as_slice())?;
+    out.extend_from_slice(b" by ")?;
+    write_proof(alloc, out, question, constraints, proof)?;
+    out.extend_from_slice(b"\n")
+}
+
+/// A certificate: its scale and its sum.
+#[tactic(auto, unfolding(it_print::specs::Lines::certificate_text))]
+fn write_proof(
+    alloc: Global,
+    out: &mut Vec<u8>,
+    question: &Question,
+    constraints: &[Constraint],
+    proof: &Certificate,
+) -> Result<(), AllocError>
+    requires some { 1 ≤ variable_count (question_body question.now) }
+    requires there { IsThere (variable_count (question_body question.now)) (length constraints.now) proof.now }
+    ensures { OnOk result (out.new.items ≡ out.old.items ++ proof_text (question_body question.now) constraints.now proof.now) }
+{
+    write_signed(out, proof.scale)?;
+    out.extend_from_slice(b" : ")?;
+    let sum = sum_text(alloc, question, constraints, proof)?;
+    out.extend_from_slice(sum.as_slice())
+}
+
+/// The rates that a verb eliminates, none where it asks for something else.
+fn gone_rates(verb: &Verb) -> &[u8]
+    ensures { result.now ≡ gone_rates (verb_view verb.now) }
+{
+    match verb {
+        Verb::Eliminate(rates) => rates.as_slice(),
+        Verb::Prove(_) => &[],
+        Verb::Contain { .. } => &[],
+    }
+}
+
+/// The lines of rays.
+fn write_rays(
+    alloc: Global,
+    out: &mut Vec<u8>,
+    k: usize,
+    question: &Question,
+    rays: &[Point],
+) -> Result<(), AllocError>
+    requires question { IsQuestion (question_body question.now) }
+    requires rays { AreOfNames (problem_names (question_body question.now)) rays.now }
+    ensures { OnOk result (out.new.items ≡ out.old.items ++ flat_map (ray_line k (problem_names (question_body question.now)) (rates_kept (question_body question.now))) rays.now) }
+{
+    let names = problem_names(question);
+    let kept = kept_coordinates(alloc, names.space(), gone_rates(&question.verb))?;
+    for ray in rays {
+        write_ray(alloc, out, k, names, kept.as_slice(), ray)?;
+    }
+    Ok(())
+}
+
+/// The line of a ray.
+#[tactic(auto, unfolding(crate::specs::Lines::ray_line))]
+fn write_ray(
+    alloc: Global,
+    out: &mut Vec<u8>,
+    k: usize,
+    names: &Names,
+    kept: &[u32],
+    ray: &Point,
+) -> Result<(), AllocError>
+    requires variables { length names.now.variables ≤ 10 }
+    requires rates { length names.now.rates ≤ 16 }
+    requires kept { ArePlaces (size_of (space_of names.now)) kept.now }
+    requires ray { length ray.now ≡ size_of (space_of names.now) }
+    ensures { OnOk result (out.new.items ≡ out.old.items ++ ray_line k names.now kept.now ray.now) }
+{
+    write_number(out, k)?;
+    out.extend_from_slice(b" ray ")?;
+    write_rates(out, names, kept, ray)?;
+    out.extend_from_slice(b" at ")?;
+    let values = values_text(alloc, names, ray)?;
+    out.extend_from_slice(values.as_slice())?;
+    out.extend_from_slice(b"\n")
+}
+
+/// The line of a bound that stays undecided.
+fn undecided_line(
+    alloc: Global,
+    limits: Limits,
+    k: usize,
+    names: &Names,
+    cause: &OuterCause,
+) -> Result<Vec<u8>, AllocError>
+    requires { IsCausePrintable names.now cause.now }
+    ensures { IfOk result (λ t. t.items ≡ decimal k ++ codes " undecided " ++ bounds_cause_text names.now limits (cause_view cause.now) ++ codes "\n") }
+{
+    let mut out = Vec::new(alloc);
+    write_number(&mut out, k)?;
+    out.extend_from_slice(b" undecided ")?;
+    write_cause(alloc, &mut out, limits, names, cause)?;
+    out.extend_from_slice(b"\n")?;
+    Ok(out)
+}
+
+/// Why a bound stays undecided.
+#[tactic(auto, unfolding(crate::specs::Lines::bounds_cause_text))]
+fn write_cause(
+    alloc: Global,
+    out: &mut Vec<u8>,
+    limits: Limits,
+    names: &Names,
+    cause: &OuterCause,
+) -> Result<(), AllocError>
+    requires { IsCausePrintable names.now cause.now }
+    ensures { OnOk result (out.new.items ≡ out.old.items ++ bounds_cause_text names.now limits (cause_view cause.now)) }
+{
+    match cause {
+        OuterCause::Run(row, cause) => {
+            write_run(out, *cause)?;
+            out.extend_from_slice(b" in ")?;
+            let text = row_text(alloc, row, Kind::Inequality, names)?;
+            out.extend_from_slice(text.as_slice())
+        }
+        OuterCause::Rows => out.extend_from_slice(b"rows"),
+        OuterCause::Width => out.extend_from_slice(b"width"),
+        OuterCause::Rays => {
+            out.extend_from_slice(b"rays ")?;
+            write_number(out, limits.rays)
+        }
+    }
+}
+
+/// Why a run has no end within its bounds.
+#[tactic(auto, unfolding(it_print::specs::Lines::cause_text))]
+fn write_run(out: &mut Vec<u8>, cause: Cause) -> Result<(), AllocError>
+    requires { IsOfRun cause }
+    ensures { OnOk result ((v : NamesView) → out.new.items ≡ out.old.items ++ cause_text v cause) }
+{
+    match cause {
+        Cause::Pivots(steps) => {
+            out.extend_from_slice(b"pivots ")?;
+            write_number(out, steps as usize)
+        }
+        Cause::Width(step) => {
+            out.extend_from_slice(b"width ")?;
+            write_number(out, step as usize)
+        }
+        Cause::Scale => out.extend_from_slice(b"scale"),
+        // no run ends so
+        Cause::Rows(_) => unreachable!(),
+        Cause::WideRate(_) => unreachable!(),
+    }
+}

@@ -1,0 +1,85 @@
+//! The marks of rows: whether the others don't give them.
+ghost use Rattle.std.specs.Prelude.{◌≡◌, ◌≤◌, All, IfOk, length, map};
+ghost use Rattle.it_space.specs.declared.answers.Mark.TheVariants.{Unsettled};
+ghost use Rattle.it_space.specs.Rows.{IsOver};
+ghost use Rattle.it_space.specs.Spaces.{IsSpace, size_of};
+ghost use Rattle.it_redundant.specs.Reduction.{need_view};
+ghost use Rattle.it_answer.specs.DueEliminations.{mark_of_need, marked_rows};
+ghost use Rattle.it_bounds.specs.RowReplies.{AreMarked};
+
+use it_outer::constants;
+use it_prove::Effort;
+use it_redundant::{Need, reduce};
+use it_space::{Mark, Row, Space, System};
+use std::alloc::{AllocError, Global};
+
+/// The rows in order, each with its mark before it, by a reduction where all variables are constant, so that rates alone count. Where
+/// that drops one after all, each is unsettled.
+pub fn with_marks(
+    alloc: Global,
+    space: Space,
+    rows: &[Row],
+    effort: Effort,
+) -> Result<Vec<(Mark, Row)>, AllocError>
+    requires space { IsSpace space }
+    requires rows { All (IsOver (size_of space)) rows.now }
+    requires few { length rows.now ≤ 65535 }
+    ensures { IfOk result (λ v. AreMarked space effort rows.now v.items) }
+{
+    let constants = constants(alloc, space)?;
+    let own = copied(alloc, rows)?;
+    let system = System { space, rows: own };
+    let reduced = reduce(alloc, &system, &constants, effort)?;
+    if reduced.dropped.is_empty() {
+        let marked = marked_rows(alloc, reduced.kept)?;
+        Ok(marked)
+    } else {
+        let marked = unsettled_rows(alloc, rows)?;
+        Ok(marked)
+    }
+}
+
+/// The same rows once more.
+fn copied(alloc: Global, rows: &[Row]) -> Result<Vec<Row>, AllocError>
+    ensures { IfOk result (λ v. v.items ≡ rows.now) }
+{
+    let mut own = Vec::new(alloc);
+    for row in rows {
+        let copy = row.copy(alloc)?;
+        own.push(copy)?;
+    }
+    Ok(own)
+}
+
+/// The rows that stay, each with its mark before it.
+fn marked_rows(alloc: Global, kept: Vec<(Row, Need)>) -> Result<Vec<(Mark, Row)>, AllocError>
+    ensures { IfOk result (λ v. v.items ≡ marked_rows (map (λ k. (k.0, need_view k.1)) kept.items)) }
+{
+    let mut marked = Vec::new(alloc);
+    for (row, need) in kept {
+        marked.push((mark_of_need(&need), row))?;
+    }
+    Ok(marked)
+}
+
+/// Why a row stays, as its mark.
+fn mark_of_need(need: &Need) -> Mark
+    ensures { result ≡ mark_of_need (need_view need.now) }
+{
+    match need {
+        Need::Needed(_) => Mark::Needed,
+        Need::Unsettled(_) => Mark::Unsettled,
+    }
+}
+
+/// The rows, each unsettled.
+fn unsettled_rows(alloc: Global, rows: &[Row]) -> Result<Vec<(Mark, Row)>, AllocError>
+    ensures { IfOk result (λ v. v.items ≡ map (λ row. (Unsettled, row)) rows.now) }
+{
+    let mut marked = Vec::new(alloc);
+    for row in rows {
+        let copy = row.copy(alloc)?;
+        marked.push((Mark::Unsettled, copy))?;
+    }
+    Ok(marked)
+}

@@ -1,0 +1,112 @@
+//! The replies to questions.
+ghost use Rattle.std.specs.Prelude.{◌≡◌, ◌<◌, ◌≤◌, All, IfOk, length};
+ghost use Rattle.it_space.specs.Problems.{IsProblem, problem_view};
+ghost use Rattle.it_space.specs.Rows.{IsOver};
+ghost use Rattle.it_space.specs.Spaces.{IsSpace, size_of};
+ghost use Rattle.it_question.specs.Limits.{IsQuestion};
+ghost use Rattle.it_question.specs.Questions.{question_body};
+ghost use Rattle.it_demand.specs.Origins.{AreStated};
+ghost use Rattle.it_demand.specs.QuestionSpaces.{space_of};
+ghost use Rattle.it_canon.specs.QuestionDemands.{IsProblemOf, question_demands, question_origins};
+ghost use Rattle.it_bounds.specs.Lines.{IsPrintable};
+ghost use Rattle.it_bounds.specs.Replies.{reply_view};
+ghost use Rattle.it_bounds.specs.RightReplies.{IsRightReply};
+ghost use Rattle.it_bounds.specs.RowReplies.{IsReplyByRows, TellsBounds};
+ghost use Rattle.it_bounds.specs.Truth.{under_all_lines};
+
+use crate::marks::with_marks;
+use crate::types::{RepliedProblem, Reply};
+use it_closure::size;
+use it_outer::{Bounds, Limits, Outer, outer};
+use it_prove::Effort;
+use it_question::line_constraints;
+use it_question::types::{Question, Verb};
+use it_space::{Problem, Space};
+use std::alloc::{AllocError, Global};
+
+/// The most entries of a problem's table.
+const MOST_ENTRIES: u64 = 4000000;
+
+/// The right reply to a question, and the problem that all its lines pose, `row` lines too: to one that asks to eliminate rates its outer
+/// bound, and `Other` to each other verb. The listed rates go, and all entropies with them; the other rates stay. The limits are those of
+/// the search: the most rows after one more ray, at most 65,535; the most rays; and the effort for each run.
+pub fn reply(
+    alloc: Global,
+    question: &Question,
+    limits: Limits,
+) -> Result<RepliedProblem, AllocError>
+    requires question { IsQuestion (question_body question.now) }
+    requires few_rows { limits.rows ≤ 65535 }
+    ensures space { IfOk result (λ a. a.problem.space ≡ space_of (question_body question.now).names) }
+    ensures problem { IfOk result (λ a. AreStated a.problem.space (question_origins (under_all_lines (question_body question.now))) (question_demands (under_all_lines (question_body question.now))) a.problem.constraints.items) }
+    ensures right { IfOk result (λ a. IsRightReply limits (question_body question.now) (reply_view a.reply)) }
+    ensures printable { IfOk result (λ a. IsPrintable (question_body question.now) (length a.problem.constraints.items) a.reply) }
+{
+    let problem = problem_of_lines(alloc, question)?;
+    let reply = reply_under(alloc, question, &problem, limits)?;
+    Ok(RepliedProblem { problem, reply })
+}
+
+/// The problem that all lines of a question pose.
+fn problem_of_lines(alloc: Global, question: &Question) -> Result<Problem, AllocError>
+    requires { IsQuestion (question_body question.now) }
+    ensures { IfOk result (λ p. IsProblemOf (under_all_lines (question_body question.now)) (problem_view p)) }
+{
+    let space = question.names.space();
+    let constraints = line_constraints(alloc, &question.lines, space)?;
+    Ok(Problem { space, constraints })
+}
+
+/// The reply to a question, with the problem that all its lines pose.
+fn reply_under(
+    alloc: Global,
+    question: &Question,
+    problem: &Problem,
+    limits: Limits,
+) -> Result<Reply, AllocError>
+    requires question { IsQuestion (question_body question.now) }
+    requires problem { IsProblemOf (under_all_lines (question_body question.now)) (problem_view problem.now) }
+    requires few_rows { limits.rows ≤ 65535 }
+    ensures right { IfOk result (λ r. IsRightReply limits (question_body question.now) (reply_view r)) }
+    ensures printable { IfOk result (IsPrintable (question_body question.now) (length problem.now.constraints.items)) }
+{
+    match &question.verb {
+        Verb::Eliminate(rates) => bound(alloc, problem, rates.as_slice(), limits),
+        Verb::Prove(_) => Ok(Reply::Other),
+        Verb::Contain { .. } => Ok(Reply::Other),
+    }
+}
+
+/// The outer bound of a problem without some rates.
+fn bound(alloc: Global, problem: &Problem, gone: &[u8], limits: Limits) -> Result<Reply, AllocError>
+    requires problem { IsProblem (problem_view problem.now) }
+    requires gone { All (λ r. r < problem.now.space.rates) gone.now }
+    requires some { 1 ≤ length gone.now }
+    requires few_rows { limits.rows ≤ 65535 }
+    ensures { IfOk result (λ r. IsReplyByRows limits (problem_view problem.now) gone.now (reply_view r)) }
+{
+    let size = size(alloc, problem)?;
+    if MOST_ENTRIES < size {
+        return Ok(Reply::Size);
+    }
+    let end = outer(alloc, problem, gone, limits)?;
+    match end {
+        Outer::Bounds(bounds) => marked(alloc, problem.space, bounds, limits.effort),
+        Outer::Undecided(cause) => Ok(Reply::Undecided(cause)),
+    }
+}
+
+/// Bounds with marks.
+fn marked(alloc: Global, space: Space, bounds: Bounds, effort: Effort) -> Result<Reply, AllocError>
+    requires space { IsSpace space }
+    requires rows { All (IsOver (size_of space)) bounds.hull.rows.items }
+    requires few { length bounds.hull.rows.items ≤ 65535 }
+    ensures { IfOk result (λ r. TellsBounds space effort bounds (reply_view r)) }
+{
+    let rows = with_marks(alloc, space, bounds.hull.rows.as_slice(), effort)?;
+    Ok(Reply::Bounded {
+        rows,
+        proofs: bounds.proofs,
+        rays: bounds.rays,
+    })
+}

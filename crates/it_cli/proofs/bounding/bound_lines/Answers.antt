@@ -1,0 +1,21 @@
+use Rattle.std.proofs.Common.{◌≡◌, ap, ◌∙◌, []}
+use Rattle.it_run.proofs.AnswerLemmas.{if_ok}
+use Rattle.it_question.specs.Questions.{question_body, question_view}
+use Rattle.it_canon.specs.QuestionDemands.{question_origins}
+use Rattle.it_print.specs.Lines.{origins_of}
+use Rattle.it_bounds.specs.Lines.{reply_lines}
+use Rattle.it_bounds.specs.Replies.{reply_view}
+use Rattle.it_bounds.specs.Truth.{under_all_lines}
+use Rattle.it_cli.specs.InnerEnds.{IsTextOf}
+use Rattle.it_cli.specs.Outputs.{outer_mode}
+use Rattle.it_cli.proofs.LineLemmas.{origins_same}
+use Rattle.it_cli.proofs.bounding.bound_lines.Goals as goal
+
+pub returns : goal.returns
+returns c = let q = question_body c.args.question.now in if_ok c.reply_lines.result (λ t. t.items ≡ reply_lines c.args.limits c.args.k q (origins_of c.as_slice.result.now) (reply_view c.in_ok-replied.replied.reply))
+    (λ t. IsTextOf (outer_mode c.args.limits) [] c.args.k (question_view c.args.question.now) t.items) c.reply_lines.ensures (λ t is. record {
+      reply = reply_view c.in_ok-replied.replied.reply;
+      right = c.in_ok-replied.ensures.right;
+      is = is ∙ ap (λ cs. reply_lines c.args.limits c.args.k q (origins_of cs) (reply_view c.in_ok-replied.replied.reply)) c.as_slice.ensures.value ∙ ap (λ xs. reply_lines c.args.limits c.args.k q xs (reply_view c.in_ok-replied.replied.reply))
+          (origins_same (question_origins (under_all_lines q)) c.in_ok-replied.replied.problem.constraints.items c.in_ok-replied.ensures.problem.placed);
+    })

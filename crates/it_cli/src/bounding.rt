@@ -1,0 +1,67 @@
+//! Mode `outer`: a question file, and the outer bounds of its eliminations in rates alone.
+ghost use Rattle.std.specs.Prelude.{◌≤◌, [], All, IfOk, length, map};
+ghost use Rattle.it_question.specs.Limits.{IsQuestion};
+ghost use Rattle.it_question.specs.Questions.{question_body, question_view};
+ghost use Rattle.it_cli.specs.InnerEnds.{EndsForBytes, EndsForItems, IsTextOf};
+ghost use Rattle.it_cli.specs.Outputs.{outer_mode};
+
+use crate::answering::tell_fault;
+use crate::status::Status;
+use it_bounds::{reply, reply_lines};
+use it_outer::Limits;
+use it_outside::{Sink, write_all};
+use it_question::questions;
+use it_question::types::{FileFault, Question};
+use std::alloc::{AllocError, Global};
+
+/// What is done for the bytes of a question file.
+pub fn find_bounds<K: Sink>(alloc: Global, limits: Limits, bytes: &[u8], sink: &mut K) -> Status
+    requires bytes { length bytes.now ≤ 1048576 }
+    requires few_rows { limits.rows ≤ 65535 }
+    ensures { EndsForBytes K.taken K.faults (outer_mode limits) sink.old sink.new bytes.now result }
+{
+    match questions(alloc, bytes) {
+        Ok(questions) => reply_all(alloc, limits, questions.as_slice(), sink),
+        Err(FileFault::Fault { line, column, code }) => tell_fault(alloc, line, column, code, sink),
+        Err(FileFault::Memory) => Status::Memory,
+    }
+}
+
+/// Writes the lines of each question, as soon as they are there.
+fn reply_all<K: Sink>(alloc: Global, limits: Limits, questions: &[Question], sink: &mut K) -> Status
+    requires questions { All (λ q. IsQuestion (question_body q)) questions.now }
+    requires few_rows { limits.rows ≤ 65535 }
+    ensures { EndsForItems K.taken K.faults (outer_mode limits) sink.old sink.new (map question_view questions.now) result }
+{
+    for (i, question) in questions.iter().enumerate() {
+        let Ok(text) = bound_lines(alloc, limits, i + 1, question) else {
+            return Status::Memory;
+        };
+        let Ok(()) = write_all(sink, text.as_slice()) else {
+            return Status::WriteFault;
+        };
+    }
+    Status::Done
+}
+
+/// The lines of the right reply to question k, counted from 1.
+fn bound_lines(
+    alloc: Global,
+    limits: Limits,
+    k: usize,
+    question: &Question,
+) -> Result<Vec<u8>, AllocError>
+    requires question { IsQuestion (question_body question.now) }
+    requires few_rows { limits.rows ≤ 65535 }
+    ensures { IfOk result (λ text. IsTextOf (outer_mode limits) [] k (question_view question.now) text.items) }
+{
+    let replied = reply(alloc, question, limits)?;
+    reply_lines(
+        alloc,
+        limits,
+        k,
+        question,
+        replied.problem.constraints.as_slice(),
+        &replied.reply,
+    )
+}
