@@ -162,8 +162,10 @@ impl Program {
     /// Lets each column cost again what it costs else.
     pub fn put_costs_back(&mut self) {
         for k in 0..self.waived.len() {
-            let (column, cost) = self.waived[k];
-            self.replace_cost(column, cost);
+            if let Some(waived) = self.waived.get(k) {
+                let (column, cost) = *waived;
+                self.replace_cost(column, cost);
+            }
         }
         self.waived.clear();
     }
