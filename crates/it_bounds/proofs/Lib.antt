@@ -1,0 +1,7 @@
+pub mod SearchLemmas
+pub mod MarkLemmas
+pub mod UniqueLemmas
+pub mod RightLemmas
+pub mod TruthLemmas
+pub mod PrintLemmas
+pub mod RayLemmas

@@ -7,6 +7,7 @@ use Rattle.std.proofs.lemmas.List.Elements.{All-head}
 use Rattle.it_space.specs.Answers.{CertificateView}
 use Rattle.it_space.specs.declared.answers.Cause.{Cause}
 use Rattle.it_space.specs.declared.answers.Cause.TheVariants.{Pivots, Width as WideStep, Scale, Rows as RowsOfRate, WideRate}
+use Rattle.it_space.specs.declared.spaces.Space.{Space}
 use Rattle.it_space.specs.Problems.{ProblemView}
 use Rattle.it_space.specs.Rows.{Terms, IsOver, point_of}
 use Rattle.it_space.specs.Spaces.{size_of}
@@ -180,5 +181,5 @@ module _ (s : Search) (h : IsSearch s) (few_kept : length s.kept ≤ 16) where
       )
 
 -- at most 16 rates stay
-pub few_rates_kept : (n m : ℕ) (gone : List ℕ) → m ≤ 16 → length (kept_coordinates (record { variables = n; rates = m }) gone) ≤ 16
-few_rates_kept n m gone l = let k = few_left gone 0 m in let e = length-map (rates_left gone 0 m) (λ r. 2 ^ n + r) in omega (arith, k, e, l)
+pub few_rates_kept : (s : Space) (gone : List ℕ) → s.rates ≤ 16 → length (kept_coordinates s gone) ≤ 16
+few_rates_kept s gone l = let k = few_left gone 0 s.rates in let e = length-map (rates_left gone 0 s.rates) (λ r. 2 ^ s.variables + r) in omega (arith, k, e, l)

@@ -49,7 +49,7 @@ module _ (limits : Limits) (q : BodyView) (gone : List ℕ) (defined : limits.ef
   one_bound (Bounded xs ws ps) (Bounded ys vs qs) (small, e, m) (other_small, f, n) =
       let same = same_rows (region_rows xs) (region_rows ys) ws vs ps qs (one_end _ _ e f) in
       let marked : xs ≡ ys = one_marking _ limits.effort xs ys defined same.0 m n in
-      subst (λ (z : List (Mark × Terms)). Bounded xs ws ps ≡ Bounded z vs qs) marked (subst (λ (z : List CertificateView). Bounded xs ws ps ≡ Bounded xs z qs) same.1.0 (ap (λ (z : List (List ℤ)). Bounded xs ws z) same.1.1))
+      subst (λ (z : List (Mark × Terms)). Bounded xs ws ps ≡ Bounded z vs qs) marked (subst (λ (z : List CertificateView). Bounded xs ws ps ≡ Bounded xs z qs) same.1 (ap (λ (z : List (List ℤ)). Bounded xs ws z) same.2))
   one_bound (Bounded xs ws ps) (Undecided cause) (small, e, m) (other_small, f) = absurd (not_undecided (region_rows xs) ws ps cause (one_end _ _ e f))
   one_bound (Bounded xs ws ps) Size (small, e, m) large = absurd (large small)
   one_bound (Bounded xs ws ps) Other a b = absurd b

@@ -71,7 +71,10 @@ fn reply_under(
     ensures printable { IfOk result (IsPrintable (question_body question.now) (length problem.now.constraints.items)) }
 {
     match &question.verb {
-        Verb::Eliminate(rates) => bound(alloc, problem, rates.as_slice(), limits),
+        Verb::Eliminate(rates) => {
+            let bound = bound(alloc, problem, rates.as_slice(), limits)?;
+            Ok(bound)
+        }
         Verb::Prove(_) => Ok(Reply::Other),
         Verb::Contain { .. } => Ok(Reply::Other),
     }

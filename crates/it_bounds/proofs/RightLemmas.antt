@@ -1,0 +1,137 @@
+-- What is right of a problem's rows is right by the meaning of the text.
+use Rattle.std.proofs.Common.{◌≡◌, ◌+◌, ◌<◌, ◌≤◌, ℕ, ℤ, pos, List, [], ◌∷◌, length, map, All, Option, Some, None, refl, sym, ap, subst, ◌∙◌, arith, true}
+use Rattle.std.specs.List.{AllZip, AllByRecursion as Every}
+use Rattle.std.proofs.lemmas.List.Elements.{All-weaker}
+use Rattle.it_space.specs.declared.answers.Mark.{Mark}
+use Rattle.it_space.specs.declared.spaces.Space.{Space}
+use Rattle.it_space.specs.Answers.{CertificateView}
+use Rattle.it_space.specs.Problems.{ProblemView}
+use Rattle.it_space.specs.Rows.{Terms, IsOver, point_of, value}
+use Rattle.it_space.specs.Spaces.{size_of}
+use Rattle.it_space.proofs.EveryLemmas.{every_of}
+use Rattle.it_polymatroid.specs.Polymatroid.{IsPolymatroid}
+use Rattle.it_closure.specs.Sizes.{table_size}
+use Rattle.it_elemental.specs.Generators.{generators}
+use Rattle.it_check.specs.Meaning.{CertifiesRow}
+use Rattle.it_syntax.specs.Givens.{IsRelationOf}
+use Rattle.it_question.specs.Limits.{AreRatesOf, IsQuestion, IsVerbOver}
+use Rattle.it_question.specs.Questions.{BodyView, VerbView, Prove, Eliminate, Contain}
+use Rattle.it_question.specs.ProblemLines.{problem_lines, problem_names}
+use Rattle.it_question.specs.TableSizes.{HasSmallTable, most_entries}
+use Rattle.it_demand.specs.QuestionSpaces.{space_of}
+use Rattle.it_canon.specs.QuestionDemands.{IsProblemOf, problem_of, question_demands}
+use Rattle.it_canon.specs.TrueLines.{AreTrueAt, AreTrueTogether, variable_count}
+use Rattle.it_canon.proofs.PosesLemmas.{one_problem}
+use Rattle.it_canon.proofs.ProblemLemmas.{question_met}
+use Rattle.it_canon.proofs.SmallProblems.{small_by_problem, small_problem}
+use Rattle.it_hull.specs.Hulls.{IsHull}
+use Rattle.it_hull.specs.Theorems.{MeetsProblem}
+use Rattle.it_prove.specs.declared.types.Effort.{Effort}
+use Rattle.it_outer.specs.declared.types.Limits.{Limits}
+use Rattle.it_outer.specs.Bounds.{IsRay}
+use Rattle.it_outer.specs.Outer.{CauseView, OuterView, Run, kept_coordinates, search_without}
+use Rattle.it_outer.specs.Outer as outers
+use Rattle.it_outer.specs.Search.{SearchEnds}
+use Rattle.it_outer.proofs.FrameLemmas.{without_is_search}
+use Rattle.it_answer.specs.Forms.{Certifies, CertifiesForm, CertifyAll, all_demands}
+use Rattle.it_answer.specs.Truth.{region_rows}
+use Rattle.it_answer.proofs.FormLemmas.{by_forms, generators_speak, rows_add_up}
+use Rattle.it_bounds.specs.Replies.{ReplyView, Bounded, Undecided, Size, Other}
+use Rattle.it_bounds.specs.RightReplies.{Ends, IsDue, IsRightReply, MarksEnd, ShowsBounds, ShowsReply}
+use Rattle.it_bounds.specs.RowReplies.{AreMarkedBounds, IsReplyByRows}
+use Rattle.it_bounds.specs.Truth.{IsTrueRay, eliminated_by, kept_rates, under_all_lines}
+use Rattle.it_bounds.proofs.SearchLemmas.{AreFew, bounds_few, few_rates_kept}
+
+-- the question with all its lines given is within the limits too
+pub all_lines_question : (q : BodyView) → IsQuestion q → IsQuestion (under_all_lines q)
+all_lines_question q k = record {
+  some = k.some;
+  few = k.few;
+  few_rates = k.few_rates;
+  lines = k.lines;
+  verb = record { few = omega arith; left = λ i d h. absurd (omega (arith, h)); right = λ i d h. absurd (omega (arith, h)); some_multiple = omega arith; small_multiple = omega arith };
+}
+
+-- the rates that a question eliminates are among its own, and at least one
+pub eliminated_rates : (q : BodyView) (gone : List ℕ) → IsQuestion q → q.verb ≡ Eliminate gone → AreRatesOf (length q.names.rates) gone
+eliminated_rates q gone k e = subst (λ (v : VerbView). IsVerbOver q.names v) e k.verb
+
+module _ (q : BodyView) (p : ProblemView) (posed : IsProblemOf (under_all_lines q) p) where
+  at_question : (P : Space → Type 0) → P p.space → P (space_of q.names)
+  at_question P x = subst P posed.space x
+
+  -- ---- where the lines are true
+
+  pub meets_true : (x : ℕ → ℤ) → MeetsProblem p x → AreTrueTogether (under_all_lines q) x
+  meets_true x m = (
+    at_question (λ s. IsPolymatroid s.variables x) m.0,
+    at_question (λ s. AreTrueAt s.variables x q.lines) ((question_met (under_all_lines q) p.space p.constraints posed.space posed.constraints x m.0.empty).0 m.1),
+  )
+
+  pub true_meets : (x : ℕ → ℤ) → AreTrueTogether (under_all_lines q) x → MeetsProblem p x
+  true_meets x t = (
+    subst (λ (s : Space). IsPolymatroid s.variables x) (sym posed.space) t.0,
+    (question_met (under_all_lines q) p.space p.constraints posed.space posed.constraints x t.0.empty).1 (subst (λ (s : Space). AreTrueAt s.variables x q.lines) (sym posed.space) t.1),
+  )
+
+  -- ---- the evidence
+
+  certified_by_text : (row : Terms) (w : CertificateView) → IsOver (size_of p.space) row → CertifiesRow p row w → CertifiesForm (under_all_lines q) (value row) w
+  certified_by_text row w over c = at_question (λ s. Certifies (all_demands s.variables (question_demands (under_all_lines q))) (value row) w)
+      (by_forms (all_demands p.space.variables (question_demands (under_all_lines q))) (generators p) (generators_speak p.space (question_demands (under_all_lines q)) p.constraints posed.constraints.stated)
+      (size_of p.space + 1) (value row) (value row) (λ x e. refl) w c (rows_add_up p row w posed.limits over c))
+
+  all_by_text : (rows : List Terms) (ws : List CertificateView) → Every (IsOver (size_of p.space)) rows → AllZip (CertifiesRow p) rows ws → CertifyAll (under_all_lines q) (map value rows) ws
+  all_by_text [] [] u z = tt
+  all_by_text [] (w ∷ ws) u z = absurd z
+  all_by_text (row ∷ rows) [] u z = absurd z
+  all_by_text (row ∷ rows) (w ∷ ws) u z = (certified_by_text row w u.0 z.0, all_by_text rows ws u.1 z.1)
+
+  ray_by_text : (values : List ℤ) → IsRay p values → IsTrueRay q values
+  ray_by_text values r = record { complete = at_question (λ s. length values ≡ size_of s) r.complete; lines_true = meets_true (point_of values) r.met }
+
+  module _ (limits : Limits) (gone : List ℕ) where
+    pub shows_bounds : (rows : List (Mark × Terms)) (ws : List CertificateView) (rays : List (List ℤ)) → All (IsOver (size_of p.space)) (region_rows rows) → AreMarkedBounds limits p gone rows ws rays → ShowsBounds q gone rows ws rays
+    shows_bounds rows ws rays over b = record {
+      certified = all_by_text (region_rows rows) ws (every_of (IsOver (size_of p.space)) (region_rows rows) over) b.bounds.certified;
+      attained = All-weaker (IsRay p) (IsTrueRay q) (λ values r. ray_by_text values r) rays b.bounds.attained;
+      hull = at_question (λ s. IsHull (kept_coordinates s gone) (region_rows rows) rays) b.bounds.hull;
+      needed = b.needed;
+    }
+
+    ends_by_text : (end : OuterView) → SearchEnds (search_without p gone limits) end → Ends limits q gone end
+    ends_by_text end e = subst (λ (r : ProblemView). SearchEnds (search_without r gone limits) end) (one_problem (under_all_lines q) p posed) e
+
+    module _ (k : IsQuestion q) (few_rows : limits.rows ≤ 65535) (asked : q.verb ≡ Eliminate gone) where
+      pub rates_within : All (λ r. r < p.space.rates) gone
+      rates_within = subst (λ (s : Space). All (λ r. r < s.rates) gone) (sym posed.space) (eliminated_rates q gone k asked).within
+
+      pub rows_few : (rows : List Terms) (ws : List CertificateView) (rays : List (List ℤ)) → SearchEnds (search_without p gone limits) (outers.Bounds rows ws rays) → All (IsOver (size_of p.space)) rows × (length rows ≤ 65535)
+      rows_few rows ws rays e =
+          let f = bounds_few (search_without p gone limits) (without_is_search p gone limits posed.limits rates_within (eliminated_rates q gone k asked).some few_rows) (few_rates_kept p.space gone posed.limits.space.few_rates) rows ws rays e in
+          (f.over, f.few)
+
+      asks : eliminated_by q.verb ≡ Some gone
+      asks = ap eliminated_by asked
+
+      due_by_text : (reply : ReplyView) → IsReplyByRows limits p gone reply → IsDue limits q (Some gone) reply
+      due_by_text (Bounded rows ws rays) b = (small_by_problem (under_all_lines q) p posed b.small, ends_by_text (outers.Bounds (region_rows rows) ws rays) b.ends, at_question (λ s. MarksEnd s limits.effort rows) b.marks)
+      due_by_text (Undecided cause) u = (small_by_problem (under_all_lines q) p posed u.0, ends_by_text (outers.Undecided cause) u.1)
+      due_by_text Size large = λ h. large (small_problem (under_all_lines q) h p posed)
+      due_by_text Other x = absurd x
+
+      shows_by_text : (reply : ReplyView) → IsReplyByRows limits p gone reply → ShowsReply q reply
+      shows_by_text (Bounded rows ws rays) b = (gone, asks, shows_bounds rows ws rays (rows_few (region_rows rows) ws rays b.ends).0 b)
+      shows_by_text (Undecided cause) u = tt
+      shows_by_text Size large = tt
+      shows_by_text Other x = absurd x
+
+      pub right_bound : (reply : ReplyView) → IsReplyByRows limits p gone reply → IsRightReply limits q reply
+      right_bound reply r = record { shows = shows_by_text reply r; due = subst (λ (a : Option (List ℕ)). IsDue limits q a reply) (sym asks) (due_by_text reply r) }
+
+-- a question that asks to eliminate no rates has the other reply
+pub other_is_right : (limits : Limits) (q : BodyView) (verb : VerbView) → q.verb ≡ verb → eliminated_by verb ≡ None → IsRightReply limits q Other
+other_is_right limits q verb is none = let asks : eliminated_by q.verb ≡ None = ap eliminated_by is ∙ none in record {
+  shows = asks;
+  due = subst (λ (a : Option (List ℕ)). IsDue limits q a Other) (sym asks) tt;
+}
