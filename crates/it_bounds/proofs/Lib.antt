@@ -4,4 +4,4 @@ pub mod UniqueLemmas
 pub mod RightLemmas
 pub mod TruthLemmas
 pub mod PrintLemmas
-pub mod RayLemmas
+pub mod LineLemmas

@@ -1,19 +1,24 @@
 -- Marks of rows, by a reduction where all variables are constant.
 use Rattle.std.proofs.Common.{◌≡◌, ℕ, suc, ◌≤◌, ◌<◌, ◌-◌, ℤ, neg_ℤ, pos, ◌≤ℤ◌, List, [], ◌∷◌, ◌++◌, map, length, refl, sym, ap, ap₂, subst, ◌∙◌, arith, All}
+use Rattle.std.proofs.lemmas.List.{length-map}
 use Rattle.std.proofs.lemmas.List.Elements.{All-nil, All-cons, All-head, All-tail}
 use Rattle.it_space.specs.declared.answers.Mark.{Mark}
 use Rattle.it_space.specs.declared.answers.Mark.TheVariants as marks
 use Rattle.it_space.specs.declared.spaces.Space.{Space}
 use Rattle.it_space.specs.Answers.{CertificateView}
-use Rattle.it_space.specs.Problems.{ProblemView}
-use Rattle.it_space.specs.Rows.{Terms, point_of}
+use Rattle.it_space.specs.declared.problems.System.{System}
+use Rattle.it_space.specs.Problems.{IsProblem, ProblemView}
+use Rattle.it_space.specs.Rows.{IsOver, Terms, point_of}
+use Rattle.it_space.specs.Spaces.{IsSpace, size_of}
 use Rattle.it_eliminate.proofs.MemberLemmas.{all_back}
 use Rattle.it_prove.specs.declared.types.Effort.{Effort}
 use Rattle.it_prove.specs.ProofViews as proofs
 use Rattle.it_prove.specs.ProofViews.{ProofView}
-use Rattle.it_redundant.specs.Reduction.{NeedView, Needed, Unsettled, Reduces, kept_by, dropped_by, kept_rows}
+use Rattle.it_redundant.specs.declared.types.Reduced.{Reduced}
+use Rattle.it_redundant.specs.Reduction.{IsSystemUnder, NeedView, Needed, Unsettled, Reduces, dropped_by, dropped_view, kept_by, kept_rows, kept_view}
 use Rattle.it_redundant.specs.Theorems.{AreNeeded, IsNeeded}
 use Rattle.it_outer.specs.Outer.{constants}
+use Rattle.it_outer.proofs.ConstantLemmas.{constants_are_problem, few_constants}
 use Rattle.it_answer.specs.DueEliminations.{mark_of_need, marked_rows}
 use Rattle.it_answer.specs.Truth.{region_rows}
 use Rattle.it_bounds.specs.RightReplies.{MarksEnd}
@@ -46,20 +51,33 @@ record IsSplit (kept : List (Terms × NeedView)) (before after : List (Mark × T
   last_is : after ≡ marked_rows last
   mark_is : mark ≡ mark_of_need need
 
+first_of : (x y : Mark × Terms) (xs ys : List (Mark × Terms)) → x ∷ xs ≡ y ∷ ys → x ≡ y
+first_of x y xs ys e = cc
+
+rest_of : (x y : Mark × Terms) (xs ys : List (Mark × Terms)) → x ∷ xs ≡ y ∷ ys → xs ≡ ys
+rest_of x y xs ys e = cc
+
 split_marked : (kept : List (Terms × NeedView)) (before after : List (Mark × Terms)) (mark : Mark) (row : Terms) → marked_rows kept ≡ before ++ (mark, row) ∷ after → IsSplit kept before after mark row
 split_marked [] [] after mark row e = absurd (cc)
 split_marked [] (b ∷ before) after mark row e = absurd (cc)
 split_marked ((r, need) ∷ kept) [] after mark row e =
-    let row_is : r ≡ row = cc in
-    record { first = []; last = kept; need = need; kept_is = ap (λ (x : Terms). (x, need) ∷ kept) row_is; first_is = refl; last_is = (let k : after ≡ marked_rows kept = cc in k); mark_is = (let k : mark ≡ mark_of_need need = cc in k) }
+    let one : (mark_of_need need, r) ≡ (mark, row) = first_of (mark_of_need need, r) (mark, row) (marked_rows kept) after e in record {
+      first = [];
+      last = kept;
+      need = need;
+      kept_is = ap (λ (x : Mark × Terms). (x.1, need) ∷ kept) one;
+      first_is = refl;
+      last_is = sym (rest_of (mark_of_need need, r) (mark, row) (marked_rows kept) after e);
+      mark_is = sym (ap (λ (x : Mark × Terms). x.0) one);
+    }
 split_marked ((r, need) ∷ kept) (b ∷ before) after mark row e =
-    let s = split_marked kept before after mark row (let k : marked_rows kept ≡ before ++ (mark, row) ∷ after = cc in k) in
-    let b_is : b ≡ (mark_of_need need, r) = cc in record {
+    let s = split_marked kept before after mark row (rest_of (mark_of_need need, r) b (marked_rows kept) (before ++ (mark, row) ∷ after) e) in
+    let one : b ≡ (mark_of_need need, r) = sym (first_of (mark_of_need need, r) b (marked_rows kept) (before ++ (mark, row) ∷ after) e) in record {
       first = (r, need) ∷ s.first;
       last = s.last;
       need = s.need;
       kept_is = ap (λ (ks : List (Terms × NeedView)). (r, need) ∷ ks) s.kept_is;
-      first_is = ap₂ (λ (x : Mark × Terms) (xs : List (Mark × Terms)). x ∷ xs) b_is s.first_is;
+      first_is = ap₂ (λ (x : Mark × Terms) (xs : List (Mark × Terms)). x ∷ xs) one s.first_is;
       last_is = s.last_is;
       mark_is = s.mark_is;
     }
@@ -84,7 +102,7 @@ marked_by_needs s effort rows kept dropped none red needed =
     let same : region_rows (marked_rows kept) ≡ rows = rows_of_marked kept ∙ all_stay (constants s) effort [] rows kept dropped none red in
     record {
       same = same;
-      ends = (kept, [], (subst (λ (rs : List Terms). Reduces (constants s) effort [] rs kept []) (sym same) (subst (λ (ds : List (Terms × CertificateView)). Reduces (constants s) effort [] rows kept ds) none red), refl));
+      ends = (kept, [], subst (λ (rs : List Terms). Reduces (constants s) effort [] rs kept []) (sym same) (subst (λ (ds : List (Terms × CertificateView)). Reduces (constants s) effort [] rows kept ds) none red), refl);
       needed = marked_are_needed (constants s) kept needed;
     }
 
@@ -113,7 +131,7 @@ pub marked_unsettled : (s : Space) (effort : Effort) (rows : List Terms) (kept :
 marked_unsettled s effort rows kept [] some red = absurd (some refl)
 marked_unsettled s effort rows kept (d ∷ dropped) some red = record {
   same = rows_unsettled rows;
-  ends = (kept, d ∷ dropped, (subst (λ (rs : List Terms). Reduces (constants s) effort [] rs kept (d ∷ dropped)) (sym (rows_unsettled rows)) red, are_unsettled rows));
+  ends = (kept, d ∷ dropped, subst (λ (rs : List Terms). Reduces (constants s) effort [] rs kept (d ∷ dropped)) (sym (rows_unsettled rows)) red, are_unsettled rows);
   needed = none_needed (all_unsettled rows) (are_unsettled rows);
 }
 
@@ -129,3 +147,33 @@ same_unsettled ((m, r) ∷ xs) ((n, t) ∷ ys) e a b =
     let row_is : r ≡ t = cc in
     ap₂ (λ (z : Mark × Terms) (zs : List (Mark × Terms)). z ∷ zs) (ap₂ (λ (k : Mark) (w : Terms). (k, w)) (m_is ∙ sym n_is) row_is)
     (same_unsettled xs ys (let k : region_rows xs ≡ region_rows ys = cc in k) (All-tail (λ (row : Mark × Terms). row.0 ≡ marks.Unsettled) (m, r) xs a) (All-tail (λ (row : Mark × Terms). row.0 ≡ marks.Unsettled) (n, t) ys b))
+
+-- ---- what a reduction gives
+
+-- rows of a space as a system under its problem in which all variables are constant
+pub system_under : (s : Space) (q : ProblemView) (rows : List Terms) (t : System) → IsSpace s → q ≡ constants s → t.space ≡ s → t.rows.items ≡ rows → All (IsOver (size_of s)) rows → IsSystemUnder q t
+system_under s q rows t h is same own over = record {
+  system = record {
+    space = subst (λ (x : Space). IsSpace x) (sym same) h;
+    rows = subst (λ (x : Space). All (IsOver (size_of x)) t.rows.items) (sym same) (subst (λ (rs : List Terms). All (IsOver (size_of s)) rs) (sym own) over);
+  };
+  givens = subst (λ (p : ProblemView). IsProblem p) (sym is) (constants_are_problem s h);
+  space = same ∙ ap (λ (p : ProblemView). p.space) (sym is);
+  few_givens = let k = few_constants s h in let e : length q.constraints ≡ length (constants s).constraints = ap (λ (p : ProblemView). length p.constraints) is in omega (arith, k, e);
+}
+
+module _ (s : Space) (effort : Effort) (q : ProblemView) (rows own : List Terms) (r : Reduced) (is : q ≡ constants s) (same : own ≡ rows) (red : Reduces q effort [] own (kept_view r) (dropped_view r)) where
+  reduces_constants : Reduces (constants s) effort [] rows (kept_view r) (dropped_view r)
+  reduces_constants = subst (λ (p : ProblemView). Reduces p effort [] rows (kept_view r) (dropped_view r)) is (subst (λ (rs : List Terms). Reduces q effort [] rs (kept_view r) (dropped_view r)) same red)
+
+  pub marked_where_none : AreNeeded q (kept_view r) → length r.dropped.items ≡ 0 → (marked : List (Mark × Terms)) → marked ≡ marked_rows (kept_view r) → AreMarked s effort rows marked
+  marked_where_none needed none marked are = subst (λ (ms : List (Mark × Terms)). AreMarked s effort rows ms) (sym are)
+      (marked_by_needs s effort rows (kept_view r) (dropped_view r) (no_items (dropped_view r) (length-map r.dropped.items _ ∙ none)) reduces_constants (subst (λ (p : ProblemView). AreNeeded p (kept_view r)) is needed))
+    where
+      no_items : {A : Type 0} (xs : List A) → length xs ≡ 0 → xs ≡ []
+      no_items [] e = refl
+      no_items (x ∷ xs) e = absurd (omega (arith, e))
+
+  pub marked_where_some : (length r.dropped.items ≡ 0 → ⊥) → (marked : List (Mark × Terms)) → marked ≡ all_unsettled rows → AreMarked s effort rows marked
+  marked_where_some some marked are = subst (λ (ms : List (Mark × Terms)). AreMarked s effort rows ms) (sym are)
+      (marked_unsettled s effort rows (kept_view r) (dropped_view r) (λ e. some (sym (length-map r.dropped.items _) ∙ ap length e)) reduces_constants)

@@ -30,7 +30,6 @@ use Rattle.it_outer.specs.declared.types.OuterCause.TheVariants as causes
 use Rattle.it_outer.specs.Bounds.{IsRay}
 use Rattle.it_outer.specs.Outer.{Undecided as EndsUndecided, Run, cause_view, search_without}
 use Rattle.it_outer.specs.Search.{SearchEnds}
-use Rattle.it_outer.proofs.FrameLemmas.{without_is_search}
 use Rattle.it_answer.specs.Truth.{region_rows}
 use Rattle.it_bounds.specs.declared.types.Reply.{Reply}
 use Rattle.it_bounds.specs.declared.types.Reply.TheVariants as replies
@@ -38,8 +37,8 @@ use Rattle.it_bounds.specs.Lines.{AreOfNames, IsCausePrintable, IsPrintable}
 use Rattle.it_bounds.specs.Replies.{reply_view}
 use Rattle.it_bounds.specs.RowReplies.{IsReplyByRows}
 use Rattle.it_bounds.specs.Truth.{under_all_lines}
-use Rattle.it_bounds.proofs.RightLemmas.{eliminated_rates, rates_within, rows_few}
-use Rattle.it_bounds.proofs.SearchLemmas.{few_rates_kept, run_over}
+use Rattle.it_bounds.proofs.RightLemmas.{eliminated_rates, rates_within}
+use Rattle.it_bounds.proofs.SearchLemmas.{bounds_over, cause_over}
 
 -- ---- certificates
 
@@ -85,7 +84,7 @@ module _ (q : BodyView) (p : ProblemView) (posed : IsProblemOf (under_all_lines 
 
   cause_printable : (cause : OuterCause) → SearchEnds (search_without p gone limits) (EndsUndecided (cause_view cause)) → IsCausePrintable (problem_names q) cause
   cause_printable (causes.Run row cause) e =
-      let r = run_over (search_without p gone limits) (without_is_search p gone limits posed.limits (rates_within q p posed limits gone k few_rows asked) (eliminated_rates q gone k asked).some few_rows) (few_rates_kept p.space gone posed.limits.space.few_rates) row cause e in
+      let r = cause_over p gone limits posed.limits (rates_within q p posed limits gone k few_rows asked) (eliminated_rates q gone k asked).some few_rows row cause e in
       (row_of_names (problem_names q) row (at_names (λ s. IsOver (size_of s) row) r.0), r.1)
   cause_printable causes.Rows e = tt
   cause_printable causes.Width e = tt
@@ -94,14 +93,10 @@ module _ (q : BodyView) (p : ProblemView) (posed : IsProblemOf (under_all_lines 
   pub reply_printable : (reply : Reply) → IsReplyByRows limits p gone (reply_view reply) → IsPrintable q (length p.constraints) reply
   reply_printable (replies.Bounded rows proofs rays) b = (
     as_many p rows.items proofs.items b.bounds.certified,
-    (
-      rows_of_names (problem_names q) rows.items (at_names (λ s. All (IsOver (size_of s)) (region_rows rows.items)) (rows_few q p posed limits gone k few_rows asked (region_rows rows.items) _ _ b.ends).0),
-      (
-        at_names (λ s. AreListed s.variables (length p.constraints) proofs.items)
-            (all_of (λ (c : Certificate). All (λ w. w.0 < length (elementals p.space.variables) + length p.constraints) c.weights.items) proofs.items (listed_all p (region_rows rows.items) proofs.items b.bounds.certified)),
-        All-weaker (IsRay p) (λ (values : List ℤ). length values ≡ size_of (space_of (problem_names q))) (λ values r. r.complete ∙ ap size_of own_space) rays.items b.bounds.attained,
-      ),
-    ),
+    rows_of_names (problem_names q) rows.items (at_names (λ s. All (IsOver (size_of s)) (region_rows rows.items)) (bounds_over p gone limits posed.limits (rates_within q p posed limits gone k few_rows asked) (eliminated_rates q gone k asked).some few_rows (region_rows rows.items) _ _ b.ends).0),
+    at_names (λ s. AreListed s.variables (length p.constraints) proofs.items)
+    (all_of (λ (c : Certificate). All (λ w. w.0 < length (elementals p.space.variables) + length p.constraints) c.weights.items) proofs.items (listed_all p (region_rows rows.items) proofs.items b.bounds.certified)),
+    All-weaker (IsRay p) (λ (values : List ℤ). length values ≡ size_of (space_of (problem_names q))) (λ values r. r.complete ∙ ap size_of own_space) rays.items b.bounds.attained,
   )
   reply_printable (replies.Undecided cause) u = cause_printable cause u.1
   reply_printable replies.Size large = tt

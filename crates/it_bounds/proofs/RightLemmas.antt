@@ -18,11 +18,14 @@ use Rattle.it_question.specs.Limits.{AreRatesOf, IsQuestion, IsVerbOver}
 use Rattle.it_question.specs.Questions.{BodyView, VerbView, Prove, Eliminate, Contain}
 use Rattle.it_question.specs.ProblemLines.{problem_lines, problem_names}
 use Rattle.it_question.specs.TableSizes.{HasSmallTable, most_entries}
+use Rattle.it_question.specs.LineDemands.{line_demands}
+use Rattle.it_question.specs.LineOrigins.{line_origins}
+use Rattle.it_demand.specs.Origins.{AreStated}
 use Rattle.it_demand.specs.QuestionSpaces.{space_of}
-use Rattle.it_canon.specs.QuestionDemands.{IsProblemOf, problem_of, question_demands}
+use Rattle.it_canon.specs.QuestionDemands.{IsProblemOf, problem_of, question_demands, question_origins}
 use Rattle.it_canon.specs.TrueLines.{AreTrueAt, AreTrueTogether, variable_count}
 use Rattle.it_canon.proofs.PosesLemmas.{one_problem}
-use Rattle.it_canon.proofs.ProblemLemmas.{question_met}
+use Rattle.it_canon.proofs.ProblemLemmas.{question_met, question_problem}
 use Rattle.it_canon.proofs.SmallProblems.{small_by_problem, small_problem}
 use Rattle.it_hull.specs.Hulls.{IsHull}
 use Rattle.it_hull.specs.Theorems.{MeetsProblem}
@@ -32,7 +35,6 @@ use Rattle.it_outer.specs.Bounds.{IsRay}
 use Rattle.it_outer.specs.Outer.{CauseView, OuterView, Run, kept_coordinates, search_without}
 use Rattle.it_outer.specs.Outer as outers
 use Rattle.it_outer.specs.Search.{SearchEnds}
-use Rattle.it_outer.proofs.FrameLemmas.{without_is_search}
 use Rattle.it_answer.specs.Forms.{Certifies, CertifiesForm, CertifyAll, all_demands}
 use Rattle.it_answer.specs.Truth.{region_rows}
 use Rattle.it_answer.proofs.FormLemmas.{by_forms, generators_speak, rows_add_up}
@@ -40,7 +42,7 @@ use Rattle.it_bounds.specs.Replies.{ReplyView, Bounded, Undecided, Size, Other}
 use Rattle.it_bounds.specs.RightReplies.{Ends, IsDue, IsRightReply, MarksEnd, ShowsBounds, ShowsReply}
 use Rattle.it_bounds.specs.RowReplies.{AreMarkedBounds, IsReplyByRows}
 use Rattle.it_bounds.specs.Truth.{IsTrueRay, eliminated_by, kept_rates, under_all_lines}
-use Rattle.it_bounds.proofs.SearchLemmas.{AreFew, bounds_few, few_rates_kept}
+use Rattle.it_bounds.proofs.SearchLemmas.{bounds_over}
 
 -- the question with all its lines given is within the limits too
 pub all_lines_question : (q : BodyView) → IsQuestion q → IsQuestion (under_all_lines q)
@@ -55,6 +57,13 @@ all_lines_question q k = record {
 -- the rates that a question eliminates are among its own, and at least one
 pub eliminated_rates : (q : BodyView) (gone : List ℕ) → IsQuestion q → q.verb ≡ Eliminate gone → AreRatesOf (length q.names.rates) gone
 eliminated_rates q gone k e = subst (λ (v : VerbView). IsVerbOver q.names v) e k.verb
+
+-- constraints that state what all lines demand are the problem that these pose
+pub posed_by_lines : (q : BodyView) (p : ProblemView) → IsQuestion q → p.space ≡ space_of q.names → AreStated p.space (line_origins p.space.variables q.lines) (line_demands p.space.variables q.lines) p.constraints → IsProblemOf (under_all_lines q) p
+posed_by_lines q p k same stated =
+    let own : AreStated p.space (question_origins (under_all_lines q)) (question_demands (under_all_lines q)) p.constraints =
+        subst (λ (s : Space). AreStated p.space (line_origins s.variables q.lines) (line_demands s.variables q.lines) p.constraints) same stated in
+    record { space = same; limits = question_problem (under_all_lines q) p (all_lines_question q k) same own; constraints = own }
 
 module _ (q : BodyView) (p : ProblemView) (posed : IsProblemOf (under_all_lines q) p) where
   at_question : (P : Space → Type 0) → P p.space → P (space_of q.names)
@@ -106,10 +115,8 @@ module _ (q : BodyView) (p : ProblemView) (posed : IsProblemOf (under_all_lines 
       pub rates_within : All (λ r. r < p.space.rates) gone
       rates_within = subst (λ (s : Space). All (λ r. r < s.rates) gone) (sym posed.space) (eliminated_rates q gone k asked).within
 
-      pub rows_few : (rows : List Terms) (ws : List CertificateView) (rays : List (List ℤ)) → SearchEnds (search_without p gone limits) (outers.Bounds rows ws rays) → All (IsOver (size_of p.space)) rows × (length rows ≤ 65535)
-      rows_few rows ws rays e =
-          let f = bounds_few (search_without p gone limits) (without_is_search p gone limits posed.limits rates_within (eliminated_rates q gone k asked).some few_rows) (few_rates_kept p.space gone posed.limits.space.few_rates) rows ws rays e in
-          (f.over, f.few)
+      rows_over : (rows : List Terms) (ws : List CertificateView) (rays : List (List ℤ)) → SearchEnds (search_without p gone limits) (outers.Bounds rows ws rays) → All (IsOver (size_of p.space)) rows
+      rows_over rows ws rays e = (bounds_over p gone limits posed.limits rates_within (eliminated_rates q gone k asked).some few_rows rows ws rays e).0
 
       asks : eliminated_by q.verb ≡ Some gone
       asks = ap eliminated_by asked
@@ -121,7 +128,7 @@ module _ (q : BodyView) (p : ProblemView) (posed : IsProblemOf (under_all_lines 
       due_by_text Other x = absurd x
 
       shows_by_text : (reply : ReplyView) → IsReplyByRows limits p gone reply → ShowsReply q reply
-      shows_by_text (Bounded rows ws rays) b = (gone, asks, shows_bounds rows ws rays (rows_few (region_rows rows) ws rays b.ends).0 b)
+      shows_by_text (Bounded rows ws rays) b = (gone, asks, shows_bounds rows ws rays (rows_over (region_rows rows) ws rays b.ends) b)
       shows_by_text (Undecided cause) u = tt
       shows_by_text Size large = tt
       shows_by_text Other x = absurd x

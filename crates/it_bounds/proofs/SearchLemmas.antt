@@ -1,5 +1,5 @@
 -- What holds of each hull of a search holds where it ends.
-use Rattle.std.proofs.Common.{◌≡◌, inl, inr, ℕ, zero, suc, ◌+◌, ◌-◌, ◌*◌, ◌^◌, ◌≤◌, ℤ, List, [], ◌∷◌, ◌++◌, length, Bool, true, false, if◌then◌else◌, nat_eq, refl, sym, ap, subst, arith, length-append, All, None}
+use Rattle.std.proofs.Common.{◌≡◌, inl, inr, ℕ, zero, suc, ◌+◌, ◌-◌, ◌*◌, ◌^◌, ◌≤◌, ◌<◌, ℤ, List, [], ◌∷◌, ◌++◌, length, Bool, true, false, if◌then◌else◌, nat_eq, refl, sym, ap, subst, arith, length-append, All, None}
 use Rattle.std.specs.List.{list_any}
 use Rattle.std.proofs.lemmas.Nat.{pow_pos}
 use Rattle.std.proofs.lemmas.List.{length-map}
@@ -8,7 +8,7 @@ use Rattle.it_space.specs.Answers.{CertificateView}
 use Rattle.it_space.specs.declared.answers.Cause.{Cause}
 use Rattle.it_space.specs.declared.answers.Cause.TheVariants.{Pivots, Width as WideStep, Scale, Rows as RowsOfRate, WideRate}
 use Rattle.it_space.specs.declared.spaces.Space.{Space}
-use Rattle.it_space.specs.Problems.{ProblemView}
+use Rattle.it_space.specs.Problems.{IsProblem, ProblemView}
 use Rattle.it_space.specs.Rows.{Terms, IsOver, point_of}
 use Rattle.it_space.specs.Spaces.{size_of}
 use Rattle.it_run.specs.Runs.{RunEndView}
@@ -26,17 +26,19 @@ use Rattle.it_redundant.proofs.ReductionLemmas.{all_kept}
 use Rattle.it_hull.specs.Hulls.{first_rows, rows_with_multiplier}
 use Rattle.it_hull.specs.Rays.{RayEnds}
 use Rattle.it_hull.proofs.RayLemmas.{multiplier_over}
-use Rattle.it_outer.specs.Outer.{Search, OuterView, Bounds, Undecided, CauseView, Run, Rows, Width, Rays, constants, kept_coordinates, rates_left}
+use Rattle.it_outer.specs.Outer.{Search, OuterView, Bounds, Undecided, CauseView, Run, Rows, Width, Rays, constants, kept_coordinates, rates_left, search_without}
+use Rattle.it_outer.specs.declared.types.Limits.{Limits}
 use Rattle.it_outer.specs.Search.{Proved, Refuted, Left, IsFirstWith, HullView, Hull, TooMany, TooWide, AfterStep, NextHull, PassEnds, HullEnds, PassWithEnds, SecondEnds, SearchEnds}
 use Rattle.it_outer.specs.Theorems.{IsSearch}
 use Rattle.it_outer.proofs.BoundLemmas.{first_rows_over}
+use Rattle.it_outer.proofs.FrameLemmas.{without_is_search}
 use Rattle.it_bounds.specs.Lines.{IsOfRun}
 
 -- ---- hull by hull
 
 module _ (s : Search) (P : List Terms → Type 0) (first : P (first_rows s.kept)) (more_ray : (rows next : List Terms) (ray : List ℤ) → P rows → NextHull s rows ray (Hull next) → P next) where
   -- it holds of the rows of bounds, and of those among which a run has no end
-  abbrev pub HoldsOf : OuterView → Type 0
+  abbrev HoldsOf : OuterView → Type 0
   HoldsOf (Bounds rows ws rays) = P rows
   HoldsOf (Undecided (Run row cause)) = (rows : List Terms) × P rows × IsFirstWith s.problem s.limits.effort rows row (proofs.Undecided cause)
   HoldsOf (Undecided Rows) = Unit {0}
@@ -75,13 +77,13 @@ module _ (s : Search) (P : List Terms → Type 0) (first : P (first_rows s.kept)
   of_second (Bounds rows ws rays) end h (inr e) = of_pass_with _ end e.1
   of_second (Undecided cause) end h e = by_same end (Undecided cause) e h
 
-  pub of_search : (end : OuterView) → SearchEnds s end → HoldsOf end
+  of_search : (end : OuterView) → SearchEnds s end → HoldsOf end
   of_search end (one, p, e) = of_second one end (of_pass_with [] one p) e
 
 -- ---- why a run has no end
 
 -- a run's cause is none of a rate
-pub cause_of_run : (q : ProblemView) (row : Terms) (effort : Effort) (cause : Cause) → EndsWith q row effort (proofs.Undecided cause) → IsOfRun cause
+cause_of_run : (q : ProblemView) (row : Terms) (effort : Effort) (cause : Cause) → EndsWith q row effort (proofs.Undecided cause) → IsOfRun cause
 cause_of_run q row effort cause (inl e) = by_end e.end e.follows
   where
     by_cause : (other : Cause) → IsOfRun other → proofs.Undecided cause ≡ proofs.Undecided other → IsOfRun cause
@@ -139,9 +141,9 @@ first_count (c ∷ cs) = let e = first_count cs in omega (arith, e)
 
 module _ (s : Search) (h : IsSearch s) (few_kept : length s.kept ≤ 16) where
   -- rows of the space, few enough for a reduction
-  pub record AreFew (rows : List Terms) : Type 0 where
-    pub over : All (IsOver (size_of s.problem.space)) rows
-    pub few : length rows ≤ 65535
+  record AreFew (rows : List Terms) : Type 0 where
+    over : All (IsOver (size_of s.problem.space)) rows
+    few : length rows ≤ 65535
 
   first_few : AreFew (first_rows s.kept)
   first_few = record { over = first_rows_over s h; few = let e = first_count s.kept in omega (arith, e, few_kept) }
@@ -168,11 +170,11 @@ module _ (s : Search) (h : IsSearch s) (few_kept : length s.kept ≤ 16) where
       rows_of_hull : (xs ys : List Terms) → Hull xs ≡ Hull ys → xs ≡ ys
       rows_of_hull xs ys k = cc
 
-  pub bounds_few : (rows : List Terms) (ws : List CertificateView) (rays : List (List ℤ)) → SearchEnds s (Bounds rows ws rays) → AreFew rows
+  bounds_few : (rows : List Terms) (ws : List CertificateView) (rays : List (List ℤ)) → SearchEnds s (Bounds rows ws rays) → AreFew rows
   bounds_few rows ws rays e = of_search s AreFew first_few next_few (Bounds rows ws rays) e
 
   -- the row of a run without an end is of the space, and the cause is of a run
-  pub run_over : (row : Terms) (cause : Cause) → SearchEnds s (Undecided (Run row cause)) → IsOver (size_of s.problem.space) row × IsOfRun cause
+  run_over : (row : Terms) (cause : Cause) → SearchEnds s (Undecided (Run row cause)) → IsOver (size_of s.problem.space) row × IsOfRun cause
   run_over row cause e =
       let f = of_search s AreFew first_few next_few (Undecided (Run row cause)) e in
       let first = f.2 in (
@@ -181,5 +183,13 @@ module _ (s : Search) (h : IsSearch s) (few_kept : length s.kept ≤ 16) where
       )
 
 -- at most 16 rates stay
-pub few_rates_kept : (s : Space) (gone : List ℕ) → s.rates ≤ 16 → length (kept_coordinates s gone) ≤ 16
+few_rates_kept : (s : Space) (gone : List ℕ) → s.rates ≤ 16 → length (kept_coordinates s gone) ≤ 16
 few_rates_kept s gone l = let k = few_left gone 0 s.rates in let e = length-map (rates_left gone 0 s.rates) (λ r. 2 ^ s.variables + r) in omega (arith, k, e, l)
+
+module _ (p : ProblemView) (gone : List ℕ) (limits : Limits) (h : IsProblem p) (within : All (λ r. r < p.space.rates) gone) (some : 1 ≤ length gone) (few_rows : limits.rows ≤ 65535) where
+  pub bounds_over : (rows : List Terms) (ws : List CertificateView) (rays : List (List ℤ)) → SearchEnds (search_without p gone limits) (Bounds rows ws rays) → All (IsOver (size_of p.space)) rows × (length rows ≤ 65535)
+  bounds_over rows ws rays e =
+      let f = bounds_few (search_without p gone limits) (without_is_search p gone limits h within some few_rows) (few_rates_kept p.space gone h.space.few_rates) rows ws rays e in (f.over, f.few)
+
+  pub cause_over : (row : Terms) (cause : Cause) → SearchEnds (search_without p gone limits) (Undecided (Run row cause)) → IsOver (size_of p.space) row × IsOfRun cause
+  cause_over row cause e = run_over (search_without p gone limits) (without_is_search p gone limits h within some few_rows) (few_rates_kept p.space gone h.space.few_rates) row cause e

@@ -7,7 +7,7 @@ ghost use Rattle.it_redundant.specs.Reduction.{need_view};
 ghost use Rattle.it_answer.specs.DueEliminations.{mark_of_need, marked_rows};
 ghost use Rattle.it_bounds.specs.RowReplies.{AreMarked};
 
-use it_outer::constants;
+use it_outer::constants::constants;
 use it_prove::Effort;
 use it_redundant::{Need, reduce};
 use it_space::{Mark, Row, Space, System};

@@ -1,7 +1,7 @@
 //! Outer bounds in rates alone: rows with certificates that are the hull of rays, each of which meets the problem.
 #![tactic(auto)]
 
-mod constants;
+pub mod constants;
 mod coordinates;
 mod extremes;
 mod hulls;
@@ -12,6 +12,5 @@ mod search;
 mod types;
 mod visits;
 
-pub use constants::constants;
 pub use search::outer;
 pub use types::{Bounds, Limits, Outer, OuterCause};

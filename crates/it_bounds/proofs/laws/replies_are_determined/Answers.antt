@@ -1,0 +1,8 @@
+use Rattle.it_bounds.proofs.UniqueLemmas.{never_out_of_steps, one_right_reply}
+use Rattle.it_bounds.proofs.laws.replies_are_determined.Goals as goal
+
+pub returns-clause-one : goal.returns-clause-one
+returns-clause-one c = one_right_reply
+
+pub returns-clause-steps : goal.returns-clause-steps
+returns-clause-steps c = never_out_of_steps
