@@ -11,9 +11,9 @@ from fractions import Fraction
 from math import gcd, lcm
 
 from closures import closure, dependences
-from cones import generators, lowest, rows_of
+from cones import echelon, generators, lowest, product, reduced, rows_of
 from questions import Scope, row_of
-from verify import point_fault, sum_fault
+from verify import near_point_fault, sum_fault
 
 
 def with_all_lines(question):
@@ -26,12 +26,15 @@ def with_all_lines(question):
 def kept_rates(question):
     return [at for at in range(2 ** len(question.names), question.size() + 1) if at not in question.eliminated]
 
+# so many columns at once are asked what they are worth
+BLOCK = 64
+
 
 class Certificate:
     """Weights of generators that are to make a scale's multiple of a row, over all sets."""
 
     def __init__(self, scope, found):
-        self.scope, self.found, self.weights = scope, found, {}
+        self.scope, self.found, self.weights, self.generators = scope, found, {}, scope.generators()
         self.places = {tuple(g.row.items()): i for i, g in enumerate(scope.elementals())}
         self.first = len(self.places)
 
@@ -81,7 +84,7 @@ class Certificate:
         """What is left to make the row: the same value at each closed set, so each set is told by its closure."""
         terms = [(scale * c, at) for at, c in row.items()]
         for i, weight in self.weights.items():
-            terms += [(-weight * c, at) for at, c in self.scope.generators()[i].row.items()]
+            terms += [(-weight * c, at) for at, c in self.generators[i].row.items()]
         for at, c in row_of(terms).items():
             if c > 0:
                 self.add_closing(c, at)
@@ -95,50 +98,87 @@ def bits(a):
         a &= a - 1
 
 
-class Basis:
-    """Inequalities of which weights of at least 0 are to make a row that is violated at rates x and speaks of nothing else. A row of the
-    inverse, with its right side last, is told up to a positive factor; the prices are a point: values and a multiple of x."""
+class Depth:
+    """How much of some rates d, which are attained, has to be added to rates x until they are attained: the simplex method on the dual. Weights
+    of at least 0 of inequalities speak of no value, have at d together at most 1, and at x as little as may be; the prices are values, how
+    much of d, turned, and a multiple of x, which make true the inequalities that entered. A row of the inverse, with its right side last, and the
+    prices are told up to a positive factor. In each equation a weight of its own may be missing, at a price."""
 
     def __init__(self, columns, prices):
-        self.columns, self.size = columns, len(prices)
-        self.basic = [None] * self.size
-        self.inverse = [[int(i == j) for j in range(self.size)] + [int(i == self.size - 1)] for i in range(self.size)]
-        self.prices = prices + [prices[-1]]
+        """Of each inequality its coefficients by place, and what it is at d and at x."""
+        self.slack = len(prices)
+        self.columns = [[(at, -c) for at, c in [*own, (self.slack, -at_d), (self.slack + 1, at_x)] if c] for own, at_d, at_x in columns]
+        self.basic = [None] * (self.slack + 1)
+        self.inverse = [[int(i == j) for j in range(self.slack + 1)] + [0, int(i == self.slack)] for i in range(self.slack + 1)]
+        self.prices, self.next = [*prices, 0, 1, 0], 0
 
     def entry(self, row, column):
-        return sum(row[at] * c for at, c in column)
+        total = 0
+        for at, c in column:
+            total += row[at] * c
+        return total
+
+    def entering(self):
+        """The column that is worth most among the next ones of which one is worth something, and what it is worth; nothing where none is."""
+        count = len(self.columns)
+        for passed in range(0, count, BLOCK):
+            block = [(self.next + i) % count for i in range(passed, min(passed + BLOCK, count))]
+            worth, column = max((self.entry(self.prices, self.columns[j]), -j) for j in block)
+            if worth > 0:
+                self.next = (block[-1] + 1) % count
+                return -column, worth
+        return None, 0
 
     def leaving(self, entries):
-        """By the lexicographic rule, so that the run ends: the right side first."""
+        """By the lexicographic rule, so that the run ends: the right side first. None where nothing bounds the column's weight."""
         rows, at = [r for r, entry in enumerate(entries) if entry > 0], -1
         while len(rows) > 1:
             ratios = [Fraction(self.inverse[r][at], entries[r]) for r in rows]
             least = min(ratios)
             rows = [r for r, ratio in zip(rows, ratios) if ratio == least]
             at += 1
-        return rows[0]
+        return rows[0] if rows else None
 
-    def pivot(self, column, worth):
-        entries = [self.entry(row, self.columns[column]) for row in self.inverse]
-        r = self.leaving(entries)
+    def pivot(self, column, worth, entries, r):
         row, entry = self.inverse[r], entries[r]
         clear = lambda other, q: lowest_list([entry * x - q * y for x, y in zip(other, row)])
         self.inverse = [clear(other, q) if q and other is not row else other for other, q in zip(self.inverse, entries)]
         self.prices = clear(self.prices, worth)
         self.basic[r] = column
 
+    def own(self, r):
+        """The entry of a row at the column that it determines: 1 of the inverse's own."""
+        return self.entry(self.inverse[r], self.columns[self.basic[r]]) if self.basic[r] is not None else self.inverse[r][r]
+
+    def weights(self, at):
+        """The weight in each row by the numbers of one column, those of inequalities; None where weights were missing."""
+        found = {}
+        for r, row in enumerate(self.inverse):
+            weight = Fraction(at(r, row), self.own(r))
+            if weight and self.basic[r] is not None:
+                found[self.basic[r]] = weight
+            elif weight and r != self.slack:
+                return None
+        return found
+
     def run(self):
-        """("weights", a fraction for each column) or ("point", values and the multiple of x)."""
-        while self.prices[-1]:
-            worth, column = max((self.entry(self.prices, column), -j) for j, column in enumerate(self.columns))
-            if worth <= 0:
-                return "point", self.prices[:-1]
-            self.pivot(-column, worth)
-        weights = {}
-        for row, j in zip(self.inverse, self.basic):
-            if j is not None and row[-1]:
-                weights[j] = Fraction(row[-1], self.entry(row, self.columns[j]))
-        return "weights", weights
+        """("point", values and the multiple of x), ("cut", a weight of each inequality, values, how much of d and the multiple of x), where
+        nothing of d is enough only the weights; or ("missing", None)."""
+        while True:
+            column, worth = self.entering()
+            if column is None:
+                break
+            entries = [self.entry(row, self.columns[column]) for row in self.inverse]
+            r = self.leaving(entries)
+            if r is None:
+                weights = self.weights(lambda r, _: -entries[r])
+                return ("missing", None) if weights is None else ("cut", ({**weights, column: Fraction(1)}, None))
+            self.pivot(column, worth, entries, r)
+        *values, turned, multiple, _ = self.prices
+        if turned == 0:
+            return "point", (values, multiple)
+        weights = self.weights(lambda _, row: row[-1])
+        return ("missing", None) if weights is None else ("cut", (weights, (values, -turned, multiple)))
 
 
 def lowest_list(numbers):
@@ -205,34 +245,42 @@ class Projection:
         plain = [row for row in self.inequalities.values() if not any(at in self.free for at in row)]
         return equations + turned + plain
 
-    def prices(self):
+    def prices(self, factor):
         """Values with which a run begins: those of sets are strictly submodular in the number of their variables."""
         size = lambda at: at.bit_count() if at < 2**self.n else 1
-        return [size(at) * (2 * self.n + 1 - size(at)) for at in self.free] + [1]
+        return [factor * size(at) * (2 * self.n + 1 - size(at)) for at in self.free]
 
-    def attain(self, x):
-        """("point", values of all coordinates with rates that are a multiple of x) or ("row", a row with tags that x violates)."""
-        places, rates = {at: i for i, at in enumerate(self.free)}, dict(zip(self.kept, x))
-        rows = list(self.inequalities.values())
+    def attain(self, x, d):
+        """A point with rates that are a multiple of x, or None, a point with rates between x and d, or None, and a row with tags that x violates."""
+        places, at_x, at_d = {at: i for i, at in enumerate(self.free)}, dict(zip(self.kept, x)), dict(zip(self.kept, d))
+        rows, factor = list(self.inequalities.values()), 1 + max(map(abs, x))
         columns = []
         for row in rows:
-            worth = sum(c * rates[at] for at, c in row.items() if at in rates)
-            columns.append([(places[at], -c) for at, c in row.items() if at in places] + ([(len(self.free), -worth)] if worth else []))
-        end, found = Basis(columns, self.prices()).run()
+            own = [(places[at], c) for at, c in row.items() if at in places]
+            columns.append((own, *(sum(c * rates[at] for at, c in row.items() if at in rates) for rates in (at_d, at_x))))
+        end = "missing"
+        while end == "missing":
+            end, found = Depth(columns, self.prices(factor)).run()
+            factor *= 16
         if end == "point":
-            values = dict(zip(self.free, found)) | {at: found[-1] * c for at, c in rates.items()}
-            return end, self.whole_point(values)
-        scale = lcm(*(weight.denominator for weight in found.values()))
-        return "row", row_of([(int(weight * scale) * c, at) for j, weight in found.items() for at, c in rows[j].items()])
+            values, multiple = found
+            return self.whole_point(values, [multiple * c for c in x]), None, None
+        weights, point = found
+        if point:
+            values, depth, multiple = point
+            point = self.whole_point(values, [multiple * c + depth * e for c, e in zip(x, d)])
+        scale = lcm(*(weight.denominator for weight in weights.values()))
+        return None, point, row_of([(int(weight * scale) * c, at) for j, weight in weights.items() for at, c in rows[j].items()])
 
-    def whole_point(self, values):
-        """The values of the sets and rates that equations express and of sets that aren't closed; checked by the definitions."""
+    def whole_point(self, values, rates):
+        """All values by those of the coordinates that are free and the rates that stay; checked by the definitions."""
+        values = dict(zip(self.free + self.kept, [*values, *rates]))
         for at, row in self.equations:
             if at not in values:
                 values[at] = Fraction(-sum(c * values.get(of, 0) for of, c in row.items() if at != of <= self.size), row[at])
         scale = lcm(*(Fraction(value).denominator for value in values.values()))
         whole = {at: int(values.get(self.place(at), 0) * scale) for at in range(1, self.size + 1)}
-        assert not point_fault(self.scope, whole)
+        assert not near_point_fault(self.scope, whole)
         return whole
 
     def certificate(self, row):
@@ -255,22 +303,25 @@ class Bound:
     def __init__(self, question):
         self.question, self.kept = question, kept_rates(question)
         projection = Projection(question)
-        self.points, self.programs, dimension = {}, 0, len(self.kept)
-        rows = projection.first_rows()
-        while True:
+        self.programs, dimension = 0, len(self.kept)
+        rows, attained, inside = projection.first_rows(), set(), []
+        cut = True
+        while cut:
+            cut = False
             self.lines, self.rays = generators([projection.vector(row) for row in rows], dimension)
-            cuts = []
             for x in self.rays + [tuple(s * c for c in line) for line in self.lines for s in (1, -1)]:
-                if x not in self.points:
-                    self.programs += 1
-                    end, found = projection.attain(x)
-                    if end == "row":
-                        cuts.append(found)
-                    else:
-                        self.points[x] = found
-            if not cuts:
-                break
-            rows += cuts
+                if x in attained or any(product(projection.vector(row), x) < 0 for row in rows):
+                    continue
+                self.programs += 1
+                point, other, row = projection.attain(x, [sum(of) for of in zip(*inside)] or x)
+                if point:
+                    attained.add(x)
+                else:
+                    rows.append(row)
+                    cut = True
+                if point or other:
+                    vector = lowest([(point or other)[at] for at in self.kept])
+                    inside += [vector] if any(reduced(vector, echelon(inside))) else []
         self.certified = [projection.certificate(row) for row in rows]
         self.equations, self.rows = rows_of(self.lines, self.rays, dimension)
         assert all(lowest(x) == x for x in self.rays + self.rows)
