@@ -103,3 +103,24 @@ def classes(vectors, span):
     """The vectors up to positive factors and up to the span of others, without those in the span."""
     span = echelon(span)
     return {rest for rest in (reduced(vector, span) for vector in vectors) if any(rest)}
+
+
+def normal(span):
+    """Vectors that are determined by what they span."""
+    found = []
+    for place, vector in sorted(echelon(span)):
+        found.append(vector if vector[place] > 0 else tuple(-x for x in vector))
+    return found
+
+
+def form_of_rows(rows, dimension):
+    """Equations and rows up to them: the same for two lists that say the same without a row too many."""
+    equations, _ = rows_of(*generators(rows, dimension), dimension)
+    return normal(equations), classes(rows, equations)
+
+
+def form_of_rays(rays, dimension):
+    """Lines and rays up to them: the same for two lists that generate the same without a ray too many."""
+    equations, rows = rows_of([], rays, dimension)
+    lines, _ = generators([*equations, *(tuple(-x for x in row) for row in equations), *rows], dimension)
+    return normal(lines), classes(rays, lines)

@@ -11,7 +11,8 @@ from fractions import Fraction
 from math import gcd, lcm
 
 from closures import closure, dependences
-from cones import echelon, generators, lowest, product, reduced, rows_of
+from cones import echelon, generators, lowest, normal, product, reduced, rows_of
+from eliminate import row_text
 from questions import Scope, row_of
 from verify import near_point_fault, sum_fault
 
@@ -81,15 +82,21 @@ class Certificate:
             a |= d.to
 
     def add_rest(self, row, scale):
-        """What is left to make the row: the same value at each closed set, so each set is told by its closure."""
+        """What is left to make the row, which is nothing once each set is told by its closure, and the empty set's closure by the empty set."""
         terms = [(scale * c, at) for at, c in row.items()]
         for i, weight in self.weights.items():
             terms += [(-weight * c, at) for at, c in self.generators[i].row.items()]
         for at, c in row_of(terms).items():
-            if c > 0:
+            closed = closure(self.found, at)
+            is_constant = closed == closure(self.found, 0)
+            if c > 0 and is_constant:
+                self.add_rise(c, 0, at)
+            elif c > 0:
                 self.add_closing(c, at)
             else:
-                self.add_rise(-c, at, closure(self.found, at))
+                self.add_rise(-c, at, closed)
+            if c < 0 and is_constant:
+                self.add_closing(-c, 0)
 
 
 def bits(a):
@@ -325,3 +332,15 @@ class Bound:
         self.certified = [projection.certificate(row) for row in rows]
         self.equations, self.rows = rows_of(self.lines, self.rays, dimension)
         assert all(lowest(x) == x for x in self.rays + self.rows)
+
+    def told(self, number):
+        """What is told of the bound: rays and rows in lowest terms, in the order of their numbers."""
+        rate = lambda at: self.question.coordinate_text(at)
+        rates = lambda x: " ".join(f"{rate(at)}={c}" for at, c in zip(self.kept, x))
+        row = lambda x: row_text(self.question, {at: c for at, c in zip(self.kept, x) if c})
+        lines = [f"cone {len(self.equations)} equations {len(self.rows)} rows {len(self.lines)} lines {len(self.rays)} rays"]
+        lines += [f"equation {row(x).removesuffix(' >= 0')} = 0" for x in normal(self.equations)]
+        lines += [f"row {row(x)}" for x in sorted(self.rows, reverse=True)]
+        lines += [f"line {rates(x)}" for x in normal(self.lines)]
+        lines += [f"ray {rates(x)}" for x in sorted(self.rays, reverse=True)]
+        return [f"{number} {line}" for line in lines]
