@@ -25,7 +25,9 @@ def with_all_lines(question):
 
 
 def kept_rates(question):
+    """The coordinates of the rates that stay."""
     return [at for at in range(2 ** len(question.names), question.size() + 1) if at not in question.eliminated]
+
 
 # so many columns at once are asked what they are worth
 BLOCK = 64
@@ -271,13 +273,16 @@ class Projection:
             factor *= 16
         if end == "point":
             values, multiple = found
+            assert multiple > 0
             return self.whole_point(values, [multiple * c for c in x]), None, None
         weights, point = found
         if point:
             values, depth, multiple = point
             point = self.whole_point(values, [multiple * c + depth * e for c, e in zip(x, d)])
         scale = lcm(*(weight.denominator for weight in weights.values()))
-        return None, point, row_of([(int(weight * scale) * c, at) for j, weight in weights.items() for at, c in rows[j].items()])
+        row = row_of([(int(weight * scale) * c, at) for j, weight in weights.items() for at, c in rows[j].items()])
+        assert product(self.vector(row), x) < 0
+        return None, point, row
 
     def whole_point(self, values, rates):
         """All values by those of the coordinates that are free and the rates that stay; checked by the definitions."""
@@ -301,6 +306,15 @@ class Projection:
         certificate.add_rest(target, scale)
         assert not sum_fault(self.scope, target, scale, certificate.weights)
         return scale, certificate.weights
+
+
+def shadow(question):
+    """The equations and the rows of the bound by another way, for few variables: of all that generates the cone over sets and rates."""
+    scope, kept, size = with_all_lines(question), kept_rates(question), question.size()
+    rows = [row for generator in sorted(scope.generators(), key=lambda g: not g.equation) for row in generator.least()]
+    lines, rays = generators([tuple(row.get(at, 0) for at in range(1, size + 1)) for row in rows], size)
+    lines, rays = ([tuple(x[at - 1] for at in kept) for x in vectors] for vectors in (lines, rays))
+    return rows_of(lines, rays, len(kept))
 
 
 class Bound:
