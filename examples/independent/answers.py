@@ -5,6 +5,7 @@ import re
 import shlex
 
 import best
+import bounds
 import contain
 import defined
 import eliminate
@@ -59,6 +60,8 @@ class Answers:
         return heading + self.lines_of_answer(number, question)
 
     def lines_of_answer(self, number, question):
+        if self.mode == "outer":
+            return bounds.lines(number, question, self.rows, self.tries, self.pivots)
         if self.asks_factor(question):
             return [best.line(number, question, self.pivots)]
         end, found = self.answer(question)
