@@ -33,7 +33,7 @@ class Answers:
         chosen = {"--pivots": "20000", "--rows": "512", "--tries": "256", "--format": "text"} | options(words)
         self.pivots = None if chosen["--pivots"] == "none" else int(chosen["--pivots"])
         self.rows, self.tries = int(chosen["--rows"]), int(chosen["--tries"])
-        self.format, self.mode = chosen["--format"], words[0] if words else "answer"
+        self.format, self.mode, self.is_quick = chosen["--format"], words[0] if words else "answer", chosen.get("--run") == "quick"
         self.kept, self.steps = None, 0
 
     def answer(self, question):
