@@ -5,6 +5,7 @@ import re
 import shlex
 
 import best
+import bounds
 import contain
 import defined
 import eliminate
@@ -32,7 +33,7 @@ class Answers:
         chosen = {"--pivots": "20000", "--rows": "512", "--tries": "256", "--format": "text"} | options(words)
         self.pivots = None if chosen["--pivots"] == "none" else int(chosen["--pivots"])
         self.rows, self.tries = int(chosen["--rows"]), int(chosen["--tries"])
-        self.format, self.mode = chosen["--format"], words[0] if words else "answer"
+        self.format, self.mode, self.is_quick = chosen["--format"], words[0] if words else "answer", chosen.get("--run") == "quick"
         self.kept, self.steps = None, 0
 
     def answer(self, question):
@@ -59,6 +60,8 @@ class Answers:
         return heading + self.lines_of_answer(number, question)
 
     def lines_of_answer(self, number, question):
+        if self.mode == "outer":
+            return bounds.lines(number, question, self.rows, self.tries, self.pivots)
         if self.asks_factor(question):
             return [best.line(number, question, self.pivots)]
         end, found = self.answer(question)
