@@ -7,7 +7,7 @@ from __future__ import annotations
 
 from .console import as_bytes, as_text, end_by_signals, put, run, say, show
 from .errors import ItipError
-from .reports import MOST_BYTES, UNDECIDED, decoded, why_open
+from .reports import MOST_BYTES, UNDECIDED, batches, decoded, why_open
 
 TYPE_CHECKING = False
 if TYPE_CHECKING:
@@ -19,6 +19,7 @@ Answers question files in the field's own notation (docs/ask.md); - is standard 
 --steps      below each proof its steps
 --short      proofs with the least sum of terms, which may take long
 --needs      behind each needed row of a region a point at which it alone fails
+--if         below each no the weakest independences and functions that make a yes of it, on up to six variables
 --latex      for LaTeX; with --document as a whole document
 --copy       a file with a head of copies, which a file that begins with `copy` is without this word
 --sharing    a sharing file, which a file that begins with `secret` is without this word
@@ -39,6 +40,10 @@ class WordsError(Exception):
     """The words of the call have no reading."""
 
 
+class Unasked(Exception):
+    """The program refuses questions that nobody wrote: what it says of them."""
+
+
 class Words:
     """What the words of a call ask for."""
 
@@ -56,10 +61,15 @@ class Words:
         if not self.files or ("--document" in self.options and "--latex" not in self.options):
             raise WordsError
 
+    def for_questions(self) -> None:
+        """Refuses the words that are for question files alone."""
+        if "--if" in self.options:
+            raise WordsError
+
     def _take(self, word: str) -> None:
         if word in ("--steps", "--short"):
             self.telling.append(word)
-        elif word in ("--latex", "--document", "--needs"):
+        elif word in ("--latex", "--document", "--needs", "--if"):
             self.options.add(word)
         elif word.startswith("--") and word[2:] in MODES and self.mode in ("", word[2:]):
             self.mode = word[2:]
@@ -102,6 +112,8 @@ class Asker:
             return 4
         name = "standard input" if name == "-" else name
         mode = self.words.mode or mode_of(text)
+        if mode != "answer":
+            self.words.for_questions()
         status, written = self._itip(mode, text)
         if status == 2:
             raise WordsError
@@ -142,13 +154,21 @@ class Asker:
         """The status of `tell`, and what it writes of a report."""
         report = [self._settled(name, number, line) for number, line in enumerate(lines, 1)]
         status, told = self._tell(report, self.words.telling)
-        if "--needs" not in self.words.options:
+        if not self.words.options & {"--needs", "--if"}:
             return status, told
         answers = grouped(told)
         for number, (line, answer) in enumerate(zip(report, answers), 1):
-            if line.startswith('{"answer":"region"'):
-                answer[1:] = self._with_needs(name, number, line, answer[1:])
+            answer[1:] = self._with_more(name, number, line, answer[1:])
         return status, "".join(line + "\n" for answer in answers for line in answer)
+
+    def _with_more(self, name: str, number: int, line: str, told: list[str]) -> list[str]:
+        """What is told below an answer, with what more the words of the call ask for."""
+        if line.startswith('{"answer":"region"') and "--needs" in self.words.options:
+            return self._with_needs(name, number, line, told)
+        if not line.startswith('{"answer":"no"') or not told:
+            return told
+        more = self._conditions(name, number, line) if "--if" in self.words.options else []
+        return [*told, *("  " + part for part in more)]
 
     def _settled(self, name: str, number: int, line: str) -> str:
         """The line of a report, or a new one where more steps may say more."""
@@ -171,6 +191,30 @@ class Asker:
             return list(told)
         _, answers = self._tell(lines[:-1])
         return ["  " + row for row in with_points(rows, grouped(answers))]
+
+    def _conditions(self, name: str, number: int, line: str) -> list[str]:
+        """What would make a yes of a no: lines of a question file."""
+        from .conditions import FEW_STEPS, MOST_VARIABLES, variables, would_do
+
+        if len(variables(decoded(line)["question"])) > MOST_VARIABLES:
+            say(f"{name}, question {number}: what would make it true is looked for on up to six variables")
+            return []
+        try:
+            found = would_do(line, lambda questions: self._report(questions, FEW_STEPS))
+        except Unasked as fault:
+            say(f"{name}, question {number}: what would make it true can't be asked: {fault}")
+            return []
+        return [f"{one}  # then yes" for one in found] or ["# no one independence or function makes it a yes"]
+
+    def _report(self, questions: Sequence[str], pivots: str) -> list[str]:
+        """The report about many questions with so many steps for each run."""
+        lines: list[str] = []
+        for batch in batches(questions):
+            status, written = self._itip("answer", "".join(batch), pivots, is_heard=False)
+            if status:
+                raise Unasked(written.removesuffix("\n"))
+            lines += written.split("\n")[:-1]
+        return lines
 
     def _told_in_mode(self, mode: str, name: str, file: str, lines: Sequence[str]) -> tuple[int, str]:
         """The same of the lines of another mode."""

@@ -6,9 +6,11 @@ from .errors import Forged
 
 TYPE_CHECKING = False
 if TYPE_CHECKING:
+    from collections.abc import Iterator, Sequence
     from typing import Any
 
 MOST_BYTES = 1_048_576
+MOST_QUESTIONS = 1000
 UNDECIDED = "is undecided after so many steps"
 UNSETTLED = "has rows that may not be needed"
 
@@ -31,3 +33,18 @@ def why_open(line: str) -> str:
     if line.startswith('{"answer":"region"'):
         return UNSETTLED if '"mark":"unsettled"' in line else ""
     return UNDECIDED if line.startswith('{"answer":"undecided"') and '"cause":"pivots"' in line else ""
+
+
+def batches(questions: Sequence[str]) -> Iterator[list[str]]:
+    """The questions in as few files as the limits of a file allow."""
+    batch: list[str] = []
+    size = 0
+    for question in questions:
+        length = len(question.encode())
+        if batch and (len(batch) == MOST_QUESTIONS or size + length > MOST_BYTES):
+            yield batch
+            batch, size = [], 0
+        batch.append(question)
+        size += length
+    if batch:
+        yield batch
