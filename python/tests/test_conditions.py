@@ -122,7 +122,7 @@ class Conditions(Asks):
 
     def test_words(self):
         path = self.file("copy R of X over Y\nvars X, Y\nprove H(X) >= 0\n")
-        for words in (["--if", path], ["--copy", "--if", path], ["--if", "--best", path]):
+        for words in (["--if", path], ["--copy", "--if", path], ["--if", "--best", path], ["--copies", path], ["--sharing", "--copies", path]):
             self.assertEqual(self.ask(*words)[:2], (2, ""), words)
 
     def test_latex(self):

@@ -20,6 +20,7 @@ Answers question files in the field's own notation (docs/ask.md); - is standard 
 --short      proofs with the least sum of terms, which may take long
 --needs      behind each needed row of a region a point at which it alone fails
 --if         below each no the weakest independences and functions that make a yes of it, on up to six variables
+--copies     below each no the first copy, or pair of copies, with which it is a yes
 --latex      for LaTeX; with --document as a whole document
 --copy       a file with a head of copies, which a file that begins with `copy` is without this word
 --sharing    a sharing file, which a file that begins with `secret` is without this word
@@ -63,13 +64,13 @@ class Words:
 
     def for_questions(self) -> None:
         """Refuses the words that are for question files alone."""
-        if "--if" in self.options:
+        if self.options & {"--if", "--copies"}:
             raise WordsError
 
     def _take(self, word: str) -> None:
         if word in ("--steps", "--short"):
             self.telling.append(word)
-        elif word in ("--latex", "--document", "--needs", "--if"):
+        elif word in ("--latex", "--document", "--needs", "--if", "--copies"):
             self.options.add(word)
         elif word.startswith("--") and word[2:] in MODES and self.mode in ("", word[2:]):
             self.mode = word[2:]
@@ -154,7 +155,7 @@ class Asker:
         """The status of `tell`, and what it writes of a report."""
         report = [self._settled(name, number, line) for number, line in enumerate(lines, 1)]
         status, told = self._tell(report, self.words.telling)
-        if not self.words.options & {"--needs", "--if"}:
+        if not self.words.options & {"--needs", "--if", "--copies"}:
             return status, told
         answers = grouped(told)
         for number, (line, answer) in enumerate(zip(report, answers), 1):
@@ -168,6 +169,7 @@ class Asker:
         if not line.startswith('{"answer":"no"') or not told:
             return told
         more = self._conditions(name, number, line) if "--if" in self.words.options else []
+        more += self._copies(name, number, line) if "--copies" in self.words.options else []
         return [*told, *("  " + part for part in more)]
 
     def _settled(self, name: str, number: int, line: str) -> str:
@@ -215,6 +217,20 @@ class Asker:
                 raise Unasked(written.removesuffix("\n"))
             lines += written.split("\n")[:-1]
         return lines
+
+    def _copies(self, name: str, number: int, line: str) -> list[str]:
+        """The file with copies that makes a yes of a no, and below it how its answer is told."""
+        from .heads import with_copies
+
+        say(f"{name}, question {number}: copies are tried, for a minute at most; Ctrl-C ends it")
+        end_by_signals()
+        file, said = with_copies(decoded(line)["question"], self.prover)
+        if not file:
+            return [f"# {said}"]
+        status, written = self._itip("copy", file)
+        _, told = self._told_in_mode("copy", name, file, written.split("\n")[:-1]) if status == 0 else (status, "")
+        first, *lines = file.split("\n")[:-1]
+        return [f"{first}  # then yes", *lines, *(below[2:] for below in told.split("\n")[1:-1])]
 
     def _told_in_mode(self, mode: str, name: str, file: str, lines: Sequence[str]) -> tuple[int, str]:
         """The same of the lines of another mode."""
