@@ -8,6 +8,7 @@ from __future__ import annotations
 from .console import as_bytes, as_text, end_by_signals, put, run, say, show
 from .errors import ItipError
 from .reports import MOST_BYTES, UNDECIDED, batches, decoded, why_open
+from .shorthand import Made, made
 
 TYPE_CHECKING = False
 if TYPE_CHECKING:
@@ -29,6 +30,7 @@ Answers question files in the field's own notation (docs/ask.md); - is standard 
 --pivots N   so many steps for each run with Bland's rule, or none; what is undecided then isn't asked anew
 --rows N     so many rows in an elimination
 --tries N    so many candidates in a containment
+--made       the question file that a file with less to write makes, in the place of answers
 --version    which program this is
 """
 VERSION = "ask 1\n"
@@ -70,7 +72,7 @@ class Words:
     def _take(self, word: str) -> None:
         if word in ("--steps", "--short"):
             self.telling.append(word)
-        elif word in ("--latex", "--document", "--needs", "--if", "--copies"):
+        elif word in ("--latex", "--document", "--needs", "--if", "--copies", "--made"):
             self.options.add(word)
         elif word.startswith("--") and word[2:] in MODES and self.mode in ("", word[2:]):
             self.mode = word[2:]
@@ -115,17 +117,19 @@ class Asker:
         mode = self.words.mode or mode_of(text)
         if mode != "answer":
             self.words.for_questions()
-        status, written = self._itip(mode, text)
+        questions = Made(text) if mode == "sharing" else made(text)
+        if "--made" in self.words.options:
+            return put(questions.text)
+        status, written = self._itip(mode, questions.text)
         if status == 2:
             raise WordsError
         if status == 3:
-            self._put(written)
-            self._explain(name, text, written)
+            self._explain(name, text, questions, written)
             return 3
         for number, variable in unused(text):
             say(f"{name}, question {number}: no line says anything of the variable {variable}")
         lines = written.split("\n")[:-1]
-        told_status, told = self._told(name, lines) if mode == "answer" else self._told_in_mode(mode, name, text, lines)
+        told_status, told = self._told(name, lines) if mode == "answer" else self._told_in_mode(mode, name, questions.text, lines)
         put_status = self._put(told)
         return status or put_status or told_status
 
@@ -262,15 +266,18 @@ class Asker:
         first, *below = told.split("\n")[:-1] or [""]
         return status, below if status != 1 else [f"  {first.partition(' ')[2]}"]
 
-    def _explain(self, name: str, text: str, refusal: str) -> None:
-        """Says what a refusal means, and what to write."""
+    def _explain(self, name: str, text: str, questions: Made, refusal: str) -> None:
+        """Writes a refusal, and says what it means, and what to write."""
         from .refusals import explained
 
-        place, word, *_ = [*refusal.split()[1:], ""]
+        place, *words = refusal.split()[1:]
         if place == "long":
-            say(f"{name} has more than {MOST_BYTES} bytes")
+            self._put(refusal)
+            say(f"{name} {'makes' if questions.lines else 'has'} more than {MOST_BYTES} bytes")
             return
-        number, column = map(int, place.split(":"))
+        number, column = questions.place(*map(int, place.split(":")))
+        word = " ".join(words)
+        self._put(f"refused {number}:{column} {word}\n")
         say(f"{name}, line {number}, column {column}:")
         line = [*as_bytes(text).split(b"\n"), b""][number - 1].removesuffix(b"\r")
         show(*(f"    {as_text(part)}" for part in explained(self.docs, word, line, column)))
@@ -290,8 +297,8 @@ def say_anew(name: str, number: int, why: str) -> None:
 
 
 def unused(text: str) -> Iterator[tuple[int, str]]:
-    """The variables that only `vars` and `aux` lines name, with the numbers of their questions. What a head names isn't among them."""
-    number = 0
+    """The variables that only `vars` and `aux` lines name, with the number of the first question about them. What a head names isn't among them."""
+    asked = number = 0
     names: list[str] = []
     head: set[str] = set()
     used: set[str] = set()
@@ -300,7 +307,8 @@ def unused(text: str) -> Iterator[tuple[int, str]]:
         if first == "vars":
             yield from ((number, name) for name in names if name not in used)
             head = head if number else used
-            number, names, used = number + 1, [], set(head)
+            number, names, used = asked + 1, [], set(head)
+        asked += first in ("prove", "eliminate", "contain")
         if first in ("vars", "aux"):
             names += others
         else:
