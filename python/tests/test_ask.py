@@ -396,8 +396,8 @@ class Modes(Asks):
     def test_latex(self):
         told = "\n".join(self.asks("vars X, Y\nprove H(X) + H(Y) >= H(X,Y)\n", "--best", "--latex"))
         self.assertIn("\\begin{align*}\n  H(X) + H(Y) - H(X,Y) &= I(X;Y)\n\\end{align*}", told)
-        self.assertIn("\\paragraph{1.} The least factor is $1/1$: ", told)
-        self.assertEqual(self.asks(PATH + "prove H(a) >= H(s)\n", "--sharing", "--latex")[0], "\\par{\\raggedright\\texttt{sharing 3 3}\\par}")
+        self.assertIn("\nThe least factor is $1/1$: ", told)
+        self.assertEqual(self.asks(PATH + "prove H(a) >= H(s)\n", "--sharing", "--latex")[1], "\\par{\\raggedright\\texttt{sharing 3 3}\\par}")
 
 
 class Loading(unittest.TestCase):

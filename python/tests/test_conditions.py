@@ -127,7 +127,9 @@ class Conditions(Asks):
 
     def test_latex(self):
         told = "\n".join(self.asks("vars X, Y, Z\nprove I(X;Z) <= I(X;Y)\n", "--if", "--latex"))
-        self.assertIn("given markov X ", told)
+        self.assertIn("It has a proof where any of these holds too: $X \\perp Z$, $X \\to Y \\to Z$.", told)
+        told = "\n".join(self.asks("vars A, B\nprove H(A) + H(B) >= 3 H(A,B)\n", "--if", "--latex"))
+        self.assertIn("\nNo one independence or function makes it a yes.", told)
 
     def test_steps_away(self):
         """What is a step weaker is implied, and where a condition implies another one each point of the first is one of the second."""

@@ -87,6 +87,7 @@ class Asker:
 
     def __init__(self, words: Words, docs: str, prover: str, teller: str) -> None:
         self.words, self.docs, self.prover, self.teller = words, docs, prover, teller
+        self.is_signed = False  # whether the LaTeX says who answered
 
     def answer_all(self) -> int:
         """Answers the files. The status is the first other than 0."""
@@ -130,7 +131,7 @@ class Asker:
             say(f"{name}, question {number}: no line says anything of the variable {variable}")
         lines = written.split("\n")[:-1]
         told_status, told = self._told(name, lines) if mode == "answer" else self._told_in_mode(mode, name, questions.text, lines)
-        put_status = self._put(told)
+        put_status = self._put(told) if "--latex" not in self.words.options else self._put_paper(told, mode, questions.text)
         return status or put_status or told_status
 
     def _put(self, told: str) -> int:
@@ -139,6 +140,18 @@ class Asker:
         from .paper import typeset
 
         return put(typeset(told))
+
+    def _put_paper(self, told: str, mode: str, text: str) -> int:
+        """Puts answers as LaTeX, each below its question, and once above them who answered."""
+        from .paper import typeset
+        from .questions import cut
+        from .stated import signature
+
+        head, *asked = cut(text)
+        texts = [head] if mode == "sharing" else [head + one if mode == "copy" else one for one in asked]
+        signed = "" if self.is_signed else signature(self.prover, self.docs, self.words.settings)
+        self.is_signed = True
+        return put(signed + typeset(told, texts, mode))
 
     # The programs
 
