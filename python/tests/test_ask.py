@@ -411,6 +411,8 @@ class Loading(unittest.TestCase):
         """The package loads what a name needs when it is used, and ./ask little of it."""
         heavy = "[name for name in ('itip.everything', 'itip.notation', 'typing', 'enum', 're', 'json', 'subprocess') if name in sys.modules]"
         self.assertEqual(self.run_python(f"import itip, itip.ask\nprint(*{heavy})"), [])
+        light = "*sorted(name for name in sys.modules if name.startswith('itip.'))"
+        self.assertEqual(self.run_python(f"import itip.ask\nprint({light})"), [f"itip.{name}" for name in ("ask", "console", "errors", "reports", "shorthand")])
         self.assertIn("itip.everything", self.run_python(f"import itip\nitip.H\nprint(*{heavy})"))
 
     def test_names(self):

@@ -1,5 +1,10 @@
 """./ask --copies: against inequalities of the literature, each told file asked by itself."""
 
+import signal
+import subprocess
+import sys
+import time
+
 from itip.heads import with_copies
 from itip.program import default
 
@@ -46,6 +51,26 @@ class Copies(Asks):
         file, said = with_copies("vars A, B, C, D\nprove H(A) + H(B) + H(C) + H(D) >= 5 H(A,B,C,D)\n", str(default().prover_path()))
         self.assertEqual(file, "")
         self.assertRegex(said, r"^no copy and no pair of copies makes it a yes \([1-9][0-9]* tried\)$")
+
+    def test_open_file(self):
+        """The program may be an open file, as ./ask has it where nothing can be unpacked in dist/."""
+        program = next(path for path in (ROOT / place / "out" / "itip" for place in ("crates/itip", "dist")) if path.exists())
+        with open(program, "rb") as file:
+            command = self.command("--copies", self.file(ZHANG_YEUNG), prover=f"/proc/self/fd/{file.fileno()}")
+            done = subprocess.run(command, capture_output=True, check=False, pass_fds=[file.fileno()])
+        self.assertEqual((done.returncode, b"\n  copy R of " in done.stdout), (0, True), done.stderr)
+
+    def test_interrupt(self):
+        """Ctrl-C ends the search and the program."""
+        slow = self.program("sys.exit(honest()) if 'copy' not in sys.argv and '--pivots' not in sys.argv else time.sleep(60)\n")
+        command = self.command("--copies", self.file(ZHANG_YEUNG), prover=slow.prover)
+        begin = "import os, signal, sys\nsignal.signal(signal.SIGINT, signal.SIG_DFL)\nos.execv(sys.argv[1], sys.argv[1:])"
+        call = subprocess.Popen([sys.executable, "-c", begin, *command], stdout=subprocess.PIPE, stderr=subprocess.PIPE)
+        self.assertIn(TRIED, call.stderr.readline().decode())
+        time.sleep(0.5)
+        call.send_signal(signal.SIGINT)
+        told, said = call.communicate(timeout=30)
+        self.assertEqual((call.returncode, told, b"Traceback" in said), (130, b"", False))
 
     def test_page(self):
         told = self.ask("--copies", self.file(ZHANG_YEUNG))[1].splitlines()

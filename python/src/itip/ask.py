@@ -7,7 +7,7 @@ from __future__ import annotations
 
 from .console import as_bytes, as_text, end_by_signals, put, run, say, show
 from .errors import ItipError
-from .reports import MOST_BYTES, UNDECIDED, batches, decoded, why_open
+from .reports import MOST_BYTES, UNDECIDED, batches, cut, decoded, why_open
 from .shorthand import Made, made
 
 TYPE_CHECKING = False
@@ -144,7 +144,6 @@ class Asker:
     def _put_paper(self, told: str, mode: str, text: str) -> int:
         """Puts answers as LaTeX, each below its question, and once above them who answered."""
         from .paper import typeset
-        from .questions import cut
         from .stated import signature
 
         head, *asked = cut(text)

@@ -2,6 +2,8 @@
 
 from __future__ import annotations
 
+import os
+
 from .program import Itip
 from .questions import parse
 from .search import copies_for
@@ -11,7 +13,8 @@ SECONDS = 60
 
 def with_copies(question: str, prover: str) -> tuple[str, str]:
     """The first file with a head of one copy or two whose answer is yes; else nothing, and what was tried."""
-    found = copies_for(parse(question), seconds=SECONDS, program=Itip(prover=prover))
+    reached = prover.replace("/proc/self/", f"/proc/{os.getpid()}/")  # (of an open file, which `Itip` doesn't hand on)
+    found = copies_for(parse(question), seconds=SECONDS, program=Itip(prover=reached))
     if found:
         return "".join(f"{one.text()}\n" for one in found.copies) + question, ""
     open_ones = f", {found.undecided} undecided" if found.undecided else ""

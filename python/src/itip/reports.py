@@ -1,4 +1,4 @@
-"""Reports: what `itip answer --format json` writes, a line for each question (docs/answers.md)."""
+"""Reports: what `itip answer --format json` writes, a line for each question (docs/answers.md); and how files have questions."""
 
 from __future__ import annotations
 
@@ -48,3 +48,19 @@ def batches(questions: Sequence[str]) -> Iterator[list[str]]:
         size += length
     if batch:
         yield batch
+
+
+def cut(text: str) -> list[str]:
+    """The head of a file, which is empty but in mode `copy`, and its questions as reports have them: without comments, and without
+    blanks at the ends of lines.
+
+    >>> cut("copy R of A over 0\\nvars A # one\\n\\n prove H(A) >= 0\\nvars B\\nprove H(B) >= 0")
+    ['copy R of A over 0\\n', 'vars A\\nprove H(A) >= 0\\n', 'vars B\\nprove H(B) >= 0\\n']
+    """
+    parts = [""]
+    for written in text.split("\n"):
+        line = written.partition("#")[0].replace("\t", " ").strip(" \r")
+        if line.partition(" ")[0] == "vars":
+            parts.append("")
+        parts[-1] += line + "\n" if line else ""
+    return parts
