@@ -1,7 +1,7 @@
 """./ask --if: against all conditions asked one by one without the search's shortcuts, and against what is known or can be seen by hand."""
 
-import unittest
 from itertools import chain, combinations, islice, product
+from pathlib import Path
 
 from itip import Itip, assumption
 from itip.conditions import MOST_VARIABLES, conditions, holds, implies, weaker
@@ -119,6 +119,16 @@ class Conditions(Asks):
         self.assertIn(f"ask: {path}, question 1: what would make it true is looked for on up to six variables\n", said)
         path = self.file("vars A, B\n" + "given H(A) >= 0\n" * 64 + "prove H(A) >= H(B)\n")
         self.assertEqual(self.ask("--if", path)[2], f"ask: {path}, question 1: what would make it true can't be asked: refused 66:1 many\n")
+
+    def test_undecided(self):
+        """What few steps say nothing of isn't told, and standard error says of how many."""
+        path = self.file("vars A, B, C, D, E, F\ngiven H(E,F) >= H(F)\nprove I(A;B) <= I(A;B|C) + I(A;B|D) + I(C;D)\n")
+        slow = self.program("sys.exit(honest() if '100' in sys.argv else honest('--pivots', 'none'))\n")
+        status, told, said = self.ask("--if", path, prover=slow.prover)
+        self.assertEqual((status, told.splitlines()[0]), (0, "1 no"))
+        self.assertRegex(said, f"^ask: {path}, question 1: [1-9][0-9]* more conditions stayed undecided after so many steps\n$")
+        quick = self.asks(Path(path).read_text(), "--if", "--run", "bland")
+        self.assertEqual(quick[2:], self.asks(Path(path).read_text(), "--if")[2:])
 
     def test_words(self):
         path = self.file("copy R of X over Y\nvars X, Y\nprove H(X) >= 0\n")

@@ -35,6 +35,7 @@ Answers question files in the field's own notation (docs/ask.md); - is standard 
 """
 VERSION = "ask 1\n"
 MODES = ("copy", "best", "sharing")
+FEW_STEPS = "100"
 SETTINGS = ("--run", "--pivots", "--rows", "--tries")
 WORDS = bytes(code if bytes([code]).isalnum() or code == ord("_") else ord(" ") for code in range(256))  # all but words as blanks
 
@@ -154,11 +155,14 @@ class Asker:
 
     # The programs
 
-    def _itip(self, mode: str, text: str, pivots: str = "", is_heard: bool = True) -> tuple[int, str]:
-        """The status of `itip` and what it writes of a file: in mode `answer` a report. Where not heard it has no standard error."""
-        settings = {**self.words.settings, "--pivots": pivots} if pivots else self.words.settings
-        words = [mode, *(("--format", "json") if mode == "answer" else ()), *(word for pair in settings.items() for word in pair)]
-        if pivots == "none":
+    def _itip(self, mode: str, text: str, is_heard: bool = True, **settings: str) -> tuple[int, str]:
+        """The status of `itip`, by other settings where some are named, and what it writes of a file: in mode `answer` a report.
+
+        Where not heard it has no standard error.
+        """
+        chosen = {**self.words.settings, **{f"--{name}": value for name, value in settings.items()}}
+        words = [mode, *(("--format", "json") if mode == "answer" else ()), *(word for pair in chosen.items() for word in pair)]
+        if settings.get("pivots") == "none":
             end_by_signals()
         return run([self.prover, *words], text, is_heard)
 
@@ -194,7 +198,7 @@ class Asker:
         if not why or "--pivots" in self.words.settings:
             return line
         say_anew(name, number, why)
-        status, anew = self._itip("answer", decoded(line)["question"], "none")
+        status, anew = self._itip("answer", decoded(line)["question"], pivots="none")
         return anew.split("\n")[0] if status == 0 and anew.count("\n") == 1 else line
 
     def _with_needs(self, name: str, number: int, line: str, told: Sequence[str]) -> list[str]:
@@ -202,7 +206,7 @@ class Asker:
         from .needs import need_questions, with_points
 
         rows = [row[2:] for row in told]
-        status, report = self._itip("answer", need_questions(decoded(line)["question"], rows), "none", is_heard=False)
+        status, report = self._itip("answer", need_questions(decoded(line)["question"], rows), False, pivots="none")
         lines = report.split("\n")
         if status:
             say(f"{name}, question {number}: why its rows are needed can't be asked: {lines[0]}")
@@ -212,23 +216,25 @@ class Asker:
 
     def _conditions(self, name: str, number: int, line: str) -> list[str]:
         """What would make a yes of a no: lines of a question file."""
-        from .conditions import FEW_STEPS, MOST_VARIABLES, variables, would_do
+        from .conditions import MOST_VARIABLES, variables, would_do
 
         if len(variables(decoded(line)["question"])) > MOST_VARIABLES:
             say(f"{name}, question {number}: what would make it true is looked for on up to six variables")
             return []
         try:
-            found = would_do(line, lambda questions: self._report(questions, FEW_STEPS))
+            found, undecided = would_do(line, self._report)
         except Unasked as fault:
             say(f"{name}, question {number}: what would make it true can't be asked: {fault}")
             return []
+        if undecided:
+            say(f"{name}, question {number}: {undecided} more conditions stayed undecided after so many steps")
         return [f"{one}  # then yes" for one in found] or ["# no one independence or function makes it a yes"]
 
-    def _report(self, questions: Sequence[str], pivots: str) -> list[str]:
-        """The report about many questions with so many steps for each run."""
+    def _report(self, questions: Sequence[str]) -> list[str]:
+        """The report about many questions that nobody wrote, by quick runs and few other steps."""
         lines: list[str] = []
         for batch in batches(questions):
-            status, written = self._itip("answer", "".join(batch), pivots, is_heard=False)
+            status, written = self._itip("answer", "".join(batch), False, pivots=FEW_STEPS, run="quick")
             if status:
                 raise Unasked(written.removesuffix("\n"))
             lines += written.split("\n")[:-1]
@@ -262,7 +268,7 @@ class Asker:
             asked = modes.asked(mode, file, int(number))
             if line.startswith(f"{number} undecided pivots") and "--pivots" not in self.words.settings:
                 say_anew(name, int(number), UNDECIDED)
-                status, anew = self._itip(mode, asked.alone, "none")
+                status, anew = self._itip(mode, asked.alone, pivots="none")
                 line = f"{number} " + anew.split("\n")[-2].partition(" ")[2] if status == 0 else line
             first, parts = modes.shown(line, asked.made)
             told.append(first)

@@ -9,7 +9,7 @@ from .reports import decoded
 
 TYPE_CHECKING = False
 if TYPE_CHECKING:
-    from collections.abc import Callable, Iterable, Iterator, Sequence
+    from collections.abc import Callable, Iterator, Sequence
     from typing import Tuple
 
     Condition = Tuple[int, int, int]
@@ -18,7 +18,6 @@ if TYPE_CHECKING:
 
 MOST_VARIABLES = 6
 MOST_COMPARED = 5000  # questions about two conditions
-FEW_STEPS = "100"  # of each defined run, where a quick one has no answer
 YES, NO = '{"answer":"yes"', '{"answer":"no"'
 
 
@@ -27,18 +26,18 @@ def variables(question: str) -> list[str]:
     return question.partition("\n")[0].replace(",", " ").split()[1:]
 
 
-def would_do(line: str, ask: Ask) -> list[str]:
-    """The weakest conditions, each a line of a question file, that make a yes of the no that this line of a report says."""
+def would_do(line: str, ask: Ask) -> tuple[list[str], int]:
+    """The weakest conditions that make a yes of the no that a line of a report says, as lines of a question file; how many stayed undecided."""
     found = decoded(line)
     question = Question(found["question"])
     failing = point(found)
     tried = sorted((one for one in conditions(len(question.names)) if not holds(one, failing)), key=question.order)
     answers = ask([question.given(one, question.goal) for one in tried])
-    enough = {one: None for one, answer in zip(tried, answers) if answer.startswith(YES)}
-    everything = (1 << len(question.names)) - 1
-    least = [one for one in enough if not any(other in enough for other in weaker(one, everything))]
-    told = shortest(question, weakest(question, least, ask), sorted(enough, key=question.order), ask)
-    return [question.line(one) for one in sorted(told, key=question.order)]
+    enough = [one for one, answer in zip(tried, answers) if answer.startswith(YES)]
+    everything, are_enough = (1 << len(question.names)) - 1, set(enough)
+    least = [one for one in enough if are_enough.isdisjoint(weaker(one, everything))]
+    told = sorted(shortest(question, weakest(question, least, ask), enough, ask), key=question.order)
+    return [question.line(one) for one in told], sum(not answer.startswith((YES, NO)) for answer in answers)
 
 
 class Question:
@@ -130,7 +129,7 @@ def holds(one: Condition, at: Point) -> bool:
 def weakest(question: Question, enough: Sequence[Condition], ask: Ask) -> list[Condition]:
     """Those conditions that imply no other one where the question's lines are true. Of equal ones the first is left.
 
-    After so many questions all that are left stay.
+    Past MOST_COMPARED questions all stay that are left.
     """
     left = list(enough)
     asked = 0
