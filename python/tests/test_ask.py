@@ -92,7 +92,7 @@ class Calls(Asks):
         status, shown, said = self.ask("--help")
         self.assertEqual((status, said), (0, ""))
         words = re.findall("--[a-z]+", shown)
-        known = [*MODES, "steps", "short", "latex", "document", "needs", "version"]
+        known = [*MODES, "steps", "short", "latex", "document", "needs", "if", "copies", "made", "version"]
         self.assertEqual(sorted(set(words) - {"--help"}), sorted([*SETTINGS, *(f"--{word}" for word in known)]))
         self.assertIn(f"```\n{shown}```\n", (ROOT / "docs" / "ask.md").read_text())
         self.assertEqual(self.ask("--version"), (0, "ask 1\n", ""))
@@ -396,8 +396,8 @@ class Modes(Asks):
     def test_latex(self):
         told = "\n".join(self.asks("vars X, Y\nprove H(X) + H(Y) >= H(X,Y)\n", "--best", "--latex"))
         self.assertIn("\\begin{align*}\n  H(X) + H(Y) - H(X,Y) &= I(X;Y)\n\\end{align*}", told)
-        self.assertIn("\\paragraph{1.} The least factor is $1/1$: ", told)
-        self.assertEqual(self.asks(PATH + "prove H(a) >= H(s)\n", "--sharing", "--latex")[0], "\\par{\\raggedright\\texttt{sharing 3 3}\\par}")
+        self.assertIn("\nThe least factor is $1/1$: ", told)
+        self.assertEqual(self.asks(PATH + "prove H(a) >= H(s)\n", "--sharing", "--latex")[1], "\\par{\\raggedright\\texttt{sharing 3 3}\\par}")
 
 
 class Loading(unittest.TestCase):
@@ -411,6 +411,8 @@ class Loading(unittest.TestCase):
         """The package loads what a name needs when it is used, and ./ask little of it."""
         heavy = "[name for name in ('itip.everything', 'itip.notation', 'typing', 'enum', 're', 'json', 'subprocess') if name in sys.modules]"
         self.assertEqual(self.run_python(f"import itip, itip.ask\nprint(*{heavy})"), [])
+        light = "*sorted(name for name in sys.modules if name.startswith('itip.'))"
+        self.assertEqual(self.run_python(f"import itip.ask\nprint({light})"), [f"itip.{name}" for name in ("ask", "console", "errors", "reports", "shorthand")])
         self.assertIn("itip.everything", self.run_python(f"import itip\nitip.H\nprint(*{heavy})"))
 
     def test_names(self):

@@ -7,6 +7,7 @@ from fractions import Fraction
 import itip.evidence
 import itip.notation
 import itip.reading
+import itip.reports
 from itip import H, I, NotationError, aligned, assumption, func, indep, markov, rates, relation, rv
 from itip.questions import parse
 
@@ -132,6 +133,6 @@ class Notation(unittest.TestCase):
 
 
 def load_tests(loader, tests, pattern):
-    for module in (itip.notation, itip.reading, itip.evidence):
+    for module in (itip.notation, itip.reading, itip.evidence, itip.reports):
         tests.addTests(doctest.DocTestSuite(module))
     return tests

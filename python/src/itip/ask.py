@@ -7,7 +7,8 @@ from __future__ import annotations
 
 from .console import as_bytes, as_text, end_by_signals, put, run, say, show
 from .errors import ItipError
-from .reports import MOST_BYTES, UNDECIDED, decoded, why_open
+from .reports import MOST_BYTES, UNDECIDED, batches, cut, decoded, why_open
+from .shorthand import Made, made
 
 TYPE_CHECKING = False
 if TYPE_CHECKING:
@@ -19,6 +20,8 @@ Answers question files in the field's own notation (docs/ask.md); - is standard 
 --steps      below each proof its steps
 --short      proofs with the least sum of terms, which may take long
 --needs      behind each needed row of a region a point at which it alone fails
+--if         below each no the weakest independences and functions that make a yes of it, on up to six variables
+--copies     below each no the first copy, or pair of copies, with which it is a yes
 --latex      for LaTeX; with --document as a whole document
 --copy       a file with a head of copies, which a file that begins with `copy` is without this word
 --sharing    a sharing file, which a file that begins with `secret` is without this word
@@ -27,16 +30,22 @@ Answers question files in the field's own notation (docs/ask.md); - is standard 
 --pivots N   so many steps for each run with Bland's rule, or none; what is undecided then isn't asked anew
 --rows N     so many rows in an elimination
 --tries N    so many candidates in a containment
+--made       the question file that a file with less to write makes, in the place of answers
 --version    which program this is
 """
 VERSION = "ask 1\n"
 MODES = ("copy", "best", "sharing")
+FEW_STEPS = "100"
 SETTINGS = ("--run", "--pivots", "--rows", "--tries")
 WORDS = bytes(code if bytes([code]).isalnum() or code == ord("_") else ord(" ") for code in range(256))  # all but words as blanks
 
 
 class WordsError(Exception):
     """The words of the call have no reading."""
+
+
+class Unasked(Exception):
+    """The program refuses questions that nobody wrote: what it says of them."""
 
 
 class Words:
@@ -56,10 +65,15 @@ class Words:
         if not self.files or ("--document" in self.options and "--latex" not in self.options):
             raise WordsError
 
+    def for_questions(self) -> None:
+        """Refuses the words that are for question files alone."""
+        if self.options & {"--if", "--copies"}:
+            raise WordsError
+
     def _take(self, word: str) -> None:
         if word in ("--steps", "--short"):
             self.telling.append(word)
-        elif word in ("--latex", "--document", "--needs"):
+        elif word in ("--latex", "--document", "--needs", "--if", "--copies", "--made"):
             self.options.add(word)
         elif word.startswith("--") and word[2:] in MODES and self.mode in ("", word[2:]):
             self.mode = word[2:]
@@ -74,6 +88,7 @@ class Asker:
 
     def __init__(self, words: Words, docs: str, prover: str, teller: str) -> None:
         self.words, self.docs, self.prover, self.teller = words, docs, prover, teller
+        self.is_signed = False  # whether the LaTeX says who answered
 
     def answer_all(self) -> int:
         """Answers the files. The status is the first other than 0."""
@@ -102,18 +117,22 @@ class Asker:
             return 4
         name = "standard input" if name == "-" else name
         mode = self.words.mode or mode_of(text)
-        status, written = self._itip(mode, text)
+        if mode != "answer":
+            self.words.for_questions()
+        questions = Made(text) if mode == "sharing" else made(text)
+        if "--made" in self.words.options:
+            return put(questions.text)
+        status, written = self._itip(mode, questions.text)
         if status == 2:
             raise WordsError
         if status == 3:
-            self._put(written)
-            self._explain(name, text, written)
+            self._explain(name, text, questions, written)
             return 3
         for number, variable in unused(text):
             say(f"{name}, question {number}: no line says anything of the variable {variable}")
         lines = written.split("\n")[:-1]
-        told_status, told = self._told(name, lines) if mode == "answer" else self._told_in_mode(mode, name, text, lines)
-        put_status = self._put(told)
+        told_status, told = self._told(name, lines) if mode == "answer" else self._told_in_mode(mode, name, questions.text, lines)
+        put_status = self._put(told) if "--latex" not in self.words.options else self._put_paper(told, mode, questions.text)
         return status or put_status or told_status
 
     def _put(self, told: str) -> int:
@@ -123,13 +142,27 @@ class Asker:
 
         return put(typeset(told))
 
+    def _put_paper(self, told: str, mode: str, text: str) -> int:
+        """Puts answers as LaTeX, each below its question, and once above them who answered."""
+        from .paper import typeset
+        from .stated import signature
+
+        head, *asked = cut(text)
+        texts = [head] if mode == "sharing" else [head + one if mode == "copy" else one for one in asked]
+        signed = "" if self.is_signed else signature(self.prover, self.docs, self.words.settings)
+        self.is_signed = True
+        return put(signed + typeset(told, texts, mode))
+
     # The programs
 
-    def _itip(self, mode: str, text: str, pivots: str = "", is_heard: bool = True) -> tuple[int, str]:
-        """The status of `itip` and what it writes of a file: in mode `answer` a report. Where not heard it has no standard error."""
-        settings = {**self.words.settings, "--pivots": pivots} if pivots else self.words.settings
-        words = [mode, *(("--format", "json") if mode == "answer" else ()), *(word for pair in settings.items() for word in pair)]
-        if pivots == "none":
+    def _itip(self, mode: str, text: str, is_heard: bool = True, **settings: str) -> tuple[int, str]:
+        """The status of `itip`, by other settings where some are named, and what it writes of a file: in mode `answer` a report.
+
+        Where not heard it has no standard error.
+        """
+        chosen = {**self.words.settings, **{f"--{name}": value for name, value in settings.items()}}
+        words = [mode, *(("--format", "json") if mode == "answer" else ()), *(word for pair in chosen.items() for word in pair)]
+        if settings.get("pivots") == "none":
             end_by_signals()
         return run([self.prover, *words], text, is_heard)
 
@@ -142,13 +175,22 @@ class Asker:
         """The status of `tell`, and what it writes of a report."""
         report = [self._settled(name, number, line) for number, line in enumerate(lines, 1)]
         status, told = self._tell(report, self.words.telling)
-        if "--needs" not in self.words.options:
+        if not self.words.options & {"--needs", "--if", "--copies"}:
             return status, told
         answers = grouped(told)
         for number, (line, answer) in enumerate(zip(report, answers), 1):
-            if line.startswith('{"answer":"region"'):
-                answer[1:] = self._with_needs(name, number, line, answer[1:])
+            answer[1:] = self._with_more(name, number, line, answer[1:])
         return status, "".join(line + "\n" for answer in answers for line in answer)
+
+    def _with_more(self, name: str, number: int, line: str, told: list[str]) -> list[str]:
+        """What is told below an answer, with what more the words of the call ask for."""
+        if line.startswith('{"answer":"region"') and "--needs" in self.words.options:
+            return self._with_needs(name, number, line, told)
+        if not line.startswith('{"answer":"no"') or not told:
+            return told
+        more = self._conditions(name, number, line) if "--if" in self.words.options else []
+        more += self._copies(name, number, line) if "--copies" in self.words.options else []
+        return [*told, *("  " + part for part in more)]
 
     def _settled(self, name: str, number: int, line: str) -> str:
         """The line of a report, or a new one where more steps may say more."""
@@ -156,7 +198,7 @@ class Asker:
         if not why or "--pivots" in self.words.settings:
             return line
         say_anew(name, number, why)
-        status, anew = self._itip("answer", decoded(line)["question"], "none")
+        status, anew = self._itip("answer", decoded(line)["question"], pivots="none")
         return anew.split("\n")[0] if status == 0 and anew.count("\n") == 1 else line
 
     def _with_needs(self, name: str, number: int, line: str, told: Sequence[str]) -> list[str]:
@@ -164,13 +206,53 @@ class Asker:
         from .needs import need_questions, with_points
 
         rows = [row[2:] for row in told]
-        status, report = self._itip("answer", need_questions(decoded(line)["question"], rows), "none", is_heard=False)
+        status, report = self._itip("answer", need_questions(decoded(line)["question"], rows), False, pivots="none")
         lines = report.split("\n")
         if status:
             say(f"{name}, question {number}: why its rows are needed can't be asked: {lines[0]}")
             return list(told)
         _, answers = self._tell(lines[:-1])
         return ["  " + row for row in with_points(rows, grouped(answers))]
+
+    def _conditions(self, name: str, number: int, line: str) -> list[str]:
+        """What would make a yes of a no: lines of a question file."""
+        from .conditions import MOST_VARIABLES, variables, would_do
+
+        if len(variables(decoded(line)["question"])) > MOST_VARIABLES:
+            say(f"{name}, question {number}: what would make it true is looked for on up to six variables")
+            return []
+        try:
+            found, undecided = would_do(line, self._report)
+        except Unasked as fault:
+            say(f"{name}, question {number}: what would make it true can't be asked: {fault}")
+            return []
+        if undecided:
+            say(f"{name}, question {number}: {undecided} more conditions stayed undecided after so many steps")
+        return [f"{one}  # then yes" for one in found] or ["# no one independence or function makes it a yes"]
+
+    def _report(self, questions: Sequence[str]) -> list[str]:
+        """The report about many questions that nobody wrote, by quick runs and few other steps."""
+        lines: list[str] = []
+        for batch in batches(questions):
+            status, written = self._itip("answer", "".join(batch), False, pivots=FEW_STEPS, run="quick")
+            if status:
+                raise Unasked(written.removesuffix("\n"))
+            lines += written.split("\n")[:-1]
+        return lines
+
+    def _copies(self, name: str, number: int, line: str) -> list[str]:
+        """The file with copies that makes a yes of a no, and below it how its answer is told."""
+        from .heads import with_copies
+
+        say(f"{name}, question {number}: copies are tried, for a minute at most; Ctrl-C ends it")
+        end_by_signals()
+        file, said = with_copies(decoded(line)["question"], self.prover)
+        if not file:
+            return [f"# {said}"]
+        status, written = self._itip("copy", file)
+        _, told = self._told_in_mode("copy", name, file, written.split("\n")[:-1]) if status == 0 else (status, "")
+        first, *lines = file.split("\n")[:-1]
+        return [f"{first}  # then yes", *lines, *(below[2:] for below in told.split("\n")[1:-1])]
 
     def _told_in_mode(self, mode: str, name: str, file: str, lines: Sequence[str]) -> tuple[int, str]:
         """The same of the lines of another mode."""
@@ -186,7 +268,7 @@ class Asker:
             asked = modes.asked(mode, file, int(number))
             if line.startswith(f"{number} undecided pivots") and "--pivots" not in self.words.settings:
                 say_anew(name, int(number), UNDECIDED)
-                status, anew = self._itip(mode, asked.alone, "none")
+                status, anew = self._itip(mode, asked.alone, pivots="none")
                 line = f"{number} " + anew.split("\n")[-2].partition(" ")[2] if status == 0 else line
             first, parts = modes.shown(line, asked.made)
             told.append(first)
@@ -202,15 +284,18 @@ class Asker:
         first, *below = told.split("\n")[:-1] or [""]
         return status, below if status != 1 else [f"  {first.partition(' ')[2]}"]
 
-    def _explain(self, name: str, text: str, refusal: str) -> None:
-        """Says what a refusal means, and what to write."""
+    def _explain(self, name: str, text: str, questions: Made, refusal: str) -> None:
+        """Writes a refusal, and says what it means, and what to write."""
         from .refusals import explained
 
-        place, word, *_ = [*refusal.split()[1:], ""]
+        place, *words = refusal.split()[1:]
         if place == "long":
-            say(f"{name} has more than {MOST_BYTES} bytes")
+            self._put(refusal)
+            say(f"{name} {'makes' if questions.lines else 'has'} more than {MOST_BYTES} bytes")
             return
-        number, column = map(int, place.split(":"))
+        number, column = questions.place(*map(int, place.split(":")))
+        word = " ".join(words)
+        self._put(f"refused {number}:{column} {word}\n")
         say(f"{name}, line {number}, column {column}:")
         line = [*as_bytes(text).split(b"\n"), b""][number - 1].removesuffix(b"\r")
         show(*(f"    {as_text(part)}" for part in explained(self.docs, word, line, column)))
@@ -230,8 +315,8 @@ def say_anew(name: str, number: int, why: str) -> None:
 
 
 def unused(text: str) -> Iterator[tuple[int, str]]:
-    """The variables that only `vars` and `aux` lines name, with the numbers of their questions. What a head names isn't among them."""
-    number = 0
+    """The variables that only `vars` and `aux` lines name, with the number of the first question about them. What a head names isn't among them."""
+    asked = number = 0
     names: list[str] = []
     head: set[str] = set()
     used: set[str] = set()
@@ -240,7 +325,8 @@ def unused(text: str) -> Iterator[tuple[int, str]]:
         if first == "vars":
             yield from ((number, name) for name in names if name not in used)
             head = head if number else used
-            number, names, used = number + 1, [], set(head)
+            number, names, used = asked + 1, [], set(head)
+        asked += first in ("prove", "eliminate", "contain")
         if first in ("vars", "aux"):
             names += others
         else:

@@ -11,7 +11,8 @@ from .copies import Copy, copied
 from .errors import ProgramFailed
 from .notation import Relation, Sum
 from .program import Budget, Itip, default
-from .questions import Given, Prove, Question, as_relation, cut, listed, parse, question
+from .questions import Given, Prove, Question, as_relation, listed, parse, question
+from .reports import cut
 from .workers import spread_report
 
 

@@ -19,7 +19,7 @@ TOKEN = re.compile(r"([0-9]+)/([0-9]+) |([A-Za-z0-9_]+)(\(?)|\||[<>]=")
 NUMBER = re.compile("-?[0-9]+")
 ATOM = re.compile(r"[A-Za-z_][A-Za-z0-9_]*|[HIh]\([A-Za-z0-9_,;|]+\)")
 # a sign, or a term: its sign, its number and what that counts
-PIECE = re.compile(r"<=|>=|=|(?:[-+] )*(?:-?[0-9]+ (?=[A-Za-z_]))?[^ ]+")
+PIECE = re.compile(r"<=|>=|=|(?:[-+] )*(?:-?[0-9]+(?:/[0-9]+)? (?=[A-Za-z_]))?[^ ]+")
 
 
 def escaped(text: str) -> str:

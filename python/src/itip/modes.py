@@ -9,7 +9,8 @@ from typing import Any, NamedTuple
 
 from .copies import copied, read_copies
 from .evidence import generator_numbers, point
-from .questions import Prove, Question, cut, parse
+from .questions import Prove, Question, parse
+from .reports import cut
 
 MOST = 2**64 - 1  # in a question file
 

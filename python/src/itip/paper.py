@@ -5,6 +5,11 @@ from __future__ import annotations
 import re
 
 from .latex import WIDTH, Names, align, escaped, formula, is_relation
+from .stated import constraint, copied, spaced, stated
+
+TYPE_CHECKING = False
+if TYPE_CHECKING:
+    from collections.abc import Sequence
 
 PREAMBLE = r"""\documentclass{article}
 \usepackage[margin=1in]{geometry}
@@ -13,6 +18,7 @@ PREAMBLE = r"""\documentclass{article}
 \begin{document}
 """
 END = "\\end{document}\n"
+THEN = "  # then yes"  # behind what makes a yes of a no
 NAME, LIST = "[A-Za-z][A-Za-z0-9_]*", "[A-Za-z0-9_,]+"
 # the facts of a point: what is set as a formula, and the words around it
 FACTS = (
@@ -34,9 +40,9 @@ SENTENCES = {
 }
 
 
-def typeset(told: str) -> str:
-    """What is told, line for line."""
-    paper = Paper()
+def typeset(told: str, questions: Sequence[str] = (), mode: str = "answer") -> str:
+    """What is told, line for line, each answer below its question."""
+    paper = Paper(questions, mode)
     for line in told.removesuffix("\n").split("\n") if told else []:
         paper.take(line)
     paper.close_answer()
@@ -46,7 +52,8 @@ def typeset(told: str) -> str:
 class Paper:
     """LaTeX in the making. Names are set alike in all of it."""
 
-    def __init__(self) -> None:
+    def __init__(self, questions: Sequence[str], mode: str) -> None:
+        self.questions, self.mode = questions, mode
         self.parts: list[str] = []
         self.names = Names()
         self.first = ""  # of the answer that waits, and the lines below it
@@ -69,9 +76,17 @@ class Paper:
         """Sets the answer that waits, if there is one."""
         if not self.first:
             return
-        self.parts.append(self._sentence())
+        number = self.first.split()[0]
+        asked = stated(self.questions[int(number) - 1], self.names, self.mode) if self.questions else []
+        self.parts += [rf"\paragraph{{{number}.}} {part}" if not place else part for place, part in enumerate([*asked, self._sentence()])]
+        place = next((place for place, line in enumerate(self.below) if line.endswith(THEN) or line.startswith("# no ")), len(self.below))
+        self._put_lines(self.below[:place])
+        self._put_files(self.below[place:])
+        self.first, self.below = "", []
+
+    def _put_lines(self, lines: Sequence[str]) -> None:
         is_step = False
-        for line in self.below:
+        for line in lines:
             if line.startswith(" ") != is_step:
                 self._close_relations()
                 is_step = not is_step
@@ -79,7 +94,18 @@ class Paper:
                     self.parts.append("Step by step:")
             self._put_line(line)
         self._close_relations()
-        self.first, self.below = "", []
+
+    def _put_files(self, lines: Sequence[str]) -> None:
+        """What makes a yes of a no, which is told as lines of question files: a condition alone, or copies and then a proof."""
+        conditions = [line[len("given ") : -len(THEN)] for line in lines if line.startswith("given ") and line.endswith(THEN)]
+        if conditions:
+            formulas = (constraint(line, self.names) or formula(spaced(line), self.names) for line in conditions)
+            self.parts.append("It has a proof where any of these holds too: " + ", ".join(f"${one}$" for one in formulas) + ".")
+        self.parts += [f"{line[2:].capitalize()}." for line in lines if line.startswith("# no ")]
+        copies = [copied(line.removesuffix(THEN), self.names) for line in lines if line.startswith("copy ")]
+        if copies:
+            self.parts.append(f"It has a proof with {', '.join(copies)}:")
+            self._put_lines(lines[next(place for place, line in enumerate(lines) if line.startswith("prove ")) + 1 :])
 
     def _sentence(self) -> str:
         """The sentence for the first line. Without a formula below it, it ends with a point."""
@@ -94,7 +120,7 @@ class Paper:
             said = SENTENCES.get(" ".join([word, *rest]), SENTENCES[word]).format(*rest, "")
         else:
             said = rf"\texttt{{{escaped(self.first[len(number) + 1 :])}}}"
-        return rf"\paragraph{{{number}.}} " + (said if self.below else re.sub(":$", ".", said))
+        return said if self.below else re.sub(":$", ".", said)
 
     def _substitution(self, part: str) -> str:
         name, _, chosen = part.partition(":=")

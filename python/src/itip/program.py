@@ -7,7 +7,7 @@ import re
 import signal
 import subprocess
 import warnings
-from collections.abc import Iterator, Sequence
+from collections.abc import Sequence
 from contextlib import suppress
 from dataclasses import dataclass, field, fields
 from pathlib import Path
@@ -15,9 +15,8 @@ from typing import Any, Optional, Union
 
 from .errors import Forged, MissingProgram, ProgramFailed, Refused, TimedOut
 from .refusals import hint, meaning
-from .reports import MOST_BYTES, decoded, why_open
+from .reports import MOST_BYTES, batches, decoded, why_open
 
-MOST_QUESTIONS = 1000
 LONG = f"a file has at most {MOST_BYTES} bytes"
 ENDS = {2: "the words have no reading", 4: "a read failed", 5: "a write failed", 6: "there was too little memory"}
 
@@ -114,7 +113,7 @@ class Itip:
     def report(self, questions: Sequence[str], pivots: Budget = "usual", words: Sequence[str] = ()) -> list[str]:
         """The report of the questions, a line for each. As many as fit go into one call."""
         lines: list[str] = []
-        for batch in _batches(questions):
+        for batch in batches(questions):
             found = self.file_report("".join(batch), pivots, words)
             if len(found) != len(batch):
                 raise ProgramFailed(f"{len(batch)} questions got {len(found)} answers")
@@ -199,21 +198,6 @@ def _end(process: subprocess.Popen[bytes]) -> None:
             os.killpg(process.pid, number)
         with suppress(subprocess.TimeoutExpired):
             process.wait(seconds)
-
-
-def _batches(questions: Sequence[str]) -> Iterator[list[str]]:
-    """The questions in as few files as the limits of a file allow."""
-    batch: list[str] = []
-    size = 0
-    for question in questions:
-        length = len(question.encode())
-        if batch and (len(batch) == MOST_QUESTIONS or size + length > MOST_BYTES):
-            yield batch
-            batch, size = [], 0
-        batch.append(question)
-        size += length
-    if batch:
-        yield batch
 
 
 _default = Itip()

@@ -2,7 +2,6 @@
 
 from __future__ import annotations
 
-import re
 from collections.abc import Iterable, Mapping, Sequence
 from dataclasses import dataclass
 from functools import cached_property
@@ -141,18 +140,6 @@ def question(
     if not variables:
         variables = ("X" if "X" not in rates else "Y",)  # a question has one at least
     return Question(variables, rates, without_rates(given), with_rates(given) + tuple(rows), goal)
-
-
-def cut(text: str) -> list[str]:
-    """The head of a file, which is empty but in mode `copy`, and its questions as reports have them: without comments, and without
-    blanks at the ends of lines.
-
-    >>> cut("copy R of A over 0\\nvars A # one\\n\\n prove H(A) >= 0\\nvars B\\nprove H(B) >= 0")
-    ['copy R of A over 0\\n', 'vars A\\nprove H(A) >= 0\\n', 'vars B\\nprove H(B) >= 0\\n']
-    """
-    lines = (line.partition("#")[0].replace("\t", " ").strip(" \r") for line in text.split("\n"))
-    plain = "".join(line + "\n" for line in lines if line)
-    return re.split(r"(?m)^(?=vars\b)", plain)
 
 
 def parse(source: str) -> Question:

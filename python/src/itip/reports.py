@@ -1,4 +1,4 @@
-"""Reports: what `itip answer --format json` writes, a line for each question (docs/answers.md)."""
+"""Reports: what `itip answer --format json` writes, a line for each question (docs/answers.md); and how files have questions."""
 
 from __future__ import annotations
 
@@ -6,9 +6,11 @@ from .errors import Forged
 
 TYPE_CHECKING = False
 if TYPE_CHECKING:
+    from collections.abc import Iterator, Sequence
     from typing import Any
 
 MOST_BYTES = 1_048_576
+MOST_QUESTIONS = 1000
 UNDECIDED = "is undecided after so many steps"
 UNSETTLED = "has rows that may not be needed"
 
@@ -31,3 +33,34 @@ def why_open(line: str) -> str:
     if line.startswith('{"answer":"region"'):
         return UNSETTLED if '"mark":"unsettled"' in line else ""
     return UNDECIDED if line.startswith('{"answer":"undecided"') and '"cause":"pivots"' in line else ""
+
+
+def batches(questions: Sequence[str]) -> Iterator[list[str]]:
+    """The questions in as few files as the limits of a file allow."""
+    batch: list[str] = []
+    size = 0
+    for question in questions:
+        length = len(question.encode())
+        if batch and (len(batch) == MOST_QUESTIONS or size + length > MOST_BYTES):
+            yield batch
+            batch, size = [], 0
+        batch.append(question)
+        size += length
+    if batch:
+        yield batch
+
+
+def cut(text: str) -> list[str]:
+    """The head of a file, which is empty but in mode `copy`, and its questions as reports have them: without comments, and without
+    blanks at the ends of lines.
+
+    >>> cut("copy R of A over 0\\nvars A # one\\n\\n prove H(A) >= 0\\nvars B\\nprove H(B) >= 0")
+    ['copy R of A over 0\\n', 'vars A\\nprove H(A) >= 0\\n', 'vars B\\nprove H(B) >= 0\\n']
+    """
+    parts = [""]
+    for written in text.split("\n"):
+        line = written.partition("#")[0].replace("\t", " ").strip(" \r")
+        if line.partition(" ")[0] == "vars":
+            parts.append("")
+        parts[-1] += line + "\n" if line else ""
+    return parts
