@@ -4,6 +4,9 @@ ghost use Rattle.it_space.specs.Problems.{IsProblem, problem_view};
 use crate::closures::{Closures, Companions, with, without};
 use crate::places::Places;
 use crate::programs::{Column, Entry, Inequality, Program};
+use crate::resuming::resumed;
+use crate::rows::InverseRow;
+use crate::running::{End, State};
 use it_closure::Dependences;
 use it_elemental::{Elemental, count, parts};
 use it_space::{Constraint, Kind, Problem, Row, VarSet};
@@ -13,6 +16,9 @@ use std::alloc::{AllocError, Global};
 const CONSTRAINT_COST: i64 = 256;
 
 const INEQUALITY_COST: i64 = 1024;
+
+/// A run from the basis of another one may take a step for so many of one from nothing.
+const STEPS_FOR_ONE: u32 = 4;
 
 /// No number of a constraint or a target is larger.
 const MOST: u128 = 1 << 15;
@@ -103,6 +109,9 @@ pub struct ClosedProgram {
     pub closures: Closures,
     pub places: Places,
     pub program: Program,
+    // the basis at which the last run has ended, and the columns of constraints that were there
+    last: Option<Vec<InverseRow>>,
+    before: Vec<Column>,
 }
 
 impl ClosedProgram {
@@ -121,6 +130,8 @@ impl ClosedProgram {
             closures,
             places,
             program,
+            last: None,
+            before: Vec::new(alloc),
         };
         closed.push_inequalities(dependences)?;
         Ok(closed)
@@ -154,7 +165,20 @@ impl ClosedProgram {
     ) -> Result<bool, AllocError>
         requires { IsProblem (problem_view problem.now) }
     {
-        self.program.others.clear();
+        let is_posed = self.put_constraints(alloc, problem)? && self.put_right(alloc, target)?;
+        if !is_posed {
+            // no run has these columns
+            self.last = None;
+        }
+        Ok(is_posed)
+    }
+
+    /// Puts the columns of a problem's constraints in the place of those that are there. False where a number is large.
+    fn put_constraints(&mut self, alloc: Global, problem: &Problem) -> Result<bool, AllocError>
+        requires { IsProblem (problem_view problem.now) }
+    {
+        self.program.put_costs_back();
+        self.before = std::mem::replace(&mut self.program.others, Vec::new(alloc));
         let mut generator = count(problem.space.variables);
         for constraint in problem.constraints.as_slice() {
             if !self.push_constraint(alloc, constraint, generator)? {
@@ -162,7 +186,35 @@ impl ClosedProgram {
             }
             generator = generator.saturating_add(1);
         }
-        self.put_right(alloc, target)
+        Ok(true)
+    }
+
+    /// How a run about the target that was posed ends within so many steps, from nothing.
+    pub fn run(&mut self, alloc: Global, steps: u32) -> Result<End, AllocError> {
+        self.program.put_costs_back();
+        let state = State::start(alloc, &self.program)?;
+        self.run_from(alloc, state, steps)
+    }
+
+    /// How the same run ends from the basis at which the last one has ended, within fewer steps. It gives up where there is none.
+    pub fn run_on(&mut self, alloc: Global, steps: u32) -> Result<End, AllocError> {
+        let Some(rows) = self.last.take() else {
+            return Ok(End::GaveUp);
+        };
+        match resumed(alloc, rows, self.before.as_slice(), &mut self.program)? {
+            Some(state) => self.run_from(alloc, state, steps / STEPS_FOR_ONE),
+            None => Ok(End::GaveUp),
+        }
+    }
+
+    /// How a run ends from a state. Its basis is kept for the next, unless it gives up.
+    fn run_from(&mut self, alloc: Global, mut state: State, steps: u32) -> Result<End, AllocError> {
+        let end = state.run(alloc, &self.program, steps)?;
+        self.last = match end {
+            End::GaveUp => None,
+            _ => Some(state.into_rows()),
+        };
+        Ok(end)
     }
 
     /// Puts the right side of a target. False where a number is large.

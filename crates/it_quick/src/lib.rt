@@ -6,7 +6,8 @@
 //! method (C. E. Lemke, "The dual method of solving the linear programming problem", 1954). It begins with a basis of artificial
 //! columns, which never come back once they have left, so that a row that stays 0 takes no step. The row that leaves is that of
 //! the steepest edge (J. J. Forrest and D. Goldfarb, "Steepest-edge simplex algorithms for linear programming", 1992). Its numbers are
-//! exact: whole numbers in 32 bits over one denominator a row, and where they don't suffice the run gives up.
+//! exact: whole numbers in 32 bits over one denominator a row, and where they don't suffice the run gives up. A run about another
+//! target begins at the basis at which the last one has ended, and where that proposes nothing once more from nothing.
 #![tactic(auto)]
 
 mod closed;
@@ -17,6 +18,7 @@ mod places;
 mod pricing;
 mod programs;
 mod proposing;
+mod resuming;
 mod rows;
 mod running;
 

@@ -41,7 +41,7 @@ fn price_at(prices: &[i64], place: u16) -> i64 {
 }
 
 /// A number other than 0 of a column at a place.
-#[derive(Clone, Copy)]
+#[derive(Clone, Copy, PartialEq, Eq)]
 pub struct Entry {
     pub place: u16,
     pub number: i32,
@@ -59,6 +59,11 @@ pub struct Column {
 }
 
 impl Column {
+    /// Whether it has the entries of another one.
+    pub fn is_alike(&self, other: &Column) -> bool {
+        self.entries.as_slice() == other.entries.as_slice()
+    }
+
     /// Its value at a row.
     pub fn value(&self, row: &[i32]) -> i64 {
         let mut sum: i64 = 0;
@@ -87,6 +92,8 @@ pub struct Program {
     pub others: Vec<Column>,
     /// The right side at each place.
     pub right: Vec<i32>,
+    // columns that cost nothing for now, each with what it costs else
+    waived: Vec<(usize, i64)>,
 }
 
 impl Program {
@@ -96,6 +103,7 @@ impl Program {
             inequalities: Vec::new(alloc),
             others: Vec::new(alloc),
             right: Vec::from_elem(alloc, 0i32, width)?,
+            waived: Vec::new(alloc),
         })
     }
 
@@ -140,6 +148,39 @@ impl Program {
     pub fn reduced_cost(&self, column: usize, prices: &[i64], bottom: i64) -> i64 {
         let (cost, price) = self.cost_and_price(column, prices);
         bottom.wrapping_mul(cost).wrapping_sub(price)
+    }
+
+    /// Lets a column cost nothing, until the costs are put back.
+    pub fn waive_cost(&mut self, column: usize) -> Result<(), AllocError> {
+        let cost = self.replace_cost(column, 0);
+        if cost != 0 {
+            self.waived.push((column, cost))?;
+        }
+        Ok(())
+    }
+
+    /// Lets each column cost again what it costs else.
+    pub fn put_costs_back(&mut self) {
+        for k in 0..self.waived.len() {
+            if let Some(waived) = self.waived.get(k) {
+                let (column, cost) = *waived;
+                self.replace_cost(column, cost);
+            }
+        }
+        self.waived.clear();
+    }
+
+    /// Puts a cost in the place of a column's own, which is answered; 0 where there is no such column.
+    fn replace_cost(&mut self, column: usize, cost: i64) -> i64 {
+        let first = self.inequalities.len();
+        let place = column.wrapping_sub(first);
+        if column < first {
+            std::mem::replace(&mut self.inequalities[column].cost, cost)
+        } else if place < self.others.len() {
+            std::mem::replace(&mut self.others[place].cost, cost)
+        } else {
+            0
+        }
     }
 
     /// A column's own cost, and its value at prices.

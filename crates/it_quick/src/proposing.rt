@@ -11,7 +11,7 @@ use crate::closures::Companions;
 use crate::lifting::certificate;
 use crate::numbers::number_at;
 use crate::places::Places;
-use crate::running::{ColumnWeight, End, run};
+use crate::running::{ColumnWeight, End};
 use it_closure::Dependences;
 use it_space::{Certificate, Point, Problem, Row, RowFault, Space};
 use std::alloc::{AllocError, Global};
@@ -94,7 +94,36 @@ fn by_values(
     Ok(point(problem.space, values))
 }
 
-/// What a run of at most so many steps proposes about a target, where the program's columns are there.
+/// What the end of a run proposes.
+fn by_end(
+    alloc: Global,
+    problem: &Problem,
+    dependences: &Dependences,
+    closed: &ClosedProgram,
+    target: &Row,
+    end: End,
+) -> Result<Option<Proposal>, AllocError>
+    requires { IsProblem (problem_view problem.now) }
+    ensures { IfOk result (λ o. IfSome o (IsOfSpace problem.now.space)) }
+{
+    match end {
+        End::Weights(weights) => {
+            by_weights(
+                alloc,
+                problem,
+                dependences,
+                closed,
+                target,
+                weights.as_slice(),
+            )
+        }
+        End::Point(values) => by_values(alloc, problem, &closed.places, values.as_slice()),
+        End::GaveUp => Ok(None),
+    }
+}
+
+/// What a run of at most so many steps proposes about a target, where the program's inequalities are there. It begins at the last basis,
+/// and once more from nothing where it then proposes nothing.
 fn by_run(
     alloc: Global,
     problem: &Problem,
@@ -109,20 +138,13 @@ fn by_run(
     if !closed.pose(alloc, problem, target)? {
         return Ok(None);
     }
-    match run(alloc, &closed.program, steps)? {
-        End::Weights(weights) => {
-            by_weights(
-                alloc,
-                problem,
-                dependences,
-                closed,
-                target,
-                weights.as_slice(),
-            )
-        }
-        End::Point(values) => by_values(alloc, problem, &closed.places, values.as_slice()),
-        End::GaveUp => Ok(None),
+    let end = closed.run_on(alloc, steps)?;
+    let proposal = by_end(alloc, problem, dependences, closed, target, end)?;
+    if proposal.is_some() {
+        return Ok(proposal);
     }
+    let end = closed.run(alloc, steps)?;
+    by_end(alloc, problem, dependences, closed, target, end)
 }
 
 /// A problem about whose targets runs are made. What is made for one target is kept for the next, as far as that is the same.

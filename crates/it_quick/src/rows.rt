@@ -33,6 +33,16 @@ fn sum_of_squares(numbers: &[i32]) -> u64 {
     sum
 }
 
+/// The value of numbers at a right side. None where it is large.
+fn value_at(numbers: &[i32], right: &[i32]) -> Option<i32> {
+    let mut sum: i128 = 0;
+    for k in RIGHT + 1..right.len() {
+        let product = i64::from(at(numbers, k, 0)).wrapping_mul(i64::from(at(right, k, 0)));
+        sum = sum.wrapping_add(i128::from(product));
+    }
+    i32::try_from(sum).ok()
+}
+
 /// Divides the numbers and their denominator by what all have in common. The smaller denominator; None where there is none, and then
 /// the numbers stay.
 fn shorten(numbers: &mut [i32], bottom: u64) -> Option<u64>
@@ -127,6 +137,24 @@ impl InverseRow {
         } else {
             right
         }
+    }
+
+    /// Takes another column for the basic one; with none the basic one has to leave, as an artificial one.
+    pub fn rename(&mut self, column: Option<usize>) {
+        self.basic = column;
+    }
+
+    /// Puts the value at another right side in the place of the row's. False where it is too large: then the row stays.
+    pub fn put_right(&mut self, right: &[i32]) -> bool {
+        let Some(value) = value_at(self.numbers.as_slice(), right) else {
+            return false;
+        };
+        if RIGHT < self.numbers.len() {
+            self.numbers[RIGHT] = value;
+        }
+        self.most = greatest_size(self.numbers.as_slice());
+        self.squares = sum_of_squares(self.numbers.as_slice());
+        true
     }
 
     /// The sum of the squares of the numbers, modulo 2^64.

@@ -29,7 +29,7 @@ pub struct ColumnWeight {
 
 /// The state of a run.
 #[derive(Drop)]
-struct State {
+pub struct State {
     rows: Vec<InverseRow>,
     prices: Prices,
 }
@@ -118,7 +118,7 @@ fn weights(alloc: Global, rows: &[InverseRow]) -> Result<End, AllocError> {
 
 impl State {
     /// The start: the artificial columns are basic, and nothing has a price.
-    fn start(alloc: Global, program: &Program) -> Result<State, AllocError> {
+    pub fn start(alloc: Global, program: &Program) -> Result<State, AllocError> {
         let width = program.width();
         // whole stretches
         let room = (width / STRETCH).saturating_add(1).saturating_mul(STRETCH);
@@ -127,8 +127,32 @@ impl State {
             let right = at(program.right.as_slice(), place, 0);
             rows.push(InverseRow::unit(alloc, room, place, right)?)?;
         }
-        let prices = Prices::start(alloc, width)?;
+        State::at_basis(alloc, program, rows)
+    }
+
+    /// The state at the basis of these rows, in which nothing has a price.
+    pub fn at_basis(
+        alloc: Global,
+        program: &Program,
+        rows: Vec<InverseRow>,
+    ) -> Result<State, AllocError> {
+        let prices = Prices::start(alloc, program.width())?;
         Ok(State { rows, prices })
+    }
+
+    /// The rows of the inverse of its basis.
+    pub fn into_rows(self) -> Vec<InverseRow> {
+        self.rows
+    }
+
+    /// How the run ends within so many steps.
+    pub fn run(&mut self, alloc: Global, program: &Program, steps: u32) -> Result<End, AllocError> {
+        for _ in 0..steps {
+            if let Some(end) = self.step(alloc, program)? {
+                return Ok(end);
+            }
+        }
+        Ok(End::GaveUp)
     }
 
     /// Puts a column into the basis in place of that of a row. False where a number becomes too large.
@@ -204,15 +228,4 @@ fn update(
         return true;
     }
     row.put_in_lowest_terms() && row.update(leaving, program.entry(column, row.numbers()))
-}
-
-/// How the run ends within so many steps.
-pub fn run(alloc: Global, program: &Program, steps: u32) -> Result<End, AllocError> {
-    let mut state = State::start(alloc, program)?;
-    for _ in 0..steps {
-        if let Some(end) = state.step(alloc, program)? {
-            return Ok(end);
-        }
-    }
-    Ok(End::GaveUp)
 }
