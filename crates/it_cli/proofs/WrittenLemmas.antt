@@ -18,8 +18,8 @@ use Rattle.it_answer.specs.Shows.{Shows}
 use Rattle.it_answer.specs.Truth.{IsTrueAnswer}
 use Rattle.it_bounds.specs.Lines.{reply_lines}
 use Rattle.it_bounds.specs.Replies as bounds
-use Rattle.it_bounds.specs.RightReplies as bounds
-use Rattle.it_bounds.specs.Truth as bounds
+use Rattle.it_bounds.specs.RightReplies as right_bounds
+use Rattle.it_bounds.specs.Truth as true_bounds
 use Rattle.it_factor.specs.Lines.{reply_line}
 use Rattle.it_factor.specs.Replies.{ReplyView}
 use Rattle.it_factor.specs.RightReplies as factors
@@ -92,12 +92,12 @@ factors_are_true shown_is_true run pivots = writes_such (Best run pivots) 104857
 
 -- what a reply to the question shows is true
 abbrev IsTrueWhereShown : QuestionView → Type 0
-IsTrueWhereShown q = (reply : bounds.ReplyView) → bounds.ShowsReply q.body reply → bounds.IsTrueReply q.body reply
+IsTrueWhereShown q = (reply : bounds.ReplyView) → right_bounds.ShowsReply q.body reply → true_bounds.IsTrueReply q.body reply
 
-pub bounds_are_true : bounds.WhatIsShownIsTrue → BoundsAreTrue
+pub bounds_are_true : right_bounds.WhatIsShownIsTrue → BoundsAreTrue
 bounds_are_true shown_is_true run pivots rows tries = writes_such (Outer run pivots rows tries) 1048576 (TrueBounds (limits_of run pivots rows tries)) refl (λ plans bytes out o.
-    lines_for (outer_mode (limits_of run pivots rows tries)) (λ reply. reply) (λ k q reply. reply_lines (limits_of run pivots rows tries) k q.body (question_origins (bounds.under_all_lines q.body)) reply) (λ k q reply. refl)
-    IsTrueWhereShown (λ (q : QuestionView) (reply : bounds.ReplyView). bounds.IsTrueReply q.body reply) (λ earlier q reply within right. within reply right.shows) shown_is_true bytes out Done o)
+    lines_for (outer_mode (limits_of run pivots rows tries)) (λ reply. reply) (λ k q reply. reply_lines (limits_of run pivots rows tries) k q.body (question_origins (true_bounds.under_all_lines q.body)) reply) (λ k q reply. refl)
+    IsTrueWhereShown (λ (q : QuestionView) (reply : bounds.ReplyView). true_bounds.IsTrueReply q.body reply) (λ earlier q reply within right. within reply right.shows) shown_is_true bytes out Done o)
 
 -- what the file says is within the limits
 abbrev IsWithinSharing : SharingView → Type 0

@@ -14,7 +14,7 @@ use Rattle.it_answer.specs.Shows.{Shows}
 use Rattle.it_answer.specs.Truth.{IsTrueAnswer}
 use Rattle.it_bounds.specs.Lines.{reply_lines}
 use Rattle.it_bounds.specs.Replies as bounds
-use Rattle.it_bounds.specs.Truth as bounds
+use Rattle.it_bounds.specs.Truth as true_bounds
 use Rattle.it_factor.specs.Lines.{reply_line}
 use Rattle.it_factor.specs.Replies.{ReplyView}
 use Rattle.it_factor.specs.Truth.{IsTrueReply}
@@ -63,8 +63,8 @@ TrueFactors = AreLinesFor IsFile (λ (q : QuestionView) (reply : ReplyView). IsT
 
 -- those of a true reply to each question of a file that asks for outer bounds, made within these limits
 abbrev pub TrueBounds : Limits → List ℕ → List ℕ → Type 0
-TrueBounds limits = AreLinesFor IsFile (λ (q : QuestionView) (reply : bounds.ReplyView). bounds.IsTrueReply q.body reply)
-    (λ k q reply. reply_lines limits k q.body (question_origins (bounds.under_all_lines q.body)) reply)
+TrueBounds limits = AreLinesFor IsFile (λ (q : QuestionView) (reply : bounds.ReplyView). true_bounds.IsTrueReply q.body reply)
+    (λ k q reply. reply_lines limits k q.body (question_origins (true_bounds.under_all_lines q.body)) reply)
 
 -- those of a true reply to what a sharing file asks
 abbrev pub TrueSharing : List ℕ → List ℕ → Type 0
