@@ -1,9 +1,9 @@
 -- What loops write of bounds, and the lines of a bound.
-use Rattle.std.proofs.Common.{◌≡◌, ℕ, ◌+◌, ◌<◌, ◌≤◌, ◌∙◌, ℤ, unsigned_abs, List, [], ◌∷◌, ◌++◌, Bool, true, false, if◌then◌else◌, codes, drop, flat_map, get_or, length, map, refl, sym, ap, ap₂, append_assoc, append-nil, zip, arith}
+use Rattle.std.proofs.Common.{◌≡◌, ℕ, ◌+◌, ◌<◌, ◌≤◌, ◌∙◌, ℤ, unsigned_abs, List, [], ◌∷◌, ◌++◌, Bool, true, false, if◌then◌else◌, codes, drop, flat_map, get_or, length, map, sym, ap, ap₂, append_assoc, append-nil}
 use Rattle.std.proofs.lemmas.List.{drop_all}
 use Rattle.it_number.specs.Division.{int_quotient}
 use Rattle.it_number.specs.Gcd.{gcd}
-use Rattle.it_space.specs.Divisors.{content, divided_terms, lowest_terms}
+use Rattle.it_space.specs.Divisors.{content, divided_terms}
 use Rattle.it_space.specs.declared.answers.Certificate.{Certificate}
 use Rattle.it_space.specs.declared.answers.Mark.{Mark}
 use Rattle.it_space.specs.declared.problems.Constraint.{Constraint}

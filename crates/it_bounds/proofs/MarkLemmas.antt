@@ -1,5 +1,5 @@
 -- Marks of rows, by a reduction where all variables are constant.
-use Rattle.std.proofs.Common.{◌≡◌, ℕ, suc, ◌≤◌, ◌<◌, ◌-◌, ℤ, neg_ℤ, pos, ◌≤ℤ◌, List, [], ◌∷◌, ◌++◌, map, length, refl, sym, ap, ap₂, subst, ◌∙◌, arith, All}
+use Rattle.std.proofs.Common.{◌≡◌, ℤ, List, [], ◌∷◌, ◌++◌, map, length, refl, sym, ap, ap₂, subst, ◌∙◌, arith, All}
 use Rattle.std.proofs.lemmas.List.{length-map}
 use Rattle.std.proofs.lemmas.List.Elements.{All-nil, All-cons, All-head, All-tail}
 use Rattle.it_space.specs.declared.answers.Mark.{Mark}
@@ -21,7 +21,6 @@ use Rattle.it_outer.specs.Outer.{constants}
 use Rattle.it_outer.proofs.ConstantLemmas.{constants_are_problem, few_constants}
 use Rattle.it_answer.specs.DueEliminations.{mark_of_need, marked_rows}
 use Rattle.it_answer.specs.Truth.{region_rows}
-use Rattle.it_bounds.specs.RightReplies.{MarksEnd}
 use Rattle.it_bounds.specs.RowReplies.{AreMarked}
 use Rattle.it_bounds.specs.Truth.{IsNeededBeside, MarkedRowsAreNeeded}
 

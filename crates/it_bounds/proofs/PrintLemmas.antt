@@ -1,19 +1,18 @@
 -- A reply can be printed: its generators are there, and its rows and rays are of the question's names.
-use Rattle.std.proofs.Common.{◌≡◌, ◌+◌, ◌-◌, ◌<◌, ◌≤◌, ◌^◌, ◌∙◌, ℕ, suc, ℤ, List, [], ◌∷◌, length, length-append, map, refl, ap, sym, subst, arith, All}
+use Rattle.std.proofs.Common.{◌≡◌, ◌+◌, ◌<◌, ◌≤◌, ◌^◌, ◌∙◌, ℕ, suc, ℤ, List, [], ◌∷◌, length, length-append, map, refl, ap, sym, subst, arith, All}
 use Rattle.std.specs.List.{AllZip, AllByRecursion as Every}
 use Rattle.std.proofs.lemmas.List.{length-map}
 use Rattle.std.proofs.lemmas.List.Elements.{All-weaker}
 use Rattle.std.proofs.lemmas.Nat.{pow_pos}
-use Rattle.it_space.specs.declared.answers.Cause.{Cause}
 use Rattle.it_space.specs.declared.answers.Certificate.{Certificate}
 use Rattle.it_space.specs.declared.answers.Mark.{Mark}
 use Rattle.it_space.specs.declared.spaces.Space.{Space}
-use Rattle.it_space.specs.Answers.{CertificateView, certificate_view}
+use Rattle.it_space.specs.Answers.{certificate_view}
 use Rattle.it_space.specs.Problems.{ProblemView}
 use Rattle.it_space.specs.Rows.{Terms, IsOver}
 use Rattle.it_space.specs.Spaces.{size_of}
 use Rattle.it_space.proofs.EveryLemmas.{all_of, every_of, every_mapped}
-use Rattle.it_polymatroid.specs.Certificates.{Form, IsAllowed}
+use Rattle.it_polymatroid.specs.Certificates.{IsAllowed}
 use Rattle.it_polymatroid.specs.Elementals.{elementals}
 use Rattle.it_elemental.specs.Generators.{forms_of, generator_list, generators}
 use Rattle.it_check.specs.Meaning.{CertifiesRow}
@@ -28,12 +27,12 @@ use Rattle.it_outer.specs.declared.types.Limits.{Limits}
 use Rattle.it_outer.specs.declared.types.OuterCause.{OuterCause}
 use Rattle.it_outer.specs.declared.types.OuterCause.TheVariants as causes
 use Rattle.it_outer.specs.Bounds.{IsRay}
-use Rattle.it_outer.specs.Outer.{Undecided as EndsUndecided, Run, cause_view, search_without}
+use Rattle.it_outer.specs.Outer.{Undecided as EndsUndecided, cause_view, search_without}
 use Rattle.it_outer.specs.Search.{SearchEnds}
 use Rattle.it_answer.specs.Truth.{region_rows}
 use Rattle.it_bounds.specs.declared.types.Reply.{Reply}
 use Rattle.it_bounds.specs.declared.types.Reply.TheVariants as replies
-use Rattle.it_bounds.specs.Lines.{AreOfNames, IsCausePrintable, IsPrintable}
+use Rattle.it_bounds.specs.Lines.{IsCausePrintable, IsPrintable}
 use Rattle.it_bounds.specs.Replies.{reply_view}
 use Rattle.it_bounds.specs.RowReplies.{IsReplyByRows}
 use Rattle.it_bounds.specs.Truth.{under_all_lines}
@@ -95,7 +94,7 @@ module _ (q : BodyView) (p : ProblemView) (posed : IsProblemOf (under_all_lines 
     as_many p rows.items proofs.items b.bounds.certified,
     rows_of_names (problem_names q) rows.items (at_names (λ s. All (IsOver (size_of s)) (region_rows rows.items)) (bounds_over p gone limits posed.limits (rates_within q p posed limits gone k few_rows asked) (eliminated_rates q gone k asked).some few_rows (region_rows rows.items) _ _ b.ends).0),
     at_names (λ s. AreListed s.variables (length p.constraints) proofs.items)
-    (all_of (λ (c : Certificate). All (λ w. w.0 < length (elementals p.space.variables) + length p.constraints) c.weights.items) proofs.items (listed_all p (region_rows rows.items) proofs.items b.bounds.certified)),
+        (all_of (λ (c : Certificate). All (λ w. w.0 < length (elementals p.space.variables) + length p.constraints) c.weights.items) proofs.items (listed_all p (region_rows rows.items) proofs.items b.bounds.certified)),
     All-weaker (IsRay p) (λ (values : List ℤ). length values ≡ size_of (space_of (problem_names q))) (λ values r. r.complete ∙ ap size_of own_space) rays.items b.bounds.attained,
   )
   reply_printable (replies.Undecided cause) u = cause_printable cause u.1

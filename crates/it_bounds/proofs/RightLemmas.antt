@@ -1,5 +1,5 @@
 -- What is right of a problem's rows is right by the meaning of the text.
-use Rattle.std.proofs.Common.{◌≡◌, ◌+◌, ◌<◌, ◌≤◌, ℕ, ℤ, pos, List, [], ◌∷◌, length, map, All, Option, Some, None, refl, sym, ap, subst, ◌∙◌, arith, true}
+use Rattle.std.proofs.Common.{◌≡◌, ◌+◌, ◌<◌, ◌≤◌, ℕ, ℤ, List, [], ◌∷◌, length, map, All, Option, Some, None, refl, sym, ap, subst, ◌∙◌, arith}
 use Rattle.std.specs.List.{AllZip, AllByRecursion as Every}
 use Rattle.std.proofs.lemmas.List.Elements.{All-weaker}
 use Rattle.it_space.specs.declared.answers.Mark.{Mark}
@@ -10,26 +10,21 @@ use Rattle.it_space.specs.Rows.{Terms, IsOver, point_of, value}
 use Rattle.it_space.specs.Spaces.{size_of}
 use Rattle.it_space.proofs.EveryLemmas.{every_of}
 use Rattle.it_polymatroid.specs.Polymatroid.{IsPolymatroid}
-use Rattle.it_closure.specs.Sizes.{table_size}
 use Rattle.it_elemental.specs.Generators.{generators}
 use Rattle.it_check.specs.Meaning.{CertifiesRow}
-use Rattle.it_syntax.specs.Givens.{IsRelationOf}
 use Rattle.it_question.specs.Limits.{AreRatesOf, IsQuestion, IsVerbOver}
-use Rattle.it_question.specs.Questions.{BodyView, VerbView, Prove, Eliminate, Contain}
-use Rattle.it_question.specs.ProblemLines.{problem_lines, problem_names}
-use Rattle.it_question.specs.TableSizes.{HasSmallTable, most_entries}
+use Rattle.it_question.specs.Questions.{BodyView, VerbView, Eliminate}
 use Rattle.it_question.specs.LineDemands.{line_demands}
 use Rattle.it_question.specs.LineOrigins.{line_origins}
 use Rattle.it_demand.specs.Origins.{AreStated}
 use Rattle.it_demand.specs.QuestionSpaces.{space_of}
-use Rattle.it_canon.specs.QuestionDemands.{IsProblemOf, problem_of, question_demands, question_origins}
-use Rattle.it_canon.specs.TrueLines.{AreTrueAt, AreTrueTogether, variable_count}
+use Rattle.it_canon.specs.QuestionDemands.{IsProblemOf, question_demands, question_origins}
+use Rattle.it_canon.specs.TrueLines.{AreTrueAt, AreTrueTogether}
 use Rattle.it_canon.proofs.PosesLemmas.{one_problem}
 use Rattle.it_canon.proofs.ProblemLemmas.{question_met, question_problem}
 use Rattle.it_canon.proofs.SmallProblems.{small_by_problem, small_problem}
 use Rattle.it_hull.specs.Hulls.{IsHull}
 use Rattle.it_hull.specs.Theorems.{MeetsProblem}
-use Rattle.it_prove.specs.declared.types.Effort.{Effort}
 use Rattle.it_outer.specs.declared.types.Limits.{Limits}
 use Rattle.it_outer.specs.Bounds.{IsRay}
 use Rattle.it_outer.specs.Outer.{CauseView, OuterView, Run, kept_coordinates, search_without}
@@ -41,7 +36,7 @@ use Rattle.it_answer.proofs.FormLemmas.{by_forms, generators_speak, rows_add_up}
 use Rattle.it_bounds.specs.Replies.{ReplyView, Bounded, Undecided, Size, Other}
 use Rattle.it_bounds.specs.RightReplies.{Ends, IsDue, IsRightReply, MarksEnd, ShowsBounds, ShowsReply}
 use Rattle.it_bounds.specs.RowReplies.{AreMarkedBounds, IsReplyByRows}
-use Rattle.it_bounds.specs.Truth.{IsTrueRay, eliminated_by, kept_rates, under_all_lines}
+use Rattle.it_bounds.specs.Truth.{IsTrueRay, eliminated_by, under_all_lines}
 use Rattle.it_bounds.proofs.SearchLemmas.{bounds_over}
 
 -- the question with all its lines given is within the limits too
@@ -62,7 +57,7 @@ eliminated_rates q gone k e = subst (λ (v : VerbView). IsVerbOver q.names v) e 
 pub posed_by_lines : (q : BodyView) (p : ProblemView) → IsQuestion q → p.space ≡ space_of q.names → AreStated p.space (line_origins p.space.variables q.lines) (line_demands p.space.variables q.lines) p.constraints → IsProblemOf (under_all_lines q) p
 posed_by_lines q p k same stated =
     let own : AreStated p.space (question_origins (under_all_lines q)) (question_demands (under_all_lines q)) p.constraints =
-        subst (λ (s : Space). AreStated p.space (line_origins s.variables q.lines) (line_demands s.variables q.lines) p.constraints) same stated in
+    subst (λ (s : Space). AreStated p.space (line_origins s.variables q.lines) (line_demands s.variables q.lines) p.constraints) same stated in
     record { space = same; limits = question_problem (under_all_lines q) p (all_lines_question q k) same own; constraints = own }
 
 module _ (q : BodyView) (p : ProblemView) (posed : IsProblemOf (under_all_lines q) p) where

@@ -1,12 +1,12 @@
 -- What holds of each hull of a search holds where it ends.
-use Rattle.std.proofs.Common.{◌≡◌, inl, inr, ℕ, zero, suc, ◌+◌, ◌-◌, ◌*◌, ◌^◌, ◌≤◌, ◌<◌, ℤ, List, [], ◌∷◌, ◌++◌, length, Bool, true, false, if◌then◌else◌, nat_eq, refl, sym, ap, subst, arith, length-append, All, None}
+use Rattle.std.proofs.Common.{◌≡◌, inl, inr, ℕ, zero, suc, ◌+◌, ◌-◌, ◌*◌, ◌^◌, ◌≤◌, ◌<◌, ℤ, List, [], ◌∷◌, ◌++◌, length, Bool, true, false, if◌then◌else◌, nat_eq, refl, sym, subst, arith, All, None}
 use Rattle.std.specs.List.{list_any}
 use Rattle.std.proofs.lemmas.Nat.{pow_pos}
 use Rattle.std.proofs.lemmas.List.{length-map}
 use Rattle.std.proofs.lemmas.List.Elements.{All-head}
 use Rattle.it_space.specs.Answers.{CertificateView}
 use Rattle.it_space.specs.declared.answers.Cause.{Cause}
-use Rattle.it_space.specs.declared.answers.Cause.TheVariants.{Pivots, Width as WideStep, Scale, Rows as RowsOfRate, WideRate}
+use Rattle.it_space.specs.declared.answers.Cause.TheVariants.{Pivots, Width as WideStep, Scale}
 use Rattle.it_space.specs.declared.spaces.Space.{Space}
 use Rattle.it_space.specs.Problems.{IsProblem, ProblemView}
 use Rattle.it_space.specs.Rows.{Terms, IsOver, point_of}
@@ -24,11 +24,10 @@ use Rattle.it_redundant.specs.Reduction.{NeedView, Reduces, kept_by, kept_rows}
 use Rattle.it_redundant.proofs.ProjectionLemmas.{list_up, step_list}
 use Rattle.it_redundant.proofs.ReductionLemmas.{all_kept}
 use Rattle.it_hull.specs.Hulls.{first_rows, rows_with_multiplier}
-use Rattle.it_hull.specs.Rays.{RayEnds}
 use Rattle.it_hull.proofs.RayLemmas.{multiplier_over}
-use Rattle.it_outer.specs.Outer.{Search, OuterView, Bounds, Undecided, CauseView, Run, Rows, Width, Rays, constants, kept_coordinates, rates_left, search_without}
+use Rattle.it_outer.specs.Outer.{Search, OuterView, Bounds, Undecided, Run, Rows, Width, Rays, constants, kept_coordinates, rates_left, search_without}
 use Rattle.it_outer.specs.declared.types.Limits.{Limits}
-use Rattle.it_outer.specs.Search.{Proved, Refuted, Left, IsFirstWith, HullView, Hull, TooMany, TooWide, AfterStep, NextHull, PassEnds, HullEnds, PassWithEnds, SecondEnds, SearchEnds}
+use Rattle.it_outer.specs.Search.{Proved, Refuted, Left, IsFirstWith, Hull, TooMany, TooWide, NextHull, PassEnds, HullEnds, PassWithEnds, SecondEnds, SearchEnds}
 use Rattle.it_outer.specs.Theorems.{IsSearch}
 use Rattle.it_outer.proofs.BoundLemmas.{first_rows_over}
 use Rattle.it_outer.proofs.FrameLemmas.{without_is_search}

@@ -1,5 +1,5 @@
 -- What shows what it says of bounds is true.
-use Rattle.std.proofs.Common.{◌≡◌, ◌↔◌, ℕ, ℤ, pos, ◌≤ℤ◌, List, [], ◌∷◌, map, All, refl, sym, subst, arith}
+use Rattle.std.proofs.Common.{ℕ, ℤ, pos, ◌≤ℤ◌, List, [], ◌∷◌, map, arith}
 use Rattle.std.specs.List.{AllByRecursion as Every}
 use Rattle.std.proofs.lemmas.Int.{ints}
 use Rattle.std.proofs.lemmas.List.Elements.{All-weaker}
@@ -8,13 +8,10 @@ use Rattle.it_space.specs.Answers.{CertificateView}
 use Rattle.it_space.specs.Problems.{ProblemView}
 use Rattle.it_space.specs.Rows.{Terms, point_of, value}
 use Rattle.it_space.proofs.EveryLemmas.{all_of}
-use Rattle.it_question.specs.Limits.{IsQuestion}
-use Rattle.it_question.specs.Questions.{BodyView, QuestionView}
-use Rattle.it_question.proofs.NumberLemmas.{QuestionHasSmallNumbers}
+use Rattle.it_question.specs.Questions.{BodyView}
 use Rattle.it_canon.specs.QuestionDemands.{IsProblemOf, problem_of}
 use Rattle.it_canon.specs.TrueLines.{AreTrueTogether}
 use Rattle.it_canon.proofs.ExistenceLemmas.{each_question, question_poses}
-use Rattle.it_eliminate.specs.Projections.{IsPointOf}
 use Rattle.it_hull.specs.Hulls.{IsAttained}
 use Rattle.it_hull.specs.Theorems.{MeetsProblem}
 use Rattle.it_hull.proofs.ConeLemmas.{hull_is_projection}

@@ -1,5 +1,5 @@
 -- Lines about a question and its problem's constraints; no public clause cites it.
-use Rattle.std.specs.Prelude.{ℕ, ℤ, List, ◌<◌, ◌+◌, ◌++◌, All, length, codes, decimal, flat_map, map, zip}
+use Rattle.std.specs.Prelude.{ℕ, List, ◌<◌, ◌+◌, ◌++◌, All, length, codes, decimal, flat_map, map, zip}
 use Rattle.it_space.specs.Answers.{certificate_view}
 use Rattle.it_space.specs.declared.answers.Certificate.{Certificate}
 use Rattle.it_space.specs.declared.answers.Mark.{Mark}

@@ -1,18 +1,16 @@
 -- Right replies to questions in mode `outer`: they show what they say, by the meaning of the question's text alone, and they are due; and
 -- what follows from it.
-use Rattle.std.specs.Prelude.{◌≡◌, ◌↔◌, ℕ, ℤ, List, [], ◌∷◌, ◌++◌, map, length, All, Option, Some, None, false}
+use Rattle.std.specs.Prelude.{◌≡◌, ℕ, ℤ, List, [], ◌∷◌, map, All, Option, Some, None, false}
 use Rattle.it_space.specs.declared.answers.Cause.TheVariants.{Pivots}
 use Rattle.it_space.specs.declared.answers.Mark.{Mark}
 use Rattle.it_space.specs.declared.answers.Mark.TheVariants as marks
 use Rattle.it_space.specs.declared.spaces.Space.{Space}
 use Rattle.it_space.specs.Answers.{CertificateView}
-use Rattle.it_space.specs.Rows.{Terms, point_of, value}
-use Rattle.it_space.specs.Spaces.{size_of}
+use Rattle.it_space.specs.Rows.{Terms, value}
 use Rattle.it_question.specs.Files.{IsFile}
 use Rattle.it_question.specs.Questions.{BodyView, QuestionView}
 use Rattle.it_question.specs.TableSizes.{HasSmallTable}
 use Rattle.it_demand.specs.QuestionSpaces.{space_of}
-use Rattle.it_canon.specs.TrueLines.{AreTrueTogether}
 use Rattle.it_canon.specs.QuestionDemands.{problem_of}
 use Rattle.it_prove.specs.declared.types.Effort.{Effort}
 use Rattle.it_redundant.specs.Reduction.{NeedView, Reduces}
