@@ -2,6 +2,7 @@
 
 import os
 import re
+import time
 from pathlib import Path
 
 from itip.ask import unused
@@ -162,6 +163,22 @@ class Shorthand(Asks):
         text = "vars X\n" + f"given {' + '.join(['H(X)'] * 250)} >= 0\n" + "prove H(X) >= 0\n" * 900
         path = self.file(text)
         self.assertEqual(self.ask(path), (3, "refused long\n", f"ask: {path} makes more than 1048576 bytes\n"))
+
+    def test_large(self):
+        """However much a file would make, little of it is made."""
+        begin = time.process_time()
+        many = ", ".join(["H(X)"] * 60_000)
+        for text, due in [
+            (f"vars X\nrow {many} <= {many}\nprove H(X) >= 0\n", "refused 2:1 many"),
+            ("vars X\nrow " + ", ".join(["H(X)"] * 9) + " <= " + ", ".join(["H(X)"] * 8) + "\nprove H(X) >= 0\n", "refused 2:1 many"),
+            (f"vars X\nrow {' <= '.join(['H(X)'] * 70_000)}\nprove H(X) >= 0\n", "refused 2:1 many"),
+            (f"vars X\ngiven sum {'X of '}{','.join(['X'] * 60_000)}\nprove H(X) >= 0\n", "refused long"),
+            (f"vars X\n#{'x' * 300_000}\nrow H(X) >= {' + '.join(['H(X)'] * 30_000)}\n" + "prove H(X) >= 0\n" * 30_000, "refused long"),
+            ("vars X\n" + "prove H(X) >= 0\n" * 1001, "refused 1002:1 many"),
+            ("vars X\nprove H(X) >= 0\n" * 40_000, "refused 2001:1 many"),
+        ]:
+            self.assertEqual(self.ask(self.file(text))[:2], (3, f"{due}\n"), text[:50])
+        self.assertLess(time.process_time() - begin, 20)
 
     def test_unused(self):
         """A variable is unused where no question under its head names it; the first of them is told."""

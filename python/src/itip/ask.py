@@ -36,6 +36,7 @@ Answers question files in the field's own notation (docs/ask.md); - is standard 
 VERSION = "ask 1\n"
 MODES = ("copy", "best", "sharing")
 FEW_STEPS = "100"
+THEN = "  # then yes"  # behind what makes a yes of a no
 SETTINGS = ("--run", "--pivots", "--rows", "--tries")
 WORDS = bytes(code if bytes([code]).isalnum() or code == ord("_") else ord(" ") for code in range(256))  # all but words as blanks
 
@@ -228,7 +229,7 @@ class Asker:
             return []
         if undecided:
             say(f"{name}, question {number}: {undecided} more conditions stayed undecided after so many steps")
-        return [f"{one}  # then yes" for one in found] or ["# no one independence or function makes it a yes"]
+        return [one + THEN for one in found] or ["# no one independence or function makes it a yes"]
 
     def _report(self, questions: Sequence[str]) -> list[str]:
         """The report about many questions that nobody wrote, by quick runs and few other steps."""
@@ -242,17 +243,17 @@ class Asker:
 
     def _copies(self, name: str, number: int, line: str) -> list[str]:
         """The file with copies that makes a yes of a no, and below it how its answer is told."""
-        from .heads import with_copies
+        from .heads import STEPS, with_copies
 
         say(f"{name}, question {number}: copies are tried, for a minute at most; Ctrl-C ends it")
         end_by_signals()
         file, said = with_copies(decoded(line)["question"], self.prover)
         if not file:
             return [f"# {said}"]
-        status, written = self._itip("copy", file)
+        status, written = self._itip("copy", file, run="quick", pivots=str(STEPS))
         _, told = self._told_in_mode("copy", name, file, written.split("\n")[:-1]) if status == 0 else (status, "")
         first, *lines = file.split("\n")[:-1]
-        return [f"{first}  # then yes", *lines, *(below[2:] for below in told.split("\n")[1:-1])]
+        return [first + THEN, *lines, *(below[2:] for below in told.split("\n")[1:-1])]
 
     def _told_in_mode(self, mode: str, name: str, file: str, lines: Sequence[str]) -> tuple[int, str]:
         """The same of the lines of another mode."""

@@ -4,6 +4,7 @@ from __future__ import annotations
 
 import re
 
+from .ask import THEN
 from .latex import WIDTH, Names, align, escaped, formula, is_relation
 from .stated import constraint, copied, spaced, stated
 
@@ -18,7 +19,6 @@ PREAMBLE = r"""\documentclass{article}
 \begin{document}
 """
 END = "\\end{document}\n"
-THEN = "  # then yes"  # behind what makes a yes of a no
 NAME, LIST = "[A-Za-z][A-Za-z0-9_]*", "[A-Za-z0-9_,]+"
 # the facts of a point: what is set as a formula, and the words around it
 FACTS = (
@@ -77,7 +77,7 @@ class Paper:
         if not self.first:
             return
         number = self.first.split()[0]
-        asked = stated(self.questions[int(number) - 1], self.names, self.mode) if self.questions else []
+        asked = [part for text in self.questions[int(number) - 1 : int(number)] for part in stated(text, self.names, self.mode)]
         self.parts += [rf"\paragraph{{{number}.}} {part}" if not place else part for place, part in enumerate([*asked, self._sentence()])]
         place = next((place for place, line in enumerate(self.below) if line.endswith(THEN) or line.startswith("# no ")), len(self.below))
         self._put_lines(self.below[:place])

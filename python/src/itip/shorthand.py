@@ -5,7 +5,10 @@ A made line has its line as written, and texts with their columns there, both fr
 
 from __future__ import annotations
 
+from itertools import islice
+
 from .console import as_bytes, as_text
+from .reports import MOST_BYTES
 
 TYPE_CHECKING = False
 if TYPE_CHECKING:
@@ -20,6 +23,7 @@ SIGNS = ("<=", ">=", "=")
 LETTERS = frozenset("ABCDEFGHIJKLMNOPQRSTUVWXYZabcdefghijklmnopqrstuvwxyz")
 IN_NAMES = LETTERS | frozenset("0123456789_")
 BLANKS = " \t\r"
+MOST_LINES = 65  # that a line makes: one more than a question may have
 
 
 class Made:
@@ -49,20 +53,24 @@ def made(text: str) -> Made:
     words = [word_at(line, 0)[0] for line in bare]
     asks_later = later_verbs(words)
     lines: list[Line] = []
-    head: list[Line] = []
-    is_asked = False
+    head: list[str] = []
+    size, is_asked = 0, False
     for at, (line, word) in enumerate(zip(bare, words)):
         if word in ("vars", "region"):  # (a containment has one verb)
             head, is_asked = [], False
         new = expanded(at + 1, line, word)
+        before = len(lines)
         if is_asked and (word in VERBS or (asks_later[at] and word in HEAD)):
-            lines += head
+            lines += [(at + 1, [(one, 0)]) for one in head]
             is_asked = False
         lines += new or [(at + 1, [(written[at], 1)])]
+        size += sum(len(line_text(one)) + 1 for one in lines[before:])
+        if size > MOST_BYTES and len(lines) > at + 1:
+            break  # (the program refuses it for its length)
         if word in VERBS:
             is_asked = bool(head)
         elif word in HEAD and (head or word == "vars"):
-            head += new or [(at + 1, [(line, 1)])]
+            head += [line_text(one) for one in new] or [line]
     if len(lines) == len(written):
         return Made(text)
     return Made(as_text("\n".join(map(line_text, lines)).encode("latin-1")), lines, len(written))
@@ -152,7 +160,7 @@ def sums(line: Sequence[Piece]) -> list[list[Piece]]:
     every = names(rest[:1]) + names(rest[2:])
     if [text for text, _ in rest[1:2]] != ["of"] or len(every) < 2:
         return []
-    return [function(given, word, [one], [other for other in every if other is not one]) for one in every]
+    return [function(given, word, [one], [other for other in every if other is not one]) for one in every[:MOST_LINES]]
 
 
 def function(given: Piece, word: Piece, what: Sequence[Piece], of: Sequence[Piece]) -> list[Piece]:
@@ -188,12 +196,12 @@ def relations(line: str, begin: int) -> list[list[Piece]]:
         return []
     word = (line[:begin].lstrip(BLANKS) + " ", len(line[:begin]) - len(line[:begin].lstrip(BLANKS)) + 1)
     if len(signs) > 1:
-        pairs = list(zip(parts, signs, parts[1:]))
+        pairs = list(zip(parts, signs[:MOST_LINES], parts[1:]))
     else:
         (middle,) = signs
         lefts = [part for part in parts if part[1] <= middle[0]]
         rights = [part for part in parts if part[1] > middle[0]]
-        pairs = [(left, middle, right) for left in lefts for right in rights]
+        pairs = list(islice(((left, middle, right) for left in lefts for right in rights), MOST_LINES))
     return [[word, left, (f" {sign} ", at), right] for left, (at, sign), right in pairs]
 
 

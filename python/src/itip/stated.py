@@ -139,11 +139,14 @@ def stated(text: str, names: Names, mode: str) -> list[str]:
 
 
 def signature(prover: str, docs: str, settings: dict[str, str]) -> str:
-    """A comment that says which program answered, by which kit it was proved, and with which budget it was asked."""
+    """A comment that says which program answered, by which kit it was proved, and with which budget it was asked; nothing of one that can't be read."""
     from hashlib import sha256
 
-    with open(prover, "rb") as file:
-        found = sha256(file.read()).hexdigest()
+    try:
+        with open(prover, "rb") as file:
+            found = sha256(file.read()).hexdigest()
+    except OSError:
+        return ""
     dist = f"{docs}/../dist"
     notes = next(filter(lambda notes: notes.get("itip") == found, map(noted, (f"{dist}/built-from", f"{dist}/out/passed"))), None)
     where = ", proved and built in this checkout" if prover.endswith("/crates/itip/out/itip") else ""
