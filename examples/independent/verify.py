@@ -31,6 +31,27 @@ def point_fault(question, values):
                 return f"h falls from {question.set_text(s)} to {question.set_text(t)}"
             if h(s) + h(t) < h(s | t) + h(s & t):
                 return f"not submodular at {question.set_text(s)} and {question.set_text(t)}"
+    return constraint_fault(question, values)
+
+
+def near_point_fault(question, values):
+    """The same, where the axioms are asked of sets next to each other alone, which is enough: h rises with each variable that comes, and
+    by no more where another one came before (Yeung, "A framework for linear information inequalities", 1997)."""
+    h, n = [0] + [values[s] for s in range(1, 2 ** len(question.names))], len(question.names)
+    for s in range(2**n):
+        for i in range(n):
+            if s >> i & 1:
+                continue
+            if h[s] > h[s | 1 << i]:
+                return f"h falls from {question.set_text(s)} to {question.set_text(s | 1 << i)}"
+            for j in range(i + 1, n):
+                if not s >> j & 1 and h[s | 1 << i] + h[s | 1 << j] < h[s | 1 << i | 1 << j] + h[s]:
+                    return f"not submodular at {question.set_text(s | 1 << i)} and {question.set_text(s | 1 << j)}"
+    return constraint_fault(question, values)
+
+
+def constraint_fault(question, values):
+    """What constraint isn't met, or None."""
     for constraint in question.constraints:
         found = value(constraint.row, values)
         if found < 0 or constraint.equation and found:
