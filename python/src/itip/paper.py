@@ -21,6 +21,8 @@ FACTS = (
     (re.compile(f"func ([A-Za-z0-9_]+) of ({LIST})"), r"{}\text{{ a function of }}{}"),
     (re.compile("indep ([A-Za-z0-9_;]+)"), r"{}\text{{ independent}}"),
 )
+# a ray of an outer bound: what it is, its rates with their numbers, and maybe the rate per which they are
+RAY = re.compile(rf"(corner|point|ray|direction|line) (.*) = ([^=]*?)(?: per ({NAME}))?")
 SENTENCES = {
     "yes": "This has a proof from Shannon's inequalities and what is given:",
     "no": "This does not follow from Shannon's inequalities: at the following point what is given holds, and this fails.",
@@ -28,6 +30,9 @@ SENTENCES = {
     "region 0": "The region is given by no row.",
     "region 1": "The region is given by this row:",
     "open": "No substitution was proved, of {} that were tried.",
+    "outer": "All that Shannon's inequalities and what is given say of these rates follows from these {} rows:",
+    "outer 0": "Shannon's inequalities and what is given say nothing of these rates.",
+    "outer 1": "All that Shannon's inequalities and what is given say of these rates follows from this row:",
     "best": "The least factor is ${}$: it holds by the proof, and at the point below the two sides are equal with it:",
     "none": "No factor holds: at the following point the left side is 0, and the right side is above 0.",
     "unbounded": "The factor ${}$ holds, and so does each smaller number, since the left side is never above 0:",
@@ -70,6 +75,13 @@ class Paper:
         if not self.first:
             return
         self.parts.append(self._sentence())
+        if self.first.split()[1] == "outer":
+            self._put_bound()
+        else:
+            self._put_below()
+        self.first, self.below = "", []
+
+    def _put_below(self) -> None:
         is_step = False
         for line in self.below:
             if line.startswith(" ") != is_step:
@@ -79,7 +91,36 @@ class Paper:
                     self.parts.append("Step by step:")
             self._put_line(line)
         self._close_relations()
-        self.first, self.below = "", []
+
+    def _put_bound(self) -> None:
+        """The rows of an outer bound, then their proofs with the steps, and then a list of its rays, each with its point."""
+        rays = next((place for place, line in enumerate(self.below) if RAY.fullmatch(line)), len(self.below))
+        rows, items = self.below[:rays], self.below[rays:]
+        proofs = [line[2:] for line in rows if line.startswith("  ")]
+        for line in rows:
+            if not line.startswith(" "):
+                self._put_line(line)
+        self._close_relations()
+        if proofs:
+            self.parts.append(r"\par Their proofs, in this order:")
+            self.below = proofs
+            self._put_below()
+        if items:
+            self.parts += [r"\par These span all rates at which that holds:", r"\begin{itemize}"]
+            for line in items:
+                self._put_ray(line)
+            self.parts.append(r"\end{itemize}")
+
+    def _put_ray(self, line: str) -> None:
+        """A ray as an item of the list; of what stands below it a line in it."""
+        found = RAY.fullmatch(line)
+        if not found:
+            self._put_line(line)
+            self._close_relations()
+            return
+        word, names, numbers, per = found.groups()
+        set_numbers = re.sub(r"(-?)([0-9]+)/([0-9]+)", r"\1\\tfrac{\2}{\3}", numbers)
+        self.parts.append(rf"\item {word} ${formula(names, self.names)} = {set_numbers}$" + (f" per ${formula(per, self.names)}$" if per else ""))
 
     def _sentence(self) -> str:
         """The sentence for the first line. Without a formula below it, it ends with a point."""
@@ -91,7 +132,7 @@ class Paper:
         elif word == "undecided":
             said = rf"This stayed undecided: \texttt{{{escaped(self.first[len(number) + 11 :])}}}."
         elif word in SENTENCES:
-            said = SENTENCES.get(" ".join([word, *rest]), SENTENCES[word]).format(*rest, "")
+            said = SENTENCES.get(" ".join([word, *rest[:1]]), SENTENCES[word]).format(*rest, "")
         else:
             said = rf"\texttt{{{escaped(self.first[len(number) + 1 :])}}}"
         return rf"\paragraph{{{number}.}} " + (said if self.below else re.sub(":$", ".", said))
