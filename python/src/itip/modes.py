@@ -70,7 +70,7 @@ def asking(question: Question, goal: Prove) -> Question:
     return replace(question, goal=goal, source=None)
 
 
-def _report(answer: str, question: Question, **keys: Any) -> str:
+def report_line(answer: str, question: Question, **keys: Any) -> str:
     text = question.text()
     is_held = all(int(number) <= MOST for number in re.findall("[0-9]+", text))
     return json.dumps({"answer": answer, "question": text, **keys}) if is_held else ""
@@ -79,11 +79,11 @@ def _report(answer: str, question: Question, **keys: Any) -> str:
 def yes_by(question: Question, proofs: str) -> Shown:
     """A yes from its proofs `L : w G + ..`, with ` and ` between them. A generator without a number says nothing."""
     numbers = generator_numbers(question)
-    found = [_proof(proof, numbers) for proof in proofs.split(" and ")]
-    return Shown(_report("yes", question, proofs=found), f"as weights {proofs}")
+    found = [proof_of(proof, numbers) for proof in proofs.split(" and ")]
+    return Shown(report_line("yes", question, proofs=found), f"as weights {proofs}")
 
 
-def _proof(text: str, numbers: dict[str, int]) -> dict[str, Any]:
+def proof_of(text: str, numbers: dict[str, int]) -> dict[str, Any]:
     scale, _, terms = text.partition(" : ")
     weighed = [term.split(" ", 1) for term in terms.split(" + ") if term != "0"]
     return {"scale": scale, "weights": [[numbers[name], weight] for weight, name in weighed if name in numbers]}
@@ -95,4 +95,4 @@ def no_at(question: Question, values: str) -> Shown:
     numbers = re.findall("=(-?[0-9]+)", values)
     at = point([int(number) for number in numbers], question.variables, question.rates)
     side = "forward" if at[question.goal.relation.target()] < 0 else "back"
-    return Shown(_report("no", question, point=numbers, side=side), f"as point {values}")
+    return Shown(report_line("no", question, point=numbers, side=side), f"as point {values}")

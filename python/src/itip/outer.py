@@ -19,10 +19,11 @@ from .reports import UNDECIDED, UNSETTLED
 
 Numbers = Tuple[int, ...]
 MARKS = {"needed": "", "unsettled": "  # unsettled"}
-LINE = re.compile(r"[0-9]+ (?:row (needed|unsettled) ([^:]*) by ([0-9]+ : .*)|ray (.*) at (.*))")
+ROW = re.compile("[0-9]+ row (needed|unsettled) ([^:]*) by ([0-9]+ : .*)")
+RAY = re.compile("[0-9]+ ray (.*) at (.*)")
 
 
-class Row(NamedTuple):
+class RowLine(NamedTuple):
     """A row by its coefficients at the rates that stay, with its proof as the line has it."""
 
     mark: str
@@ -30,19 +31,19 @@ class Row(NamedTuple):
     proof: str
 
 
-class Ray(NamedTuple):
+class RayLine(NamedTuple):
     """A ray by its rates that stay, with the values as the line has them."""
 
     numbers: Numbers
     values: str
 
 
-class Bound(NamedTuple):
-    """An outer bound in the rates that stay."""
+class BoundLines(NamedTuple):
+    """An outer bound in the rates that stay, as its lines have it."""
 
     rates: Names
-    rows: tuple[Row, ...]
-    rays: tuple[Ray, ...]
+    rows: tuple[RowLine, ...]
+    rays: tuple[RayLine, ...]
 
     def has_line(self) -> bool:
         """Whether some line lies in it whole: then it has no corners."""
@@ -82,49 +83,45 @@ def whole_answers(lines: Sequence[str]) -> list[str]:
     return [line for answer in answers for line in answer]
 
 
-def read_bound(question: Question, lines: Sequence[str]) -> Bound:
+def read_bound(question: Question, lines: Sequence[str]) -> BoundLines:
     """The bound of a question, whose first line says how many rows and rays follow. What isn't one is `Forged`: other lines, a row over
     other rates, rates that aren't those of the values in lowest terms, and a row that fails at a ray."""
-    first, *others = lines
+    found = re.fullmatch("[0-9]+ outer ([0-9]+) ([0-9]+)", lines[0])
+    counts = [int(count) for count in found.groups()] if found else [0, 0]
+    if not found or len(lines) != 1 + sum(counts):
+        raise Forged(f"no outer bound has this first line, with {len(lines) - 1} lines below it: {lines[0][:200]}")
     rates = staying(question)
-    rows: list[Row] = []
-    rays: list[Ray] = []
-    for line in others:
-        found = LINE.fullmatch(line)
-        if not found:
-            raise Forged(f"no line of an outer bound has this shape: {line[:200]}")
-        mark, row, proof, ray, values = found.groups()
-        if row:
-            rows.append(Row(mark, _row(row, rates), proof))
-        else:
-            rays.append(Ray(_ray(ray, values, question, rates), values))
-    if first.split(" ")[1:] != ["outer", str(len(rows)), str(len(rays))] or others[: len(rows)] != [line for line in others if " row " in line]:
-        raise Forged(f"{len(rows)} rows and {len(rays)} rays follow on {first!r}")
-    for place, one in enumerate(rows):
-        if any(value(one.numbers, ray.numbers) < 0 for ray in rays):
-            raise Forged(f"a row fails at a ray: {others[place][:200]}")
-    return Bound(rates, tuple(rows), tuple(rays))
+    rows = tuple(_row(line, rates) for line in lines[1 : 1 + counts[0]])
+    rays = tuple(_ray(line, question, rates) for line in lines[1 + counts[0] :])
+    for row, line in zip(rows, lines[1:]):
+        if any(value(row.numbers, ray.numbers) < 0 for ray in rays):
+            raise Forged(f"a row fails at a ray: {line[:200]}")
+    return BoundLines(rates, rows, rays)
 
 
-def _row(text: str, rates: Names) -> Numbers:
+def _row(line: str, rates: Names) -> RowLine:
+    found = ROW.fullmatch(line)
     try:
-        found = relation(text)
+        row = relation(found[2]) if found else None
     except NotationError:
-        raise Forged(f"this is no row: {text[:200]}") from None
-    numbers = found.left.joint()
-    if found.sign != ">=" or found.right.terms or any(name not in rates for name in numbers):
-        raise Forged(f"this is no row in the rates that stay: {text[:200]}")
-    return tuple(int(numbers.get(name, 0)) for name in rates)
+        row = None
+    numbers = row.left.joint() if row is not None and row.sign == ">=" and not row.right.terms else {}
+    if not found or not numbers or any(name not in rates or number.denominator > 1 for name, number in numbers.items()):
+        raise Forged(f"this is no row in the rates that stay: {line[:200]}")
+    return RowLine(found[1], tuple(int(numbers.get(name, 0)) for name in rates), found[3])
 
 
-def _ray(text: str, values: str, question: Question, rates: Names) -> Numbers:
-    at = point(numbers_of(values), question.variables, question.rates)
+def _ray(line: str, question: Question, rates: Names) -> RayLine:
+    found = RAY.fullmatch(line)
+    if not found:
+        raise Forged(f"this is no ray: {line[:200]}")
+    at = point(numbers_of(found[2]), question.variables, question.rates)
     own = [at.values[name] for name in rates]
     divisor = gcd(*own)
     lowest = tuple(number // divisor for number in own) if divisor else ()
-    if text != " ".join(f"{name}={number}" for name, number in zip(rates, lowest)):
-        raise Forged(f"these aren't the rates of its values in lowest terms: {text[:200]}")
-    return lowest
+    if not lowest or found[1] != " ".join(f"{name}={number}" for name, number in zip(rates, lowest)) or found[2] != at.text():
+        raise Forged(f"these aren't the rates of its values in lowest terms: {line[:200]}")
+    return RayLine(lowest, found[2])
 
 
 def numbers_of(values: str) -> list[int]:
@@ -142,12 +139,12 @@ def why_open(answer: Sequence[str]) -> str:
 # What shows a bound
 
 
-def row_shown(question: Question, row: Row) -> Shown:
+def row_shown(question: Question, row: RowLine) -> Shown:
     """A row is what the question's lines prove."""
     return yes_by(asking(question, Prove(authored(row.numbers, rate_sums(staying(question))))), row.proof)
 
 
-def ray_shown(question: Question, ray: Ray) -> Shown:
+def ray_shown(question: Question, ray: RayLine) -> Shown:
     """A ray's values make the question's lines true: so they are a point at which what plainly fails there isn't proved."""
     return no_at(asking(question, Prove(failing(ray.numbers, rate_sums(staying(question))))), ray.values)
 
@@ -161,7 +158,7 @@ def failing(numbers: Numbers, sums: Sequence[Sum]) -> Relation:
 # As an author would write it
 
 
-def rate_sums(names: Names) -> list[Sum]:
+def rate_sums(names: Sequence[str]) -> list[Sum]:
     return [Sum([(Fraction(1), Rate(name))]) for name in names]
 
 
@@ -175,18 +172,18 @@ def authored(numbers: Numbers, sums: Sequence[Sum]) -> Relation:
     return left >= right if left.terms else right <= 0
 
 
-def in_order(rows: Sequence[Row]) -> list[Row]:
+def in_order(rows: Sequence[RowLine]) -> list[RowLine]:
     """The rows by the number of their rates, and then as they come."""
     return sorted(rows, key=lambda row: sum(map(bool, row.numbers)))
 
 
-def told_rays(bound: Bound, per: str = "") -> list[tuple[str, Ray]]:
+def told_rays(bound: BoundLines, per: str = "") -> list[tuple[str, RayLine]]:
     """The rays as they are told, of two opposite ones the greater one as a line; where they are `per` a rate first the corners, by their
     values. Each with its ray."""
     every = {ray.numbers for ray in bound.rays}
     word = "point" if bound.has_line() else "corner"
-    corners: list[tuple[tuple[Fraction, ...], Ray]] = []
-    told: list[tuple[str, Ray]] = []
+    corners: list[tuple[tuple[Fraction, ...], RayLine]] = []
+    told: list[tuple[str, RayLine]] = []
     others = [name for name in bound.rates if name != per]
     for ray in bound.rays:
         opposite = tuple(-number for number in ray.numbers)
@@ -216,7 +213,7 @@ class Part(NamedTuple):
     shown: Shown
 
 
-def parts(question: Question, bound: Bound, per: str = "") -> list[Part]:
+def parts(question: Question, bound: BoundLines, per: str = "") -> list[Part]:
     """The rows and then the rays as they are told."""
     sums = rate_sums(bound.rates)
     rows = [Part(authored(row.numbers, sums).text() + MARKS[row.mark], row_shown(question, row)) for row in in_order(bound.rows)]
