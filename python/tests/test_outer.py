@@ -43,7 +43,7 @@ class Literature:
 
     def __init__(self, name):
         self.questions = [parse(text) for text in cut((OUTER / f"{name}.txt").read_text())[1:]]
-        self.lines = [line.split(" ", 2) for line in (OUTER / f"{name}.rows").read_text().splitlines() if line[:1].isdigit()]
+        self.lines = re.findall("(?m)^([0-9]+) (row|ray) (.*)$", (OUTER / f"{name}.rows").read_text())
 
     def rows(self, number):
         names = staying(self.questions[number - 1])
@@ -141,8 +141,8 @@ class Command(Asks):
         told = [text for text, _ in told_rays(BoundLines(("M", "F"), rows, rays), "F")]
         self.assertEqual(told, ["corner M = 3/2 per F", "direction (M, F) = (0, -1)", "direction M = 1"])
         alone = BoundLines(("F",), (), (RayLine((1,), ""), RayLine((-1,), "")))
-        self.assertEqual([text for text, _ in told_rays(alone, "F")], ["line F = 1"])
-        self.assertEqual([text for text, _ in told_rays(alone)], ["line F = 1"])
+        self.assertEqual([text for text, _ in told_rays(alone, "F")], ["line F = 1", ""])
+        self.assertEqual([text for text, _ in told_rays(alone)], ["line F = 1", ""])
 
     def test_proofs(self):
         """Each row has a proof that is an equation, with the row's numbers on its left, and each ray facts of its point."""

@@ -138,6 +138,8 @@ def tradeoff(
     show = shown(progress)
     pool, proved = _of_bound(naming((x, y, unit), assumed, settings.get("copies", ())), at, settings)
     edges, due = _due(pool, proved)
+    if edges:
+        show(len(edges) - len(due), len(edges), "faces proved, by one question")
     while due:
         questions += len(due)
         relations = [_relation(edge, x, y, unit) for edge in due]

@@ -12,14 +12,15 @@ from typing import NamedTuple, Tuple, Union
 from .errors import Forged, NotationError
 from .evidence import point
 from .modes import Shown, asking, no_at, yes_by
-from .notation import Names, Rate, Relation, Sum, Term
+from .notation import Names, Rate, Relation, Sum
 from .questions import Eliminate, Prove, Question
 from .reading import relation
 from .reports import UNDECIDED, UNSETTLED
 
 Numbers = Tuple[int, ...]
 MARKS = {"needed": "", "unsettled": "  # unsettled"}
-ROW = re.compile("[0-9]+ row (needed|unsettled) ([^:]*) by ([0-9]+ : .*)")
+TERM = "-?[0-9]+ [^ ]+(?: [0-9.]+)?"  # of a proof: a weight, and an elemental inequality or a line by its number
+ROW = re.compile(rf"[0-9]+ row (needed|unsettled) ([^:]*) by ([0-9]+ : (?:0|{TERM}(?: \+ {TERM})*))")
 RAY = re.compile("[0-9]+ ray (.*) at (.*)")
 
 
@@ -178,26 +179,25 @@ def in_order(rows: Sequence[RowLine]) -> list[RowLine]:
 
 
 def told_rays(bound: BoundLines, per: str = "") -> list[tuple[str, RayLine]]:
-    """The rays as they are told, of two opposite ones the greater one as a line; where they are `per` a rate first the corners, by their
-    values. Each with its ray."""
-    every = {ray.numbers for ray in bound.rays}
+    """The rays, each with what is told of it: where they are `per` a rate first the corners, by their values. Two opposite ones are a line,
+    which is told once, of the greater one."""
+    by_numbers = {ray.numbers: ray for ray in bound.rays}
     word = "point" if bound.has_line() else "corner"
     corners: list[tuple[tuple[Fraction, ...], RayLine]] = []
-    told: list[tuple[str, RayLine]] = []
+    rest: list[tuple[str, RayLine]] = []
     others = [name for name in bound.rates if name != per]
     for ray in bound.rays:
-        opposite = tuple(-number for number in ray.numbers)
         at = dict(zip(bound.rates, ray.numbers))
         size = at.get(per, 0)
-        if opposite in every:
-            if ray.numbers > opposite:
-                told.append((_told("line", at, others if not size else bound.rates), ray))
+        names = bound.rates if size else others
+        opposite = by_numbers.get(tuple(-number for number in ray.numbers))
+        if opposite is not None:
+            rest += [(_told("line", at, names), ray), ("", opposite)] if ray > opposite else []
         elif size > 0 and others:
             corners.append((tuple(Fraction(at[name], size) for name in others), ray))
         else:
-            told.append((_told("direction" if per else "ray", at, others if not size else bound.rates), ray))
-    found = [(_told(word, dict(zip(others, numbers)), others) + f" per {per}", ray) for numbers, ray in sorted(corners)]
-    return found + told
+            rest.append((_told("direction" if per else "ray", at, names), ray))
+    return [(f"{_told(word, dict(zip(others, numbers)), others)} per {per}", ray) for numbers, ray in sorted(corners)] + rest
 
 
 def _told(word: str, at: Mapping[str, Union[int, Fraction]], names: Sequence[str]) -> str:
@@ -207,7 +207,7 @@ def _told(word: str, at: Mapping[str, Union[int, Fraction]], names: Sequence[str
 
 
 class Part(NamedTuple):
-    """A line that is told below the first one, and what shows it."""
+    """A line that is told below the first one, or nothing where another line tells it, and what shows it."""
 
     text: str
     shown: Shown
@@ -221,15 +221,16 @@ def parts(question: Question, bound: BoundLines, per: str = "") -> list[Part]:
 
 
 def told(parts: Sequence[Part], judged: Iterable[Sequence[str]], has_proofs: bool) -> list[str]:
-    """The lines of the parts, each with what `tell` writes of its report below it, or without that. Where `tell` finds a report invalid it
-    stands in the place of both."""
+    """The lines of the parts, each with what `tell` writes of its report below it, or without that. Where `tell` finds a report invalid
+    that stands in the place of both, and where it says nothing nothing is told."""
     lines: list[str] = []
     answers = iter(judged)
     for part in parts:
-        first, *below = next(answers, ("",)) if part.shown.report else ("", f"  {part.shown.plain}")
-        _, _, verdict = first.partition(" ")
+        first, *below = next(answers, ("",)) if part.shown.report else ("as it is", f"  {part.shown.plain}")
+        verdict = first.partition(" ")[2]
         if verdict.startswith("invalid"):
             lines.append(f"  {verdict}")
-        else:
-            lines += [f"  {part.text}", *(f"  {line}" for line in below if has_proofs)]
+        elif first:
+            lines += [f"  {part.text}"] if part.text else []
+            lines += [f"  {line}" for line in below if has_proofs]
     return lines
