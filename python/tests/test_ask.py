@@ -409,7 +409,7 @@ class Loading(unittest.TestCase):
 
     def test_lazy(self):
         """The package loads what a name needs when it is used, and ./ask little of it."""
-        heavy = "[name for name in ('itip.everything', 'itip.notation', 'typing', 'enum', 're', 'json', 'subprocess') if name in sys.modules]"
+        heavy = "[name for name in ('itip.everything', 'itip.notation', 'itip.outer', 'typing', 'enum', 're', 'json', 'subprocess') if name in sys.modules]"
         self.assertEqual(self.run_python(f"import itip, itip.ask\nprint(*{heavy})"), [])
         self.assertIn("itip.everything", self.run_python(f"import itip\nitip.H\nprint(*{heavy})"))
 

@@ -71,7 +71,7 @@ class Words:
             self.mode = word[2:]
         elif word in SETTINGS and self.files:
             self.settings[word] = self.files.pop(0)
-        elif word == "--per" and self.files:
+        elif word == "--per" and self.files and self.files[0]:
             self.per = self.files.pop(0)
         else:
             raise WordsError

@@ -42,8 +42,8 @@ class Ray:
 class OuterBound:
     """All that Shannon's inequalities and what is given say of the sums that are kept.
 
-    The `rows` hold wherever what is given does; `answers` has the `yes` of each. The `rays` are attained by polymatroids, and where the rows
-    hold, some whole multiple is a sum of whole multiples of them. So a bound that doesn't follow from the rows fails at a ray.
+    The `rows` hold wherever what is given does; `answers` has the `yes` of each. The `rays` are attained by polymatroids, and where the
+    rows hold, some whole multiple is a sum of whole multiples of them. So a bound that doesn't follow from the rows fails at a ray.
     """
 
     kept: tuple[Sum, ...]
@@ -217,7 +217,7 @@ def outer_bound(
 ) -> OuterBound:
     """All that Shannon's inequalities say of these sums, rates or entropies, wherever what is given holds: rows and rays.
 
-    It is one call of mode `outer`, which says what is undecided: a step of it may leave `most_rows` rows, and finds at most `most_rays` rays.
+    It is one call of mode `outer`: a step of it may leave `most_rows` rows, and it looks for `most_rays` rays at most.
 
     >>> from itip import *
     >>> M, K, C = rv("M K C")
@@ -234,11 +234,12 @@ def outer_bound(
         lines = bound_lines(asked, at, None, most_rows, most_rays)
     found = decided_bound(asked, lines)
     if found is None:
-        raise ItipError(f"{asked.why_undecided(lines)}: keep fewer sums, raise most_rows or most_rays, or ask without a budget, by pivots=None")
+        raise ItipError(f"{asked.why_undecided(lines)}: keep fewer sums, raise most_rows or most_rays, or ask by pivots=None")
     rows = in_order(found.rows)
     answers = tuple(asked.proved(authored(lowest(row.numbers), asked.kept), row, at) for row in rows)
     rays = tuple(Ray(tuple(map(Fraction, ray.numbers)), asked.attained(ray, at)) for ray in found.rays)
-    bound = OuterBound(asked.kept, asked.given, tuple(answer.relation for answer in answers), tuple(row.mark for row in rows), answers, rays)
+    relations, marks = tuple(answer.relation for answer in answers), tuple(row.mark for row in rows)
+    bound = OuterBound(asked.kept, asked.given, relations, marks, answers, rays)
     if at.judge:
         bound.check()
     return bound

@@ -120,7 +120,8 @@ class Paper:
             return
         word, names, numbers, per = found.groups()
         set_numbers = re.sub(r"(-?)([0-9]+)/([0-9]+)", r"\1\\tfrac{\2}{\3}", numbers)
-        self.parts.append(rf"\item {word} ${formula(names, self.names)} = {set_numbers}$" + (f" per ${formula(per, self.names)}$" if per else ""))
+        unit = f" per ${formula(per, self.names)}$" if per else ""
+        self.parts.append(rf"\item {word} ${formula(names, self.names)} = {set_numbers}${unit}")
 
     def _sentence(self) -> str:
         """The sentence for the first line. Without a formula below it, it ends with a point."""
