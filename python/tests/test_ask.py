@@ -92,7 +92,7 @@ class Calls(Asks):
         status, shown, said = self.ask("--help")
         self.assertEqual((status, said), (0, ""))
         words = re.findall("--[a-z]+", shown)
-        known = [*MODES, "steps", "short", "latex", "document", "needs", "if", "copies", "made", "version"]
+        known = [*MODES, "steps", "short", "latex", "document", "needs", "if", "copies", "made", "per", "proofs", "version"]
         self.assertEqual(sorted(set(words) - {"--help"}), sorted([*SETTINGS, *(f"--{word}" for word in known)]))
         self.assertIn(f"```\n{shown}```\n", (ROOT / "docs" / "ask.md").read_text())
         self.assertEqual(self.ask("--version"), (0, "ask 1\n", ""))
@@ -409,7 +409,7 @@ class Loading(unittest.TestCase):
 
     def test_lazy(self):
         """The package loads what a name needs when it is used, and ./ask little of it."""
-        heavy = "[name for name in ('itip.everything', 'itip.notation', 'typing', 'enum', 're', 'json', 'subprocess') if name in sys.modules]"
+        heavy = "[name for name in ('itip.everything', 'itip.notation', 'itip.outer', 'typing', 'enum', 're', 'json', 'subprocess') if name in sys.modules]"
         self.assertEqual(self.run_python(f"import itip, itip.ask\nprint(*{heavy})"), [])
         light = "*sorted(name for name in sys.modules if name.startswith('itip.'))"
         self.assertEqual(self.run_python(f"import itip.ask\nprint({light})"), [f"itip.{name}" for name in ("ask", "console", "errors", "reports", "shorthand")])

@@ -84,6 +84,8 @@ class Questions(Asks):
         )
         least = "Asked is the least $c$ with $c$ times the left side at least the right side:"
         self.assertEqual(self.stated("vars A, B\nprove H(A) >= H(B)\n", "best"), f"Random variables $A$, $B$.\n{least}{goal}")
+        bound = "Random variables $A$. Rates $R$, $S$. Given:\n\\begin{align*}\n  R &\\ge H(A)\n\\end{align*}\nAsked are all bounds on the rates other than $S$."
+        self.assertEqual(self.stated("vars A\nrates R, S\nrow R >= H(A)\neliminate S\n", "outer"), bound)
         shared = "The secret $s$. Parties $a$, $b$, $c$, $d$. Given: $\\{a,b\\}$ qualified, $\\{b,c\\}$ qualified, $\\{c,d\\}$ qualified.\n"
         self.assertEqual(self.stated(f"{PATH}best H(A) >= H(B)\n", "sharing"), f"{shared}{least}{goal}")
 

@@ -57,11 +57,10 @@ class Curves(unittest.TestCase):
             caching(2, 2, [(1, 2), (2, 1)]).tradeoff(M, R, H(A), pivots=1, program=BLAND)
 
     def test_calls(self):
-        """All edges of a round go into one call."""
+        """A curve takes one call of mode `outer`; without it all edges of a round go into one call, as test_outer has it."""
         program = Itip()
         curve = caching(2, 2, [(1, 2), (2, 1)]).tradeoff(M, R, H(A), program=program)
-        self.assertEqual(curve.calls, program.calls)
-        self.assertLess(curve.calls, curve.questions)
+        self.assertEqual((curve.questions, curve.calls, program.calls), (1, 1, 1))
 
 
 class Networks(unittest.TestCase):

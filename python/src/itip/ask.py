@@ -26,15 +26,18 @@ Answers question files in the field's own notation (docs/ask.md); - is standard 
 --copy       a file with a head of copies, which a file that begins with `copy` is without this word
 --sharing    a sharing file, which a file that begins with `secret` is without this word
 --best       least factors
+--outer      outer bounds in the rates that `eliminate` leaves
+--per RATE   with --outer, corner points per unit of this rate
+--proofs     with --outer, below each row its proof, and below each corner or ray a point that is there
 --run bland  by the run with Bland's rule alone; without it quick runs come first
 --pivots N   so many steps for each run with Bland's rule, or none; what is undecided then isn't asked anew
---rows N     so many rows in an elimination
---tries N    so many candidates in a containment
+--rows N     so many rows in an elimination, or in a step of an outer bound
+--tries N    so many candidates in a containment, or rays of an outer bound
 --made       the question file that a file with less to write makes, in the place of answers
 --version    which program this is
 """
 VERSION = "ask 1\n"
-MODES = ("copy", "best", "sharing")
+MODES = ("copy", "best", "sharing", "outer")
 FEW_STEPS = "100"
 THEN = "  # then yes"  # behind what makes a yes of a no
 SETTINGS = ("--run", "--pivots", "--rows", "--tries")
@@ -42,7 +45,7 @@ WORDS = bytes(code if bytes([code]).isalnum() or code == ord("_") else ord(" ") 
 
 
 class WordsError(Exception):
-    """The words of the call have no reading."""
+    """The words of the call have no reading; the text may say why."""
 
 
 class Unasked(Exception):
@@ -58,6 +61,7 @@ class Words:
         self.options: set[str] = set()
         self.telling: list[str] = []  # the words for `tell`
         self.settings = {"--run": "quick"}  # those for `itip`, each with its value
+        self.per = ""  # the rate per which corner points are told
         while self.files and self.files[0].startswith("-") and self.files[0] != "-":
             word = self.files.pop(0)
             if word == "--":
@@ -65,6 +69,10 @@ class Words:
             self._take(word)
         if not self.files or ("--document" in self.options and "--latex" not in self.options):
             raise WordsError
+        if self.mode != "outer" and (self.per or "--proofs" in self.options):
+            raise WordsError
+        if self.mode:
+            self.for_questions()
 
     def for_questions(self) -> None:
         """Refuses the words that are for question files alone."""
@@ -74,12 +82,14 @@ class Words:
     def _take(self, word: str) -> None:
         if word in ("--steps", "--short"):
             self.telling.append(word)
-        elif word in ("--latex", "--document", "--needs", "--if", "--copies", "--made"):
+        elif word in ("--latex", "--document", "--needs", "--if", "--copies", "--made", "--proofs"):
             self.options.add(word)
         elif word.startswith("--") and word[2:] in MODES and self.mode in ("", word[2:]):
             self.mode = word[2:]
         elif word in SETTINGS and self.files:
             self.settings[word] = self.files.pop(0)
+        elif word == "--per" and self.files and self.files[0]:
+            self.per = self.files.pop(0)
         else:
             raise WordsError
 
@@ -132,7 +142,11 @@ class Asker:
         for number, variable in unused(text):
             say(f"{name}, question {number}: no line says anything of the variable {variable}")
         lines = written.split("\n")[:-1]
-        told_status, told = self._told(name, lines) if mode == "answer" else self._told_in_mode(mode, name, questions.text, lines)
+        if status and mode == "outer":  # (the program was cut off)
+            from .outer import whole_answers
+
+            lines = whole_answers(lines)
+        told_status, told = self._told_by(mode, name, questions.text, lines)
         put_status = self._put(told) if "--latex" not in self.words.options else self._put_paper(told, mode, questions.text)
         return status or put_status or told_status
 
@@ -171,6 +185,12 @@ class Asker:
         return run([self.teller, *words], "".join(line + "\n" for line in report))
 
     # What is told
+
+    def _told_by(self, mode: str, name: str, file: str, lines: Sequence[str]) -> tuple[int, str]:
+        """The status of `tell`, and what is told of the lines of a mode."""
+        if mode == "answer":
+            return self._told(name, lines)
+        return self._told_bounds(name, file, lines) if mode == "outer" else self._told_in_mode(mode, name, file, lines)
 
     def _told(self, name: str, lines: Sequence[str]) -> tuple[int, str]:
         """The status of `tell`, and what it writes of a report."""
@@ -279,6 +299,30 @@ class Asker:
                 told += below
         return max(statuses), "".join(line + "\n" for line in told)
 
+    def _told_bounds(self, name: str, file: str, lines: Sequence[str]) -> tuple[int, str]:
+        """The same of the lines of mode `outer`."""
+        from . import modes, outer
+
+        told: list[str] = []
+        statuses = [0]
+        for number, answer in outer.by_question(lines):
+            asked = modes.asked("outer", file, number)
+            if self.words.per and answer != [f"{number} other"] and self.words.per not in outer.staying(asked.made):
+                raise WordsError(f"{name}, question {number}: {self.words.per} is no rate that stays, so no corner is told per unit of it")
+            why = outer.why_open(answer)
+            if why and "--pivots" not in self.words.settings:
+                say_anew(name, number, why)
+                status, anew = self._itip("outer", asked.alone, pivots="none")
+                answer = [f"{number} {line.partition(' ')[2]}" for line in anew.split("\n")[:-1]] if status == 0 else answer
+            told.append(answer[0])
+            if answer[0].split(" ")[1] != "outer":
+                continue
+            parts = outer.parts(asked.made, outer.read_bound(asked.made, answer), self.words.per)
+            status, report = self._tell([part.shown.report for part in parts if part.shown.report], self.words.telling)
+            statuses.append(status)
+            told += outer.told(parts, grouped(report), "--proofs" in self.words.options)
+        return max(statuses), "".join(line + "\n" for line in told)
+
     def _told_below(self, line: str) -> tuple[int, list[str]]:
         """The status of `tell`, and what it writes below the first line of an answer; of an invalid one that, in its place."""
         status, told = self._tell([line], self.words.telling)
@@ -345,9 +389,9 @@ def grouped(told: str) -> list[list[str]]:
     return answers
 
 
-def refuse() -> int:
-    """Says what the words may be."""
-    say(USAGE)
+def refuse(why: str = "") -> int:
+    """Says what the words may be, and maybe why these have no reading."""
+    say(*filter(None, [why]), USAGE)
     return 2
 
 
@@ -362,8 +406,8 @@ def main(docs: str, prover: str, teller: str, lack: str, *words: str) -> int:
             return 7
         asker = Asker(read, docs, prover, teller)
         return asker.document_all() if "--document" in read.options else asker.answer_all()
-    except WordsError:
-        return refuse()
+    except WordsError as fault:
+        return refuse(str(fault))
     except ItipError as fault:
         say(str(fault))
         return 7

@@ -3,7 +3,7 @@
 from __future__ import annotations
 
 import json
-from collections.abc import Iterable, Sequence
+from collections.abc import Container, Iterable, Mapping, Sequence
 from dataclasses import dataclass, field, replace
 from fractions import Fraction
 from math import gcd, lcm
@@ -11,8 +11,9 @@ from typing import Any, NamedTuple, Optional, Tuple
 
 from .answers import Answer, No, Yes
 from .asking import prove_all
+from .bounds import Naming, bound_lines, decided_bound, lowest, naming
 from .codes import Code, code_at, code_for
-from .errors import Forged, ItipError
+from .errors import Forged, ItipError, Refused, TimedOut
 from .evidence import Point
 from .notation import Assumption, Relation, Sum
 from .pictures import Picture, curve_picture
@@ -128,18 +129,20 @@ def tradeoff(
 ) -> Curve:
     """The least pairs (x / unit, y / unit) wherever what is given holds.
 
-    It keeps a pool of polymatroids, and asks of each edge of their hull whether all polymatroids lie beyond it. By a `yes` the edge is a
-    face; a `no` is a polymatroid for the pool. It ends when each edge is a face. All edges of a round go into one call.
+    One call of mode `outer` has the faces and the corners. Where it is undecided, and with an executor, it keeps a pool of polymatroids,
+    and asks of each edge of their hull whether all polymatroids lie beyond it. By a `yes` the edge is a face; a `no` is a polymatroid for
+    the pool. It ends when each edge is a face. All edges of a round go into one call.
     """
     at = program or default()
-    assumed, begun, questions = listed(given), at.calls, 0
+    assumed, begun, questions = listed(given), at.calls, 1
     show = shown(progress)
-    pool: dict[Place, No] = {}
-    proved: dict[Edge, Yes] = {}
-    due = [Edge(0, 0, 1)]  # which fails where the unit is above 0
+    pool, proved = _of_bound(naming((x, y, unit), assumed, settings.get("copies", ())), at, settings)
+    edges, due = _due(pool, proved)
+    if edges:
+        show(len(edges) - len(due), len(edges), "faces proved, by one question")
     while due:
         questions += len(due)
-        relations = [edge.a * x + edge.b * y >= edge.c * unit for edge in due]
+        relations = [_relation(edge, x, y, unit) for edge in due]
         for edge, answer in zip(due, prove_all(relations, assumed, about=[x, y, unit], program=at, **settings)):
             if isinstance(answer, Yes):
                 proved[edge] = answer
@@ -149,13 +152,48 @@ def tradeoff(
                 raise ItipError(f"{answer.word}: {answer.asked.goal.lines()[0]}; ask without a budget, by pivots=None")
         if not pool:
             raise ItipError(f"{unit} is always 0 here")
-        corners = _hull(pool)
-        edges = _edges(corners)
-        due = [edge for edge in edges if edge not in proved]
+        edges, due = _due(pool, proved)
         show(len(edges) - len(due), len(edges), f"faces proved, by {questions} questions")
     faces = tuple(Face(edge, proved[edge]) for edge in edges)
-    found = tuple(Corner(*place, pool[place]) for place in corners)
+    found = tuple(Corner(*place, pool[place]) for place in _hull(pool))
     return Curve(x, y, unit, assumed, faces, found, questions, at.calls - begun)
+
+
+def _of_bound(asked: Naming, program: Itip, settings: Mapping[str, Any]) -> tuple[dict[Place, No], dict[Edge, Yes]]:
+    """What mode `outer` finds, where it is decided: the places of its rays, and of its rows those that are edges of their hull."""
+    pool: dict[Place, No] = {}
+    proved: dict[Edge, Yes] = {}
+    if settings.get("executor") is not None:
+        return pool, proved
+    try:
+        bound = decided_bound(asked, bound_lines(asked, program, settings.get("pivots", "usual")))
+    except (Refused, TimedOut):  # (which single questions may not be)
+        bound = None
+    if bound is None:
+        return pool, proved
+    for ray in bound.rays:
+        x, y, size = ray.numbers
+        if size > 0:
+            pool[Fraction(x, size), Fraction(y, size)] = asked.attained(ray, program)
+    edges, _ = _due(pool, proved)
+    for row in bound.rows:
+        a, b, less = lowest(row.numbers)
+        edge = Edge(a, b, -less)
+        if edge in edges:
+            proved[edge] = asked.proved(_relation(edge, *asked.kept), row, program)
+    return pool, proved
+
+
+def _relation(edge: Edge, x: Sum, y: Sum, unit: Sum) -> Relation:
+    return edge.a * x + edge.b * y >= edge.c * unit
+
+
+def _due(pool: Mapping[Place, No], proved: Container[Edge]) -> tuple[list[Edge], list[Edge]]:
+    """The edges of the hull, and those that aren't proved; without a place what fails where the unit is above 0."""
+    if not pool:
+        return [], [Edge(0, 0, 1)]
+    edges = _edges(_hull(pool))
+    return edges, [edge for edge in edges if edge not in proved]
 
 
 def _place(answer: No, x: Sum, y: Sum, unit: Sum) -> Place:

@@ -2,6 +2,7 @@
 
 from .answers import Answer, Contained, No, Open, Projected, Undecided, Yes
 from .asking import ask, prove, prove_all
+from .bounds import OuterBound, Ray, outer_bound
 from .codes import Code, code_at, code_for
 from .copies import Copy, copy
 from .curves import Corner, Curve, Face, tradeoff
@@ -31,9 +32,10 @@ from .sharing import Sharing, sharing
 
 __all__ = [
     "Answer", "Certificate", "Code", "Constraint", "Contained", "Copy", "Corner", "Curve", "Edge", "Face", "Factor", "Forged",
-    "Generator", "H", "I", "Itip", "ItipError", "MissingProgram", "No", "NotationError", "Notice", "Open", "Picture", "Point",
-    "Polygon", "Problem", "ProgramFailed", "Projected", "Refused", "Region", "Relation", "Search", "Sharing", "Sum", "TimedOut",
-    "Undecided", "UndecidedError", "Variable", "WorkerLost", "Yes", "aligned", "ask", "assumption", "best", "caching", "code_at", "code_for",
-    "configure", "contained", "copy", "curve_picture", "entropies", "find_copies", "func", "gaussian", "indep", "index_coding",
-    "markov", "network", "prove", "prove_all", "rates", "regenerating", "region", "relation", "rv", "sharing", "tradeoff",
+    "Generator", "H", "I", "Itip", "ItipError", "MissingProgram", "No", "NotationError", "Notice", "Open", "OuterBound", "Picture",
+    "Point", "Polygon", "Problem", "ProgramFailed", "Projected", "Ray", "Refused", "Region", "Relation", "Search", "Sharing", "Sum",
+    "TimedOut", "Undecided", "UndecidedError", "Variable", "WorkerLost", "Yes", "aligned", "ask", "assumption", "best", "caching",
+    "code_at", "code_for", "configure", "contained", "copy", "curve_picture", "entropies", "find_copies", "func", "gaussian",
+    "indep", "index_coding", "markov", "network", "outer_bound", "prove", "prove_all", "rates", "regenerating", "region",
+    "relation", "rv", "sharing", "tradeoff",
 ]

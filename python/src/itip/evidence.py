@@ -6,6 +6,7 @@ import html
 from collections.abc import Iterator, Mapping, Sequence
 from dataclasses import dataclass, field
 from fractions import Fraction
+from functools import lru_cache
 from itertools import combinations
 from math import comb, lcm
 from typing import Tuple
@@ -101,9 +102,14 @@ def line_generators(question: Question) -> list[Generator]:
 
 def generator_numbers(question: Question) -> dict[str, int]:
     """The numbers of generators in reports, by their names."""
-    elementals = (elemental(question.variables, number).text() for number in range(elemental_count(len(question.variables))))
-    names = [*elementals, *(generator.name for generator in line_generators(question))]
-    return {name: number for number, name in enumerate(names)}
+    elementals = elemental_numbers(question.variables)
+    return {**elementals, **{generator.name: number for number, generator in enumerate(line_generators(question), len(elementals))}}
+
+
+@lru_cache(maxsize=1)
+def elemental_numbers(names: Names) -> Mapping[str, int]:
+    """The numbers of elemental inequalities, by their texts: many proofs of a bound are about the same variables."""
+    return {elemental(names, number).text(): number for number in range(elemental_count(len(names)))}
 
 
 def certificates(question: Question, relation: Relation, proofs: Sequence[Proof]) -> Iterator[Certificate]:

@@ -47,53 +47,53 @@ def shown(line: str, question: Question) -> tuple[str, list[Shown]]:
     number, word, *details = line.split(" ", 2)
     text = "".join(details)
     if word == "yes":
-        return f"{number} yes", [_yes(question, text)]
+        return f"{number} yes", [yes_by(question, text)]
     if word == "no":
-        return f"{number} no", [_no(question, text)]
+        return f"{number} no", [no_at(question, text)]
     if word == "none":
-        return f"{number} none", [_no(question, text)]
+        return f"{number} none", [no_at(question, text)]
     if word not in ("best", "unbounded"):
         return line, []
     assert isinstance(question.goal, Prove)
     factor, text = text.split(" ", 1)
     above, below = map(int, factor.split("/"))
     greater, less = question.goal.relation.left, question.goal.relation.right
-    holds = _asking(question, Prove(above * greater >= below * less))
+    holds = asking(question, Prove(above * greater >= below * less))
     if word == "best":
         proof, values = text.split(" at ")
-        smaller = _asking(question, Prove((above - 1) * greater >= below * less))
-        return f"{number} best {factor}", [_yes(holds, proof), _no(smaller, values)]
+        smaller = asking(question, Prove((above - 1) * greater >= below * less))
+        return f"{number} best {factor}", [yes_by(holds, proof), no_at(smaller, values)]
     proof, other = text.split(" and ")
-    return f"{number} unbounded {factor}", [_yes(holds, proof), _yes(_asking(question, Prove(0 * greater >= greater)), other)]
+    return f"{number} unbounded {factor}", [yes_by(holds, proof), yes_by(asking(question, Prove(0 * greater >= greater)), other)]
 
 
-def _asking(question: Question, goal: Prove) -> Question:
+def asking(question: Question, goal: Prove) -> Question:
     return replace(question, goal=goal, source=None)
 
 
-def _report(answer: str, question: Question, **keys: Any) -> str:
+def report_line(answer: str, question: Question, **keys: Any) -> str:
     text = question.text()
     is_held = all(int(number) <= MOST for number in re.findall("[0-9]+", text))
     return json.dumps({"answer": answer, "question": text, **keys}) if is_held else ""
 
 
-def _yes(question: Question, proofs: str) -> Shown:
+def yes_by(question: Question, proofs: str) -> Shown:
     """A yes from its proofs `L : w G + ..`, with ` and ` between them. A generator without a number says nothing."""
     numbers = generator_numbers(question)
-    found = [_proof(proof, numbers) for proof in proofs.split(" and ")]
-    return Shown(_report("yes", question, proofs=found), f"as weights {proofs}")
+    found = [proof_of(proof, numbers) for proof in proofs.split(" and ")]
+    return Shown(report_line("yes", question, proofs=found), f"as weights {proofs}")
 
 
-def _proof(text: str, numbers: dict[str, int]) -> dict[str, Any]:
+def proof_of(text: str, numbers: dict[str, int]) -> dict[str, Any]:
     scale, _, terms = text.partition(" : ")
     weighed = [term.split(" ", 1) for term in terms.split(" + ") if term != "0"]
     return {"scale": scale, "weights": [[numbers[name], weight] for weight, name in weighed if name in numbers]}
 
 
-def _no(question: Question, values: str) -> Shown:
+def no_at(question: Question, values: str) -> Shown:
     """A no from its values `h(X)=1 ..`; of an equation that side fails which is negative at them."""
     assert isinstance(question.goal, Prove)
     numbers = re.findall("=(-?[0-9]+)", values)
     at = point([int(number) for number in numbers], question.variables, question.rates)
     side = "forward" if at[question.goal.relation.target()] < 0 else "back"
-    return Shown(_report("no", question, point=numbers, side=side), f"as point {values}")
+    return Shown(report_line("no", question, point=numbers, side=side), f"as point {values}")

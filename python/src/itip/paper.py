@@ -27,6 +27,8 @@ FACTS = (
     (re.compile(f"func ([A-Za-z0-9_]+) of ({LIST})"), r"{}\text{{ a function of }}{}"),
     (re.compile("indep ([A-Za-z0-9_;]+)"), r"{}\text{{ independent}}"),
 )
+# a ray of an outer bound: what it is, its rates with their numbers, and maybe the rate per which they are
+RAY = re.compile(rf"(corner|point|ray|direction|line) (.*) = ([^=]*?)(?: per ({NAME}))?")
 SENTENCES = {
     "yes": "This has a proof from Shannon's inequalities and what is given:",
     "no": "This does not follow from Shannon's inequalities: at the following point what is given holds, and this fails.",
@@ -34,6 +36,9 @@ SENTENCES = {
     "region 0": "The region is given by no row.",
     "region 1": "The region is given by this row:",
     "open": "No substitution was proved, of {} that were tried.",
+    "outer": "All that Shannon's inequalities and what is given say of these rates follows from these {} rows:",
+    "outer 0": "Shannon's inequalities and what is given say nothing of these rates.",
+    "outer 1": "All that Shannon's inequalities and what is given say of these rates follows from this row:",
     "best": "The least factor is ${}$: it holds by the proof, and at the point below the two sides are equal with it:",
     "none": "No factor holds: at the following point the left side is 0, and the right side is above 0.",
     "unbounded": "The factor ${}$ holds, and so does each smaller number, since the left side is never above 0:",
@@ -76,12 +81,15 @@ class Paper:
         """Sets the answer that waits, if there is one."""
         if not self.first:
             return
-        number = self.first.split()[0]
+        number, word = self.first.split()[:2]
         asked = [part for text in self.questions[int(number) - 1 : int(number)] for part in stated(text, self.names, self.mode)]
         self.parts += [rf"\paragraph{{{number}.}} {part}" if not place else part for place, part in enumerate([*asked, self._sentence()])]
-        place = next((place for place, line in enumerate(self.below) if line.endswith(THEN) or line.startswith("# no ")), len(self.below))
-        self._put_lines(self.below[:place])
-        self._put_files(self.below[place:])
+        if word == "outer":
+            self._put_bound(self.below)
+        else:
+            place = next((place for place, line in enumerate(self.below) if line.endswith(THEN) or line.startswith("# no ")), len(self.below))
+            self._put_lines(self.below[:place])
+            self._put_files(self.below[place:])
         self.first, self.below = "", []
 
     def _put_lines(self, lines: Sequence[str]) -> None:
@@ -107,6 +115,33 @@ class Paper:
             self.parts.append(f"It has a proof with {', '.join(copies)}:")
             self._put_lines(lines[next(place for place, line in enumerate(lines) if line.startswith("prove ")) + 1 :])
 
+    def _put_bound(self, lines: Sequence[str]) -> None:
+        """The rows of an outer bound, then their proofs with the steps, and then a list of its rays, each with its point."""
+        rays = next((place for place, line in enumerate(lines) if RAY.fullmatch(line)), len(lines))
+        rows, items = lines[:rays], lines[rays:]
+        proofs = [line[2:] for line in rows if line.startswith("  ")]
+        self._put_lines([line for line in rows if not line.startswith(" ")])
+        if proofs:
+            self.parts.append(r"\par Their proofs, in this order:")
+            self._put_lines(proofs)
+        if items:
+            self.parts += [r"\par These span all rates at which that holds:", r"\begin{itemize}"]
+            for line in items:
+                self._put_ray(line)
+            self.parts.append(r"\end{itemize}")
+
+    def _put_ray(self, line: str) -> None:
+        """A ray as an item of the list; of what stands below it a line in it."""
+        found = RAY.fullmatch(line)
+        if not found:
+            self._put_line(line)
+            self._close_relations()
+            return
+        word, names, numbers, per = found.groups()
+        set_numbers = re.sub(r"(-?)([0-9]+)/([0-9]+)", r"\1\\tfrac{\2}{\3}", numbers)
+        unit = f" per ${formula(per, self.names)}$" if per else ""
+        self.parts.append(rf"\item {word} ${formula(names, self.names)} = {set_numbers}${unit}")
+
     def _sentence(self) -> str:
         """The sentence for the first line. Without a formula below it, it ends with a point."""
         number, word, *rest = self.first.split()
@@ -117,7 +152,7 @@ class Paper:
         elif word == "undecided":
             said = rf"This stayed undecided: \texttt{{{escaped(self.first[len(number) + 11 :])}}}."
         elif word in SENTENCES:
-            said = SENTENCES.get(" ".join([word, *rest]), SENTENCES[word]).format(*rest, "")
+            said = SENTENCES.get(" ".join([word, *rest[:1]]), SENTENCES[word]).format(*rest, "")
         else:
             said = rf"\texttt{{{escaped(self.first[len(number) + 1 :])}}}"
         return said if self.below else re.sub(":$", ".", said)

@@ -54,9 +54,12 @@ class Known:
 
     def __init__(self, values: Values) -> None:
         self.rows: dict[Key, tuple[dict[Key, Fraction], Fraction]] = {}
+        self.named: set[Key] = set()  # the coordinates that the values speak of
         pairs = values.values if isinstance(values, Point) else values
         for what, value in pairs.items():
-            row, rest = self._reduced(what.joint() if isinstance(what, Sum) else {what: Fraction(1)}, Fraction(value))
+            said = what.joint() if isinstance(what, Sum) else {what: Fraction(1)}
+            self.named.update(said)
+            row, rest = self._reduced(said, Fraction(value))
             if row:
                 lead, number = next(iter(row.items()))
                 self.rows[lead] = {key: other / number for key, other in row.items()}, rest / number
@@ -101,7 +104,7 @@ def polygon(rows: Sequence[Relation], names: Names, values: Values) -> Polygon:
 def _half_planes(row: Relation, names: Names, known: Known) -> list[HalfPlane]:
     target = row.target().joint()
     a, b = (target.pop(name, Fraction(0)) for name in names)
-    others = [key for key in target if isinstance(key, str)]
+    others = [key for key in target if isinstance(key, str) and key not in known.named]
     if others:
         raise NotationError(f"two rates are drawn, and {row} has {others[0]} too: eliminate it first")
     c = -known.value(target)

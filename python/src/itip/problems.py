@@ -9,6 +9,7 @@ from typing import Any, Optional, Union
 
 from .answers import Answer
 from .asking import prove
+from .bounds import OuterBound, outer_bound
 from .curves import Curve, tradeoff
 from .errors import NotationError
 from .factors import Factor, best
@@ -21,7 +22,7 @@ Messages = Union[str, Iterable[str]]
 
 @dataclass(frozen=True)
 class Problem:
-    """Variables with what ties them: ask of it by `prove`, `best` and `tradeoff`. `labels` say what each variable is."""
+    """Variables with what ties them: ask of it by `prove`, `best`, `tradeoff` and `outer_bound`. `labels` say what each variable is."""
 
     given: tuple[Assumption, ...]
     labels: Mapping[str, str] = field(default_factory=dict, hash=False)
@@ -34,6 +35,9 @@ class Problem:
 
     def tradeoff(self, x: Sum, y: Sum, unit: Sum, given: Given = None, **settings: Any) -> Curve:
         return tradeoff(x, y, unit, [*self.given, *listed(given)], **settings)
+
+    def outer_bound(self, *kept: Sum, given: Given = None, **settings: Any) -> OuterBound:
+        return outer_bound(*kept, given=[*self.given, *listed(given)], **settings)
 
     def __str__(self) -> str:
         return "\n".join(part.text() for part in self.given)

@@ -4,13 +4,15 @@ from __future__ import annotations
 
 from collections.abc import Mapping, Sequence
 from dataclasses import dataclass, field
-from typing import Optional, Union
+from typing import Any, Optional, Union
 
 from .answers import Answer, Contained, Open, Projected, Undecided, read
 from .asking import answers_to
+from .bounds import OuterBound, outer_bound
 from .errors import Forged, ItipError, NotationError
 from .latex import WIDTH, aligned
 from .notation import Assumption, Names, Rate, Relation, Sum, Variable, Variables, names_of
+from .outer import rate_sums
 from .polygons import Polygon, Values, polygon
 from .program import Budget, Itip, default
 from .questions import Contain, Eliminate, Given, Prove, Question, Side, as_relation, listed, named, question, with_rates, without_rates
@@ -50,6 +52,10 @@ class Region:
         if not isinstance(answer, Projected):
             raise Forged(f"{answer.word} is no answer to an elimination")
         return Region(answer.rows, self.given, self.auxiliaries, answer)
+
+    def outer_bound(self, *kept: Sum, **settings: Any) -> OuterBound:
+        """All that Shannon's inequalities say of these sums in the region, without any of its rates (`bounds.outer_bound`)."""
+        return outer_bound(*(kept or rate_sums(self.rates())), given=[*self.given, *self.rows], **settings)
 
     def why_needed(self, row: int, pivots: Budget = "usual", program: Optional[Itip] = None) -> Answer:
         """Whether a row, by its number from 0, follows from the others: where it is needed, a `no` with a point that shows it."""

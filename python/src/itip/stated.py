@@ -86,8 +86,7 @@ class Statement:
             self._ask_relation(rest, word)
         elif word in ("eliminate", "contain"):
             self._close_given()
-            asked = "the first region lies in the second." if word == "contain" else ""
-            self.sentence.append(f"Asked is whether {asked}" if asked else f"Asked is the region without {listed(rest, self.names)}.")
+            self.sentence.append(self._asked(word, rest))
             self._close_sentence()
         elif word == "region":
             self._close_given()
@@ -103,6 +102,12 @@ class Statement:
             self.given.append(f"$\\{{{formula(rest.replace(' ', ''), self.names)}\\}}$ qualified")
         elif word in DECLARED:
             self.sentence.append(f"{DECLARED[word]} {listed(rest, self.names)}.")
+
+    def _asked(self, word: str, rest: str) -> str:
+        if word == "contain":
+            return "Asked is whether the first region lies in the second."
+        wanted = "are all bounds on the rates other than" if self.mode == "outer" else "is the region without"
+        return f"Asked {wanted} {listed(rest, self.names)}."
 
     def _ask_relation(self, text: str, word: str) -> None:
         self._close_given()
