@@ -333,7 +333,7 @@ class Modes(Asks):
 
     def test_best_at_its_point(self):
         """At the values of the mode's line the factor is an equation, and tell has told them from there."""
-        line = default().itip(["best"], "vars X, Y\nprove H(X) + H(Y) >= H(X,Y)\n").strip()
+        line = default().itip(["best", "--run", "quick"], "vars X, Y\nprove H(X) + H(Y) >= H(X,Y)\n").strip()
         self.assertEqual(line.split(" at ")[0], "1 best 1/1 1 : 1 I(X;Y)")
         told = self.asks("vars X, Y\nprove H(X) + H(Y) >= H(X,Y)\n", "--best")
         self.assertEqual(told[:2], ["1 best 1/1", "  H(X) + H(Y) - H(X,Y) = I(X;Y)"])
