@@ -36,7 +36,7 @@ use Rattle.it_certificate.specs.Sources.{IsSharingText, IsSourceAt, IsSourceOf, 
 
 -- what has a text is there
 some_text : (o : Option Data) (text : List ℕ) → text_of o ≡ Some text → is_some o ≡ true
-some_text None text e = absurd cc
+some_text None text e = let f : None ≡ Some text = e in absurd cc
 some_text (Some v) text e = refl
 
 none_there : (o : Option Data) → o ≡ None → is_some o ≡ false
@@ -47,7 +47,7 @@ there_or_not o yes no = let e : true ≡ false = sym yes ∙ no in cc
 
 not_there : (o : Option Data) → is_some o ≡ false → o ≡ None
 not_there None e = refl
-not_there (Some v) e = absurd cc
+not_there (Some v) e = let f : true ≡ false = e in absurd cc
 
 no_text : (o : Option Data) (text : List ℕ) → None ≡ text_of o → text_of o ≡ Some text → ⊥
 no_text o text none some = let e : None ≡ Some text = none ∙ some in cc

@@ -43,7 +43,7 @@ valid_is_true_by_copies line names q copies r ws valid reads about =
     let claim = valid_is_true line names (Copies q copies) (Yes ws) valid reads in
     let limits = All-head (λ (q : QuestionView). IsQuestion q.body) q [] (copied_questions_are_within (source.head ++ source.text) copies (q ∷ []) source.reads) in
     yes_by_copies q.body (extended q.body copies) copies r limits about source.extension
-    (λ image polymatroid lines. own_lines (extended q.body copies) r q.body.verb about (subst (λ (v : VerbView). IsClaimTrueBy (record { names = (extended q.body copies).names; lines = (extended q.body copies).lines; verb = q.body.verb }) v (Yes ws)) about claim) image (polymatroid, lines))
+    (λ image polymatroid lines. own_lines (extended q.body copies) r q.body.verb about (subst (λ (v : VerbView). IsClaimTrueBy (extended q.body copies) v (Yes ws)) about claim) image (polymatroid, lines))
 
 -- ---- a sharing file
 
