@@ -43,7 +43,7 @@ none_there : (o : Option Data) → o ≡ None → is_some o ≡ false
 none_there o e = ap is_some e
 
 there_or_not : (o : Option Data) → is_some o ≡ true → is_some o ≡ false → ⊥
-there_or_not o yes no = let e : true ≡ false = sym yes ∙ no in cc
+there_or_not o there none = let e : true ≡ false = sym there ∙ none in cc
 
 not_there : (o : Option Data) → is_some o ≡ false → o ≡ None
 not_there None e = refl

@@ -63,7 +63,7 @@ fn made_from(alloc: Global, sharing: &Sharing) -> Result<Question, Refusal>
 }
 
 /// The question that at most 1048576 bytes make, if they are a sharing file of few sets.
-#[tactic(auto, using(crate::proofs::SourceLemmas::made_long, crate::proofs::SourceLemmas::made_by_file, crate::proofs::SourceLemmas::made_fault))]
+#[tactic(auto, using(crate::proofs::SourceLemmas::made_long, crate::proofs::SourceLemmas::made_by_file))]
 fn made_of(alloc: Global, bytes: &[u8]) -> Result<Question, Refusal>
     ensures reading { GivesMade bytes.now result }
     ensures limits { IfOk result (λ q. IsQuestion (question_body q)) }
@@ -113,7 +113,7 @@ fn extended(
 }
 
 /// The only question of at most 1048577 bytes with the copies that their head asks for.
-#[tactic(auto, using(crate::proofs::SourceLemmas::copied_long, crate::proofs::SourceLemmas::copied_by_file, crate::proofs::SourceLemmas::copied_fault))]
+#[tactic(auto, using(crate::proofs::SourceLemmas::copied_long, crate::proofs::SourceLemmas::copied_by_file))]
 fn copied(alloc: Global, bytes: &[u8]) -> Result<Question, Refusal>
     ensures reading { GivesCopied bytes.now result }
     ensures limits { IfOk result (λ q. IsQuestion (question_body q)) }
