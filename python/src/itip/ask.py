@@ -18,6 +18,7 @@ HELP = """usage: ./ask [WORDS] FILE..
 Answers question files in the field's own notation (docs/ask.md); - is standard input.
 --steps      below each proof its steps
 --short      proofs with the least sum of terms, which may take long
+--whole      proofs with the terms of the lines that they name, to be pasted
 --needs      behind each needed row of a region a point at which it alone fails
 --latex      for LaTeX; with --document as a whole document
 --copy       a file with a head of copies, which a file that begins with `copy` is without this word
@@ -55,9 +56,11 @@ class Words:
             self._take(word)
         if not self.files or ("--document" in self.options and "--latex" not in self.options):
             raise WordsError
+        if "--whole" not in self.telling:
+            self.telling.append("--named")
 
     def _take(self, word: str) -> None:
-        if word in ("--steps", "--short"):
+        if word in ("--steps", "--short", "--whole"):
             self.telling.append(word)
         elif word in ("--latex", "--document", "--needs"):
             self.options.add(word)
