@@ -10,7 +10,7 @@ ghost use Rattle.it_best.specs.PhaseSteps.{AreSides};
 
 use it_check::{Verdict, check_no};
 use it_columns::opposite_row;
-use it_fraction::{Wide, difference, signed_product};
+use it_fraction::{Wide, difference, gcd, signed_product};
 use it_space::{Point, Problem, Row, RowFault, value};
 use std::alloc::{AllocError, Global};
 
@@ -39,6 +39,54 @@ fn combined_values(
         values.push(value)?;
     }
     Ok(values)
+}
+
+/// The greatest common divisor of values.
+fn common_divisor(values: &[i128]) -> i128
+    requires { All IsWithin values.now }
+    ensures { IsWithin result }
+{
+    let mut common = 0;
+    for value in values {
+        common = gcd(common, *value);
+    }
+    common
+}
+
+/// A value over a number that divides it; the same where that isn't above 1.
+fn quotient(value: i128, by: i128) -> i128
+    requires { IsWithin value }
+    ensures { IsWithin result }
+{
+    if by > 1 { value / by } else { value }
+}
+
+/// The values over their greatest common divisor.
+fn in_lowest_terms(alloc: Global, values: &[i128]) -> Result<Vec<i128>, AllocError>
+    requires { All IsWithin values.now }
+    ensures { IfOk result (λ v. All IsWithin v.items) }
+{
+    let common = common_divisor(values);
+    let mut lowest = Vec::with_capacity(alloc, values.len())?;
+    for value in values {
+        lowest.push(quotient(*value, common))?;
+    }
+    Ok(lowest)
+}
+
+/// The values of the same of two points, without a common divisor.
+fn joined_values(
+    alloc: Global,
+    a: i128,
+    one: &Point,
+    b: i128,
+    other: &Point,
+) -> Result<Vec<i128>, RowFault>
+    ensures { IfOk result (λ v. All IsWithin v.items) }
+{
+    let values = combined_values(alloc, a, one, b, other)?;
+    let lowest = in_lowest_terms(alloc, values.as_slice())?;
+    Ok(lowest)
 }
 
 /// The point, where the left side is 0 there, and the check finds that it meets the problem and that the right side is above 0, of which
@@ -82,7 +130,7 @@ pub fn joined(
     let Ok(less) = value(left, below) else {
         return Ok(None);
     };
-    let values = match combined_values(alloc, more, below, less, above) {
+    let values = match joined_values(alloc, more, below, less, above) {
         Ok(values) => values,
         Err(RowFault::Wide) => return Ok(None),
         Err(RowFault::Memory) => return Err(AllocError),
