@@ -12,5 +12,6 @@ mod types;
 
 pub use answering::answer;
 pub use laws::{answers_are_determined, never_yes_and_no, no_step_is_zero, shown_answers_are_true};
+pub use regions::marked_rows;
 pub use targets::target_rows;
 pub use types::{AnsweredProblem, Budgets};

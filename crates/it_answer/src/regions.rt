@@ -56,7 +56,7 @@ fn answer_of_end(alloc: Global, end: Projected) -> Result<Answer, AllocError>
 }
 
 /// The rows in order, each with its mark before it.
-fn marked_rows(alloc: Global, kept: Vec<(Row, Need)>) -> Result<Vec<(Mark, Row)>, AllocError>
+pub fn marked_rows(alloc: Global, kept: Vec<(Row, Need)>) -> Result<Vec<(Mark, Row)>, AllocError>
     ensures { IfOk result (λ v. v.items ≡ marked_rows (map (λ k. (k.0, need_view k.1)) kept.items)) }
 {
     let mut marked = Vec::new(alloc);

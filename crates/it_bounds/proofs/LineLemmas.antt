@@ -15,7 +15,7 @@ use Rattle.it_syntax.specs.NamesViews.{NamesView}
 use Rattle.it_question.specs.Questions.{BodyView}
 use Rattle.it_question.specs.ProblemLines.{problem_names}
 use Rattle.it_print.specs.Lines.{joined_texts, origins_of}
-use Rattle.it_bounds.specs.Lines.{bounds_lines, rate_text, rates_kept, rates_text, ray_line, values_at}
+use Rattle.it_bounds.specs.Lines.{bounds_lines, rate_text, told_rates, rates_text, ray_line, values_at}
 use Rattle.it_bounds.specs.LineSteps.{count_line, row_lines}
 
 -- ---- the common divisor
@@ -64,10 +64,10 @@ rays_done k v w kept own rays i out initial same is l now =
 -- ---- the lines of a bound
 
 pub bounds_text : (q : BodyView) (constraints : List Constraint) (k : ℕ) (rows rs : List (Mark × Terms)) (proofs ws : List Certificate) (rays ps : List (List ℤ)) → rs ≡ rows → ws ≡ proofs → ps ≡ rays
-    → count_line k (length rs) (length ps) ++ row_lines q constraints k rs ws ++ flat_map (ray_line k (problem_names q) (rates_kept q)) ps
-    ≡ bounds_lines k (problem_names q) (rates_kept q) (origins_of constraints) rows (map certificate_view proofs) rays
+    → count_line k (length rs) (length ps) ++ row_lines q constraints k rs ws ++ flat_map (ray_line k (problem_names q) (told_rates q)) ps
+    ≡ bounds_lines k (problem_names q) (told_rates q) (origins_of constraints) rows (map certificate_view proofs) rays
 unfolding bounds_lines
 bounds_text q constraints k rows rs proofs ws rays ps e f g =
-    ap (λ (xs : List (Mark × Terms)). count_line k (length xs) (length ps) ++ row_lines q constraints k xs ws ++ flat_map (ray_line k (problem_names q) (rates_kept q)) ps) e
-    ∙ ap (λ (xs : List Certificate). count_line k (length rows) (length ps) ++ row_lines q constraints k rows xs ++ flat_map (ray_line k (problem_names q) (rates_kept q)) ps) f
-    ∙ ap (λ (xs : List (List ℤ)). count_line k (length rows) (length xs) ++ row_lines q constraints k rows proofs ++ flat_map (ray_line k (problem_names q) (rates_kept q)) xs) g
+    ap (λ (xs : List (Mark × Terms)). count_line k (length xs) (length ps) ++ row_lines q constraints k xs ws ++ flat_map (ray_line k (problem_names q) (told_rates q)) ps) e
+    ∙ ap (λ (xs : List Certificate). count_line k (length rows) (length ps) ++ row_lines q constraints k rows xs ++ flat_map (ray_line k (problem_names q) (told_rates q)) ps) f
+    ∙ ap (λ (xs : List (List ℤ)). count_line k (length rows) (length xs) ++ row_lines q constraints k rows proofs ++ flat_map (ray_line k (problem_names q) (told_rates q)) xs) g

@@ -36,8 +36,8 @@ gone_rates (Eliminate rates) = rates
 gone_rates verb = []
 
 -- the coordinates of the rates that stay
-abbrev pub rates_kept : BodyView → List ℕ
-rates_kept q = kept_coordinates (space_of (problem_names q)) (gone_rates q.verb)
+abbrev pub told_rates : BodyView → List ℕ
+told_rates q = kept_coordinates (space_of (problem_names q)) (gone_rates q.verb)
 
 -- a point's values at coordinates, each after its coordinate
 abbrev pub values_at : List ℕ → List ℤ → Terms
@@ -71,7 +71,7 @@ bounds_cause_text v limits Rays = codes "rays " ++ decimal limits.rays
 
 -- the lines of a reply to question k, made within these limits
 abbrev pub reply_lines : Limits → ℕ → BodyView → List Origin → ReplyView → List ℕ
-reply_lines limits k q origins (Bounded rows proofs rays) = bounds_lines k (problem_names q) (rates_kept q) origins rows proofs rays
+reply_lines limits k q origins (Bounded rows proofs rays) = bounds_lines k (problem_names q) (told_rates q) origins rows proofs rays
 reply_lines limits k q origins (Undecided cause) = decimal k ++ codes " undecided " ++ bounds_cause_text (problem_names q) limits cause ++ codes "\n"
 reply_lines limits k q origins Size = decimal k ++ codes " undecided size\n"
 reply_lines limits k q origins Other = decimal k ++ codes " other\n"

@@ -10,13 +10,14 @@ ghost use Rattle.it_canon.specs.TrueLines.{variable_count};
 ghost use Rattle.it_print.specs.Lines.{AreListed, IsRowOver, cause_text, origins_of};
 ghost use Rattle.it_outer.specs.Outer.{cause_view};
 ghost use Rattle.it_outer.specs.Rounds.{ArePlaces};
-ghost use Rattle.it_bounds.specs.Lines.{AreOfNames, IsCausePrintable, IsOfRun, IsPrintable, bounds_cause_text, gone_rates, rates_kept, ray_line, reply_lines};
+ghost use Rattle.it_bounds.specs.Lines.{AreOfNames, IsCausePrintable, IsOfRun, IsPrintable, bounds_cause_text, gone_rates, told_rates, ray_line, reply_lines};
 ghost use Rattle.it_bounds.specs.LineSteps.{IsThere, count_line, proof_text, row_line, row_lines};
 ghost use Rattle.it_bounds.specs.Replies.{reply_view};
 
-use crate::rays::{kept_coordinates, write_rates};
+use crate::rays::write_rates;
 use crate::types::Reply;
 use it_canon::problem_names;
+use it_outer::coordinates::kept_coordinates;
 use it_outer::{Limits, OuterCause};
 use it_print::{row_text, sum_text, values_text, write_number, write_signed};
 use it_question::types::{Question, Verb};
@@ -81,7 +82,7 @@ fn bounds_lines(
     requires rows { All (λ row. IsRowOver (problem_names (question_body question.now)) row.1) rows.now }
     requires there { AreListed (variable_count (question_body question.now)) (length constraints.now) proofs.now }
     requires rays { AreOfNames (problem_names (question_body question.now)) rays.now }
-    ensures { IfOk result (λ t. t.items ≡ count_line k (length rows.now) (length rays.now) ++ row_lines (question_body question.now) constraints.now k rows.now proofs.now ++ flat_map (ray_line k (problem_names (question_body question.now)) (rates_kept (question_body question.now))) rays.now) }
+    ensures { IfOk result (λ t. t.items ≡ count_line k (length rows.now) (length rays.now) ++ row_lines (question_body question.now) constraints.now k rows.now proofs.now ++ flat_map (ray_line k (problem_names (question_body question.now)) (told_rates (question_body question.now))) rays.now) }
 {
     let mut out = Vec::new(alloc);
     write_count(&mut out, k, rows.len(), rays.len())?;
@@ -191,7 +192,7 @@ fn write_rays(
 ) -> Result<(), AllocError>
     requires question { IsQuestion (question_body question.now) }
     requires rays { AreOfNames (problem_names (question_body question.now)) rays.now }
-    ensures { OnOk result (out.new.items ≡ out.old.items ++ flat_map (ray_line k (problem_names (question_body question.now)) (rates_kept (question_body question.now))) rays.now) }
+    ensures { OnOk result (out.new.items ≡ out.old.items ++ flat_map (ray_line k (problem_names (question_body question.now)) (told_rates (question_body question.now))) rays.now) }
 {
     let names = problem_names(question);
     let kept = kept_coordinates(alloc, names.space(), gone_rates(&question.verb))?;

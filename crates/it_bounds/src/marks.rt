@@ -3,13 +3,12 @@ ghost use Rattle.std.specs.Prelude.{◌≡◌, ◌≤◌, All, IfOk, length, map
 ghost use Rattle.it_space.specs.declared.answers.Mark.TheVariants.{Unsettled};
 ghost use Rattle.it_space.specs.Rows.{IsOver};
 ghost use Rattle.it_space.specs.Spaces.{IsSpace, size_of};
-ghost use Rattle.it_redundant.specs.Reduction.{need_view};
-ghost use Rattle.it_answer.specs.DueEliminations.{mark_of_need, marked_rows};
 ghost use Rattle.it_bounds.specs.RowReplies.{AreMarked};
 
+use it_answer::marked_rows;
 use it_outer::constants::constants;
 use it_prove::Effort;
-use it_redundant::{Need, reduce};
+use it_redundant::reduce;
 use it_space::{Mark, Row, Space, System};
 use std::alloc::{AllocError, Global};
 
@@ -49,27 +48,6 @@ fn copied(alloc: Global, rows: &[Row]) -> Result<Vec<Row>, AllocError>
         own.push(copy)?;
     }
     Ok(own)
-}
-
-/// The rows that stay, each with its mark before it.
-fn marked_rows(alloc: Global, kept: Vec<(Row, Need)>) -> Result<Vec<(Mark, Row)>, AllocError>
-    ensures { IfOk result (λ v. v.items ≡ marked_rows (map (λ k. (k.0, need_view k.1)) kept.items)) }
-{
-    let mut marked = Vec::new(alloc);
-    for (row, need) in kept {
-        marked.push((mark_of_need(&need), row))?;
-    }
-    Ok(marked)
-}
-
-/// Why a row stays, as its mark.
-fn mark_of_need(need: &Need) -> Mark
-    ensures { result ≡ mark_of_need (need_view need.now) }
-{
-    match need {
-        Need::Needed(_) => Mark::Needed,
-        Need::Unsettled(_) => Mark::Unsettled,
-    }
 }
 
 /// The rows, each unsettled.

@@ -1,43 +1,19 @@
 //! The rates of a ray.
-ghost use Rattle.std.specs.Prelude.{◌≡◌, ◌≢◌, ◌<◌, ◌≤◌, ◌+◌, ◌++◌, ◌^◌, [], codes, unsigned_abs, if◌then◌else◌, length, IfOk, OnOk};
+ghost use Rattle.std.specs.Prelude.{◌≡◌, ◌<◌, ◌≤◌, ◌+◌, ◌++◌, ◌^◌, [], codes, unsigned_abs, if◌then◌else◌, length, OnOk};
 ghost use Rattle.it_number.specs.Division.{int_quotient};
 ghost use Rattle.it_number.specs.Gcd.{gcd};
 ghost use Rattle.it_space.specs.Divisors.{content};
 ghost use Rattle.it_space.specs.Rows.{point_of};
-ghost use Rattle.it_space.specs.Spaces.{IsSpace, size_of};
+ghost use Rattle.it_space.specs.Spaces.{size_of};
 ghost use Rattle.it_demand.specs.QuestionSpaces.{space_of};
-ghost use Rattle.it_outer.specs.Outer.{kept_coordinates};
-ghost use Rattle.it_outer.specs.Rounds.{ArePlaces, own_coordinate};
+ghost use Rattle.it_outer.specs.Rounds.{ArePlaces};
 ghost use Rattle.it_bounds.specs.Lines.{rate_text, rates_text, values_at};
 
 use it_fraction::gcd;
 use it_print::{write_coordinate, write_signed};
-use it_space::{Point, Space};
+use it_space::Point;
 use it_syntax::Names;
 use std::alloc::{AllocError, Global};
-
-/// Puts a rate's coordinate after others, unless the rate goes.
-fn push_kept(kept: &mut Vec<u32>, space: Space, gone: &[u8], rate: u8) -> Result<(), AllocError>
-    requires { IsSpace space }
-    ensures { OnOk result (kept.new.items ≡ kept.old.items ++ own_coordinate space gone.now rate) }
-{
-    if !gone.contains(&rate) {
-        kept.push((1u32 << space.variables) + rate as u32)?;
-    }
-    Ok(())
-}
-
-/// The coordinates of the rates that stay.
-pub fn kept_coordinates(alloc: Global, space: Space, gone: &[u8]) -> Result<Vec<u32>, AllocError>
-    requires { IsSpace space }
-    ensures { IfOk result (λ v. v.items ≡ kept_coordinates space gone.now) }
-{
-    let mut kept = Vec::new(alloc);
-    for rate in 0..space.rates {
-        push_kept(&mut kept, space, gone, rate)?;
-    }
-    Ok(kept)
-}
 
 /// The greatest common divisor of a number found so far and the value at a coordinate.
 fn with_value(common: u128, point: &Point, at: u32) -> u128

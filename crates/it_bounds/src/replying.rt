@@ -20,12 +20,10 @@ use it_closure::size;
 use it_outer::{Bounds, Limits, Outer, outer};
 use it_prove::Effort;
 use it_question::line_constraints;
+use it_question::readers::MOST_ENTRIES;
 use it_question::types::{Question, Verb};
 use it_space::{Problem, Space};
 use std::alloc::{AllocError, Global};
-
-/// The most entries of a problem's table.
-const MOST_ENTRIES: u64 = 4000000;
 
 /// The right reply to a question, and the problem that all its lines pose, `row` lines too: to one that asks to eliminate rates its outer
 /// bound, and `Other` to each other verb. The listed rates go, and all entropies with them; the other rates stay. The limits are those of

@@ -20,16 +20,13 @@ use it_best::factor_row;
 use it_best::types::Best;
 use it_columns::opposite_row;
 use it_fraction::Fraction;
-use it_prove::{Proof, settle};
+use it_prove::{Proof, QUICK_STEPS, settle};
 use it_quick::QuickProblem;
 use it_space::{Certificate, Point, Problem, Row, RowFault, value};
 use std::alloc::{AllocError, Global};
 
 /// At most so many numbers are tried.
 const ROUNDS: u32 = 64;
-
-/// Each run has at most so many steps.
-const STEPS: u32 = 4000;
 
 /// What makes a factor the answer.
 #[derive(Drop)]
@@ -179,7 +176,7 @@ fn by_row(
     requires row { row.now ≡ factor_row (size_of problem.now.space) left.now right.now trial.factor }
     ensures { IfOk result (IsStep (problem_view problem.now) left.now right.now) }
 {
-    match settle(alloc, quick, problem, row, STEPS)? {
+    match settle(alloc, quick, problem, row, QUICK_STEPS)? {
         Some(Proof::Yes(proof)) => Ok(Step::Found(answer(trial, proof))),
         Some(Proof::No(point)) => by_point(alloc, problem, left, right, Some(trial), point),
         _ => Ok(Step::Open),
@@ -218,7 +215,7 @@ fn first(
     ensures { IfOk result (IsStep (problem_view problem.now) left.now right.now) }
 {
     let row = opposite_row(alloc, left)?;
-    match settle(alloc, quick, problem, &row, STEPS)? {
+    match settle(alloc, quick, problem, &row, QUICK_STEPS)? {
         Some(Proof::Yes(below)) => Ok(Step::Next(Trial {
             factor: Fraction::whole(0),
             reason: Reason::Below(below),

@@ -2,7 +2,7 @@
 #![tactic(auto)]
 
 pub mod constants;
-mod coordinates;
+pub mod coordinates;
 mod extremes;
 mod hulls;
 pub mod laws;

@@ -15,7 +15,7 @@ use it_space::{Problem, Row};
 use std::alloc::{AllocError, Global};
 
 /// A quick run has at most so many steps. Nobody sees it in an answer.
-const QUICK_STEPS: u32 = 4000;
+pub const QUICK_STEPS: u32 = 4000;
 
 impl ClosedProblem {
     /// What a quick run settles, where one comes first.

@@ -16,7 +16,7 @@ mod quick;
 mod scaling;
 mod types;
 
-pub use answering::prove;
+pub use answering::{QUICK_STEPS, prove};
 pub use closed::ClosedProblem;
 pub use laws::{
     defined_ends_may_come, ends_agree, ends_are_right, never_at_start, never_out_of_steps,

@@ -61,17 +61,17 @@ abbrev pub QuestionHasSmallNumbers : BodyView → Type 0
 QuestionHasSmallNumbers q = LinesHaveSmallNumbers q.lines × VerbHasSmallNumbers q.verb
 
 -- the numbers among letters
-abbrev AreSmall : List Letter → Type 0
+abbrev pub AreSmall : List Letter → Type 0
 AreSmall [] = Unit {0}
 AreSmall (Number n ∷ ls) = (n < 2 ^ 64) × AreSmall ls
 AreSmall (l ∷ ls) = AreSmall ls
 
-front_small : (p q : List Letter) → AreSmall (p ++ q) → AreSmall p
+pub front_small : (p q : List Letter) → AreSmall (p ++ q) → AreSmall p
 front_small [] q h = tt
 front_small (Number n ∷ p) q h = (h.0, front_small p q h.1)
 front_small (l ∷ p) q h = front_small p q h
 
-rest_small : (p q : List Letter) → AreSmall (p ++ q) → AreSmall q
+pub rest_small : (p q : List Letter) → AreSmall (p ++ q) → AreSmall q
 rest_small [] q h = h
 rest_small (Number n ∷ p) q h = rest_small p q h.1
 rest_small (l ∷ p) q h = rest_small p q h
@@ -82,7 +82,7 @@ every_more P (y ∷ xs) x h k = (h.0, every_more P xs x h.1 k)
 
 -- ---- relations
 
-abbrev IsSmall : Term → Type 0
+abbrev pub IsSmall : Term → Type 0
 IsSmall t = t.number < 2 ^ 64
 
 number_small : (l : Letter) (q : List Letter) → is_among (Positive ∷ []) l ≡ true → AreSmall (l ∷ q) → number_of l < 2 ^ 64
@@ -111,7 +111,7 @@ terms_small most m s minus =
     (λ p ts h l e u. always_flagged _ (term (multiple_from m ts) s (is_of (Punctuation Minus) l)) _ (always_weaker (term (multiple_from m ts) s (is_of (Punctuation Minus) l)) _ _ (λ q t k small. every_more IsSmall ts t (h (front_small p _ small)) (k (front_small q _ (rest_small (l ∷ []) _ (rest_small p _ small))))) (term_small (multiple_from m ts) s (is_of (Punctuation Minus) l))))
     p (t ∷ []) (λ small. (h small, tt))) (term_small m s minus))
 
-sum_small : (most m : ℕ) (s : Scope) → Always (sum most m s) (λ p ts. AreSmall p → Every IsSmall ts)
+pub sum_small : (most m : ℕ) (s : Scope) → Always (sum most m s) (λ p ts. AreSmall p → Every IsSmall ts)
 unfolding sum Always
 sum_small most m s = (
   λ l e u. always_weaker (terms most m s false) _ _ (λ q ts h small. h (rest_small (l ∷ []) q small)) (terms_small most m s false),
@@ -162,7 +162,7 @@ containment_small own v =
     always_weaker (region g r v) _ _
     (λ p first hf l e u. always_weaker (region (givens_left g first.lines) (rows_left r first.lines) v) _ _ (λ q second hs. always_any (more_tries (auxiliary_env v second.names) (env_of first.names) (unnamed_sets second.auxiliaries) []) _ (λ r tries l' e' u' l'' e'' u'' small. (hf (front_small p _ small), hs (front_small q _ (rest_small (l ∷ []) _ (rest_small p _ small)))))) (region_small (givens_left g first.lines) (rows_left r first.lines) v)) (region_small g r v)
 
-relation_line_small : (v : NamesView) → Always (to_end (relation (scope_of v true))) (λ p x. AreSmall p → HasSmallNumbers x)
+pub relation_line_small : (v : NamesView) → Always (to_end (relation (scope_of v true))) (λ p x. AreSmall p → HasSmallNumbers x)
 unfolding Always
 relation_line_small v = always_weaker (relation (scope_of v true)) _ _ (λ p x h l e u small. h (front_small p _ small)) (relation_small (scope_of v true))
 
@@ -179,7 +179,7 @@ question_small = always_any (new_names Variable most_variables no_names) _ (λ p
     (λ q names. always_weaker (own_lines most_lines most_lines names) _ _ (λ r own ho. always_weaker (verb own names) _ _ (λ w aim ha small.
     let after = rest_small q _ (rest_small p _ small) in (ho (front_small r _ after), ha (front_small w _ (rest_small r _ after)))) (verb_small own names)) (own_lines_small most_lines most_lines names)))
 
-file_small : Always file (λ p qs. AreSmall p → Every QuestionHasSmallNumbers qs)
+pub file_small : Always file (λ p qs. AreSmall p → Every QuestionHasSmallNumbers qs)
 unfolding file more_questions Always
 file_small = always_weaker (more_questions []) _ _ (λ p qs h l e u small. h (front_small p _ small))
     (loop_keeps (Keyword (codes "vars") ∷ []) (λ qs l. (limit_flag (most_questions - length qs), tt {0})) (λ qs u. Then question (λ q. Give (qs ++ q ∷ []))) (λ p qs. AreSmall p → Every QuestionHasSmallNumbers qs)
@@ -205,7 +205,7 @@ line_small : (line : List ℕ) (at : ℕ) (bytes : List ℕ) (ts : List Token) (
 line_small line at bytes [] m h = end_small m
 line_small line at bytes (t ∷ ts) m h = token_small line t.start t.end t.kind h.1.text (letters_until line ts (last_letter m)) h.1.spelled (line_small line t.end h.0 ts m h.2)
 
-lines_small : (n : ℕ) (split : List (List ℕ)) (lines : List LineView) → AreLines n split lines → AreSmall (letters_of_lines lines)
+pub lines_small : (n : ℕ) (split : List (List ℕ)) (lines : List LineView) → AreLines n split lines → AreSmall (letters_of_lines lines)
 lines_small n [] lines h = subst (λ (ls : List LineView). AreSmall (letters_of_lines ls)) (sym h) tt
 lines_small n (bytes ∷ more) lines (inl h) = lines_small (n + 1) more lines h.1
 lines_small n (bytes ∷ more) lines (inr h) = subst (λ (ls : List LineView). AreSmall (letters_of_lines ls)) (sym h.2)
@@ -213,7 +213,7 @@ lines_small n (bytes ∷ more) lines (inr h) = subst (λ (ls : List LineView). A
 
 -- ---- files
 
-texts_apart : (lines : List LineView) (qs : List BodyView) → Every QuestionHasSmallNumbers qs → Every (λ (q : QuestionView). QuestionHasSmallNumbers q.body) (with_texts lines qs)
+pub texts_apart : (lines : List LineView) (qs : List BodyView) → Every QuestionHasSmallNumbers qs → Every (λ (q : QuestionView). QuestionHasSmallNumbers q.body) (with_texts lines qs)
 texts_apart lines [] h = tt
 texts_apart lines (q ∷ qs) h = (h.0, texts_apart (drop (question_line_count q) lines) qs h.1)
 

@@ -7,7 +7,7 @@ use Rattle.it_question.specs.Questions.{question_body}
 use Rattle.it_outer.specs.Outer.{kept_coordinates}
 use Rattle.it_outer.specs.Rounds.{ArePlaces}
 use Rattle.it_outer.proofs.FrameLemmas.{kept_places}
-use Rattle.it_bounds.specs.Lines.{rates_kept}
+use Rattle.it_bounds.specs.Lines.{told_rates}
 use Rattle.it_bounds.proofs.LineLemmas.{rays_done}
 use Rattle.it_bounds.proofs.lines.write_rays.Goals as goal
 
@@ -19,7 +19,7 @@ write_ray-requires-clause-kept c =
     (sym (c.as_slice.ensures.value ∙ c.in_ok-kept.ensures ∙ ap (λ (s : Space). kept_coordinates s gone) c.space.ensures.counts)) (kept_places (space_of names) gone)
 
 pub returns : goal.returns
-returns c = rays_done c.args.k c.problem_names-names.result.now (problem_names (question_body c.args.question.now)) c.in_ok-kept.kept.items (rates_kept (question_body c.args.question.now)) c.args.rays.now c.loop-ray.ray-index
+returns c = rays_done c.args.k c.problem_names-names.result.now (problem_names (question_body c.args.question.now)) c.in_ok-kept.kept.items (told_rates (question_body c.args.question.now)) c.args.rays.now c.loop-ray.ray-index
     c.loop-ray.out.items c.args.out.now.items c.problem_names-names.ensures
     (c.in_ok-kept.ensures ∙ ap₂ (λ (s : Space) (rs : List ℕ). kept_coordinates s rs) (c.space.ensures.counts ∙ ap space_of c.problem_names-names.ensures) c.gone_rates.ensures)
     c.loop-ray-test.false c.loop-ray.invariant
