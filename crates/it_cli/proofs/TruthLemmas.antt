@@ -16,6 +16,7 @@ use Rattle.it_copy.specs.Extensions.{IsExtension, IsProof}
 use Rattle.it_copy.specs.Points.{YesByCopies}
 use Rattle.it_sharing.specs.PerfectSharing.{MadeQuestionIsOfPerfectSharing}
 use Rattle.it_sharing.specs.Sharings.{SharingView, IsSharing, IsBoundWhereBest, made_question}
+use Rattle.it_sharing.specs.Truth.{HoldsWherePerfect, IsTrueOfSharing}
 use Rattle.it_answer.specs.Shows as answers
 use Rattle.it_answer.specs.Truth.{IsTrueAnswer, IsTrueBy}
 use Rattle.it_factor.specs.Replies.{ReplyView, Found, Other}
@@ -23,17 +24,12 @@ use Rattle.it_factor.specs.RightReplies as factors
 use Rattle.it_factor.specs.RightReplies.{IsRightReply}
 use Rattle.it_factor.specs.Truth.{HoldsFor, IsTrueBest, IsTrueReply, asked_by, at_least}
 use Rattle.it_factor.proofs.TruthLemmas.{true_of_same}
+use Rattle.it_report.proofs.SourceTruth.{own_lines}
 use Rattle.it_cli.specs.Copies.{CopyQuestion, CopyReply, IsRightCopy, Misfit, Extended}
 use Rattle.it_cli.specs.SharingReplies.{IsRightSharing, SharingReply, Many, Answered, Factored}
-use Rattle.it_cli.specs.Truth.{HoldsWherePerfect, IsTrueCopy, IsTrueOfSharing, IsTrueSharing, IsTrueWithCopies}
+use Rattle.it_cli.specs.Truth.{IsTrueCopy, IsTrueSharing, IsTrueWithCopies}
 
 -- ---- of a question with copies
-
--- of a question about a relation, what holds wherever its problem's lines are true holds wherever its own are
-own_lines : (e : BodyView) (r : RelationView) (verb : VerbView) → verb ≡ Prove r
-    → ((p : ℕ → ℤ) → IsPolymatroid (length (names_under e.names verb).variables) p × AreTrueAt (length (names_under e.names verb).variables) p (lines_under e.lines verb) → Holds (length (names_under e.names verb).variables) p r)
-    → (p : ℕ → ℤ) → IsPolymatroid (length e.names.variables) p × AreTrueAt (length e.names.variables) p e.lines → Holds (length e.names.variables) p r
-own_lines e r verb is h = subst (λ (v : VerbView). (p : ℕ → ℤ) → IsPolymatroid (length (names_under e.names v).variables) p × AreTrueAt (length (names_under e.names v).variables) p (lines_under e.lines v) → Holds (length (names_under e.names v).variables) p r) is h
 
 module _ (shown_is_true : answers.WhatIsShownIsTrue) (by_copies : YesByCopies) where
   true_with_copies : (q e : BodyView) (cs : List CopyView) (verb : VerbView) (a : AnswerView) → IsQuestion q → q.verb ≡ verb → IsExtension q cs e → IsTrueAnswer e a → IsTrueWithCopies q e verb a
