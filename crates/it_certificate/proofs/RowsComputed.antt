@@ -4,7 +4,7 @@ use Rattle.std.specs.Prelude.{⊤}
 use Rattle.std.specs.Fmt.{digits}
 use Rattle.serde_json.proofs.OnLiterals.{serde_json_on_literals}
 use Rattle.it_certificate.specs.Numerals.{magnitude_of, integer_of, step_of}
-use Rattle.it_certificate.specs.Values.{pair_value, proof_value, row_value, answer_value, answer_text}
+use Rattle.it_certificate.specs.Values.{pair_value, proof_value, row_value, answer_members, answer_value, answer_text}
 use Rattle.it_certificate.specs.Parts.{integer_at, count_at, pair_at, certificate_at, answer_kind_at, proofs_at, point_at, back_at, cause_kind_at, cause_at, marked_row_at, rows_at, set_at, parts_at}
 use Rattle.it_certificate.specs.AnswerReading.{no_at, undecided_at, contained_at}
 use Rattle.it_certificate.specs.Obligations.{obligation_count}
@@ -160,7 +160,7 @@ containments_read_as_said = record {
 }
 
 pub lines_written_as_said : LinesWrittenAsSaid
-unfolding serde_json_on_literals digits pair_value proof_value row_value answer_value answer_text
+unfolding serde_json_on_literals digits pair_value proof_value row_value answer_members answer_value answer_text
 lines_written_as_said = record {
   yes = refl;
   no = refl;

@@ -58,46 +58,12 @@ step_or_rate_word v Scale = codes "0"
 step_or_rate_word v (Rows r) = slice_index_or v.rates r []
 step_or_rate_word v (WideRate r) = slice_index_or v.rates r []
 
--- the answer to the question of a text, with the question's names; the keys in alphabetical order. The side is `back` where it is the second
--- target that is violated.
-unfoldable pub answer_value : List ℕ → NamesView → AnswerView → Data
-answer_value text v (Yes proofs) = object
-    (member (codes "answer") (string (codes "yes"))
-    (member (codes "proofs") (list_value proof_value proofs)
-    (member (codes "question") (string text) no_members)))
-answer_value text v (No back values) = object
-    (member (codes "answer") (string (codes "no"))
-    (member (codes "point") (list_value integer_value values)
-    (member (codes "question") (string text)
-    (member (codes "side") (string (if back then codes "back" else codes "forward")) no_members))))
-answer_value text v (Undecided cause) = object
-    (member (codes "answer") (string (codes "undecided"))
-    (member (codes "at") (string (step_or_rate_word v cause))
-    (member (codes "cause") (string (cause_word cause))
-    (member (codes "question") (string text) no_members))))
-answer_value text v (Region rows) = object
-    (member (codes "answer") (string (codes "region"))
-    (member (codes "question") (string text)
-    (member (codes "rows") (list_value row_value rows) no_members)))
-answer_value text v (Contained parts proofs) = object
-    (member (codes "answer") (string (codes "contained"))
-    (member (codes "parts") (list_value count_value parts)
-    (member (codes "proofs") (list_value proof_value proofs)
-    (member (codes "question") (string text) no_members))))
-answer_value text v (Open tried) = object
-    (member (codes "answer") (string (codes "open"))
-    (member (codes "question") (string text)
-    (member (codes "tried") (count_value tried) no_members)))
-
--- the line of that answer
-unfoldable pub answer_text : List ℕ → NamesView → AnswerView → List ℕ
-answer_text text v answer = compact_text (answer_value text v answer)
-
--- ---- lines about a question with copies, or about a sharing file
-
--- the members of an answer, but for what it is about
+-- the members of an answer but for what it is about, with the names of the question that is asked; the keys in alphabetical order. The
+-- side is `back` where it is the second target that is violated.
 unfoldable pub answer_members : NamesView → AnswerView → Members
-answer_members v (Yes proofs) = member (codes "answer") (string (codes "yes")) (member (codes "proofs") (list_value proof_value proofs) no_members)
+answer_members v (Yes proofs) =
+    member (codes "answer") (string (codes "yes"))
+    (member (codes "proofs") (list_value proof_value proofs) no_members)
 answer_members v (No back values) =
     member (codes "answer") (string (codes "no"))
     (member (codes "point") (list_value integer_value values)
@@ -106,12 +72,26 @@ answer_members v (Undecided cause) =
     member (codes "answer") (string (codes "undecided"))
     (member (codes "at") (string (step_or_rate_word v cause))
     (member (codes "cause") (string (cause_word cause)) no_members))
-answer_members v (Region rows) = member (codes "answer") (string (codes "region")) (member (codes "rows") (list_value row_value rows) no_members)
+answer_members v (Region rows) =
+    member (codes "answer") (string (codes "region"))
+    (member (codes "rows") (list_value row_value rows) no_members)
 answer_members v (Contained parts proofs) =
     member (codes "answer") (string (codes "contained"))
     (member (codes "parts") (list_value count_value parts)
     (member (codes "proofs") (list_value proof_value proofs) no_members))
-answer_members v (Open tried) = member (codes "answer") (string (codes "open")) (member (codes "tried") (count_value tried) no_members)
+answer_members v (Open tried) =
+    member (codes "answer") (string (codes "open"))
+    (member (codes "tried") (count_value tried) no_members)
+
+-- the answer to the question of a text
+unfoldable pub answer_value : List ℕ → NamesView → AnswerView → Data
+answer_value text v answer = object (put (codes "question") (string text) (answer_members v answer))
+
+-- the line of that answer
+unfoldable pub answer_text : List ℕ → NamesView → AnswerView → List ℕ
+answer_text text v answer = compact_text (answer_value text v answer)
+
+-- ---- lines about a question with copies, or about a sharing file
 
 -- a byte of ASCII, or a question mark in its place
 abbrev pub ascii_byte : ℕ → ℕ
@@ -121,25 +101,22 @@ ascii_byte b = if nat_lt b 128 then b else 63
 abbrev pub ascii_string : List ℕ → Data
 ascii_string bytes = string (map ascii_byte bytes)
 
--- those of a question that can't have what is asked for, with the words of the reason
+-- the members of a question that can't have what is asked for, with the words of the reason
 abbrev pub misfit_members : List ℕ → Members
 misfit_members words = member (codes "answer") (string (codes "misfit")) (member (codes "cause") (ascii_string words) no_members)
 
--- the texts of what a line is about: of a question, of a head and a question, or of a sharing file
+-- the texts of what a line is about: of a head and a question, or of a sharing file
 pub data SourceTexts : Type 0 where
-  OfQuestion : (text : List ℕ) → SourceTexts
   OfCopies : (head text : List ℕ) → SourceTexts
   OfSharing : (text : List ℕ) → SourceTexts
 
 -- texts as contracts see them
 abbrev pub source_texts : SourceText → SourceTexts
-source_texts (texts.Question text) = OfQuestion text.now
 source_texts (texts.Copies head text) = OfCopies head.now text.now
 source_texts (texts.Sharing text) = OfSharing text.now
 
--- with the members of what it is about; the keys in alphabetical order
+-- with the members of what the line is about
 abbrev pub with_source : SourceTexts → Members → Members
-with_source (OfQuestion text) ms = put (codes "question") (ascii_string text) ms
 with_source (OfCopies head text) ms = put (codes "question") (ascii_string text) (put (codes "copies") (ascii_string head) ms)
 with_source (OfSharing text) ms = put (codes "sharing") (ascii_string text) ms
 

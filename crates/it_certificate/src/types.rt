@@ -2,10 +2,10 @@
 use it_question::types::Question;
 use it_space::Answer;
 
-/// The texts of what a report line is about: a question, a question with copies, by the head that asks for them, or a sharing file.
+/// The texts of what a report line is about, where it isn't a question alone: a question with copies, by the head that asks for them, or
+/// a sharing file.
 #[derive(Clone, Copy)]
 pub enum SourceText<'a> {
-    Question(&'a [u8]),
     Copies { head: &'a [u8], question: &'a [u8] },
     Sharing(&'a [u8]),
 }

@@ -1,8 +1,9 @@
 //! Answers as lines of JSON.
-ghost use Rattle.std.specs.Prelude.{◌≡◌, IfOk, map, string_bytes, codes, Some, IsAscii, IsUtf8};
-ghost use Rattle.serde_json.specs.Data.{object, put, string};
+ghost use Rattle.std.specs.Prelude.{◌≡◌, IfOk, map, string_bytes, false, Some, IsAscii, IsUtf8};
+ghost use Rattle.serde_json.specs.Data.{put};
 ghost use Rattle.serde_json.specs.Read.{read};
 ghost use Rattle.serde_json.specs.View.{members_view, view};
+ghost use Rattle.serde_json.specs.Written.{members_have_float};
 ghost use Rattle.it_space.specs.Answers.{IfRate, answer_view, certificate_view};
 ghost use Rattle.it_space.specs.Answers.AnswerView.{Yes, No, Undecided, Region, Contained, Open};
 ghost use Rattle.it_certificate.specs.Values.{IsAsciiRate, IsWritable, answer_members, answer_text, answer_value, ascii_byte, ascii_string, misfit_members, report_text, source_texts, with_source};
@@ -125,6 +126,22 @@ fn answer_members(
     }
 }
 
+/// The value of an answer to the question of a text.
+#[tactic(auto, unfolding(crate::specs::Values::answer_value))]
+fn answer_value(
+    alloc: Global,
+    question: &str,
+    names: &Names,
+    answer: &Answer,
+) -> Result<Value, AllocError>
+    requires { IsWritable names.now (answer_view answer.now) }
+    ensures { IfOk result (λ v. view v ≡ answer_value question.now names.now (answer_view answer.now)) }
+{
+    let members = answer_members(alloc, names, answer)?;
+    let members = members.with_text(alloc, "question", question)?;
+    Ok(members.into_value())
+}
+
 /// The text of an answer, which reads back as its value.
 fn answer_string(
     alloc: Global,
@@ -136,17 +153,8 @@ fn answer_string(
     ensures text { IfOk result (λ s. string_bytes s ≡ answer_text question.now names.now (answer_view answer.now)) }
     ensures reads_back { IfOk result (λ s. read (string_bytes s) ≡ Some (answer_value question.now names.now (answer_view answer.now))) }
 {
-    let members = answer_members(alloc, names, answer)?;
-    let value = value_about(alloc, members, question)?;
+    let value = answer_value(alloc, question, names, answer)?;
     value.to_string(alloc)
-}
-
-/// The object of these members about the question of a text.
-fn value_about(alloc: Global, members: Members, question: &str) -> Result<Value, AllocError>
-    ensures { IfOk result (λ v. view v ≡ object (put (codes "question") (string question.now) (members_view members.map.entries))) }
-{
-    let members = members.with_text(alloc, "question", question)?;
-    Ok(members.into_value())
 }
 
 /// The line of an answer, without its end: compact JSON with its keys in alphabetical order. `text` is the question's text, and
@@ -210,7 +218,6 @@ fn with_source(
     ensures { IfOk result (λ m. members_view m.map.entries ≡ with_source (source_texts source.entry) (members_view members.map.entries)) }
 {
     match source {
-        SourceText::Question(text) => with_bytes(alloc, members, "question", text),
         SourceText::Copies { head, question } => {
             let members = with_bytes(alloc, members, "copies", head)?;
             with_bytes(alloc, members, "question", question)
@@ -227,44 +234,19 @@ fn misfit_members(alloc: Global, cause: &[u8]) -> Result<Members, AllocError>
     members.with_text(alloc, "answer", "misfit")
 }
 
-/// The value of these members about what these texts ask.
-fn value_of(
+/// The line of these members, of which none is a float, about what these texts ask.
+fn line_about(
     alloc: Global,
     members: Members,
     source: SourceText<'_>,
-) -> Result<Value, AllocError>
-    ensures { IfOk result (λ v. view v ≡ object (with_source (source_texts source.entry) (members_view members.map.entries))) }
+) -> Result<Vec<u8>, AllocError>
+    requires { members_have_float (members_view members.map.entries) ≡ false }
+    ensures { IfOk result (λ out. out.items ≡ report_text (source_texts source.entry) (members_view members.map.entries)) }
 {
     let members = with_source(alloc, members, source)?;
-    Ok(members.into_value())
-}
-
-/// The text of an answer to what these texts ask.
-fn report_string(
-    alloc: Global,
-    source: SourceText<'_>,
-    names: &Names,
-    answer: &Answer,
-) -> Result<String, AllocError>
-    requires { IsWritable names.now (answer_view answer.now) }
-    ensures { IfOk result (λ s. string_bytes s ≡ report_text (source_texts source.entry) (answer_members names.now (answer_view answer.now))) }
-{
-    let members = answer_members(alloc, names, answer)?;
-    let value = value_of(alloc, members, source)?;
-    value.to_string(alloc)
-}
-
-/// The text of a misfit of what these texts ask.
-fn misfit_string(
-    alloc: Global,
-    source: SourceText<'_>,
-    cause: &[u8],
-) -> Result<String, AllocError>
-    ensures { IfOk result (λ s. string_bytes s ≡ report_text (source_texts source.entry) (misfit_members cause.now)) }
-{
-    let members = misfit_members(alloc, cause)?;
-    let value = value_of(alloc, members, source)?;
-    value.to_string(alloc)
+    let value = members.into_value();
+    let line = value.to_string(alloc)?;
+    Ok(line.into_bytes())
 }
 
 /// The line of an answer to what these texts ask, without its end: compact JSON with its keys in alphabetical order. `names` are the
@@ -279,8 +261,8 @@ pub fn report_json(
     requires { IsWritable names.now (answer_view answer.now) }
     ensures { IfOk result (λ out. out.items ≡ report_text (source_texts source.entry) (answer_members names.now (answer_view answer.now))) }
 {
-    let line = report_string(alloc, source, names, answer)?;
-    Ok(line.into_bytes())
+    let members = answer_members(alloc, names, answer)?;
+    line_about(alloc, members, source)
 }
 
 /// The line of a question that can't have what these texts ask for, without its end, with the words of the reason.
@@ -291,6 +273,6 @@ pub fn misfit_json(
 ) -> Result<Vec<u8>, AllocError>
     ensures { IfOk result (λ out. out.items ≡ report_text (source_texts source.entry) (misfit_members cause.now)) }
 {
-    let line = misfit_string(alloc, source, cause)?;
-    Ok(line.into_bytes())
+    let members = misfit_members(alloc, cause)?;
+    line_about(alloc, members, source)
 }
