@@ -29,8 +29,8 @@ use Rattle.it_sharing.proofs.SharingFileLemmas.{sharing_is_one, sharing_or_fault
 use Rattle.it_certificate.specs.declared.keys.Refusal.{Refusal}
 use Rattle.it_certificate.specs.declared.keys.Refusal.TheVariants as refusals
 use Rattle.it_certificate.specs.Parts.{text_of}
-use Rattle.it_certificate.specs.ReportSteps.{AsksOnly, IsMakeable, GivesOnly, GivesCopied, GivesExtended, GivesMade, GivesMadeFrom, GivesSource, refusal_by}
-use Rattle.it_certificate.specs.Sources.{IsSharingText, IsSourceAt, IsSourceOf, IsText, IsTextWithCopies, Source, Text, Copies, Sharing, asked}
+use Rattle.it_certificate.specs.ReportSteps.{GivesOnly, GivesCopied, GivesExtended, GivesMade, GivesMadeFrom, GivesSource, refusal_by}
+use Rattle.it_certificate.specs.Sources.{AsksOnly, IsMakeable, IsQuestionText, IsSharingText, IsSourceAt, IsSourceOf, IsTextWithCopies, Source, Text, Copies, Sharing, asked}
 
 -- ---- members
 
@@ -52,9 +52,12 @@ not_there (Some v) e = let f : true ≡ false = e in absurd cc
 no_text : (o : Option Data) (text : List ℕ) → None ≡ text_of o → text_of o ≡ Some text → ⊥
 no_text o text none some = let e : None ≡ Some text = none ∙ some in cc
 
+first_question : (a b : QuestionView) → a ∷ [] ≡ b ∷ [] → a ≡ b
+first_question a b e = cc
+
 -- ---- nothing
 
-nothing_is : (d : Data) → ((q : QuestionView) → IsText d q → ⊥) → ((q : QuestionView) (copies : List CopyView) → IsTextWithCopies d q copies → ⊥) → ((x : SharingView) → IsSharingText d x → ⊥) → IsSourceAt d None
+nothing_is : (d : Data) → ((q : QuestionView) → IsQuestionText d q → ⊥) → ((q : QuestionView) (copies : List CopyView) → IsTextWithCopies d q copies → ⊥) → ((x : SharingView) → IsSharingText d x → ⊥) → IsSourceAt d None
 nothing_is d t c s (Text q) h = t q h
 nothing_is d t c s (Copies q copies) h = c q copies h
 nothing_is d t c s (Sharing x) h = s x h
@@ -70,12 +73,10 @@ module _ (d : Data) (there : is_some (get (codes "sharing") d) ≡ true) where
 
   module _ (text : List ℕ) (is : Some text ≡ text_of (get (codes "sharing") d)) where
     made_here : (x : SharingView) → IsMakeable text x → IsSourceOf d (Sharing x)
-    made_here x h = record { text = text; there = sym is; short = h.short; reads = h.reads; few = h.few }
+    made_here x h = record { text = text; there = sym is; makes = h }
 
     here_made : (x : SharingView) → IsSharingText d x → IsMakeable text x
-    here_made x h =
-        let e : h.text ≡ text = some_same h.text text (sym h.there ∙ sym is) in
-        record { short = subst (λ (t : List ℕ). length t ≤ 1048576) e h.short; reads = subst (λ (t : List ℕ). IsSharingFile t x) e h.reads; few = h.few }
+    here_made x h = subst (λ (t : List ℕ). IsMakeable t x) (some_same h.text text (sym h.there ∙ sym is)) h.makes
 
     none_made : ((x : SharingView) → IsMakeable text x → ⊥) → IsSourceAt d None
     none_made none = unless_shared (λ x h. none x (here_made x h))
@@ -108,15 +109,12 @@ module _ (d : Data) (no_sharing : is_some (get (codes "sharing") d) ≡ false) (
       text = text;
       head_there = sym head_is;
       text_there = sym text_is;
-      short = h.short;
-      reads = h.reads;
-      extension = h.extension;
+      asks = h;
     }
 
     here_asks : (q : QuestionView) (copies : List CopyView) → IsTextWithCopies d q copies → AsksOnly (head ++ text) q copies
     here_asks q copies h =
-        let e : h.head ++ h.text ≡ head ++ text = ap₂ (λ (a b : List ℕ). a ++ b) (some_same h.head head (sym h.head_there ∙ sym head_is)) (some_same h.text text (sym h.text_there ∙ sym text_is)) in
-        record { short = subst (λ (t : List ℕ). length t ≤ 1048577) e h.short; reads = subst (λ (t : List ℕ). IsCopyFile t copies (q ∷ [])) e h.reads; extension = h.extension }
+        subst (λ (t : List ℕ). AsksOnly t q copies) (ap₂ (λ (a b : List ℕ). a ++ b) (some_same h.head head (sym h.head_there ∙ sym head_is)) (some_same h.text text (sym h.text_there ∙ sym text_is))) h.asks
 
     none_asked : ((q : QuestionView) (copies : List CopyView) → AsksOnly (head ++ text) q copies → ⊥) → IsSourceAt d None
     none_asked none = unless_copied (λ q copies h. none q copies (here_asks q copies h))
@@ -131,7 +129,7 @@ module _ (d : Data) (no_sharing : is_some (get (codes "sharing") d) ≡ false) (
 
 -- where there is neither
 module _ (d : Data) (no_sharing : is_some (get (codes "sharing") d) ≡ false) (no_copies : is_some (get (codes "copies") d) ≡ false) where
-  unless_text : ((q : QuestionView) → IsText d q → ⊥) → IsSourceAt d None
+  unless_text : ((q : QuestionView) → IsQuestionText d q → ⊥) → IsSourceAt d None
   unless_text t = nothing_is d t (λ q copies h. there_or_not (get (codes "copies") d) (some_text (get (codes "copies") d) h.head h.head_there) no_copies)
       (λ x h. there_or_not (get (codes "sharing") d) (some_text (get (codes "sharing") d) h.text h.there) no_sharing)
 
@@ -213,11 +211,8 @@ by_copies bytes short (inl h) = by_questions h.1 refl
     by_extension q e (inl x) = inl (q, h.0, record { short = short; reads = subst (IsCopyFile bytes h.0) e h.2; extension = x })
     by_extension q e (inr none) = inr (λ p copies a.
         let same = other p copies a in
-        let first : p ≡ q = first_of p q (same.1 ∙ e) in
+        let first : p ≡ q = first_question p q (same.1 ∙ e) in
         none (subst (λ (z : QuestionView). IsExtension z.body h.0 (extended z.body h.0)) first (subst (λ (cs : List CopyView). IsExtension p.body cs (extended p.body cs)) same.0 a.extension)))
-      where
-        first_of : (a b : QuestionView) → a ∷ [] ≡ b ∷ [] → a ≡ b
-        first_of a b e = cc
 
     by_questions : (qs : List QuestionView) → h.1 ≡ qs → ((q : QuestionView) × (copies : List CopyView) × AsksOnly bytes q copies) ⊎ ((q : QuestionView) (copies : List CopyView) → AsksOnly bytes q copies → ⊥)
     by_questions [] e = inr (λ q copies a. let same : q ∷ [] ≡ [] = (other q copies a).1 ∙ e in cc)
@@ -292,9 +287,6 @@ text_or_none o text none some = there_or_not o (some_text o text some) (none_the
 one_text : (o : Option Data) (a b : List ℕ) → text_of o ≡ Some a → text_of o ≡ Some b → b ≡ a
 one_text o a b e f = some_same b a (sym f ∙ e)
 
-first_question : (a b : QuestionView) → a ∷ [] ≡ b ∷ [] → a ≡ b
-first_question a b e = cc
-
 pub one_source : (d : Data) (a b : Source) → IsSourceOf d a → IsSourceOf d b → a ≡ b
 one_source d (Text p) (Text q) h k =
     ap Text (first_question p q (file_is_one h.text (p ∷ []) (q ∷ []) h.reads (subst (λ (t : List ℕ). IsFile t (q ∷ [])) (one_text (get (codes "question") d) h.text k.text h.there k.there) k.reads)))
@@ -303,12 +295,12 @@ one_source d (Text p) (Sharing x) h k = absurd (text_or_none (get (codes "sharin
 one_source d (Copies p copies) (Text q) h k = absurd (text_or_none (get (codes "copies") d) h.head k.no_copies h.head_there)
 one_source d (Copies p copies) (Copies q others) h k =
     let e : k.head ++ k.text ≡ h.head ++ h.text = ap₂ (λ (a b : List ℕ). a ++ b) (one_text (get (codes "copies") d) h.head k.head h.head_there k.head_there) (one_text (get (codes "question") d) h.text k.text h.text_there k.text_there) in
-    let same = copy_file_is_one (h.head ++ h.text) copies others (p ∷ []) (q ∷ []) h.reads (subst (λ (t : List ℕ). IsCopyFile t others (q ∷ [])) e k.reads) in
+    let same = copy_file_is_one (h.head ++ h.text) copies others (p ∷ []) (q ∷ []) h.asks.reads (subst (λ (t : List ℕ). IsCopyFile t others (q ∷ [])) e k.asks.reads) in
     ap₂ Copies (first_question p q same.1) same.0
 one_source d (Copies p copies) (Sharing x) h k = absurd (text_or_none (get (codes "sharing") d) k.text h.no_sharing k.there)
 one_source d (Sharing x) (Text q) h k = absurd (text_or_none (get (codes "sharing") d) h.text k.no_sharing h.there)
 one_source d (Sharing x) (Copies q copies) h k = absurd (text_or_none (get (codes "sharing") d) h.text k.no_sharing h.there)
-one_source d (Sharing x) (Sharing y) h k = ap Sharing (sharing_is_one h.text x y h.reads (subst (λ (t : List ℕ). IsSharingFile t y) (one_text (get (codes "sharing") d) h.text k.text h.there k.there) k.reads))
+one_source d (Sharing x) (Sharing y) h k = ap Sharing (sharing_is_one h.text x y h.makes.reads (subst (λ (t : List ℕ). IsSharingFile t y) (one_text (get (codes "sharing") d) h.text k.text h.there k.there) k.makes.reads))
 
 -- ---- what the readers gave
 
@@ -349,9 +341,6 @@ only_one [] r one is = absurd (omega (arith, one))
 only_one (q ∷ []) r one is = ap (λ (x : Question). question_view x ∷ []) (sym is)
 only_one (q ∷ p ∷ qs) r one is = absurd (omega (arith, one))
 
-first_same : (p q : QuestionView) → p ∷ [] ≡ q ∷ [] → q ≡ p
-first_same p q e = cc
-
 module _ (copies : List CopyView) (qs : List Question) where
   pub not_one : (length qs ≡ 1 → ⊥) → GivesExtended copies (map question_view qs) (Err refusals.Shape)
   not_one other = λ q e x. other (sym (length-map qs question_view) ∙ ap length e)
@@ -362,8 +351,8 @@ module _ (copies : List CopyView) (qs : List Question) where
 
   none_only : (q : Question) (f : CopyFault) → length qs ≡ 1 → q ≡ get_or qs 0 q → (f ≡ copy_faults.Memory → ⊥) → IsMisfit (question_body q) copies f → GivesExtended copies (map question_view qs) (Err refusals.Shape)
   none_only q f one is told misfit = λ p e x.
-      let same : question_view q ≡ p = first_same p (question_view q) (sym e ∙ only_one qs q one is) in
-      extension_or_misfit (question_body q) (extended (question_body q) copies) copies f told (subst (λ (z : QuestionView). IsExtension z.body copies (extended z.body copies)) (sym same) x) misfit
+      let same : p ≡ question_view q = first_question p (question_view q) (sym e ∙ only_one qs q one is) in
+      extension_or_misfit (question_body q) (extended (question_body q) copies) copies f told (subst (λ (z : QuestionView). IsExtension z.body copies (extended z.body copies)) same x) misfit
 
   by_fault : (q : Question) (f : CopyFault) → length qs ≡ 1 → q ≡ get_or qs 0 q → IsMisfit (question_body q) copies f → GivesExtended copies (map question_view qs) (Err (refusal_by f))
   by_fault q copy_faults.Memory one is misfit = tt

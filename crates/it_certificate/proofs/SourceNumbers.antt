@@ -135,11 +135,11 @@ first_of P q h = h.0
 pub source_limits : (d : Data) (source : Source) → IsSourceOf d source → IsQuestion (asked source).body
 source_limits d (Text q) h = All-head (λ (q : QuestionView). IsQuestion q.body) q [] (file_limits h.text (q ∷ []) h.reads)
 source_limits d (Copies q copies) h =
-    extended_is_question q.body copies (All-head (λ (q : QuestionView). IsQuestion q.body) q [] (copied_questions_are_within (h.head ++ h.text) copies (q ∷ []) h.reads)) h.extension.made h.extension.few
-source_limits d (Sharing x) h = question_limited x (sharing_is_within h.text x h.reads).0 h.few
+    extended_is_question q.body copies (All-head (λ (q : QuestionView). IsQuestion q.body) q [] (copied_questions_are_within (h.head ++ h.text) copies (q ∷ []) h.asks.reads)) h.asks.extension.made h.asks.extension.few
+source_limits d (Sharing x) h = question_limited x (sharing_is_within h.text x h.makes.reads).0 h.makes.few
 
 pub source_numbers : (d : Data) (source : Source) → IsSourceOf d source → QuestionHasSmallNumbers (asked source).body
 source_numbers d (Text q) h = first_of (λ (q : QuestionView). QuestionHasSmallNumbers q.body) q (file_has_small_numbers h.text (q ∷ []) h.reads)
 source_numbers d (Copies q copies) h =
-    extended_has_small_numbers q.body copies (first_of (λ (q : QuestionView). QuestionHasSmallNumbers q.body) q (copied_questions_have_small_numbers (h.head ++ h.text) copies (q ∷ []) h.reads))
-source_numbers d (Sharing x) h = made_question_has_small_numbers h.text x h.reads
+    extended_has_small_numbers q.body copies (first_of (λ (q : QuestionView). QuestionHasSmallNumbers q.body) q (copied_questions_have_small_numbers (h.head ++ h.text) copies (q ∷ []) h.asks.reads))
+source_numbers d (Sharing x) h = made_question_has_small_numbers h.text x h.makes.reads

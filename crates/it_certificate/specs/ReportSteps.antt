@@ -20,12 +20,10 @@ use Rattle.it_copy.specs.CopyLines.{CopyView}
 use Rattle.it_copy.specs.declared.types.CopyFault.{CopyFault}
 use Rattle.it_copy.specs.declared.types.CopyFault.TheVariants as copy_faults
 use Rattle.it_copy.specs.Extensions.{IsExtension, extended}
-use Rattle.it_copy.specs.Files.{IsCopyFile}
-use Rattle.it_sharing.specs.SharingFiles.{IsSharingFile}
 use Rattle.it_sharing.specs.Sharings.{SharingView, made_question, maximal_count, minimal_count}
 use Rattle.it_certificate.specs.declared.types.Reported.{Reported}
 use Rattle.it_certificate.specs.Reports.{IsReported, ReadsAs, Reading}
-use Rattle.it_certificate.specs.Sources.{IsSourceOf, Source, Copies, asked}
+use Rattle.it_certificate.specs.Sources.{AsksOnly, IsMakeable, IsSourceOf, Source, Copies, asked}
 
 -- how many forms a demand of this kind says to be at least 0
 abbrev pub form_count : Kind → ℕ
@@ -58,12 +56,6 @@ GivesOnly text (Ok q) = (length text ≤ 1048577) × IsFile text (question_view 
 GivesOnly text (Err Shape) = (q : QuestionView) → length text ≤ 1048577 → IsFile text (q ∷ []) → ⊥
 GivesOnly text (Err Memory) = Unit {0}
 
--- the bytes are a file whose head asks for these copies in this one question, which can have them
-pub record AsksOnly (bytes : List ℕ) (q : QuestionView) (copies : List CopyView) : Type 0 where
-  pub short : length bytes ≤ 1048577
-  pub reads : IsCopyFile bytes copies (q ∷ [])
-  pub extension : IsExtension q.body copies (extended q.body copies)
-
 -- what the reader of bytes as a file with a head gave: its only question with the copies
 abbrev pub GivesCopied : List ℕ → Result Question Refusal → Type 0
 GivesCopied bytes (Ok e) = (q : QuestionView) × (copies : List CopyView) × AsksOnly bytes q copies × (asked (Copies q copies) ≡ question_view e)
@@ -80,12 +72,6 @@ GivesExtended copies qs (Err Memory) = Unit {0}
 abbrev pub refusal_by : CopyFault → Refusal
 refusal_by copy_faults.Memory = Memory
 refusal_by fault = Shape
-
--- the bytes are a sharing file of few sets
-pub record IsMakeable (bytes : List ℕ) (x : SharingView) : Type 0 where
-  pub short : length bytes ≤ 1048576
-  pub reads : IsSharingFile bytes x
-  pub few : minimal_count x + maximal_count x ≤ most_lines
 
 -- what the maker of the question of a sharing file gave
 abbrev pub GivesMadeFrom : SharingView → Result Question Refusal → Type 0

@@ -26,8 +26,20 @@ asked (Text q) = q
 asked (Copies q copies) = record { body = extended q.body copies; text = [] }
 asked (Sharing x) = made_question x
 
+-- at most 1048577 bytes that are a file whose head asks for these copies in this one question, which can have them
+pub record AsksOnly (bytes : List ℕ) (q : QuestionView) (copies : List CopyView) : Type 0 where
+  pub short : length bytes ≤ 1048577
+  pub reads : IsCopyFile bytes copies (q ∷ [])
+  pub extension : IsExtension q.body copies (extended q.body copies)
+
+-- at most 1048576 bytes that are this sharing file, whose minimal and maximal sets aren't too many
+pub record IsMakeable (bytes : List ℕ) (x : SharingView) : Type 0 where
+  pub short : length bytes ≤ 1048576
+  pub reads : IsSharingFile bytes x
+  pub few : minimal_count x + maximal_count x ≤ most_lines
+
 -- There are neither `sharing` nor `copies`, and `question` is a text of at most 1048577 bytes that reads as this one question.
-pub record IsText (d : Data) (q : QuestionView) : Type 0 where
+pub record IsQuestionText (d : Data) (q : QuestionView) : Type 0 where
   pub no_sharing : get (codes "sharing") d ≡ None
   pub no_copies : get (codes "copies") d ≡ None
   pub text : List ℕ
@@ -35,29 +47,24 @@ pub record IsText (d : Data) (q : QuestionView) : Type 0 where
   pub short : length text ≤ 1048577
   pub reads : IsFile text (q ∷ [])
 
--- There is no `sharing`, and `copies` and `question` are texts of at most 1048577 bytes together. One after the other they are a file
--- whose head asks for these copies in this one question, which can have them.
+-- There is no `sharing`, and `copies` and `question` are texts. The first and then the second ask for these copies in this one question.
 pub record IsTextWithCopies (d : Data) (q : QuestionView) (copies : List CopyView) : Type 0 where
   pub no_sharing : get (codes "sharing") d ≡ None
   pub head : List ℕ
   pub text : List ℕ
   pub head_there : text_of (get (codes "copies") d) ≡ Some head
   pub text_there : text_of (get (codes "question") d) ≡ Some text
-  pub short : length (head ++ text) ≤ 1048577
-  pub reads : IsCopyFile (head ++ text) copies (q ∷ [])
-  pub extension : IsExtension q.body copies (extended q.body copies)
+  pub asks : AsksOnly (head ++ text) q copies
 
--- `sharing` is a text of at most 1048576 bytes that is this sharing file, whose minimal and maximal sets aren't too many.
+-- `sharing` is the text of this sharing file.
 pub record IsSharingText (d : Data) (x : SharingView) : Type 0 where
   pub text : List ℕ
   pub there : text_of (get (codes "sharing") d) ≡ Some text
-  pub short : length text ≤ 1048576
-  pub reads : IsSharingFile text x
-  pub few : minimal_count x + maximal_count x ≤ most_lines
+  pub makes : IsMakeable text x
 
 -- the object is about this
 abbrev pub IsSourceOf : Data → Source → Type 0
-IsSourceOf d (Text q) = IsText d q
+IsSourceOf d (Text q) = IsQuestionText d q
 IsSourceOf d (Copies q copies) = IsTextWithCopies d q copies
 IsSourceOf d (Sharing x) = IsSharingText d x
 

@@ -41,8 +41,8 @@ pub valid_is_true_by_copies : ValidIsTrueByCopies
 valid_is_true_by_copies line names q copies r ws valid reads about =
     let source = source_read line (Copies q copies) (Yes ws) reads in
     let claim = valid_is_true line names (Copies q copies) (Yes ws) valid reads in
-    let limits = All-head (λ (q : QuestionView). IsQuestion q.body) q [] (copied_questions_are_within (source.head ++ source.text) copies (q ∷ []) source.reads) in
-    yes_by_copies q.body (extended q.body copies) copies r limits about source.extension
+    let limits = All-head (λ (q : QuestionView). IsQuestion q.body) q [] (copied_questions_are_within (source.head ++ source.text) copies (q ∷ []) source.asks.reads) in
+    yes_by_copies q.body (extended q.body copies) copies r limits about source.asks.extension
     (λ image polymatroid lines. own_lines (extended q.body copies) r q.body.verb about (subst (λ (v : VerbView). IsClaimTrueBy (extended q.body copies) v (Yes ws)) about claim) image (polymatroid, lines))
 
 -- ---- a sharing file
@@ -88,4 +88,4 @@ pub valid_is_true_of_sharing : ValidIsTrueOfSharing
 valid_is_true_of_sharing line names x a valid reads =
     let source = source_read line (Sharing x) a reads in
     let shape = fits_question line (Sharing x) a reads in
-    true_of_sharing x (sharing_is_within source.text x source.reads).0 a shape (made_shape x a shape) (made_claim x a (valid_is_true line names (Sharing x) a valid reads))
+    true_of_sharing x (sharing_is_within source.text x source.makes.reads).0 a shape (made_shape x a shape) (made_claim x a (valid_is_true line names (Sharing x) a valid reads))
