@@ -32,9 +32,19 @@ class NoReading(Exception):
 # Writing
 
 def answer_json(question, end, found):
-    """The line of an answer: ("yes", [(scale, weights by generator)]), ("no", (side, values)), ("region", rows with their
-    marks), ("contained", (parts, proofs)), ("open", tried), (cause, at)."""
-    value = {"question": question.text}
+    """The line of an answer to a question of a file: ("yes", [(scale, weights by generator)]), ("no", (side, values)), ("region", rows
+    with their marks), ("contained", (parts, proofs)), ("open", tried), (cause, at)."""
+    return report_json({"question": question.text}, question, end, found)
+
+
+def misfit_json(about, cause):
+    """The line of a question that can't be had, by what it is about and the words of the reason."""
+    return line_of(about | {"answer": "misfit", "cause": cause})
+
+
+def report_json(about, question, end, found):
+    """The line of an answer, by what it is about."""
+    value = dict(about)
     if end == "yes":
         value |= {"answer": end, "proofs": [proof_value(*proof) for proof in found]}
     elif end == "no":
@@ -50,6 +60,10 @@ def answer_json(question, end, found):
     else:
         at = question.coordinate_text(found) if isinstance(found, int) else found
         value |= {"answer": "undecided", "cause": end, "at": at}
+    return line_of(value)
+
+
+def line_of(value):
     return json.dumps(value, separators=(",", ":"), sort_keys=True, ensure_ascii=False)
 
 
