@@ -50,10 +50,7 @@ fn matched_values<'a>(matches: &ArgMatches<'a>) -> Values<'a>
 fn has_report(values: Values) -> bool
     ensures { result ≡ report_in (texts_of values.entry) }
 {
-    match values.report {
-        Some(text) => text == "true",
-        None => false,
-    }
+    values.report == Some("true")
 }
 
 /// The settings of a mode that has no reports, unless one is asked for.

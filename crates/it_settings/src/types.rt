@@ -71,6 +71,7 @@ pub enum Settings {
     },
     /// Answer what is asked of a secret sharing file.
     Sharing {
+        /// As in mode `copy`.
         report: bool,
         /// As in mode `answer`, or as in mode `best` where the file asks for a factor.
         run: Run,
