@@ -29,7 +29,7 @@ use Rattle.it_cli.specs.Laws.{ModesAreDetermined, ModesHaveOneReading, OneOutput
 use Rattle.it_cli.specs.Modes.{HasOneReading, IsDetermined, Mode, Replies, WholeOutput}
 use Rattle.it_cli.specs.Outputs.{answer_mode, bench_mode, best_mode, check_mode, copy_mode, mode_of, outer_mode, sharing_mode}
 use Rattle.it_cli.specs.Right.{budgets_of, effort_of, limits_of}
-use Rattle.it_cli.specs.SharingReplies.{Answered, Factored, IsRightSharing, Many, SharingReply, said_by}
+use Rattle.it_cli.specs.SharingReplies.{Answered, Factored, IsRightSharing, Many, SharingReply, Unreported, said_by}
 use Rattle.it_cli.specs.declared.status.Status.{Status}
 use Rattle.it_cli.proofs.CountLemmas.{one_count}
 use Rattle.it_cli.proofs.ReplyLemmas.{RepliesFrom}
@@ -142,16 +142,23 @@ module _ (one_answer : OneRightAnswer) (effort : Effort) (defined : effort.quick
       let same : e ≡ d = one.extension x.question.body e d x.copies other extension in
       ap₂ Extended (sym same) (same_proof d a b right (subst (λ (q : BodyView). IsRightProof effort q b) same is_right))
 
-  one_sharing : OneRightReply → (x : SharingView) (a b : SharingReply) → IsRightSharing effort x a → IsRightSharing effort x b → a ≡ b
-  one_sharing one_factor x Many Many f g = refl
-  one_sharing one_factor x Many (Answered b) f (few, asked, right) = absurd (omega (arith, f, few))
-  one_sharing one_factor x Many (Factored b) f (few, asked, right) = absurd (omega (arith, f, few))
-  one_sharing one_factor x (Answered a) Many (few, asked, right) g = absurd (omega (arith, g, few))
-  one_sharing one_factor x (Factored a) Many (few, asked, right) g = absurd (omega (arith, g, few))
-  one_sharing one_factor x (Answered a) (Factored b) (few, asked, right) (few', asked', right') = absurd (false≢true (sym asked ∙ asked'))
-  one_sharing one_factor x (Factored a) (Answered b) (few, asked, right) (few', asked', right') = absurd (false≢true (sym asked' ∙ asked))
-  one_sharing one_factor x (Answered a) (Answered b) (few, asked, right) (few', asked', right') = ap Answered (same_proof (made_question x).body a b right right')
-  one_sharing one_factor x (Factored a) (Factored b) (few, asked, right) (few', asked', right') = ap Factored (one_factor effort (made_question x).body a b defined right right')
+  one_sharing : OneRightReply → (report : Bool) (x : SharingView) (a b : SharingReply) → IsRightSharing report effort x a → IsRightSharing report effort x b → a ≡ b
+  one_sharing one_factor report x Many Many f g = refl
+  one_sharing one_factor report x Many (Answered b) f (few, asked, right) = absurd (omega (arith, f, few))
+  one_sharing one_factor report x Many (Factored b) f (few, asked, right) = absurd (omega (arith, f, few))
+  one_sharing one_factor report x Many Unreported f (few, asked, told) = absurd (omega (arith, f, few))
+  one_sharing one_factor report x (Answered a) Many (few, asked, right) g = absurd (omega (arith, g, few))
+  one_sharing one_factor report x (Answered a) (Answered b) (few, asked, right) (few', asked', right') = ap Answered (same_proof (made_question x).body a b right right')
+  one_sharing one_factor report x (Answered a) (Factored b) (few, asked, right) (few', asked', right') = absurd (false≢true (sym asked ∙ asked'))
+  one_sharing one_factor report x (Answered a) Unreported (few, asked, right) (few', asked', told) = absurd (false≢true (sym asked ∙ asked'))
+  one_sharing one_factor report x (Factored a) Many (few, asked, right) g = absurd (omega (arith, g, few))
+  one_sharing one_factor report x (Factored a) (Answered b) (few, asked, right) (few', asked', right') = absurd (false≢true (sym asked' ∙ asked))
+  one_sharing one_factor report x (Factored a) (Factored b) (few, asked, told, right) (few', asked', told', right') = ap Factored (one_factor effort (made_question x).body a b defined right right')
+  one_sharing one_factor report x (Factored a) Unreported (few, asked, told, right) (few', asked', told') = absurd (false≢true (sym told ∙ told'))
+  one_sharing one_factor report x Unreported Many (few, asked, told) g = absurd (omega (arith, g, few))
+  one_sharing one_factor report x Unreported (Answered b) (few, asked, told) (few', asked', right') = absurd (false≢true (sym asked' ∙ asked))
+  one_sharing one_factor report x Unreported (Factored b) (few, asked, told) (few', asked', told', right') = absurd (false≢true (sym told' ∙ told))
+  one_sharing one_factor report x Unreported Unreported f g = refl
 
 module _ (reading : ModesHaveOneReading) (one_answer : OneRightAnswer) (one_file : FileIsOne) (one_verdict : reports.OneVerdict) (copies : CopiesAreOne) (one_factor : OneRightReply) (one_bound : bounds.OneRightReply) where
   pub modes_are_determined : ModesAreDetermined
@@ -179,7 +186,7 @@ module _ (reading : ModesHaveOneReading) (one_answer : OneRightAnswer) (one_file
   }
   modes_are_determined plans (Sharing report run pivots) bland = record {
     reading = reading plans (Sharing report run pivots);
-    one_reply = λ s x a b f g. one_sharing one_answer (effort_of run pivots) (not_quick run pivots bland) one_factor x.says a b f g;
+    one_reply = λ s x a b f g. one_sharing one_answer (effort_of run pivots) (not_quick run pivots bland) one_factor report x.says a b f g;
   }
 
 pub one_output : ModesAreDetermined → OneOutput

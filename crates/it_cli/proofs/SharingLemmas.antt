@@ -1,5 +1,5 @@
 -- From the lines about the question that a sharing file makes to what is written for the file.
-use Rattle.std.proofs.Common.{◌≡◌, ℕ, ◌+◌, ◌≤◌, ◌++◌, true, false, List, codes, sym, ap, ap₂, subst, ◌∙◌, []}
+use Rattle.std.proofs.Common.{◌≡◌, ℕ, ◌+◌, ◌≤◌, ◌++◌, true, false, List, codes, refl, sym, ap, ap₂, subst, ◌∙◌, []}
 use Rattle.it_prove.specs.declared.types.Effort.{Effort}
 use Rattle.it_question.specs.Questions.{QuestionView}
 use Rattle.it_copy.specs.Extensions.{IsProof}
@@ -13,7 +13,7 @@ use Rattle.it_certificate.specs.Values.{OfSharing, answer_members, misfit_member
 use Rattle.it_cli.specs.InnerEnds.{IsProofText, IsReportOf, IsTextOf}
 use Rattle.it_cli.specs.Outputs.{best_mode, sharing_mode}
 use Rattle.it_canon.specs.QuestionDemands.{question_origins}
-use Rattle.it_cli.specs.SharingReplies.{Answered, Factored, said_by, sharing_heading}
+use Rattle.it_cli.specs.SharingReplies.{Answered, Factored, Unreported, said_by, sharing_heading}
 
 -- a made question is about a relation
 pub made_is_proof : (x : SharingView) (q : QuestionView) → q ≡ made_question x → IsProof q.body.verb
@@ -35,7 +35,7 @@ module _ (effort : Effort) (bytes : List ℕ) (x : SharingView) (minimal maximal
   pub factored_text : (line text : List ℕ) → x.best ≡ true → IsTextOf (best_mode effort) [] 1 q line → text ≡ sharing_heading minimal maximal ++ line → IsTextOf (sharing_mode false effort) [] 1 (said_by bytes x) text
   factored_text line text asked t is = record {
     reply = Factored t.reply;
-    right = (few_sets, asked, subst (λ (y : QuestionView). IsRightReply effort y.body t.reply) made t.right);
+    right = (few_sets, asked, refl, subst (λ (y : QuestionView). IsRightReply effort y.body t.reply) made t.right);
     is = headed line text is ∙ ap (λ ys. sharing_heading (minimal_count x) (maximal_count x) ++ ys) (t.is ∙ ap (λ (y : QuestionView). reply_line 1 y.body (question_origins y.body) t.reply) made);
   }
 
@@ -54,9 +54,5 @@ module _ (effort : Effort) (bytes : List ℕ) (x : SharingView) (minimal maximal
     is = t.is ∙ ap (λ (v : NamesView). report_text (OfSharing bytes) (answer_members v t.answer) ++ codes "\n") (names_of_made x q made);
   }
 
-  pub factored_report : (line text : List ℕ) → x.best ≡ true → IsTextOf (best_mode effort) [] 1 q line → text ≡ report_text (OfSharing bytes) (misfit_members (codes "best")) ++ codes "\n" → IsTextOf (sharing_mode true effort) [] 1 (said_by bytes x) text
-  factored_report line text asked t is = record {
-    reply = Factored t.reply;
-    right = (few_sets, asked, subst (λ (y : QuestionView). IsRightReply effort y.body t.reply) made t.right);
-    is = is;
-  }
+  pub unreported : (text : List ℕ) → x.best ≡ true → text ≡ report_text (OfSharing bytes) (misfit_members (codes "best")) ++ codes "\n" → IsTextOf (sharing_mode true effort) [] 1 (said_by bytes x) text
+  unreported text asked is = record { reply = Unreported; right = (few_sets, asked, refl); is = is }

@@ -109,4 +109,4 @@ sharing_within is_within bytes items asked = subst (All IsWithinSharing) (sym as
 pub sharing_is_true : answers.WhatIsShownIsTrue → factors.WhatIsShownIsTrue → MadeQuestionIsOfPerfectSharing → SharingIsWithin → SharingIsTrue
 sharing_is_true shown_is_true shown_factors is_perfect is_within report run pivots = writes_such (Sharing report run pivots) 1048576 (TrueSharing report) refl (λ plans bytes out o.
     lines_for (sharing_mode report (effort_of run pivots)) (λ reply. reply) (λ k. sharing_lines report) (λ k x reply. refl) IsWithinSharing (λ (x : SharingFile) (reply : SharingReply). IsTrueSharing x.says reply)
-    (λ earlier x. right_sharing_is_true shown_is_true shown_factors is_perfect (effort_of run pivots) x.says) (sharing_within is_within) bytes out Done o)
+    (λ earlier x. right_sharing_is_true shown_is_true shown_factors is_perfect report (effort_of run pivots) x.says) (sharing_within is_within) bytes out Done o)

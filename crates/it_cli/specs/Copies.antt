@@ -1,5 +1,5 @@
 -- What mode `copy` replies to a question: a right answer to it with the copies that the file's head asks for, or why it can't have them.
-use Rattle.std.specs.Prelude.{◌≡◌, ℕ, List, [], ◌∷◌, ◌++◌, map, flat_map, Bool, true, false, codes}
+use Rattle.std.specs.Prelude.{◌≡◌, ℕ, List, [], ◌++◌, map, flat_map, Bool, true, false, codes}
 use Rattle.it_prove.specs.declared.types.Effort.{Effort}
 use Rattle.it_space.specs.Answers.{AnswerView}
 use Rattle.it_question.specs.Questions.{BodyView, QuestionView}
@@ -8,7 +8,7 @@ use Rattle.it_copy.specs.declared.types.CopyFault.TheVariants.{Memory}
 use Rattle.it_copy.specs.CopyLines.{CopyView}
 use Rattle.it_copy.specs.Extensions.{IsExtension, IsMisfit}
 use Rattle.it_copy.specs.Files.{IsCopyFile}
-use Rattle.it_print.specs.Lines.{answer_line}
+use Rattle.it_print.specs.Lines.{answer_line, joined_texts, or_zero}
 use Rattle.it_answer.specs.RightAnswers.{IsRightAnswer}
 use Rattle.it_certificate.specs.Values.{OfCopies, SourceTexts, answer_members, misfit_members, report_text}
 use Rattle.it_cli.specs.Misfits.{misfit_line, misfit_words}
@@ -51,18 +51,9 @@ copy_text k (Extended e answer) = answer_line k e (question_origins e) answer
 
 -- ---- as a line of a report
 
--- names, each after a comma
-abbrev pub more_names : List (List ℕ) → List ℕ
-more_names names = flat_map (λ name. codes "," ++ name) names
-
--- the names of a set with commas between them, or `0`
-abbrev pub set_text : List (List ℕ) → List ℕ
-set_text [] = codes "0"
-set_text (first ∷ names) = first ++ more_names names
-
 -- the line of a head that asks for a copy
 unfoldable pub copy_line : CopyView → List ℕ
-copy_line c = codes "copy " ++ c.fresh ++ codes " of " ++ c.old ++ codes " over " ++ set_text c.over ++ codes "\n"
+copy_line c = codes "copy " ++ c.fresh ++ codes " of " ++ c.old ++ codes " over " ++ joined_texts (codes ",") false (or_zero c.over) ++ codes "\n"
 
 -- the head that asks for copies
 abbrev pub head_text : List CopyView → List ℕ

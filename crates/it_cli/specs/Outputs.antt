@@ -97,7 +97,7 @@ outer_mode limits = done_mode IsFile FileFaultAt (λ earlier q reply. bounds.IsR
 
 -- one right reply to what a sharing file asks, as a line of a report or not
 abbrev pub sharing_mode : Bool → Effort → Mode
-sharing_mode report effort = done_mode AsksOfSharing SharingFaultAt (λ earlier x. IsRightSharing effort x.says) (λ k. sharing_lines report)
+sharing_mode report effort = done_mode AsksOfSharing SharingFaultAt (λ earlier x. IsRightSharing report effort x.says) (λ k. sharing_lines report)
 
 -- the mode that the words ask for; the boxes had these plans
 abbrev pub mode_of : List Plan → Settings → Mode

@@ -1,11 +1,12 @@
 //! The lines of reports in modes `copy` and `sharing`.
-ghost use Rattle.std.specs.Prelude.{◌≡◌, ◌++◌, IfOk, OnOk, flat_map, map};
+ghost use Rattle.std.specs.Prelude.{◌≡◌, ◌++◌, IfOk, OnOk, codes, map, true, false};
 ghost use Rattle.it_question.specs.Limits.{IsQuestion};
 ghost use Rattle.it_question.specs.Questions.{question_body};
 ghost use Rattle.it_certificate.specs.Values.{source_texts};
 ghost use Rattle.it_copy.specs.CopyLines.{copy_view};
 ghost use Rattle.it_copy.specs.Extensions.{IsProof};
-ghost use Rattle.it_cli.specs.Copies.{copy_line, head_text, more_names, set_text};
+ghost use Rattle.it_print.specs.Lines.{joined_texts, or_zero};
+ghost use Rattle.it_cli.specs.Copies.{copy_line, head_text};
 ghost use Rattle.it_cli.specs.InnerEnds.{IsReportOf};
 
 use it_answer::{Budgets, answer};
@@ -17,7 +18,7 @@ use std::alloc::{AllocError, Global};
 
 /// Appends names, each after a comma.
 fn write_more(out: &mut Vec<u8>, names: &[Vec<u8>]) -> Result<(), AllocError>
-    ensures { OnOk result (out.new.items ≡ out.old.items ++ more_names (map (λ v. v.items) names.now)) }
+    ensures { OnOk result (out.new.items ≡ out.old.items ++ joined_texts (codes ",") true (map (λ v. v.items) names.now)) }
 {
     for name in names {
         out.extend_from_slice(b",")?;
@@ -26,9 +27,9 @@ fn write_more(out: &mut Vec<u8>, names: &[Vec<u8>]) -> Result<(), AllocError>
     Ok(())
 }
 
-/// Appends the names of a set, or `0`.
+/// Appends names with commas between them, or `0` where there is none.
 fn write_set(out: &mut Vec<u8>, names: &[Vec<u8>]) -> Result<(), AllocError>
-    ensures { OnOk result (out.new.items ≡ out.old.items ++ set_text (map (λ v. v.items) names.now)) }
+    ensures { OnOk result (out.new.items ≡ out.old.items ++ joined_texts (codes ",") false (or_zero (map (λ v. v.items) names.now))) }
 {
     match names {
         [] => out.extend_from_slice(b"0"),

@@ -115,7 +115,7 @@ fn report_line(
     }
 }
 
-/// The line of a report of what a file asks that can't be had, or isn't reported, with the word of the reason.
+/// The line of a report where there is no question, or one that has no report, with the word of the reason.
 fn cause_report(alloc: Global, bytes: &[u8], cause: &[u8]) -> Result<Vec<u8>, AllocError>
     ensures { IfOk result (λ text. text.items ≡ report_text (OfSharing bytes.now) (misfit_members cause.now) ++ codes "\n") }
 {
@@ -124,8 +124,7 @@ fn cause_report(alloc: Global, bytes: &[u8], cause: &[u8]) -> Result<Vec<u8>, Al
     Ok(line)
 }
 
-/// The line of a report of the right reply to the question that a sharing file makes; that a factor isn't reported yet, where one is
-/// asked for.
+/// The line of a report of the right reply to the question that a sharing file makes, or that factors have no report.
 fn made_report(
     alloc: Global,
     effort: Effort,
@@ -141,8 +140,6 @@ fn made_report(
     ensures { IfOk result (λ text. IsTextOf (sharing_mode true effort) [] 1 (said_by bytes.now (sharing_view sharing.now)) text.items) }
 {
     if sharing.best {
-        // the reply isn't told, but that there is one is
-        let _line = factor_line(alloc, effort, 1, &made.question)?;
         let text = cause_report(alloc, bytes, b"best")?;
         Ok(text)
     } else {
