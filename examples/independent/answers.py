@@ -14,7 +14,7 @@ from contain import Containment
 from copies import Misfit, extended, read_with_head
 from generate import generated_file
 from questions import Fault, read
-from reports import answer_json, judge
+from reports import answer_json, judge, misfit_json, report_json
 
 # the most bytes of a question file
 BYTES = 1048576
@@ -34,7 +34,7 @@ class Answers:
         self.pivots = None if chosen["--pivots"] == "none" else int(chosen["--pivots"])
         self.rows, self.tries = int(chosen["--rows"]), int(chosen["--tries"])
         self.format, self.mode, self.is_quick = chosen["--format"], words[0] if words else "answer", chosen.get("--run") == "quick"
-        self.kept, self.steps = None, 0
+        self.reports, self.kept, self.steps = "--report" in words, None, 0
 
     def answer(self, question):
         """The end and what it found."""
@@ -51,11 +51,21 @@ class Answers:
     def asks_factor(self, question):
         return self.mode == "best" or isinstance(question, sharing.Made) and question.least
 
+    def report(self, question):
+        """The line of a report."""
+        if isinstance(question, (Misfit, sharing.TooMany)):
+            return misfit_json(question.about, str(question))
+        if self.asks_factor(question):
+            return misfit_json(question.about, "best")
+        return report_json(question.about, question, *self.answer(question))
+
     def lines(self, number, question):
+        if self.reports:
+            return [self.report(question)]
         if isinstance(question, Misfit):
             return [f"{number} misfit {question}"]
         if isinstance(question, sharing.TooMany):
-            return ["misfit many"]
+            return [f"misfit {question}"]
         heading = [f"sharing {question.minimal} {question.maximal}"] if isinstance(question, sharing.Made) else []
         return heading + self.lines_of_answer(number, question)
 
@@ -82,17 +92,22 @@ class Answers:
 
 def asked(words, text):
     """The questions of a file that are answered in the mode of these words; in mode `copy` with the copies of the file's head, or the
-    reason against them; in mode `sharing` the one that is made of the file. `Fault` where the file has no reading."""
+    reason against them; in mode `sharing` the one that is made of the file. Each of these two has the texts of what it is about, as a
+    report tells them. `Fault` where the file has no reading."""
     if "sharing" in words:
-        return [sharing.made(text)]
+        question = sharing.made(text)
+        question.about = {"sharing": re.sub("[^\0-\x7f]", "?", text)}
+        return [question]
     if "copy" not in words:
         return read(text)
 
     def with_copies(question):
         try:
-            return extended(question, copies)
+            found = extended(question, copies)
         except Misfit as misfit:
-            return misfit
+            found = misfit
+        found.about = {"copies": "".join(copy.text for copy in copies), "question": question.text}
+        return found
 
     copies, questions = read_with_head(text)
     return [with_copies(question) for question in questions]

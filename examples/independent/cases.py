@@ -31,8 +31,10 @@ WORDS = {
     "large": [["answer", *FEW], ["answer", "--format", "json", *FEW], ["answer", "--format", "proof", *FEW]],
     "reports": [["check"]],
     "factors": [["best"], ["best", "--pivots", "none"], ["best", "--pivots", "4"]],
-    "sharing": [["sharing"], ["sharing", "--pivots", "60"], ["sharing", "--pivots", "none"], ["--pivots=4", "sharing"]],
-    "copies": [["copy", "--pivots", "60"], ["copy", "--pivots", "60"], ["copy", "--pivots=300"], ["--pivots", "2", "copy"]],
+    "sharing": [["sharing"], ["sharing", "--pivots", "60"], ["sharing", "--pivots", "none"], ["--pivots=4", "sharing"],
+                ["sharing", "--report"], ["--report", "sharing", "--pivots=4"]],
+    "copies": [["copy", "--pivots", "60"], ["copy", "--pivots", "60"], ["copy", "--pivots=300"], ["--pivots", "2", "copy"],
+               ["copy", "--report", "--pivots", "60"], ["--pivots", "2", "copy", "--report"]],
 }
 TOKENS = re.compile(r"[A-Za-z0-9_]+|->|>=|<=|:=|\s|.", re.DOTALL)
 PIECES = """H I ( ) , ; | + - -> >= <= = := / 0 1 2 00 1/2 /0 /3 1/0 0/5 18446744073709551615 18446744073709551616 4294967296 4294967297

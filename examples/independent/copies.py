@@ -23,6 +23,7 @@ class Copy:
 
     def __init__(self, name, of, over):
         self.name, self.of, self.over = name, of, over
+        self.text = f"copy {name} of {of} over {','.join(over) or 0}\n"
 
 
 def copy_of(line, room):

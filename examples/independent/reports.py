@@ -8,7 +8,9 @@ import json
 import re
 
 from contain import Containment
+from copies import Misfit, extended, read_with_head
 from questions import Fault, read
+from sharing import TooMany, made
 
 # every number of the product is at most this in absolute value
 LIMIT = 2**127 - 1
@@ -30,9 +32,19 @@ class NoReading(Exception):
 # Writing
 
 def answer_json(question, end, found):
-    """The line of an answer: ("yes", [(scale, weights by generator)]), ("no", (side, values)), ("region", rows with their
-    marks), ("contained", (parts, proofs)), ("open", tried), (cause, at)."""
-    value = {"question": question.text}
+    """The line of an answer to a question of a file: ("yes", [(scale, weights by generator)]), ("no", (side, values)), ("region", rows
+    with their marks), ("contained", (parts, proofs)), ("open", tried), (cause, at)."""
+    return report_json({"question": question.text}, question, end, found)
+
+
+def misfit_json(about, cause):
+    """The line of a question that can't be had, by what it is about and the words of the reason."""
+    return line_of(about | {"answer": "misfit", "cause": cause})
+
+
+def report_json(about, question, end, found):
+    """The line of an answer, by what it is about."""
+    value = dict(about)
     if end == "yes":
         value |= {"answer": end, "proofs": [proof_value(*proof) for proof in found]}
     elif end == "no":
@@ -48,6 +60,10 @@ def answer_json(question, end, found):
     else:
         at = question.coordinate_text(found) if isinstance(found, int) else found
         value |= {"answer": "undecided", "cause": end, "at": at}
+    return line_of(value)
+
+
+def line_of(value):
     return json.dumps(value, separators=(",", ":"), sort_keys=True, ensure_ascii=False)
 
 
@@ -144,14 +160,33 @@ def members(value, key):
 
 
 def question_of(value):
-    text = text_at(value, "question").encode("utf-8")
-    rule(len(text) <= 1048577, "question")
-    try:
-        questions = read(text.decode("latin-1"))
-    except Fault:
-        raise Shape("question") from None
+    """The question that is asked: that of the sharing file where there is one, else that of the text, with the copies of the head where
+    there is one."""
+    if "sharing" in value:
+        question = file_of(text_at(value, "sharing"), 1048576, made, "sharing")
+        rule(not isinstance(question, TooMany), "sharing")
+        return question
+    if "copies" in value:
+        rule(isinstance(value.get("question"), str) and not isinstance(value["question"], Written), "copies")
+        copies, questions = file_of(text_at(value, "copies") + value["question"], 1048577, read_with_head, "copies")
+        rule(len(questions) == 1, "copies")
+        try:
+            return extended(questions[0], copies)
+        except Misfit:
+            raise Shape("copies") from None
+    questions = file_of(text_at(value, "question"), 1048577, read, "question")
     rule(len(questions) == 1, "question")
     return questions[0]
+
+
+def file_of(text, most, reader, key):
+    """What a reader finds in a text of so many bytes."""
+    text = text.encode("utf-8")
+    rule(len(text) <= most, key)
+    try:
+        return reader(text.decode("latin-1"))
+    except Fault:
+        raise Shape(key) from None
 
 
 def proofs_of(value, length):
@@ -208,6 +243,8 @@ def verdict(line):
     """The words of a verdict, without the line's number."""
     value = reading(line)
     answer = text_at(members(value, "answer"), "answer")
+    if answer == "misfit":
+        return "skipped"
     rule(any(answer in answers for answers in ANSWERS.values()), "answer")
     question = question_of(value)
     rule(answer in ANSWERS[question.verb], "answer")

@@ -15,6 +15,9 @@ class TooMany:
 
     verb = None
 
+    def __str__(self):
+        return "many"
+
 
 class Made(Question):
     """The question of a sharing file, with the numbers of both kinds of sets, and whether the least factor is asked for."""

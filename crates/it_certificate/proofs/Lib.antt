@@ -7,6 +7,8 @@ mod BackLemmas
 pub mod ValueLemmas
 mod ObligationLemmas
 mod QuestionLemmas
+pub mod SourceLemmas
+pub mod SourceNumbers
 pub mod ReportLemmas
 pub mod OneLemmas
 pub mod FitLemmas

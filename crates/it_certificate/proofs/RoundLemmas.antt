@@ -27,16 +27,16 @@ use Rattle.it_certificate.specs.declared.kinds.CauseKind.TheVariants as causes
 use Rattle.it_elemental.specs.Generators.{is_equation}
 use Rattle.it_demand.specs.Demands.{kind_of}
 use Rattle.it_demand.specs.Targets.{targets}
-use Rattle.it_certificate.specs.Values.{integer_value, count_value, pair_value, proof_value, row_value, step_or_rate_word, answer_value}
+use Rattle.it_certificate.specs.Values.{integer_value, count_value, pair_value, proof_value, row_value, step_or_rate_word, answer_members, answer_value}
 use Rattle.std.specs.Option.{option_or, option_zip}
 use Rattle.it_certificate.specs.Parts.{text_of, integer_at, count_at, pair_at, all_of, of_length, certificate_at, answer_kind_at, proofs_at, point_at, back_at, cause_kind_at, cause_of, cause_at, is_row_between, row_of, marked_row_at, rows_at, set_at, parts_at, list_at}
 use Rattle.it_certificate.specs.AnswerReading.{and_then, no_at, undecided_at, contained_at}
 use Rattle.it_certificate.specs.Obligations.{obligation_count}
-use Rattle.it_certificate.specs.Reports.{verb_answer, report_of}
+use Rattle.it_certificate.specs.Reports.{Answered, Misfit, report_of, tells_misfit, verb_answer}
+use Rattle.it_certificate.specs.Sources.{Text}
 use Rattle.it_certificate.specs.AnswerShapes.{IsNumberedAmount, IsNumbered, IsRowIn, IsCauseFor, HasContainmentShape, HasVerbShape, HasQuestionShape}
 use Rattle.it_certificate.specs.Laws.{without_zeros, written_answer, ReadsBack}
 use Rattle.it_certificate.proofs.BackLemmas.{integer_back, count_back, step_back}
-use Rattle.it_certificate.proofs.QuestionLemmas.{found_text}
 use Rattle.it_certificate.proofs.RowLemmas.{nonzero_passes}
 use Rattle.it_certificate.specs.Kinds.{mark_of}
 use Rattle.it_certificate.specs.Numerals.{below}
@@ -91,15 +91,15 @@ certificates_back n ws is all =
 -- ---- yes and no
 
 yes_back : (text : List ℕ) (v : NamesView) (r : RelationView) (ws : List CertificateView) → HasVerbShape v (Prove r) (Yes ws) → ok_or (option_map Yes (proofs_at (length (targets (length v.variables) r)) (answer_value text v (Yes ws)))) keys.Proofs ≡ Ok (Yes (map without_zeros ws))
-unfolding proofs_at answer_value
+unfolding proofs_at answer_value answer_members
 yes_back text v r ws fits = ap (λ o. ok_or (option_map Yes o) keys.Proofs) (certificates_back (length (targets (length v.variables) r)) ws fits.0 fits.1)
 
 point_back : (text : List ℕ) (v : NamesView) (n : ℕ) (back : Bool) (vs : List ℤ) → length vs ≡ n → All IsWithin vs → point_at n (answer_value text v (No back vs)) ≡ Some vs
-unfolding point_at answer_value
+unfolding point_at answer_value answer_members
 point_back text v n back vs is all = ap (option_and_then (of_length n)) (same_back IsWithin integer_at integer_value number_back vs all) ∙ of_length_is n vs is
 
 side_back : (text : List ℕ) (v : NamesView) (equality back : Bool) (vs : List ℤ) → (back ≡ true → equality ≡ true) → back_at equality (answer_value text v (No back vs)) ≡ Some back
-unfolding back_at answer_value
+unfolding back_at answer_value answer_members
 side_back text v equality true vs is = ap (λ b. cond b (Some true) None) (is refl)
 side_back text v equality false vs is = refl
 
@@ -120,7 +120,7 @@ kind_of_cause (Rows r) = causes.Rows
 kind_of_cause (WideRate r) = causes.Width
 
 kind_back : (text : List ℕ) (v : NamesView) (c : Cause) → cause_kind_at (answer_value text v (Undecided c)) ≡ Some (kind_of_cause c)
-unfolding cause_kind_at answer_value
+unfolding cause_kind_at answer_value answer_members
 kind_back text v (Pivots steps) = refl
 kind_back text v (Width step) = refl
 kind_back text v Scale = refl
@@ -135,7 +135,7 @@ step_or_rate_back v (Rows r) fits = ap (option_map Rows) fits
 step_or_rate_back v (WideRate r) fits = ap (λ o. option_or (option_map Width o) (option_map WideRate (index_of v.rates (get_or v.rates r [])))) fits.1 ∙ ap (option_map WideRate) fits.0
 
 cause_back : (text : List ℕ) (v : NamesView) (c : Cause) → IsCauseFor v c → cause_at v.rates (kind_of_cause c) (answer_value text v (Undecided c)) ≡ Some c
-unfolding cause_at answer_value
+unfolding cause_at answer_value answer_members
 cause_back text v c fits = step_or_rate_back v c fits
 
 undecided_back : (text : List ℕ) (v : NamesView) (c : Cause) → IsCauseFor v c → undecided_at v.rates (answer_value text v (Undecided c)) ≡ Ok (Undecided c)
@@ -184,7 +184,7 @@ row_back size r fits =
     ∙ ap (λ o. option_zip (Some r.0) o) (row_kept size r.1 fits.canonical fits.coordinates)
 
 region_back : (text : List ℕ) (v : NamesView) (rows : List (Mark × Terms)) (size : ℕ) → All (IsRowIn size) rows → ok_or (option_map Region (rows_at size (answer_value text v (Region rows)))) keys.Rows ≡ Ok (Region rows)
-unfolding rows_at answer_value
+unfolding rows_at answer_value answer_members
 region_back text v rows size all = ap (λ o. ok_or (option_map Region o) keys.Rows) (same_back (IsRowIn size) (marked_row_at size) row_value (row_back size) rows all)
 
 -- ---- containments
@@ -195,7 +195,7 @@ set_back n s h = ap (option_and_then (below (2 ^ n))) (count_read s h.0) ∙ (le
 
 contained_back : (text : List ℕ) (v : NamesView) (first second : RegionView) (parts : List ℕ) (ws : List CertificateView) → HasContainmentShape first second parts ws
     → contained_at second.auxiliaries (length first.names.variables) (obligation_count second) (answer_value text v (Contained parts ws)) ≡ Ok (Contained parts (map without_zeros ws))
-unfolding contained_at parts_at proofs_at answer_value
+unfolding contained_at parts_at proofs_at answer_value answer_members
 contained_back text v first second parts ws fits =
     let n = length first.names.variables in
     ap (λ o. and_then (ok_or o keys.Parts) (λ ss. and_then (ok_or (option_and_then (of_length (obligation_count second)) (all_of certificate_at (items_of (map proof_value ws)))) keys.Proofs) (λ ps. Ok (Contained ss ps))))
@@ -204,7 +204,7 @@ contained_back text v first second parts ws fits =
     ∙ ap (λ o. and_then (ok_or o keys.Proofs) (λ ps. Ok (Contained parts ps))) (certificates_back (obligation_count second) ws fits.obligations fits.numbers)
 
 open_back : (text : List ℕ) (v : NamesView) (tried : ℕ) → tried < 2 ^ 32 → ok_or (option_map Open (option_and_then count_at (get (codes "tried") (answer_value text v (Open tried))))) keys.Tried ≡ Ok (Open tried)
-unfolding answer_value
+unfolding answer_value answer_members
 open_back text v tried lt = ap (λ o. ok_or (option_map Open o) keys.Tried) (count_read tried lt)
 
 -- ---- reports
@@ -218,7 +218,7 @@ kind_of_answer (Contained parts proofs) = kinds.Contained
 kind_of_answer (Open tried) = kinds.Open
 
 answer_kind_back : (text : List ℕ) (v : NamesView) (a : AnswerView) → answer_kind_at (answer_value text v a) ≡ Some (kind_of_answer a)
-unfolding answer_kind_at answer_value
+unfolding answer_kind_at answer_value answer_members
 answer_kind_back text v (Yes proofs) = refl
 answer_kind_back text v (No back values) = refl
 answer_kind_back text v (Undecided cause) = refl
@@ -227,7 +227,7 @@ answer_kind_back text v (Contained parts proofs) = refl
 answer_kind_back text v (Open tried) = refl
 
 text_back : (text : List ℕ) (v : NamesView) (a : AnswerView) → text_of (get (codes "question") (answer_value text v a)) ≡ Some text
-unfolding answer_value
+unfolding answer_value answer_members
 text_back text v (Yes proofs) = refl
 text_back text v (No back values) = refl
 text_back text v (Undecided cause) = refl
@@ -268,11 +268,34 @@ answer_back : (q : QuestionView) (a : AnswerView) → HasQuestionShape q.body a 
 unfolding HasQuestionShape
 answer_back q a fits = verb_back q.text q.body.names q.body.verb a fits
 
+no_misfit : (text : List ℕ) (v : NamesView) (a : AnswerView) → tells_misfit (answer_value text v a) ≡ false
+unfolding tells_misfit answer_value answer_members
+no_misfit text v (Yes proofs) = refl
+no_misfit text v (No back values) = refl
+no_misfit text v (Undecided cause) = refl
+no_misfit text v (Region rows) = refl
+no_misfit text v (Contained parts proofs) = refl
+no_misfit text v (Open tried) = refl
+
+-- the object has a key alone that an answer doesn't write
+other_key : (text : List ℕ) (v : NamesView) (a : AnswerView) → (get (codes "sharing") (answer_value text v a) ≡ None) × (get (codes "copies") (answer_value text v a) ≡ None)
+unfolding answer_value answer_members
+other_key text v (Yes proofs) = (refl, refl)
+other_key text v (No back values) = (refl, refl)
+other_key text v (Undecided cause) = (refl, refl)
+other_key text v (Region rows) = (refl, refl)
+other_key text v (Contained parts proofs) = (refl, refl)
+other_key text v (Open tried) = (refl, refl)
+
 pub reads_back : ReadsBack
 unfolding report_of
-reads_back q a short file fits = record {
-  own = Some q;
-  question = found_text (answer_value q.text q.body.names a) q.text q (text_back q.text q.body.names a) (short, file);
-  is = ap (λ k. and_then (ok_or k keys.Answer) (λ kind. and_then (verb_answer q.body.names q.body.verb kind (answer_value q.text q.body.names a)) (λ b. Ok (q, b)))) (answer_kind_back q.text q.body.names a)
-      ∙ ap (λ r. and_then r (λ b. Ok (q, b))) (answer_back q a fits);
-}
+reads_back q a short file fits =
+    let d = answer_value q.text q.body.names a in
+    let others = other_key q.text q.body.names a in
+    record {
+      own = Some (Text q);
+      source = record { no_sharing = others.0; no_copies = others.1; text = q.text; there = text_back q.text q.body.names a; short = short; reads = file };
+      is = ap (λ b. cond b (Ok Misfit) (and_then (ok_or (answer_kind_at d) keys.Answer) (λ kind. and_then (verb_answer q.body.names q.body.verb kind d) (λ b. Ok (Answered (Text q) b))))) (no_misfit q.text q.body.names a)
+          ∙ ap (λ k. and_then (ok_or k keys.Answer) (λ kind. and_then (verb_answer q.body.names q.body.verb kind d) (λ b. Ok (Answered (Text q) b)))) (answer_kind_back q.text q.body.names a)
+          ∙ ap (λ r. and_then r (λ b. Ok (Answered (Text q) b))) (answer_back q a fits);
+    }

@@ -4,16 +4,17 @@ use Rattle.std.specs.Prelude.{⊤}
 use Rattle.std.specs.Fmt.{digits}
 use Rattle.serde_json.proofs.OnLiterals.{serde_json_on_literals}
 use Rattle.it_certificate.specs.Numerals.{magnitude_of, integer_of, step_of}
-use Rattle.it_certificate.specs.Values.{pair_value, proof_value, row_value, answer_value, answer_text}
+use Rattle.it_certificate.specs.Values.{pair_value, proof_value, row_value, answer_members, answer_value, answer_text}
 use Rattle.it_certificate.specs.Parts.{integer_at, count_at, pair_at, certificate_at, answer_kind_at, proofs_at, point_at, back_at, cause_kind_at, cause_at, marked_row_at, rows_at, set_at, parts_at}
 use Rattle.it_certificate.specs.AnswerReading.{no_at, undecided_at, contained_at}
 use Rattle.it_certificate.specs.Obligations.{obligation_count}
-use Rattle.it_certificate.specs.Reports.{report_of}
+use Rattle.it_certificate.specs.Reports.{report_of, tells_misfit}
+use Rattle.it_certificate.specs.Sources.{source_key}
 use Rattle.it_certificate.specs.Rows.{NumbersReadAsSaid, TextsReadAsSaid, KindsReadAsSaid, ProofsReadAsSaid, PointsReadAsSaid, CausesReadAsSaid, RegionsReadAsSaid, ContainmentsReadAsSaid, LinesWrittenAsSaid}
 
 -- what unfolds to read a literal report
 unfoldable report_on_literals : ⊤
-unfolding serde_json_on_literals magnitude_of integer_of step_of integer_at count_at pair_at certificate_at answer_kind_at proofs_at point_at back_at cause_kind_at cause_at marked_row_at rows_at set_at parts_at no_at undecided_at contained_at obligation_count report_of
+unfolding serde_json_on_literals magnitude_of integer_of step_of integer_at count_at pair_at certificate_at answer_kind_at proofs_at point_at back_at cause_kind_at cause_at marked_row_at rows_at set_at parts_at no_at undecided_at contained_at obligation_count tells_misfit source_key report_of
 report_on_literals = tt
 
 pub numbers_read_as_said : NumbersReadAsSaid
@@ -75,6 +76,9 @@ kinds_read_as_said = record {
   no_text = refl;
   other_word = refl;
   no_question = refl;
+  no_copies = refl;
+  no_sharing = refl;
+  misfit = refl;
   region_of_inequality = refl;
   open_of_inequality = refl;
   yes_of_elimination = refl;
@@ -156,7 +160,7 @@ containments_read_as_said = record {
 }
 
 pub lines_written_as_said : LinesWrittenAsSaid
-unfolding serde_json_on_literals digits pair_value proof_value row_value answer_value answer_text
+unfolding serde_json_on_literals digits pair_value proof_value row_value answer_members answer_value answer_text
 lines_written_as_said = record {
   yes = refl;
   no = refl;

@@ -1,15 +1,17 @@
 -- An answer's value has no float and is not deep.
-use Rattle.std.proofs.Common.{◌≡◌, ℕ, ◌≤◌, ℤ, List, [], ◌∷◌, map, filter, refl, ap, ◌∙◌, arith, Bool, false, ◌||◌, Result, Ok, Err, IfOk, Some, subst, sym}
-use Rattle.serde_json.specs.Data.{Data, depth, items_depth}
+use Rattle.std.proofs.Common.{◌≡◌, ℕ, ◌≤◌, ℤ, List, [], ◌∷◌, map, filter, refl, ap, ◌∙◌, arith, Bool, true, false, ◌||◌, Result, Ok, Err, IfOk, Some, subst, sym, codes, Ordering, Less, Equal, Greater}
+use Rattle.std.specs.Cmp.Lexicographic.{slice_cmp}
+use Rattle.std.specs.Ordering.{nat_cmp, match_ordering}
+use Rattle.serde_json.specs.Data.{Data, Members, depth, items_depth, member, no_members, object, put, string}
 use Rattle.serde_json.specs.View.{items_of}
 use Rattle.serde_json.specs.Read.{read}
-use Rattle.serde_json.specs.Written.{has_float, items_have_float, compact_text}
+use Rattle.serde_json.specs.Written.{has_float, items_have_float, members_have_float, compact_text}
 use Rattle.it_space.specs.Rows.{Terms}
 use Rattle.it_space.specs.Answers.{CertificateView, AnswerView, is_nonzero_weight}
 use Rattle.it_space.specs.Answers.AnswerView.{Yes, No, Undecided, Region, Contained, Open}
 use Rattle.it_space.specs.declared.answers.Mark.{Mark}
 use Rattle.it_syntax.specs.NamesViews.{NamesView}
-use Rattle.it_certificate.specs.Values.{integer_value, count_value, pair_value, proof_value, row_value, answer_value, answer_text}
+use Rattle.it_certificate.specs.Values.{SourceTexts, OfCopies, OfSharing, ascii_byte, ascii_string, integer_value, count_value, pair_value, proof_value, row_value, answer_members, answer_value, answer_text, report_text, with_source}
 
 items_no_float : {A : Type 0} (f : A → Data) → ((a : A) → has_float (f a) ≡ false) → (xs : List A) → items_have_float (items_of (map f xs)) ≡ false
 items_no_float f none [] = refl
@@ -30,14 +32,42 @@ row_no_float : (r : Mark × Terms) → has_float (row_value r) ≡ false
 unfolding row_value
 row_no_float r = or_none _ false (items_no_float pair_value pair_no_float r.1) refl
 
-pub no_float : (text : List ℕ) (v : NamesView) (a : AnswerView) → has_float (answer_value text v a) ≡ false
+pub answer_no_float : (v : NamesView) (a : AnswerView) → members_have_float (answer_members v a) ≡ false
+unfolding answer_members
+answer_no_float v (Yes proofs) = or_none _ false (items_no_float proof_value proof_no_float proofs) refl
+answer_no_float v (No back values) = or_none _ false (items_no_float integer_value (λ z. refl) values) refl
+answer_no_float v (Undecided cause) = refl
+answer_no_float v (Region rows) = or_none _ false (items_no_float row_value row_no_float rows) refl
+answer_no_float v (Contained parts proofs) = or_none _ _ (items_no_float count_value (λ n. refl) parts) (or_none _ false (items_no_float proof_value proof_no_float proofs) refl)
+answer_no_float v (Open tried) = refl
+
+-- a text that is put among members is no float
+first_none : (a b : Bool) → (a || b) ≡ false → a ≡ false
+first_none false b e = refl
+first_none true b e = e
+
+rest_none : (a b : Bool) → (a || b) ≡ false → b ≡ false
+rest_none false b e = e
+rest_none true b e = let f : true ≡ false = e in absurd cc
+
+text_no_float : (key text : List ℕ) (ms : Members) → members_have_float ms ≡ false → members_have_float (put key (string text) ms) ≡ false
+text_no_float key text no_members none = refl
+text_no_float key text (member l e ms) none = by_order (slice_cmp nat_cmp key l)
+  where
+    by_order : (o : Ordering) → members_have_float (match_ordering o (member key (string text) (member l e ms)) (member l (string text) ms) (member l e (put key (string text) ms))) ≡ false
+    by_order Less = none
+    by_order Equal = rest_none (has_float e) (members_have_float ms) none
+    by_order Greater = or_none (has_float e) _ (first_none (has_float e) (members_have_float ms) none) (text_no_float key text ms (rest_none (has_float e) (members_have_float ms) none))
+
+no_float : (text : List ℕ) (v : NamesView) (a : AnswerView) → has_float (answer_value text v a) ≡ false
 unfolding answer_value
-no_float text v (Yes proofs) = or_none _ false (items_no_float proof_value proof_no_float proofs) refl
-no_float text v (No back values) = or_none _ false (items_no_float integer_value (λ z. refl) values) refl
-no_float text v (Undecided cause) = refl
-no_float text v (Region rows) = or_none _ false (items_no_float row_value row_no_float rows) refl
-no_float text v (Contained parts proofs) = or_none _ _ (items_no_float count_value (λ n. refl) parts) (or_none _ false (items_no_float proof_value proof_no_float proofs) refl)
-no_float text v (Open tried) = refl
+no_float text v a = text_no_float (codes "question") text (answer_members v a) (answer_no_float v a)
+
+source_no_float : (source : SourceTexts) (ms : Members) → members_have_float ms ≡ false → has_float (object (with_source source ms)) ≡ false
+source_no_float (OfCopies head text) ms none =
+    let with_head = put (codes "copies") (ascii_string head) ms in
+    text_no_float (codes "question") (map ascii_byte text) with_head (text_no_float (codes "copies") (map ascii_byte head) ms none)
+source_no_float (OfSharing text) ms none = text_no_float (codes "sharing") (map ascii_byte text) ms none
 
 items_shallow : {A : Type 0} (f : A → Data) (k : ℕ) → ((a : A) → depth (f a) ≤ k) → (xs : List A) → items_depth (items_of (map f xs)) ≤ k
 items_shallow f k low [] = omega arith
@@ -56,7 +86,7 @@ unfolding row_value
 row_shallow r = let e = items_shallow pair_value 1 pair_shallow r.1 in omega (arith, e)
 
 pub answer_shallow : (text : List ℕ) (v : NamesView) (a : AnswerView) → depth (answer_value text v a) ≤ 127
-unfolding answer_value
+unfolding answer_value answer_members
 answer_shallow text v (Yes proofs) = let e = items_shallow proof_value 3 proof_shallow proofs in omega (arith, e)
 answer_shallow text v (No back values) = let e = items_shallow integer_value 0 (λ z. omega arith) values in omega (arith, e)
 answer_shallow text v (Undecided cause) = omega arith
@@ -65,6 +95,12 @@ answer_shallow text v (Contained parts proofs) =
     let e = items_shallow count_value 0 (λ n. omega arith) parts in
     let f = items_shallow proof_value 3 proof_shallow proofs in omega (arith, e, f)
 answer_shallow text v (Open tried) = omega arith
+
+pub line_is : {E : Type 0} {S : Type 0} (bytes : S → List ℕ) (source : SourceTexts) (ms : Members) (d : Data) (out : Result S E) → members_have_float ms ≡ false → d ≡ object (with_source source ms)
+    → IfOk out (λ s. has_float d ≡ false → bytes s ≡ compact_text d) → IfOk out (λ s. bytes s ≡ report_text source ms)
+unfolding report_text
+line_is bytes source ms d (Ok s) none is h = h (ap has_float is ∙ source_no_float source ms none) ∙ ap compact_text is
+line_is bytes source ms d (Err e) none is h = tt
 
 pub text_is : {E : Type 0} {S : Type 0} (bytes : S → List ℕ) (text : List ℕ) (v : NamesView) (a : AnswerView) (d : Data) (out : Result S E) → d ≡ answer_value text v a
     → IfOk out (λ s. has_float d ≡ false → bytes s ≡ compact_text d) → IfOk out (λ s. bytes s ≡ answer_text text v a)

@@ -6,7 +6,8 @@ use Rattle.it_question.specs.Questions.{QuestionView}
 use Rattle.it_question.specs.Files.{IsFile}
 use Rattle.it_certificate.specs.declared.keys.Key.{Key}
 use Rattle.it_certificate.specs.Values.{answer_value}
-use Rattle.it_certificate.specs.Reports.{ReadsAs, ReadsReport}
+use Rattle.it_certificate.specs.Reports.{Answered, ReadsAs, ReadsReport, Reading}
+use Rattle.it_certificate.specs.Sources.{Text}
 use Rattle.it_certificate.specs.AnswerShapes.{HasQuestionShape}
 
 -- a certificate without its weights of 0
@@ -25,8 +26,8 @@ written_answer (Open tried) = Open tried
 -- The value of an answer that fits a question reads as that question with that answer.
 abbrev pub ReadsBack : Type 0
 ReadsBack = (q : QuestionView) (answer : AnswerView) → length q.text ≤ 1048577 → IsFile q.text (q ∷ []) → HasQuestionShape q.body answer
-    → ReadsAs (answer_value q.text q.body.names answer) (Ok (q, written_answer answer))
+    → ReadsAs (answer_value q.text q.body.names answer) (Ok (Answered (Text q) (written_answer answer)))
 
 -- A line has at most one reading.
 abbrev pub OneReading : Type 0
-OneReading = (line : List ℕ) (r s : Result (QuestionView × AnswerView) Key) → ReadsReport line r → ReadsReport line s → r ≡ s
+OneReading = (line : List ℕ) (r s : Result Reading Key) → ReadsReport line r → ReadsReport line s → r ≡ s

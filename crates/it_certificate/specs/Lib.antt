@@ -4,10 +4,10 @@ pub mod Values
 pub mod Parts
 pub mod Obligations
 pub mod AnswerReading
+pub mod Sources
 pub mod Reports
 pub mod AnswerShapes
 pub mod Laws
 pub mod Rows
 pub mod Steps
-pub mod AnswerObjects
 pub mod ReportSteps

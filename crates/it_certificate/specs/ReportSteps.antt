@@ -1,5 +1,5 @@
 -- No public clause cites this module: what the readers of a report and of its question give, against the definitions.
-use Rattle.std.specs.Prelude.{◌≡◌, ℕ, ◌*◌, ◌-◌, ◌≤◌, List, [], ◌∷◌, length, Option, Some, None, Result, Ok, Err}
+use Rattle.std.specs.Prelude.{◌≡◌, ℕ, ◌+◌, ◌*◌, ◌-◌, ◌<◌, ◌≤◌, List, [], ◌∷◌, length, Option, Some, None, Result, Ok, Err}
 use Rattle.serde_json.specs.Data.{Data}
 use Rattle.it_space.specs.Answers.{answer_view}
 use Rattle.it_space.specs.declared.problems.Kind.{Kind}
@@ -8,15 +8,22 @@ use Rattle.it_syntax.specs.declared.types.Sign.{Sign}
 use Rattle.it_syntax.specs.Meaning.{RelationView}
 use Rattle.it_demand.specs.Demands.{kind_of}
 use Rattle.it_syntax.specs.Givens.{GivenView, Relation, Markov, Independent, Function}
-use Rattle.it_question.specs.Questions.{QuestionView, question_view}
+use Rattle.it_question.specs.Questions.{QuestionView, question_body, question_view}
 use Rattle.it_question.specs.Files.{IsFile}
+use Rattle.it_question.specs.QuestionLimits.{most_lines}
 use Rattle.it_question.specs.declared.types.Question.{Question}
 use Rattle.it_certificate.specs.declared.keys.Refusal.{Refusal}
 use Rattle.it_certificate.specs.declared.keys.Refusal.TheVariants.{Memory, Shape}
 use Rattle.it_certificate.specs.declared.keys.ReportFault.{ReportFault}
 use Rattle.it_certificate.specs.declared.keys.ReportFault.TheVariants as faults
+use Rattle.it_copy.specs.CopyLines.{CopyView}
+use Rattle.it_copy.specs.declared.types.CopyFault.{CopyFault}
+use Rattle.it_copy.specs.declared.types.CopyFault.TheVariants as copy_faults
+use Rattle.it_copy.specs.Extensions.{IsExtension, extended}
+use Rattle.it_sharing.specs.Sharings.{SharingView, made_question, maximal_count, minimal_count}
 use Rattle.it_certificate.specs.declared.types.Reported.{Reported}
-use Rattle.it_certificate.specs.Reports.{IsQuestionOf, ReadsAs}
+use Rattle.it_certificate.specs.Reports.{IsReported, ReadsAs, Reading}
+use Rattle.it_certificate.specs.Sources.{AsksOnly, IsMakeable, IsSourceOf, Source, Copies, asked}
 
 -- how many forms a demand of this kind says to be at least 0
 abbrev pub form_count : Kind → ℕ
@@ -49,15 +56,44 @@ GivesOnly text (Ok q) = (length text ≤ 1048577) × IsFile text (question_view 
 GivesOnly text (Err Shape) = (q : QuestionView) → length text ≤ 1048577 → IsFile text (q ∷ []) → ⊥
 GivesOnly text (Err Memory) = Unit {0}
 
--- what the reader of the key `question` gave
-abbrev pub GivesQuestion : Data → Result Question Refusal → Type 0
-GivesQuestion d (Ok q) = IsQuestionOf d (question_view q)
-GivesQuestion d (Err Shape) = (q : QuestionView) → IsQuestionOf d q → ⊥
-GivesQuestion d (Err Memory) = Unit {0}
+-- what the reader of bytes as a file with a head gave: its only question with the copies
+abbrev pub GivesCopied : List ℕ → Result Question Refusal → Type 0
+GivesCopied bytes (Ok e) = (q : QuestionView) × (copies : List CopyView) × AsksOnly bytes q copies × (asked (Copies q copies) ≡ question_view e)
+GivesCopied bytes (Err Shape) = (q : QuestionView) (copies : List CopyView) → AsksOnly bytes q copies → ⊥
+GivesCopied bytes (Err Memory) = Unit {0}
+
+-- what the extender of the only one of some questions gave
+abbrev pub GivesExtended : List CopyView → List QuestionView → Result Question Refusal → Type 0
+GivesExtended copies qs (Ok e) = (q : QuestionView) × (qs ≡ q ∷ []) × IsExtension q.body copies (extended q.body copies) × (asked (Copies q copies) ≡ question_view e)
+GivesExtended copies qs (Err Shape) = (q : QuestionView) → qs ≡ q ∷ [] → IsExtension q.body copies (extended q.body copies) → ⊥
+GivesExtended copies qs (Err Memory) = Unit {0}
+
+-- why the only question isn't extended, by what is against its copies
+abbrev pub refusal_by : CopyFault → Refusal
+refusal_by copy_faults.Memory = Memory
+refusal_by fault = Shape
+
+-- what the maker of the question of a sharing file gave
+abbrev pub GivesMadeFrom : SharingView → Result Question Refusal → Type 0
+GivesMadeFrom x (Ok q) = (minimal_count x + maximal_count x ≤ most_lines) × (made_question x ≡ question_view q)
+GivesMadeFrom x (Err Shape) = most_lines < minimal_count x + maximal_count x
+GivesMadeFrom x (Err Memory) = Unit {0}
+
+-- what the reader of bytes as a sharing file gave: the question that it makes
+abbrev pub GivesMade : List ℕ → Result Question Refusal → Type 0
+GivesMade bytes (Ok q) = (x : SharingView) × IsMakeable bytes x × (made_question x ≡ question_view q)
+GivesMade bytes (Err Shape) = (x : SharingView) → IsMakeable bytes x → ⊥
+GivesMade bytes (Err Memory) = Unit {0}
+
+-- what the reader of what an object is about gave: the question that is asked
+abbrev pub GivesSource : Data → Result Question Refusal → Type 0
+GivesSource d (Ok q) = (source : Source) × IsSourceOf d source × (asked source ≡ question_view q)
+GivesSource d (Err Shape) = (source : Source) → IsSourceOf d source → ⊥
+GivesSource d (Err Memory) = Unit {0}
 
 -- what the reader of a value gave
 abbrev pub ReadsValue : Data → Result Reported ReportFault → Type 0
-ReadsValue d (Ok r) = ReadsAs d (Ok (question_view r.question, answer_view r.answer))
+ReadsValue d (Ok r) = (reading : Reading) × IsReported reading r × ReadsAs d (Ok reading)
 ReadsValue d (Err (faults.Shape key)) = ReadsAs d (Err key)
 ReadsValue d (Err faults.NotJson) = ⊥
 ReadsValue d (Err faults.Memory) = Unit {0}

@@ -1,5 +1,7 @@
--- The reading of a report line: its question and its answer, or the first key that is missing or of another shape.
-use Rattle.std.specs.Prelude.{◌≡◌, ℕ, ◌≤◌, List, [], ◌∷◌, length, codes, Option, Some, None, option_map, option_and_then, Result, Ok, Err, ok_or, IsUtf8}
+-- The reading of a report line: what it is about and its answer, or the first key that is missing or of another shape.
+use Rattle.std.specs.Prelude.{◌≡◌, ℕ, List, length, Bool, false, if◌then◌else◌, codes, Option, Some, None, option_map, option_and_then, Result, Ok, Err, ok_or, IsUtf8}
+use Rattle.std.specs.Option.{option_map_or}
+use Rattle.std.specs.Str.{bytes_eq}
 use Rattle.serde_json.specs.Data.{Data}
 use Rattle.serde_json.specs.Find.{get}
 use Rattle.serde_json.specs.Read.{read}
@@ -7,8 +9,8 @@ use Rattle.it_space.specs.Answers.{AnswerView, answer_view}
 use Rattle.it_space.specs.Answers.{AnswerView as answers}
 use Rattle.it_space.specs.Spaces.{size_of}
 use Rattle.it_syntax.specs.NamesViews.{NamesView}
-use Rattle.it_question.specs.Questions.{QuestionView, VerbView, Prove, Eliminate, Contain, question_view}
-use Rattle.it_question.specs.Files.{IsFile}
+use Rattle.it_question.specs.Limits.{IsQuestion}
+use Rattle.it_question.specs.Questions.{VerbView, Prove, Eliminate, Contain, question_body, question_view}
 use Rattle.it_demand.specs.QuestionSpaces.{space_of}
 use Rattle.it_demand.specs.Targets.{targets}
 use Rattle.it_certificate.specs.declared.keys.Key.{Key}
@@ -18,9 +20,12 @@ use Rattle.it_certificate.specs.declared.keys.ReportFault.TheVariants as faults
 use Rattle.it_certificate.specs.declared.kinds.AnswerKind.{AnswerKind}
 use Rattle.it_certificate.specs.declared.kinds.AnswerKind.TheVariants.{Yes, No, Undecided, Region, Contained, Open}
 use Rattle.it_certificate.specs.declared.types.Reported.{Reported}
+use Rattle.it_certificate.specs.declared.types.Reported.TheVariants as reported
 use Rattle.it_certificate.specs.Parts.{text_of, answer_kind_at, count_at, proofs_at, rows_at}
 use Rattle.it_certificate.specs.AnswerReading.{and_then, no_at, undecided_at, contained_at}
+use Rattle.it_certificate.specs.AnswerShapes.{HasQuestionShape}
 use Rattle.it_certificate.specs.Obligations.{obligation_count}
+use Rattle.it_certificate.specs.Sources.{Source, IsSourceAt, asked, source_key}
 
 -- ---- the answers that each verb gives
 
@@ -36,42 +41,57 @@ verb_answer v (Contain first second tries) Contained d = contained_at second.aux
 verb_answer v (Contain first second tries) Open d = ok_or (option_map answers.Open (option_and_then count_at (get (codes "tried") d))) keys.Tried
 verb_answer v verb kind d = Err keys.Answer
 
--- ---- the question
-
--- The member `question` is a text of at most 1048577 bytes, and it reads as this one question.
-unfoldable pub IsQuestionOf : Data → QuestionView → Type 0
-IsQuestionOf d q = (text : List ℕ) × ((text_of (get (codes "question") d) ≡ Some text) × ((length text ≤ 1048577) × IsFile text (q ∷ [])))
-
--- the question of a report, or that it has none
-abbrev pub IsQuestionAt : Data → Option QuestionView → Type 0
-IsQuestionAt d (Some q) = IsQuestionOf d q
-IsQuestionAt d None = (q : QuestionView) → IsQuestionOf d q → ⊥
-
 -- ---- the report
 
--- with its question, if it has one: `answer`, `question`, `answer` again by the verb, and what the answer needs
-unfoldable pub report_of : Option QuestionView → Data → Result (QuestionView × AnswerView) Key
+-- what a line says: an answer to what it is about, or that a question can't have what is asked for, which claims nothing
+pub data Reading : Type 0 where
+  Answered : (source : Source) (answer : AnswerView) → Reading
+  Misfit : Reading
+
+-- whether the word of the answer is `misfit`
+unfoldable pub tells_misfit : Data → Bool
+tells_misfit d = option_map_or (λ text. bytes_eq text (codes "misfit")) (text_of (get (codes "answer") d)) false
+
+-- the answer of this kind to the question that is asked
+abbrev pub answer_to : Source → AnswerKind → Data → Result AnswerView Key
+answer_to source kind d = verb_answer (asked source).body.names (asked source).body.verb kind d
+
+-- with what it is about, if that is so: `answer`, what it is about, `answer` again by the verb, and what the answer needs; of a misfit
+-- nothing but its word is read
+unfoldable pub report_of : Option Source → Data → Result Reading Key
 report_of own d =
+    if tells_misfit d then Ok Misfit else
     and_then (ok_or (answer_kind_at d) keys.Answer) (λ kind.
-    and_then (ok_or own keys.Question) (λ q.
-    and_then (verb_answer q.body.names q.body.verb kind d) (λ answer. Ok (q, answer))))
+    and_then (ok_or own (source_key d)) (λ source.
+    and_then (answer_to source kind d) (λ answer. Ok (Answered source answer))))
 
 -- the reading of a JSON value
-pub record ReadsAs (value : Data) (r : Result (QuestionView × AnswerView) Key) : Type 0 where
-  pub own : Option QuestionView
-  pub question : IsQuestionAt value own
+pub record ReadsAs (value : Data) (r : Result Reading Key) : Type 0 where
+  pub own : Option Source
+  pub source : IsSourceAt value own
   pub is : report_of own value ≡ r
 
 -- the line is JSON, and this is its reading
-pub record ReadsReport (line : List ℕ) (r : Result (QuestionView × AnswerView) Key) : Type 0 where
+pub record ReadsReport (line : List ℕ) (r : Result Reading Key) : Type 0 where
   pub value : Data
   pub utf8 : IsUtf8 line
   pub is_json : read line ≡ Some value
   pub reads : ReadsAs value r
 
--- what is answered of a line: its question and answer, its first key at fault, that it has no JSON reading, or want of memory
+-- what was read of a line, by the question that is asked
+abbrev pub IsReported : Reading → Reported → Type 0
+IsReported (Answered source a) (reported.Answered question answer) = (asked source ≡ question_view question) × (a ≡ answer_view answer)
+IsReported Misfit reported.Misfit = Unit {0}
+IsReported reading r = ⊥
+
+-- what is answered of a line: what it says, its first key at fault, that it has no JSON reading, or want of memory
 abbrev pub Reports : List ℕ → Result Reported ReportFault → Type 0
-Reports line (Ok r) = ReadsReport line (Ok (question_view r.question, answer_view r.answer))
+Reports line (Ok r) = (reading : Reading) × IsReported reading r × ReadsReport line (Ok reading)
 Reports line (Err (faults.Shape key)) = ReadsReport line (Err key)
 Reports line (Err faults.NotJson) = IsUtf8 line → read line ≡ None
 Reports line (Err faults.Memory) = Unit {0}
+
+-- the question that was read with its answer is within the limits, and the answer fits it
+abbrev pub KeepsLimits : Reported → Type 0
+KeepsLimits (reported.Answered q a) = IsQuestion (question_body q) × HasQuestionShape (question_body q) (answer_view a)
+KeepsLimits reported.Misfit = Unit {0}

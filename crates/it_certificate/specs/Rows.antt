@@ -17,7 +17,8 @@ use Rattle.it_certificate.specs.declared.keys.Key.TheVariants as keys
 use Rattle.it_certificate.specs.Numerals.{integer_of, step_of}
 use Rattle.it_certificate.specs.Parts.{count_at}
 use Rattle.it_certificate.specs.Values.{answer_text}
-use Rattle.it_certificate.specs.Reports.{report_of}
+use Rattle.it_certificate.specs.Reports.{Answered, Misfit, Reading, report_of}
+use Rattle.it_certificate.specs.Sources.{Text}
 
 -- ---- numbers
 
@@ -117,8 +118,8 @@ abbrev pub containment : QuestionView
 containment = question_by (Contain (record { names = two_names; auxiliaries = 0; lines = record { givens = []; rows = [] } }) second_region [])
 
 -- what a line without the key `question` reads as, once its question is this one
-abbrev pub report_on : QuestionView → List ℕ → Option (Result (QuestionView × AnswerView) Key)
-report_on q text = option_map (report_of (Some q)) (read text)
+abbrev pub report_on : QuestionView → List ℕ → Option (Result Reading Key)
+report_on q text = option_map (report_of (Some (Text q))) (read text)
 
 -- a line about the question has its first fault at this key
 abbrev pub is_fault : QuestionView → Key → List ℕ → Type 0
@@ -126,7 +127,7 @@ is_fault q key text = report_on q text ≡ Some (Err key)
 
 -- a line about the question reads as this answer to it
 abbrev pub is_answer : QuestionView → AnswerView → List ℕ → Type 0
-is_answer q answer text = report_on q text ≡ Some (Ok (q, answer))
+is_answer q answer text = report_on q text ≡ Some (Ok (Answered (Text q) answer))
 
 -- lines at fault in the kind of their answer, and one without a question
 pub record KindsReadAsSaid : Type 0 where
@@ -135,6 +136,9 @@ pub record KindsReadAsSaid : Type 0 where
   pub no_text : is_fault inequality keys.Answer (codes "{\"answer\":1}")
   pub other_word : is_fault inequality keys.Answer (codes "{\"answer\":\"Yes\"}")
   pub no_question : option_map (report_of None) (read (codes "{\"answer\":\"yes\"}")) ≡ Some (Err keys.Question)
+  pub no_copies : option_map (report_of None) (read (codes "{\"answer\":\"yes\",\"copies\":0,\"question\":\"\"}")) ≡ Some (Err keys.Copies)
+  pub no_sharing : option_map (report_of None) (read (codes "{\"answer\":\"yes\",\"copies\":0,\"sharing\":null}")) ≡ Some (Err keys.Sharing)
+  pub misfit : option_map (report_of None) (read (codes "{\"answer\":\"misfit\",\"cause\":\"verb\"}")) ≡ Some (Ok Misfit)
   pub region_of_inequality : is_fault inequality keys.Answer (codes "{\"answer\":\"region\",\"rows\":[]}")
   pub open_of_inequality : is_fault inequality keys.Answer (codes "{\"answer\":\"open\",\"tried\":1}")
   pub yes_of_elimination : is_fault elimination keys.Answer (codes "{\"answer\":\"yes\"}")

@@ -1,7 +1,7 @@
 -- An answer as a line of JSON, without the line's end.
-use Rattle.std.specs.Prelude.{ℕ, ◌<◌, ℤ, List, [], map, filter, length, if◌then◌else◌, codes, decimal, slice_index_or, IsAscii}
+use Rattle.std.specs.Prelude.{ℕ, ◌<◌, ℤ, List, [], map, filter, length, if◌then◌else◌, codes, decimal, nat_lt, slice_index_or, IsAscii}
 use Rattle.std.specs.Fmt.{signed_decimal}
-use Rattle.serde_json.specs.Data.{Data, unsigned, number, string, array, object, item, no_items, member, no_members}
+use Rattle.serde_json.specs.Data.{Data, Members, unsigned, number, string, array, object, item, no_items, member, no_members, put}
 use Rattle.serde_json.specs.View.{items_of}
 use Rattle.serde_json.specs.Written.{compact_text}
 use Rattle.it_space.specs.Rows.{Terms}
@@ -11,6 +11,8 @@ use Rattle.it_space.specs.declared.answers.Cause.{Cause}
 use Rattle.it_space.specs.declared.answers.Cause.TheVariants.{Pivots, Width, Scale, Rows, WideRate}
 use Rattle.it_space.specs.declared.answers.Mark.{Mark}
 use Rattle.it_syntax.specs.NamesViews.{NamesView}
+use Rattle.it_certificate.specs.declared.types.SourceText.{SourceText}
+use Rattle.it_certificate.specs.declared.types.SourceText.TheVariants as texts
 
 -- an integer as decimal text
 abbrev pub integer_value : ℤ → Data
@@ -56,40 +58,73 @@ step_or_rate_word v Scale = codes "0"
 step_or_rate_word v (Rows r) = slice_index_or v.rates r []
 step_or_rate_word v (WideRate r) = slice_index_or v.rates r []
 
--- the answer to the question of a text, with the question's names; the keys in alphabetical order. The side is `back` where it is the second
--- target that is violated.
-unfoldable pub answer_value : List ℕ → NamesView → AnswerView → Data
-answer_value text v (Yes proofs) = object
-    (member (codes "answer") (string (codes "yes"))
-    (member (codes "proofs") (list_value proof_value proofs)
-    (member (codes "question") (string text) no_members)))
-answer_value text v (No back values) = object
-    (member (codes "answer") (string (codes "no"))
+-- the members of an answer but for what it is about, with the names of the question that is asked; the keys in alphabetical order. The
+-- side is `back` where it is the second target that is violated.
+unfoldable pub answer_members : NamesView → AnswerView → Members
+answer_members v (Yes proofs) =
+    member (codes "answer") (string (codes "yes"))
+    (member (codes "proofs") (list_value proof_value proofs) no_members)
+answer_members v (No back values) =
+    member (codes "answer") (string (codes "no"))
     (member (codes "point") (list_value integer_value values)
-    (member (codes "question") (string text)
-    (member (codes "side") (string (if back then codes "back" else codes "forward")) no_members))))
-answer_value text v (Undecided cause) = object
-    (member (codes "answer") (string (codes "undecided"))
+    (member (codes "side") (string (if back then codes "back" else codes "forward")) no_members))
+answer_members v (Undecided cause) =
+    member (codes "answer") (string (codes "undecided"))
     (member (codes "at") (string (step_or_rate_word v cause))
-    (member (codes "cause") (string (cause_word cause))
-    (member (codes "question") (string text) no_members))))
-answer_value text v (Region rows) = object
-    (member (codes "answer") (string (codes "region"))
-    (member (codes "question") (string text)
-    (member (codes "rows") (list_value row_value rows) no_members)))
-answer_value text v (Contained parts proofs) = object
-    (member (codes "answer") (string (codes "contained"))
+    (member (codes "cause") (string (cause_word cause)) no_members))
+answer_members v (Region rows) =
+    member (codes "answer") (string (codes "region"))
+    (member (codes "rows") (list_value row_value rows) no_members)
+answer_members v (Contained parts proofs) =
+    member (codes "answer") (string (codes "contained"))
     (member (codes "parts") (list_value count_value parts)
-    (member (codes "proofs") (list_value proof_value proofs)
-    (member (codes "question") (string text) no_members))))
-answer_value text v (Open tried) = object
-    (member (codes "answer") (string (codes "open"))
-    (member (codes "question") (string text)
-    (member (codes "tried") (count_value tried) no_members)))
+    (member (codes "proofs") (list_value proof_value proofs) no_members))
+answer_members v (Open tried) =
+    member (codes "answer") (string (codes "open"))
+    (member (codes "tried") (count_value tried) no_members)
+
+-- the answer to the question of a text
+unfoldable pub answer_value : List ℕ → NamesView → AnswerView → Data
+answer_value text v answer = object (put (codes "question") (string text) (answer_members v answer))
 
 -- the line of that answer
 unfoldable pub answer_text : List ℕ → NamesView → AnswerView → List ℕ
 answer_text text v answer = compact_text (answer_value text v answer)
+
+-- ---- lines about a question with copies, or about a sharing file
+
+-- a byte of ASCII, or a question mark in its place
+abbrev pub ascii_byte : ℕ → ℕ
+ascii_byte b = if nat_lt b 128 then b else 63
+
+-- bytes as a text in ASCII
+abbrev pub ascii_string : List ℕ → Data
+ascii_string bytes = string (map ascii_byte bytes)
+
+-- the members of a question that can't have what is asked for, with the words of the reason
+abbrev pub misfit_members : List ℕ → Members
+misfit_members words = member (codes "answer") (string (codes "misfit")) (member (codes "cause") (ascii_string words) no_members)
+
+-- the texts of what a line is about: of a head and a question, or of a sharing file
+pub data SourceTexts : Type 0 where
+  OfCopies : (head text : List ℕ) → SourceTexts
+  OfSharing : (text : List ℕ) → SourceTexts
+
+-- texts as contracts see them
+abbrev pub source_texts : SourceText → SourceTexts
+source_texts (texts.Copies head text) = OfCopies head.now text.now
+source_texts (texts.Sharing text) = OfSharing text.now
+
+-- with the members of what the line is about
+abbrev pub with_source : SourceTexts → Members → Members
+with_source (OfCopies head text) ms = put (codes "question") (ascii_string text) (put (codes "copies") (ascii_string head) ms)
+with_source (OfSharing text) ms = put (codes "sharing") (ascii_string text) ms
+
+-- the line of these members about that
+unfoldable pub report_text : SourceTexts → Members → List ℕ
+report_text source ms = compact_text (object (with_source source ms))
+
+-- ---- what can be written
 
 -- one of the rates, and its name is ASCII
 abbrev pub IsAsciiRate : NamesView → ℕ → Type 0

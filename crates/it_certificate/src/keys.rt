@@ -7,6 +7,8 @@ use thiserror::Error;
 #[derive(Clone, Copy, Debug)]
 pub enum Key {
     Answer,
+    Sharing,
+    Copies,
     Question,
     Proofs,
     Point,

@@ -14,6 +14,7 @@ mod questions;
 mod reports;
 mod rows;
 mod sets;
+mod sources;
 pub mod types;
 mod values;
 mod verbs;
@@ -26,5 +27,5 @@ pub use laws::{
     texts_read_as_said,
 };
 pub use reports::answer_from_json;
-pub use types::Reported;
-pub use writing::answer_json;
+pub use types::{Reported, SourceText};
+pub use writing::{answer_json, misfit_json, report_json};

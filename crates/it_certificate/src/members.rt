@@ -6,6 +6,7 @@ ghost use Rattle.std.specs.Option.{option_or};
 ghost use Rattle.it_space.specs.Answers.{certificate_view};
 ghost use Rattle.it_space.specs.declared.answers.Cause.TheVariants.{WideRate, Width};
 ghost use Rattle.it_certificate.specs.Parts.{answer_kind_at, back_at, cause_at, cause_kind_at, cause_of, count_at, point_at, proofs_at, text_of};
+ghost use Rattle.it_certificate.specs.Reports.{tells_misfit};
 ghost use Rattle.it_certificate.specs.Steps.{Yields};
 
 use crate::keys::Refusal;
@@ -30,6 +31,17 @@ pub fn answer_kind_at(value: &Value) -> Option<AnswerKind>
     ensures { result ≡ answer_kind_at (view value.now) }
 {
     answer_kind_of(text_of_member(value.get("answer"))?)
+}
+
+/// Whether the word of the answer is `misfit`.
+#[tactic(auto, unfolding(crate::specs::Reports::tells_misfit))]
+pub fn tells_misfit(value: &Value) -> bool
+    ensures { result ≡ tells_misfit (view value.now) }
+{
+    match text_of_member(value.get("answer")) {
+        Some(text) => text == "misfit",
+        None => false,
+    }
 }
 
 /// So many certificates.

@@ -3,14 +3,13 @@
 ghost use Rattle.std.specs.Prelude.{◌≡◌, IfOk};
 ghost use Rattle.serde_json.specs.Data.{no_members, object, put, string};
 ghost use Rattle.serde_json.specs.View.{members_view, view};
-ghost use Rattle.it_certificate.specs.AnswerObjects.{answer_object};
 
 use serde_json::{Map, Value, json, put};
 use std::alloc::{AllocError, Global};
 
 /// The members of an object, in the order of their keys.
 pub struct Members {
-    map: Map<String, Value>,
+    pub(crate) map: Map<String, Value>,
 }
 
 // Written by hand, so that dropping the members takes one call.
@@ -54,19 +53,5 @@ impl Members {
     {
         let Members { map } = self;
         Value::Object(map)
-    }
-
-    /// The object of these members with the word of an answer and the text of its question.
-    pub fn into_answer(
-        self,
-        alloc: Global,
-        answer: &str,
-        question: &str,
-    ) -> Result<Value, AllocError>
-        ensures { IfOk result (λ v. view v ≡ answer_object answer.now question.now (members_view self.map.entries)) }
-    {
-        let members = self.with_text(alloc, "answer", answer)?;
-        let members = members.with_text(alloc, "question", question)?;
-        Ok(members.into_value())
     }
 }

@@ -1,17 +1,12 @@
-//! The question of a report.
-ghost use Rattle.std.specs.Prelude.{◌≡◌, All, IfOk, IfSome, codes, option_map};
-ghost use Rattle.serde_json.specs.Find.{get};
-ghost use Rattle.serde_json.specs.View.{view};
+//! The question that a text reads as.
+ghost use Rattle.std.specs.Prelude.{All, IfOk, IfSome};
 ghost use Rattle.it_question.specs.Limits.{IsQuestion};
 ghost use Rattle.it_question.specs.Questions.{question_body};
-ghost use Rattle.it_certificate.specs.Parts.{text_of};
-ghost use Rattle.it_certificate.specs.ReportSteps.{GivesOnly, GivesQuestion, IsOnly};
+ghost use Rattle.it_certificate.specs.ReportSteps.{GivesOnly, IsOnly};
 
 use crate::keys::Refusal;
-use crate::members::text_of_member;
 use it_question::questions;
 use it_question::types::{FileFault, Question};
-use serde_json::Value;
 use std::alloc::Global;
 
 /// The only question of a list, if it has one.
@@ -28,7 +23,7 @@ fn single_question(questions: Vec<Question>) -> Option<Question>
 }
 
 /// The question that a text of at most 1048577 bytes reads as, if it reads as exactly one.
-fn question_of(alloc: Global, text: &str) -> Result<Question, Refusal>
+pub fn question_of(alloc: Global, text: &str) -> Result<Question, Refusal>
     ensures reading { GivesOnly text.now result }
     ensures limits { IfOk result (λ q. IsQuestion (question_body q)) }
 {
@@ -43,24 +38,5 @@ fn question_of(alloc: Global, text: &str) -> Result<Question, Refusal>
         },
         Err(FileFault::Memory) => Err(Refusal::Memory),
         Err(FileFault::Fault { .. }) => Err(Refusal::Shape),
-    }
-}
-
-/// The text of the question.
-fn question_text(value: &Value) -> Option<&str>
-    ensures { option_map (λ s. s.now) result ≡ text_of (get (codes "question") (view value.now)) }
-{
-    text_of_member(value.get("question"))
-}
-
-/// The question of a report.
-#[tactic(auto, using(crate::proofs::QuestionLemmas::given_text, crate::proofs::QuestionLemmas::no_given_text))]
-pub fn question_at(alloc: Global, value: &Value) -> Result<Question, Refusal>
-    ensures reading { GivesQuestion (view value.now) result }
-    ensures limits { IfOk result (λ q. IsQuestion (question_body q)) }
-{
-    match question_text(value) {
-        Some(text) => question_of(alloc, text),
-        None => Err(Refusal::Shape),
     }
 }

@@ -2,18 +2,30 @@
 use it_question::types::Question;
 use it_space::Answer;
 
-/// A question, and an answer of the shape that it wants. Nothing says that the answer is right.
-pub struct Reported {
-    pub question: Question,
-    pub answer: Answer,
+/// The texts of what a report line is about, where it isn't a question alone: a question with copies, by the head that asks for them, or
+/// a sharing file.
+#[derive(Clone, Copy)]
+pub enum SourceText<'a> {
+    Copies { head: &'a [u8], question: &'a [u8] },
+    Sharing(&'a [u8]),
+}
+
+/// The question that is asked with an answer of the shape that it wants, of which nothing says that it is right; or that a question
+/// can't have what is asked for.
+pub enum Reported {
+    Answered { question: Question, answer: Answer },
+    Misfit,
 }
 
 // Written by hand, so that dropping a report takes one call and not a step for each field.
 impl Drop for Reported {
     fn drop(self) {
-        let Reported {
-            question: _,
-            answer: _,
-        } = self;
+        match self {
+            Reported::Answered {
+                question: _,
+                answer: _,
+            } => {}
+            Reported::Misfit => {}
+        }
     }
 }

@@ -1,12 +1,15 @@
 //! Answers as lines of JSON.
-ghost use Rattle.std.specs.Prelude.{◌≡◌, IfOk, map, string_bytes, Some, IsAscii, IsUtf8};
+ghost use Rattle.std.specs.Prelude.{◌≡◌, IfOk, map, string_bytes, false, Some, IsAscii, IsUtf8};
+ghost use Rattle.serde_json.specs.Data.{put};
 ghost use Rattle.serde_json.specs.Read.{read};
-ghost use Rattle.serde_json.specs.View.{view};
+ghost use Rattle.serde_json.specs.View.{members_view, view};
+ghost use Rattle.serde_json.specs.Written.{members_have_float};
 ghost use Rattle.it_space.specs.Answers.{IfRate, answer_view, certificate_view};
 ghost use Rattle.it_space.specs.Answers.AnswerView.{Yes, No, Undecided, Region, Contained, Open};
-ghost use Rattle.it_certificate.specs.Values.{IsAsciiRate, IsWritable, answer_text, answer_value};
+ghost use Rattle.it_certificate.specs.Values.{IsAsciiRate, IsWritable, answer_members, answer_text, answer_value, ascii_byte, ascii_string, misfit_members, report_text, source_texts, with_source};
 
 use crate::objects::Members;
+use crate::types::SourceText;
 use crate::values::{
     ascii_text, cause_word, integers, proofs, rows, sets, side_word, step_or_rate_value,
 };
@@ -15,99 +18,116 @@ use it_syntax::Names;
 use serde_json::{Value, json};
 use std::alloc::{AllocError, Global};
 
-/// The value of a yes.
-#[tactic(auto, unfolding(crate::specs::Values::answer_value))]
-fn yes_value(
+/// The members of a yes.
+#[tactic(auto, unfolding(crate::specs::Values::answer_members))]
+fn yes_members(
     alloc: Global,
-    question: &str,
     names: &Names,
     certificates: &[Certificate],
-) -> Result<Value, AllocError>
-    ensures { IfOk result (λ v. view v ≡ answer_value question.now names.now (Yes (map certificate_view certificates.now))) }
+) -> Result<Members, AllocError>
+    ensures { IfOk result (λ m. members_view m.map.entries ≡ answer_members names.now (Yes (map certificate_view certificates.now))) }
 {
     let proofs = proofs(alloc, certificates)?;
     let members = Members::new(alloc).with(alloc, "proofs", proofs)?;
-    members.into_answer(alloc, "yes", question)
+    members.with_text(alloc, "answer", "yes")
 }
 
-/// The value of a no.
-#[tactic(auto, unfolding(crate::specs::Values::answer_value))]
-fn no_value(
+/// The members of a no.
+#[tactic(auto, unfolding(crate::specs::Values::answer_members))]
+fn no_members(
     alloc: Global,
-    question: &str,
     names: &Names,
     back: bool,
     point: &Point,
-) -> Result<Value, AllocError>
-    ensures { IfOk result (λ v. view v ≡ answer_value question.now names.now (No back point.now)) }
+) -> Result<Members, AllocError>
+    ensures { IfOk result (λ m. members_view m.map.entries ≡ answer_members names.now (No back point.now)) }
 {
     let values = integers(alloc, point.values())?;
     let members = Members::new(alloc).with(alloc, "point", values)?;
     let members = members.with_text(alloc, "side", side_word(back))?;
-    members.into_answer(alloc, "no", question)
+    members.with_text(alloc, "answer", "no")
 }
 
-/// The value of an undecided.
-#[tactic(auto, unfolding(crate::specs::Values::answer_value))]
-fn undecided_value(
+/// The members of an undecided.
+#[tactic(auto, unfolding(crate::specs::Values::answer_members))]
+fn undecided_members(
     alloc: Global,
-    question: &str,
     names: &Names,
     cause: Cause,
-) -> Result<Value, AllocError>
+) -> Result<Members, AllocError>
     requires { IfRate (IsAsciiRate names.now) cause }
-    ensures { IfOk result (λ v. view v ≡ answer_value question.now names.now (Undecided cause)) }
+    ensures { IfOk result (λ m. members_view m.map.entries ≡ answer_members names.now (Undecided cause)) }
 {
     let place = step_or_rate_value(alloc, names, cause)?;
     let members = Members::new(alloc).with(alloc, "at", place)?;
     let members = members.with_text(alloc, "cause", cause_word(cause))?;
-    members.into_answer(alloc, "undecided", question)
+    members.with_text(alloc, "answer", "undecided")
 }
 
-/// The value of a region.
-#[tactic(auto, unfolding(crate::specs::Values::answer_value))]
-fn region_value(
+/// The members of a region.
+#[tactic(auto, unfolding(crate::specs::Values::answer_members))]
+fn region_members(
     alloc: Global,
-    question: &str,
     names: &Names,
     marked: &[(Mark, Row)],
-) -> Result<Value, AllocError>
-    ensures { IfOk result (λ v. view v ≡ answer_value question.now names.now (Region marked.now)) }
+) -> Result<Members, AllocError>
+    ensures { IfOk result (λ m. members_view m.map.entries ≡ answer_members names.now (Region marked.now)) }
 {
     let rows = rows(alloc, marked)?;
     let members = Members::new(alloc).with(alloc, "rows", rows)?;
-    members.into_answer(alloc, "region", question)
+    members.with_text(alloc, "answer", "region")
 }
 
-/// The value of a containment.
-#[tactic(auto, unfolding(crate::specs::Values::answer_value))]
-fn contained_value(
+/// The members of a containment.
+#[tactic(auto, unfolding(crate::specs::Values::answer_members))]
+fn contained_members(
     alloc: Global,
-    question: &str,
     names: &Names,
     parts: &[VarSet],
     certificates: &[Certificate],
-) -> Result<Value, AllocError>
-    ensures { IfOk result (λ v. view v ≡ answer_value question.now names.now (Contained parts.now (map certificate_view certificates.now))) }
+) -> Result<Members, AllocError>
+    ensures { IfOk result (λ m. members_view m.map.entries ≡ answer_members names.now (Contained parts.now (map certificate_view certificates.now))) }
 {
     let parts = sets(alloc, parts)?;
     let members = Members::new(alloc).with(alloc, "parts", parts)?;
     let proofs = proofs(alloc, certificates)?;
     let members = members.with(alloc, "proofs", proofs)?;
-    members.into_answer(alloc, "contained", question)
+    members.with_text(alloc, "answer", "contained")
 }
 
-/// The value of a search without an end.
-#[tactic(auto, unfolding(crate::specs::Values::answer_value))]
-fn open_value(alloc: Global, question: &str, names: &Names, tried: u32) -> Result<Value, AllocError>
-    ensures { IfOk result (λ v. view v ≡ answer_value question.now names.now (Open tried)) }
+/// The members of a search without an end.
+#[tactic(auto, unfolding(crate::specs::Values::answer_members))]
+fn open_members(alloc: Global, names: &Names, tried: u32) -> Result<Members, AllocError>
+    ensures { IfOk result (λ m. members_view m.map.entries ≡ answer_members names.now (Open tried)) }
 {
     let count = json!(in alloc; tried)?;
     let members = Members::new(alloc).with(alloc, "tried", count)?;
-    members.into_answer(alloc, "open", question)
+    members.with_text(alloc, "answer", "open")
 }
 
-/// The value of an answer.
+/// The members of an answer.
+fn answer_members(
+    alloc: Global,
+    names: &Names,
+    answer: &Answer,
+) -> Result<Members, AllocError>
+    requires { IsWritable names.now (answer_view answer.now) }
+    ensures { IfOk result (λ m. members_view m.map.entries ≡ answer_members names.now (answer_view answer.now)) }
+{
+    match answer {
+        Answer::Yes(certificates) => yes_members(alloc, names, certificates.as_slice()),
+        Answer::No { back, point } => no_members(alloc, names, *back, point),
+        Answer::Undecided(cause) => undecided_members(alloc, names, *cause),
+        Answer::Region(rows) => region_members(alloc, names, rows.as_slice()),
+        Answer::Contained { parts, proofs } => {
+            contained_members(alloc, names, parts.as_slice(), proofs.as_slice())
+        }
+        Answer::Open { tried } => open_members(alloc, names, *tried),
+    }
+}
+
+/// The value of an answer to the question of a text.
+#[tactic(auto, unfolding(crate::specs::Values::answer_value))]
 fn answer_value(
     alloc: Global,
     question: &str,
@@ -117,16 +137,9 @@ fn answer_value(
     requires { IsWritable names.now (answer_view answer.now) }
     ensures { IfOk result (λ v. view v ≡ answer_value question.now names.now (answer_view answer.now)) }
 {
-    match answer {
-        Answer::Yes(certificates) => yes_value(alloc, question, names, certificates.as_slice()),
-        Answer::No { back, point } => no_value(alloc, question, names, *back, point),
-        Answer::Undecided(cause) => undecided_value(alloc, question, names, *cause),
-        Answer::Region(rows) => region_value(alloc, question, names, rows.as_slice()),
-        Answer::Contained { parts, proofs } => {
-            contained_value(alloc, question, names, parts.as_slice(), proofs.as_slice())
-        }
-        Answer::Open { tried } => open_value(alloc, question, names, *tried),
-    }
+    let members = answer_members(alloc, names, answer)?;
+    let members = members.with_text(alloc, "question", question)?;
+    Ok(members.into_value())
 }
 
 /// The text of an answer, which reads back as its value.
@@ -162,4 +175,104 @@ pub fn answer_json(
     // asked for its clause, that the bytes are UTF-8
     let _text = line.as_str();
     Ok(line.into_bytes())
+}
+
+/// A byte of ASCII, or a question mark in its place.
+fn ascii_byte(byte: u8) -> u8
+    ensures { result ≡ ascii_byte byte }
+{
+    if byte < 128 { byte } else { b'?' }
+}
+
+/// Bytes in ASCII.
+fn in_ascii(alloc: Global, bytes: &[u8]) -> Result<Vec<u8>, AllocError>
+    ensures bytes { IfOk result (λ v. v.items ≡ map ascii_byte bytes.now) }
+    ensures ascii { IfOk result (λ v. IsAscii v.items) }
+{
+    let mut out = Vec::new(alloc);
+    for byte in bytes {
+        out.push(ascii_byte(*byte))?;
+    }
+    Ok(out)
+}
+
+/// The members with bytes as a text in ASCII.
+fn with_bytes(
+    alloc: Global,
+    members: Members,
+    key: &str,
+    bytes: &[u8],
+) -> Result<Members, AllocError>
+    ensures { IfOk result (λ m. members_view m.map.entries ≡ put key.now (ascii_string bytes.now) (members_view members.map.entries)) }
+{
+    let text = in_ascii(alloc, bytes)?;
+    members.with_text(alloc, key, ascii_text(text.as_slice()))
+}
+
+/// The members with the texts of what the line is about.
+fn with_source(
+    alloc: Global,
+    members: Members,
+    source: SourceText<'_>,
+) -> Result<Members, AllocError>
+    ensures { IfOk result (λ m. members_view m.map.entries ≡ with_source (source_texts source.entry) (members_view members.map.entries)) }
+{
+    match source {
+        SourceText::Copies { head, question } => {
+            let members = with_bytes(alloc, members, "copies", head)?;
+            with_bytes(alloc, members, "question", question)
+        }
+        SourceText::Sharing(text) => with_bytes(alloc, members, "sharing", text),
+    }
+}
+
+/// The members of a misfit.
+fn misfit_members(alloc: Global, cause: &[u8]) -> Result<Members, AllocError>
+    ensures { IfOk result (λ m. members_view m.map.entries ≡ misfit_members cause.now) }
+{
+    let members = with_bytes(alloc, Members::new(alloc), "cause", cause)?;
+    members.with_text(alloc, "answer", "misfit")
+}
+
+/// The line of these members, of which none is a float, about what these texts ask.
+fn line_about(
+    alloc: Global,
+    members: Members,
+    source: SourceText<'_>,
+) -> Result<Vec<u8>, AllocError>
+    requires { members_have_float (members_view members.map.entries) ≡ false }
+    ensures { IfOk result (λ out. out.items ≡ report_text (source_texts source.entry) (members_view members.map.entries)) }
+{
+    let members = with_source(alloc, members, source)?;
+    let value = members.into_value();
+    let line = value.to_string(alloc)?;
+    Ok(line.into_bytes())
+}
+
+/// The line of an answer to what these texts ask, without its end: compact JSON with its keys in alphabetical order. `names` are the
+/// names of the question that is asked, by which causes name rates. Weights of 0 are left out; the others stand in their order. Of the
+/// texts each byte outside of ASCII is written as `?`.
+pub fn report_json(
+    alloc: Global,
+    source: SourceText<'_>,
+    names: &Names,
+    answer: &Answer,
+) -> Result<Vec<u8>, AllocError>
+    requires { IsWritable names.now (answer_view answer.now) }
+    ensures { IfOk result (λ out. out.items ≡ report_text (source_texts source.entry) (answer_members names.now (answer_view answer.now))) }
+{
+    let members = answer_members(alloc, names, answer)?;
+    line_about(alloc, members, source)
+}
+
+/// The line of a question that can't have what these texts ask for, without its end, with the words of the reason.
+pub fn misfit_json(
+    alloc: Global,
+    source: SourceText<'_>,
+    cause: &[u8],
+) -> Result<Vec<u8>, AllocError>
+    ensures { IfOk result (λ out. out.items ≡ report_text (source_texts source.entry) (misfit_members cause.now)) }
+{
+    let members = misfit_members(alloc, cause)?;
+    line_about(alloc, members, source)
 }

@@ -66,7 +66,8 @@ use Rattle.it_answer.proofs.FormLemmas.{generators_speak, by_rows}
 use Rattle.it_answer.proofs.UniqueLemmas.{a_yes_ascends}
 use Rattle.it_certificate.specs.AnswerShapes.{HasQuestionShape, HasVerbShape, IsCauseFor}
 use Rattle.it_certificate.specs.Laws.{ReadsBack, written_answer}
-use Rattle.it_certificate.specs.Reports.{ReadsReport}
+use Rattle.it_certificate.specs.Reports.{Answered, ReadsReport}
+use Rattle.it_certificate.specs.Sources.{Text}
 use Rattle.it_certificate.specs.Values.{answer_value, answer_text, step_or_rate_word}
 use Rattle.it_report.specs.RowVerdicts.{is_valid, proof_verdict, proofs_verdict, point_verdict}
 use Rattle.it_report.specs.LineVerdicts.{LineVerdict, Skipped, Judged, is_invalid}
@@ -202,7 +203,7 @@ module _ (back : ReadsBack) (q : QuestionView) (short : length q.text ≤ 104857
   text_is : IsUtf8 q.text
   text_is = IsUtf8-from_ascii q.text question_ascii.text
 
-  line_reads : (a : AnswerView) → HasQuestionShape q.body a → IsPlain (answer_value q.text q.body.names a) → ReadsReport (line_of a) (Ok (q, written_answer a))
+  line_reads : (a : AnswerView) → HasQuestionShape q.body a → IsPlain (answer_value q.text q.body.names a) → ReadsReport (line_of a) (Ok (Answered (Text q) (written_answer a)))
   line_reads a fits plain = record {
     value = answer_value q.text q.body.names a;
     utf8 = answer_text_utf8 q.text q.body.names a plain;
@@ -227,11 +228,11 @@ module _ (back : ReadsBack) (q : QuestionView) (short : length q.text ≤ 104857
       → IsAnswerVerdict q.body a (Judged (problem_names q.body) Valid)
   verdict_by_verb a verb about e = (refl, ap (λ v. answer_verdict (problem_of q.body) (map (terms_in q.body) (answer_forms_by q.body v a)) a) about ∙ e)
 
-  judged_is_accepted : (a : AnswerView) (line : List ℕ) → Every IsNoFeed line → IsAnswerVerdict q.body a (Judged (problem_names q.body) Valid) → ReadsReport line (Ok (q, a)) → IsAccepted line
-  judged_is_accepted a line clear verdict reads = accepted_by_verdict line (Judged (problem_names q.body) Valid) clear (record { question = q; answer = a; reads = reads; verdict = verdict }) refl
+  judged_is_accepted : (a : AnswerView) (line : List ℕ) → Every IsNoFeed line → IsAnswerVerdict q.body a (Judged (problem_names q.body) Valid) → ReadsReport line (Ok (Answered (Text q) a)) → IsAccepted line
+  judged_is_accepted a line clear verdict reads = accepted_by_verdict line (Judged (problem_names q.body) Valid) clear (record { reading = Answered (Text q) a; reads = reads; verdict = verdict }) refl
 
-  skipped_is_accepted : (a : AnswerView) (line : List ℕ) → Every IsNoFeed line → IsAnswerVerdict q.body a Skipped → ReadsReport line (Ok (q, a)) → IsAccepted line
-  skipped_is_accepted a line clear e reads = accepted_by_verdict line Skipped clear (record { question = q; answer = a; reads = reads; verdict = e }) refl
+  skipped_is_accepted : (a : AnswerView) (line : List ℕ) → Every IsNoFeed line → IsAnswerVerdict q.body a Skipped → ReadsReport line (Ok (Answered (Text q) a)) → IsAccepted line
+  skipped_is_accepted a line clear e reads = accepted_by_verdict line Skipped clear (record { reading = Answered (Text q) a; reads = reads; verdict = e }) refl
 
   undecided_accepted : (c : Cause) → HasQuestionShape q.body (Undecided c) → IsCauseFor q.body.names c → IsAccepted (line_of (Undecided c))
   undecided_accepted c fits cause =
@@ -254,7 +255,7 @@ module _ (back : ReadsBack) (q : QuestionView) (short : length q.text ≤ 104857
         let plain = yes_plain q.text q.body.names text_is ws fits.1 in
         let reads = line_reads (Yes ws) (question_fits q.body (Yes ws) (Prove r) about fits) plain in
         judged_is_accepted (Yes ws) (line_of (Yes ws)) (clear_of (Yes ws) plain) (verdict_by_verb (Yes ws) (Prove r) about (ap Some e))
-        (subst (λ us. ReadsReport (line_of (Yes ws)) (Ok (q, Yes us))) (all_weights_written ws ascend) reads)
+        (subst (λ us. ReadsReport (line_of (Yes ws)) (Ok (Answered (Text q) (Yes us)))) (all_weights_written ws ascend) reads)
 
     no_accepted : (r : RelationView) (is_back : Bool) (values : List ℤ) → q.body.verb ≡ Prove r → ShowsBy q.body (Prove r) (No is_back values) → IsDueRelation budgets.effort q.body r (No is_back values)
         → IsAccepted (line_of (No is_back values))
@@ -303,7 +304,7 @@ module _ (back : ReadsBack) (q : QuestionView) (short : length q.text ≤ 104857
         let e = proofs_by_valid (problem_of q.body) budgets.effort forms rows ws posed.limits are proofs in
         let verdict = verdict_by_verb a (Contain first second tries) about (ap Some e) in
         judged_is_accepted a (line_of a) (clear_of a plain) verdict
-        (subst (λ us. ReadsReport (line_of a) (Ok (q, Contained parts us))) (all_weights_written ws ascend) reads)
+        (subst (λ us. ReadsReport (line_of a) (Ok (Answered (Text q) (Contained parts us)))) (all_weights_written ws ascend) reads)
 
     open_accepted : (plans : List Plan) (first second : RegionView) (tries : List (List ℕ)) (tried : ℕ) (found : List Candidate) → budgets.tries < 2 ^ 32 → q.body.verb ≡ Contain first second tries
         → IsDueContainment budgets plans q.body first second tries (record { answer = Open tried; found = found }) → IsAccepted (line_of (Open tried))

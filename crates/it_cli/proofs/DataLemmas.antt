@@ -29,7 +29,7 @@ use Rattle.it_space.specs.declared.answers.Mark.{Mark}
 use Rattle.it_space.specs.declared.answers.Mark.TheVariants.{Plain, Needed, Unsettled}
 use Rattle.it_syntax.specs.NamesViews.{NamesView}
 use Rattle.it_certificate.specs.AnswerShapes.{IsNumberedAmount, IsNumbered}
-use Rattle.it_certificate.specs.Values.{integer_value, count_value, pair_value, proof_value, row_value, cause_word, step_or_rate_word, answer_value, answer_text}
+use Rattle.it_certificate.specs.Values.{integer_value, count_value, pair_value, proof_value, row_value, cause_word, step_or_rate_word, answer_members, answer_value, answer_text}
 use Rattle.it_certificate.proofs.ValueLemmas.{answer_shallow}
 
 -- ---- values without floats
@@ -229,11 +229,11 @@ question_utf8 = IsUtf8-are_ascii (codes "question") refl
 
 module _ (text : List ℕ) (v : NamesView) (ok : IsUtf8 text) where
   pub yes_plain : (ws : List CertificateView) → All IsNumbered ws → IsPlain (answer_value text v (Yes ws))
-  unfolding answer_value
+  unfolding answer_value answer_members
   yes_plain ws h = ((answer_utf8, (IsUtf8-are_ascii (codes "yes") refl, (IsUtf8-are_ascii (codes "proofs") refl, (items_plain proof_value IsNumbered proof_plain ws h, (question_utf8, (ok, tt)))))), refl)
 
   pub no_plain : (back : Bool) (values : List ℤ) → All IsWithin values → IsPlain (answer_value text v (No back values))
-  unfolding answer_value
+  unfolding answer_value answer_members
   no_plain back values h = (
     (
       answer_utf8,
@@ -258,15 +258,15 @@ module _ (text : List ℕ) (v : NamesView) (ok : IsUtf8 text) where
   )
 
   pub undecided_plain : (c : Cause) → IsUtf8 (step_or_rate_word v c) → IsPlain (answer_value text v (Undecided c))
-  unfolding answer_value
+  unfolding answer_value answer_members
   undecided_plain c h = ((answer_utf8, (IsUtf8-are_ascii (codes "undecided") refl, (IsUtf8-are_ascii (codes "at") refl, (h, (IsUtf8-are_ascii (codes "cause") refl, (cause_utf8 c, (question_utf8, (ok, tt)))))))), refl)
 
   pub region_plain : (rows : List (Mark × Terms)) → All (λ r. All IsNumberedAmount r.1) rows → IsPlain (answer_value text v (Region rows))
-  unfolding answer_value
+  unfolding answer_value answer_members
   region_plain rows h = ((answer_utf8, (IsUtf8-are_ascii (codes "region") refl, (question_utf8, (ok, (IsUtf8-are_ascii (codes "rows") refl, (items_plain row_value (λ r. All IsNumberedAmount r.1) row_plain rows h, tt)))))), refl)
 
   pub contained_plain : (parts : List ℕ) (proofs : List CertificateView) → All (λ s. s < 2 ^ 32) parts → All IsNumbered proofs → IsPlain (answer_value text v (Contained parts proofs))
-  unfolding answer_value
+  unfolding answer_value answer_members
   contained_plain parts proofs h k = (
     (
       answer_utf8,
@@ -288,7 +288,7 @@ module _ (text : List ℕ) (v : NamesView) (ok : IsUtf8 text) where
   )
 
   pub open_plain : (tried : ℕ) → tried < 2 ^ 32 → IsPlain (answer_value text v (Open tried))
-  unfolding answer_value
+  unfolding answer_value answer_members
   open_plain tried h = ((answer_utf8, (IsUtf8-are_ascii (codes "open") refl, (question_utf8, (ok, (IsUtf8-are_ascii (codes "tried") refl, (count_plain tried h, tt)))))), refl)
 
 -- the line of an answer

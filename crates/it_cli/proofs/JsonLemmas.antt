@@ -6,7 +6,7 @@ use Rattle.it_number.specs.Limit.{IsWithin}
 use Rattle.it_rational.specs.Rational.{Rational}
 use Rattle.it_space.specs.declared.answers.Cause.{Cause}
 use Rattle.it_space.specs.declared.spaces.Space.{Space}
-use Rattle.it_space.specs.Answers.{AnswerView, CertificateView, is_nonzero_weight}
+use Rattle.it_space.specs.Answers.{AnswerView, CertificateView, IfRate, is_nonzero_weight}
 use Rattle.it_space.specs.Answers.AnswerView.{Yes, No, Undecided, Region, Contained, Open}
 use Rattle.it_space.specs.Problems.{ProblemView, IsProblem}
 use Rattle.it_space.specs.Rows.{Terms, Ascends, IsCanonical, coefficient}
@@ -51,6 +51,7 @@ use Rattle.it_answer.specs.DueRelations.{PointIsDue, CauseIsDue, IsDueRelation}
 use Rattle.it_answer.proofs.UniqueLemmas.{undecided_same}
 use Rattle.it_certificate.specs.AnswerShapes.{IsNumberedAmount, IsNumbered, IsFoundIn, IsCauseFor, HasVerbShape}
 use Rattle.it_certificate.specs.Numerals.{step_of}
+use Rattle.it_certificate.specs.Values.{IsAsciiRate, IsWritable}
 use Rattle.it_certificate.proofs.RowLemmas.{nonzero_passes}
 use Rattle.it_certificate.specs.Laws.{without_zeros}
 use Rattle.it_report.proofs.CountLemmas.{targets_counted}
@@ -252,6 +253,44 @@ module _ (q : BodyView) (posed : IsProblemOf q (problem_of q)) where
   cause_due effort few [] c d = absurd d
   cause_due effort few (t ∷ ts) c (inl e) = cause_of_target effort few t c e
   cause_due effort few (t ∷ ts) c (inr d) = cause_due effort few ts c d.1
+
+-- ---- causes that name no rate
+
+abbrev NamesNone : Cause → Type 0
+NamesNone c = IfRate (λ r. ⊥) c
+
+end_names_none : (q : ProblemView) (target : Terms) (c : Cause) (e : RunEndView (List (ℕ × Rational)) (List Rational)) → Follows q target e (proof_views.Undecided c) → NamesNone c
+end_names_none q target c (Weights ws) (inl h) = let e = h.3 in absurd (cc)
+end_names_none q target c (Weights ws) (inr h) = subst NamesNone (undecided_same causes.Scale c (sym h.1)) tt
+end_names_none q target c (Point qs) (inl h) = let e = h.1 in absurd (cc)
+end_names_none q target c (Point qs) (inr h) = subst NamesNone (undecided_same causes.Scale c (sym h.1)) tt
+end_names_none q target c (Pivots k) e = subst NamesNone (undecided_same (causes.Pivots k) c (sym e)) tt
+end_names_none q target c (Width k) e = subst NamesNone (undecided_same (causes.Width k) c (sym e)) tt
+
+target_names_none : (p : ProblemView) (effort : Effort) (t : Terms) (c : Cause) → EndsWith p t effort (proof_views.Undecided c) → NamesNone c
+target_names_none p effort t c (inl e) = end_names_none p t c e.end e.follows
+target_names_none p effort t c (inr (quick, settled)) = absurd settled
+
+due_names_none : (p : ProblemView) (effort : Effort) (ts : List Terms) (c : Cause) → CauseIsDue p effort ts c → NamesNone c
+due_names_none p effort [] c d = absurd d
+due_names_none p effort (t ∷ ts) c (inl e) = target_names_none p effort t c e
+due_names_none p effort (t ∷ ts) c (inr d) = due_names_none p effort ts c d.1
+
+none_is_any : (P : ℕ → Type 0) (c : Cause) → NamesNone c → IfRate P c
+none_is_any P (causes.Pivots steps) h = tt
+none_is_any P (causes.Width step) h = tt
+none_is_any P causes.Scale h = tt
+none_is_any P (causes.Rows r) h = absurd h
+none_is_any P (causes.WideRate r) h = absurd h
+
+-- so what is due of a relation can be written with any names
+pub due_is_writable : (effort : Effort) (q : BodyView) (r : RelationView) (v : NamesView) (a : AnswerView) → IsDueRelation effort q r a → IsWritable v a
+due_is_writable effort q r v (Yes ws) due = tt
+due_is_writable effort q r v (No back values) due = tt
+due_is_writable effort q r v (Undecided cause) due = none_is_any (IsAsciiRate v) cause (due_names_none (problem_of q) effort (map (terms_in q) (targets (variable_count q) r)) cause due)
+due_is_writable effort q r v (Region rows) due = tt
+due_is_writable effort q r v (Contained parts proofs) due = tt
+due_is_writable effort q r v (Open tried) due = tt
 
 -- a right answer to `prove` fits its question
 pub right_prove_fits : (effort : Effort) (q : BodyView) (r : RelationView) (a : AnswerView) → IfSome effort.pivots (λ n. n < 2 ^ 32) → IsProblemOf q (problem_of q) → q.verb ≡ Prove r → ShowsBy q (Prove r) a → IsDueRelation effort q r a

@@ -1,5 +1,5 @@
 -- Right replies in modes `copy`, `best` and `sharing` are true.
-use Rattle.std.proofs.Common.{◌≡◌, ℕ, ℤ, ◌↔◌, length, true, List, Some, refl, sym, ap, subst, ◌∙◌}
+use Rattle.std.proofs.Common.{Bool, ◌≡◌, ℕ, ℤ, ◌↔◌, length, true, List, Some, refl, sym, ap, subst, ◌∙◌}
 use Rattle.it_prove.specs.declared.types.Effort.{Effort}
 use Rattle.it_space.specs.Answers.{AnswerView}
 use Rattle.it_space.specs.Answers.AnswerView.{Yes, No, Undecided, Region, Contained, Open}
@@ -16,6 +16,7 @@ use Rattle.it_copy.specs.Extensions.{IsExtension, IsProof}
 use Rattle.it_copy.specs.Points.{YesByCopies}
 use Rattle.it_sharing.specs.PerfectSharing.{MadeQuestionIsOfPerfectSharing}
 use Rattle.it_sharing.specs.Sharings.{SharingView, IsSharing, IsBoundWhereBest, made_question}
+use Rattle.it_sharing.specs.Truth.{HoldsWherePerfect, IsTrueOfSharing}
 use Rattle.it_answer.specs.Shows as answers
 use Rattle.it_answer.specs.Truth.{IsTrueAnswer, IsTrueBy}
 use Rattle.it_factor.specs.Replies.{ReplyView, Found, Other}
@@ -23,17 +24,12 @@ use Rattle.it_factor.specs.RightReplies as factors
 use Rattle.it_factor.specs.RightReplies.{IsRightReply}
 use Rattle.it_factor.specs.Truth.{HoldsFor, IsTrueBest, IsTrueReply, asked_by, at_least}
 use Rattle.it_factor.proofs.TruthLemmas.{true_of_same}
+use Rattle.it_report.proofs.SourceTruth.{own_lines}
 use Rattle.it_cli.specs.Copies.{CopyQuestion, CopyReply, IsRightCopy, Misfit, Extended}
-use Rattle.it_cli.specs.SharingReplies.{IsRightSharing, SharingReply, Many, Answered, Factored}
-use Rattle.it_cli.specs.Truth.{HoldsWherePerfect, IsTrueCopy, IsTrueOfSharing, IsTrueSharing, IsTrueWithCopies}
+use Rattle.it_cli.specs.SharingReplies.{IsRightSharing, SharingReply, Many, Answered, Factored, Unreported}
+use Rattle.it_cli.specs.Truth.{IsTrueCopy, IsTrueSharing, IsTrueWithCopies}
 
 -- ---- of a question with copies
-
--- of a question about a relation, what holds wherever its problem's lines are true holds wherever its own are
-own_lines : (e : BodyView) (r : RelationView) (verb : VerbView) → verb ≡ Prove r
-    → ((p : ℕ → ℤ) → IsPolymatroid (length (names_under e.names verb).variables) p × AreTrueAt (length (names_under e.names verb).variables) p (lines_under e.lines verb) → Holds (length (names_under e.names verb).variables) p r)
-    → (p : ℕ → ℤ) → IsPolymatroid (length e.names.variables) p × AreTrueAt (length e.names.variables) p e.lines → Holds (length e.names.variables) p r
-own_lines e r verb is h = subst (λ (v : VerbView). (p : ℕ → ℤ) → IsPolymatroid (length (names_under e.names v).variables) p × AreTrueAt (length (names_under e.names v).variables) p (lines_under e.lines v) → Holds (length (names_under e.names v).variables) p r) is h
 
 module _ (shown_is_true : answers.WhatIsShownIsTrue) (by_copies : YesByCopies) where
   true_with_copies : (q e : BodyView) (cs : List CopyView) (verb : VerbView) (a : AnswerView) → IsQuestion q → q.verb ≡ verb → IsExtension q cs e → IsTrueAnswer e a → IsTrueWithCopies q e verb a
@@ -92,9 +88,10 @@ module _ (is_perfect : MadeQuestionIsOfPerfectSharing) (x : SharingView) (within
         true_of_same (HoldsFor (made_question x).body x.relation) (HoldsWherePerfect x) best same_factors (subst (λ (r : RelationView). IsTrueBest (HoldsFor (made_question x).body r) best) same t.2)
     true_factors Other t = absurd (none_is_not_some x.relation (sym t ∙ asks_for))
 
-pub right_sharing_is_true : answers.WhatIsShownIsTrue → factors.WhatIsShownIsTrue → MadeQuestionIsOfPerfectSharing → (effort : Effort) (x : SharingView) (reply : SharingReply) → IsSharing x × IsBoundWhereBest x
-    → IsRightSharing effort x reply → IsTrueSharing x reply
-right_sharing_is_true shown_is_true shown_factors is_perfect effort x Many within right = right
-right_sharing_is_true shown_is_true shown_factors is_perfect effort x (Answered a) within right = true_of_sharing is_perfect x within.0 a (shown_is_true (made_question x).body a right.2.shows)
-right_sharing_is_true shown_is_true shown_factors is_perfect effort x (Factored reply) within right =
-    true_factors is_perfect x within.0 within.1 right.1 reply (right_reply_is_true shown_factors effort (made_question x).body reply right.2)
+pub right_sharing_is_true : answers.WhatIsShownIsTrue → factors.WhatIsShownIsTrue → MadeQuestionIsOfPerfectSharing → (report : Bool) (effort : Effort) (x : SharingView) (reply : SharingReply) → IsSharing x × IsBoundWhereBest x
+    → IsRightSharing report effort x reply → IsTrueSharing x reply
+right_sharing_is_true shown_is_true shown_factors is_perfect report effort x Many within right = right
+right_sharing_is_true shown_is_true shown_factors is_perfect report effort x (Answered a) within right = true_of_sharing is_perfect x within.0 a (shown_is_true (made_question x).body a right.2.shows)
+right_sharing_is_true shown_is_true shown_factors is_perfect report effort x (Factored reply) within right =
+    true_factors is_perfect x within.0 within.1 right.1 reply (right_reply_is_true shown_factors effort (made_question x).body reply right.3)
+right_sharing_is_true shown_is_true shown_factors is_perfect report effort x Unreported within right = right.1

@@ -24,12 +24,12 @@ use Rattle.it_factor.specs.Lines.{reply_line}
 use Rattle.it_factor.specs.Replies.{ReplyView}
 use Rattle.it_factor.specs.RightReplies as factors
 use Rattle.it_factor.specs.Truth.{IsTrueReply}
-use Rattle.it_cli.specs.Copies.{AsksWithCopies, CopyQuestion, copy_text, with_copies}
+use Rattle.it_cli.specs.Copies.{AsksWithCopies, CopyQuestion, copy_lines, with_copies}
 use Rattle.it_cli.specs.Modes.{Mode, WholeOutput}
 use Rattle.it_cli.specs.Outputs.{IsOutput, answer_mode, best_mode, copy_mode, most_bytes, outer_mode, sharing_mode}
 use Rattle.it_cli.specs.Right.{answer_lines, budgets_of, effort_of, limits_of}
 use Rattle.it_canon.specs.QuestionDemands.{question_origins}
-use Rattle.it_cli.specs.SharingReplies.{AsksOfSharing, sharing_text}
+use Rattle.it_cli.specs.SharingReplies.{AsksOfSharing, SharingFile, SharingReply, said_by, sharing_lines}
 use Rattle.it_cli.specs.Truth.{IsTrueCopy, IsTrueSharing}
 use Rattle.it_cli.specs.Written.{AnswersAreTrue, AnswersShow, AreLinesFor, AreReplyLines, BoundsAreTrue, CopiesAreTrue, FactorsAreTrue, SharingIsTrue, ShownAnswers, TrueAnswers, TrueBounds, TrueCopies, TrueFactors, TrueSharing, WritesSuch}
 use Rattle.it_cli.specs.declared.status.Status.{Status}
@@ -82,8 +82,8 @@ copied_within are_within bytes items asked =
     subst (All IsWithinLimits) (sym asked.are) (All-map IsWithinLimits (with_copies asked.copies) asked.questions (are_within bytes asked.copies asked.questions asked.read))
 
 pub copies_are_true : answers.WhatIsShownIsTrue → YesByCopies → CopiedQuestionsAreWithin → CopiesAreTrue
-copies_are_true shown_is_true by_copies are_within run pivots = writes_such (Copy run pivots) 1048576 TrueCopies refl (λ plans bytes out o.
-    lines_for (copy_mode (effort_of run pivots)) (λ reply. reply) (λ k x reply. copy_text k reply) (λ k x reply. refl) IsWithinLimits IsTrueCopy (λ earlier. right_copy_is_true shown_is_true by_copies (effort_of run pivots)) (copied_within are_within) bytes out Done o)
+copies_are_true shown_is_true by_copies are_within report run pivots = writes_such (Copy report run pivots) 1048576 (TrueCopies report) refl (λ plans bytes out o.
+    lines_for (copy_mode report (effort_of run pivots)) (λ reply. reply) (copy_lines report) (λ k x reply. refl) IsWithinLimits IsTrueCopy (λ earlier. right_copy_is_true shown_is_true by_copies (effort_of run pivots)) (copied_within are_within) bytes out Done o)
 
 pub factors_are_true : factors.WhatIsShownIsTrue → FactorsAreTrue
 factors_are_true shown_is_true run pivots = writes_such (Best run pivots) 1048576 TrueFactors refl (λ plans bytes out o.
@@ -100,13 +100,13 @@ bounds_are_true shown_is_true run pivots rows tries = writes_such (Outer run piv
     IsTrueWhereShown (λ (q : QuestionView) (reply : bounds.ReplyView). true_bounds.IsTrueReply q.body reply) (λ earlier q reply within right. within reply right.shows) shown_is_true bytes out Done o)
 
 -- what the file says is within the limits
-abbrev IsWithinSharing : SharingView → Type 0
-IsWithinSharing x = IsSharing x × IsBoundWhereBest x
+abbrev IsWithinSharing : SharingFile → Type 0
+IsWithinSharing x = IsSharing x.says × IsBoundWhereBest x.says
 
-sharing_within : SharingIsWithin → (bytes : List ℕ) (items : List SharingView) → AsksOfSharing bytes items → All IsWithinSharing items
-sharing_within is_within bytes items asked = subst (All IsWithinSharing) (sym asked.is) (All-cons IsWithinSharing asked.file [] (is_within bytes asked.file asked.read) (All-nil IsWithinSharing))
+sharing_within : SharingIsWithin → (bytes : List ℕ) (items : List SharingFile) → AsksOfSharing bytes items → All IsWithinSharing items
+sharing_within is_within bytes items asked = subst (All IsWithinSharing) (sym asked.is) (All-cons IsWithinSharing (said_by bytes asked.file) [] (is_within bytes asked.file asked.read) (All-nil IsWithinSharing))
 
 pub sharing_is_true : answers.WhatIsShownIsTrue → factors.WhatIsShownIsTrue → MadeQuestionIsOfPerfectSharing → SharingIsWithin → SharingIsTrue
-sharing_is_true shown_is_true shown_factors is_perfect is_within run pivots = writes_such (Sharing run pivots) 1048576 TrueSharing refl (λ plans bytes out o.
-    lines_for (sharing_mode (effort_of run pivots)) (λ reply. reply) (λ k x reply. sharing_text x reply) (λ k x reply. refl) IsWithinSharing IsTrueSharing
-    (λ earlier. right_sharing_is_true shown_is_true shown_factors is_perfect (effort_of run pivots)) (sharing_within is_within) bytes out Done o)
+sharing_is_true shown_is_true shown_factors is_perfect is_within report run pivots = writes_such (Sharing report run pivots) 1048576 (TrueSharing report) refl (λ plans bytes out o.
+    lines_for (sharing_mode report (effort_of run pivots)) (λ reply. reply) (λ k. sharing_lines report) (λ k x reply. refl) IsWithinSharing (λ (x : SharingFile) (reply : SharingReply). IsTrueSharing x.says reply)
+    (λ earlier x. right_sharing_is_true shown_is_true shown_factors is_perfect report (effort_of run pivots) x.says) (sharing_within is_within) bytes out Done o)

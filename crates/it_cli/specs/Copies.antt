@@ -1,5 +1,5 @@
 -- What mode `copy` replies to a question: a right answer to it with the copies that the file's head asks for, or why it can't have them.
-use Rattle.std.specs.Prelude.{◌≡◌, ℕ, List, [], map}
+use Rattle.std.specs.Prelude.{◌≡◌, ℕ, List, [], ◌++◌, map, flat_map, Bool, true, false, codes}
 use Rattle.it_prove.specs.declared.types.Effort.{Effort}
 use Rattle.it_space.specs.Answers.{AnswerView}
 use Rattle.it_question.specs.Questions.{BodyView, QuestionView}
@@ -8,9 +8,10 @@ use Rattle.it_copy.specs.declared.types.CopyFault.TheVariants.{Memory}
 use Rattle.it_copy.specs.CopyLines.{CopyView}
 use Rattle.it_copy.specs.Extensions.{IsExtension, IsMisfit}
 use Rattle.it_copy.specs.Files.{IsCopyFile}
-use Rattle.it_print.specs.Lines.{answer_line}
+use Rattle.it_print.specs.Lines.{answer_line, joined_texts, or_zero}
 use Rattle.it_answer.specs.RightAnswers.{IsRightAnswer}
-use Rattle.it_cli.specs.Misfits.{misfit_line}
+use Rattle.it_certificate.specs.Values.{OfCopies, SourceTexts, answer_members, misfit_members, report_text}
+use Rattle.it_cli.specs.Misfits.{misfit_line, misfit_words}
 use Rattle.it_canon.specs.QuestionDemands.{question_origins}
 
 -- a question and the copies that it is to have
@@ -47,3 +48,27 @@ IsRightCopy effort x (Extended e answer) = IsExtension x.question.body x.copies 
 abbrev pub copy_text : ℕ → CopyReply → List ℕ
 copy_text k (Misfit fault) = misfit_line k fault
 copy_text k (Extended e answer) = answer_line k e (question_origins e) answer
+
+-- ---- as a line of a report
+
+-- the line of a head that asks for a copy
+unfoldable pub copy_line : CopyView → List ℕ
+copy_line c = codes "copy " ++ c.fresh ++ codes " of " ++ c.old ++ codes " over " ++ joined_texts (codes ",") false (or_zero c.over) ++ codes "\n"
+
+-- the head that asks for copies
+abbrev pub head_text : List CopyView → List ℕ
+head_text copies = flat_map copy_line copies
+
+-- the texts of what is asked: the head and the question
+abbrev pub copy_texts : CopyQuestion → SourceTexts
+copy_texts x = OfCopies (head_text x.copies) x.question.text
+
+-- the line of a report
+abbrev pub copy_report : CopyQuestion → CopyReply → List ℕ
+copy_report x (Misfit fault) = report_text (copy_texts x) (misfit_members (misfit_words fault)) ++ codes "\n"
+copy_report x (Extended e answer) = report_text (copy_texts x) (answer_members e.names answer) ++ codes "\n"
+
+-- the lines of a reply to question k, or the line of a report where one is asked for
+abbrev pub copy_lines : Bool → ℕ → CopyQuestion → CopyReply → List ℕ
+copy_lines true k x reply = copy_report x reply
+copy_lines false k x reply = copy_text k reply

@@ -1,5 +1,5 @@
 -- How the calls inside the top call end, by which its end is proved. No public clause cites this module.
-use Rattle.std.specs.Prelude.{◌≡◌, ℕ, List, [], ◌⊎◌, map, Option, Some}
+use Rattle.std.specs.Prelude.{◌≡◌, ℕ, List, [], ◌++◌, ◌⊎◌, map, codes, Option, Some}
 use Rattle.std.specs.Borrow.{Bor}
 use Rattle.it_outside.specs.Causes.{next_count}
 use Rattle.it_outside.specs.Traffic.{Gains, TookPrefix}
@@ -16,6 +16,7 @@ use Rattle.it_settings.specs.declared.types.Format.{Format}
 use Rattle.it_contain.specs.Proposals.{Plan, plan_after_all}
 use Rattle.it_space.specs.Answers.{AnswerView, answer_view}
 use Rattle.it_region.specs.AnswerForms.{answer_forms}
+use Rattle.it_certificate.specs.Values.{SourceTexts, answer_members, report_text}
 use Rattle.it_print.specs.Lines.{answer_line, origins_of}
 use Rattle.it_print.specs.ProofLines.{proof_text_by}
 use Rattle.it_answer.specs.declared.types.AnsweredProblem.{AnsweredProblem}
@@ -60,6 +61,12 @@ pub record IsProofText (effort : Effort) (k : ℕ) (q : BodyView) (bytes : List 
   pub answer : AnswerView
   pub right : IsRightProof effort q answer
   pub is : bytes ≡ answer_line k q (question_origins q) answer
+
+-- the line of a report of one, about what these texts ask
+pub record IsReportOf (effort : Effort) (texts : SourceTexts) (q : BodyView) (bytes : List ℕ) : Type 0 where
+  pub answer : AnswerView
+  pub right : IsRightProof effort q answer
+  pub is : bytes ≡ report_text texts (answer_members q.names answer) ++ codes "\n"
 
 -- the lines of a right reply to item k of a mode, after earlier replies
 pub record IsTextOf (m : Mode) (earlier : List m.Reply) (k : ℕ) (x : m.Item) (bytes : List ℕ) : Type 0 where

@@ -104,10 +104,10 @@ abbrev pub AreByBland : Settings → Type 0
 AreByBland (Answer format run pivots rows tries) = run ≡ Bland
 AreByBland Check = Unit {0}
 AreByBland (Bench seed count run pivots rows tries) = run ≡ Bland
-AreByBland (Copy run pivots) = run ≡ Bland
+AreByBland (Copy report run pivots) = run ≡ Bland
 AreByBland (Best run pivots) = run ≡ Bland
 AreByBland (Outer run pivots rows tries) = run ≡ Bland
-AreByBland (Sharing run pivots) = run ≡ Bland
+AreByBland (Sharing report run pivots) = run ≡ Bland
 
 -- in each mode bytes ask for one list of items, or have one first fault, and not both
 abbrev pub ModesHaveOneReading : Type 0

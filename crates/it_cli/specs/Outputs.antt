@@ -25,9 +25,9 @@ use Rattle.it_factor.specs.RightReplies.{IsRightReply}
 use Rattle.it_cli.specs.Right.{IsRightAfter, answer_lines, budgets_of, effort_of, limits_of}
 use Rattle.it_canon.specs.QuestionDemands.{question_origins}
 use Rattle.it_cli.specs.Counts.{IsBenchLine}
-use Rattle.it_cli.specs.Copies.{AsksWithCopies, IsRightCopy, copy_text}
+use Rattle.it_cli.specs.Copies.{AsksWithCopies, IsRightCopy, copy_lines}
 use Rattle.it_sharing.specs.SharingFiles.{SharingFaultAt}
-use Rattle.it_cli.specs.SharingReplies.{AsksOfSharing, IsRightSharing, sharing_text}
+use Rattle.it_cli.specs.SharingReplies.{AsksOfSharing, IsRightSharing, sharing_lines}
 use Rattle.it_cli.specs.Modes.{FirstOutput, Mode, OutputInPart, Replies, WholeOutput}
 use Rattle.it_cli.specs.declared.status.Status.{Status}
 use Rattle.it_cli.specs.declared.status.Status.TheVariants.{Done, Invalid}
@@ -81,9 +81,9 @@ abbrev pub bench_mode : Budgets → List Plan → ℕ → ℕ → Mode
 bench_mode budgets plans seed count = done_mode (λ bytes items. items ≡ tt {0} ∷ []) (λ bytes line column code. ⊥)
     (λ earlier item line. IsBenchLine budgets plans seed count line) (λ k item line. line)
 
--- one right reply to each question of a file with a head
-abbrev pub copy_mode : Effort → Mode
-copy_mode effort = done_mode AsksWithCopies CopyFileFaultAt (λ earlier. IsRightCopy effort) (λ k x reply. copy_text k reply)
+-- one right reply to each question of a file with a head, as a line of a report or not
+abbrev pub copy_mode : Bool → Effort → Mode
+copy_mode report effort = done_mode AsksWithCopies CopyFileFaultAt (λ earlier. IsRightCopy effort) (copy_lines report)
 
 -- one right reply to each question of a file that asks for factors
 abbrev pub best_mode : Effort → Mode
@@ -95,19 +95,19 @@ abbrev pub outer_mode : Limits → Mode
 outer_mode limits = done_mode IsFile FileFaultAt (λ earlier q reply. bounds.IsRightReply limits q.body reply)
     (λ k q reply. reply_lines limits k q.body (question_origins (under_all_lines q.body)) reply)
 
--- one right reply to what a sharing file asks
-abbrev pub sharing_mode : Effort → Mode
-sharing_mode effort = done_mode AsksOfSharing SharingFaultAt (λ earlier. IsRightSharing effort) (λ k x reply. sharing_text x reply)
+-- one right reply to what a sharing file asks, as a line of a report or not
+abbrev pub sharing_mode : Bool → Effort → Mode
+sharing_mode report effort = done_mode AsksOfSharing SharingFaultAt (λ earlier x. IsRightSharing report effort x.says) (λ k. sharing_lines report)
 
 -- the mode that the words ask for; the boxes had these plans
 abbrev pub mode_of : List Plan → Settings → Mode
 mode_of plans (Answer format run pivots rows tries) = answer_mode (budgets_of run pivots rows tries) plans format
 mode_of plans Check = check_mode
 mode_of plans (Bench seed count run pivots rows tries) = bench_mode (budgets_of run pivots rows tries) plans seed count
-mode_of plans (Copy run pivots) = copy_mode (effort_of run pivots)
+mode_of plans (Copy report run pivots) = copy_mode report (effort_of run pivots)
 mode_of plans (Best run pivots) = best_mode (effort_of run pivots)
 mode_of plans (Outer run pivots rows tries) = outer_mode (limits_of run pivots rows tries)
-mode_of plans (Sharing run pivots) = sharing_mode (effort_of run pivots)
+mode_of plans (Sharing report run pivots) = sharing_mode report (effort_of run pivots)
 
 -- ---- its output
 

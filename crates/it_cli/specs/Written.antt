@@ -1,6 +1,6 @@
 -- What a call that is done has written, whichever replies are due: lines of answers that show what they say, and in each mode that
 -- answers lines of replies that are true.
-use Rattle.std.specs.Prelude.{◌≡◌, ℕ, ◌+◌, List, [], ◌∷◌, ◌++◌, Option, Some}
+use Rattle.std.specs.Prelude.{◌≡◌, ℕ, ◌+◌, List, [], ◌∷◌, ◌++◌, Bool, Option, Some}
 use Rattle.it_outer.specs.declared.types.Limits.{Limits}
 use Rattle.it_settings.specs.Settings.{settings_of}
 use Rattle.it_settings.specs.declared.types.Format.{Format}
@@ -20,8 +20,8 @@ use Rattle.it_factor.specs.Replies.{ReplyView}
 use Rattle.it_factor.specs.Truth.{IsTrueReply}
 use Rattle.it_cli.specs.Right.{answer_lines, limits_of}
 use Rattle.it_canon.specs.QuestionDemands.{question_origins}
-use Rattle.it_cli.specs.Copies.{AsksWithCopies, copy_text}
-use Rattle.it_cli.specs.SharingReplies.{AsksOfSharing, sharing_text}
+use Rattle.it_cli.specs.Copies.{AsksWithCopies, copy_lines}
+use Rattle.it_cli.specs.SharingReplies.{AsksOfSharing, SharingFile, SharingReply, sharing_lines}
 use Rattle.it_cli.specs.Truth.{IsTrueCopy, IsTrueSharing}
 use Rattle.it_cli.specs.Ends.{Call, Ends}
 use Rattle.it_cli.specs.declared.status.Status.TheVariants.{Done}
@@ -53,9 +53,9 @@ ShownAnswers format = AreLinesFor IsFile (λ (q : QuestionView) (answer : Answer
 abbrev pub TrueAnswers : Format → List ℕ → List ℕ → Type 0
 TrueAnswers format = AreLinesFor IsFile (λ (q : QuestionView) (answer : AnswerView). IsTrueAnswer q.body answer) (answer_lines format)
 
--- those of a true reply to each question of a file with a head
-abbrev pub TrueCopies : List ℕ → List ℕ → Type 0
-TrueCopies = AreLinesFor AsksWithCopies IsTrueCopy (λ k x reply. copy_text k reply)
+-- those of a true reply to each question of a file with a head, as lines of a report or not
+abbrev pub TrueCopies : Bool → List ℕ → List ℕ → Type 0
+TrueCopies report = AreLinesFor AsksWithCopies IsTrueCopy (copy_lines report)
 
 -- those of a true reply to each question of a file that asks for factors
 abbrev pub TrueFactors : List ℕ → List ℕ → Type 0
@@ -66,9 +66,9 @@ abbrev pub TrueBounds : Limits → List ℕ → List ℕ → Type 0
 TrueBounds limits = AreLinesFor IsFile (λ (q : QuestionView) (reply : bounds.ReplyView). true_bounds.IsTrueReply q.body reply)
     (λ k q reply. reply_lines limits k q.body (question_origins (true_bounds.under_all_lines q.body)) reply)
 
--- those of a true reply to what a sharing file asks
-abbrev pub TrueSharing : List ℕ → List ℕ → Type 0
-TrueSharing = AreLinesFor AsksOfSharing IsTrueSharing (λ k x reply. sharing_text x reply)
+-- those of a true reply to what a sharing file asks, as a line of a report or not
+abbrev pub TrueSharing : Bool → List ℕ → List ℕ → Type 0
+TrueSharing report = AreLinesFor AsksOfSharing (λ (x : SharingFile) (reply : SharingReply). IsTrueSharing x.says reply) (λ k. sharing_lines report)
 
 -- ---- of the call
 
@@ -82,7 +82,7 @@ AnswersAreTrue = (format : Format) (run : Run) (pivots : Option ℕ) (rows tries
 
 -- in mode `copy` each reply that was written is true
 abbrev pub CopiesAreTrue : Type 0
-CopiesAreTrue = (run : Run) (pivots : Option ℕ) → WritesSuch (Copy run pivots) TrueCopies
+CopiesAreTrue = (report : Bool) (run : Run) (pivots : Option ℕ) → WritesSuch (Copy report run pivots) (TrueCopies report)
 
 -- in mode `best`
 abbrev pub FactorsAreTrue : Type 0
@@ -94,4 +94,4 @@ BoundsAreTrue = (run : Run) (pivots : Option ℕ) (rows tries : ℕ) → WritesS
 
 -- and in mode `sharing`
 abbrev pub SharingIsTrue : Type 0
-SharingIsTrue = (run : Run) (pivots : Option ℕ) → WritesSuch (Sharing run pivots) TrueSharing
+SharingIsTrue = (report : Bool) (run : Run) (pivots : Option ℕ) → WritesSuch (Sharing report run pivots) (TrueSharing report)

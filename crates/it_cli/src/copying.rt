@@ -9,9 +9,11 @@ ghost use Rattle.it_cli.specs.InnerEnds.{EndsForBytes, EndsForItems, IsProofText
 ghost use Rattle.it_cli.specs.Outputs.{copy_mode};
 
 use crate::answering::{tell_fault, text_lines};
-use crate::misfits::misfit_line;
+use crate::misfits::{misfit_line, misfit_report};
+use crate::reporting::{head_text, proof_report};
 use crate::status::Status;
 use it_answer::{Budgets, answer};
+use it_certificate::SourceText;
 use it_copy::types::CopyLine;
 use it_copy::{copy_file, extend};
 use it_outside::{Sink, write_all};
@@ -22,16 +24,18 @@ use std::alloc::{AllocError, Global};
 /// What is done for the bytes of a file with a head.
 pub fn answer_with_copies<K: Sink>(
     alloc: Global,
+    report: bool,
     effort: Effort,
     bytes: &[u8],
     sink: &mut K,
 ) -> Status
     requires { length bytes.now ≤ 1048576 }
-    ensures { EndsForBytes K.taken K.faults (copy_mode effort) sink.old sink.new bytes.now result }
+    ensures { EndsForBytes K.taken K.faults (copy_mode report effort) sink.old sink.new bytes.now result }
 {
     match copy_file(alloc, bytes) {
         Ok(file) => reply_all(
             alloc,
+            report,
             effort,
             file.copies.as_slice(),
             file.questions.as_slice(),
@@ -45,6 +49,7 @@ pub fn answer_with_copies<K: Sink>(
 /// Writes the lines of each question, as soon as they are there.
 fn reply_all<K: Sink>(
     alloc: Global,
+    report: bool,
     effort: Effort,
     copies: &[CopyLine],
     questions: &[Question],
@@ -53,10 +58,10 @@ fn reply_all<K: Sink>(
     requires limits { All (λ q. IsQuestion (question_body q)) questions.now }
     requires names { AreNamed copies.now }
     requires few { length copies.now ≤ 4 }
-    ensures { EndsForItems K.taken K.faults (copy_mode effort) sink.old sink.new (questions_with copies.now questions.now) result }
+    ensures { EndsForItems K.taken K.faults (copy_mode report effort) sink.old sink.new (questions_with copies.now questions.now) result }
 {
     for (i, question) in questions.iter().enumerate() {
-        let Ok(text) = reply(alloc, effort, copies, i + 1, question) else {
+        let Ok(text) = reply(alloc, report, effort, copies, i + 1, question) else {
             return Status::Memory;
         };
         let Ok(()) = write_all(sink, text.as_slice()) else {
@@ -69,6 +74,7 @@ fn reply_all<K: Sink>(
 /// The lines of question k, counted from 1: those of a right answer with the copies, or why it can't have them.
 fn reply(
     alloc: Global,
+    report: bool,
     effort: Effort,
     copies: &[CopyLine],
     k: usize,
@@ -77,11 +83,56 @@ fn reply(
     requires limits { IsQuestion (question_body question.now) }
     requires names { AreNamed copies.now }
     requires few { length copies.now ≤ 4 }
-    ensures { IfOk result (λ text. IsTextOf (copy_mode effort) [] k (with_copies (map copy_view copies.now) (question_view question.now)) text.items) }
+    ensures { IfOk result (λ text. IsTextOf (copy_mode report effort) [] k (with_copies (map copy_view copies.now) (question_view question.now)) text.items) }
+{
+    if report {
+        reply_report(alloc, effort, copies, k, question)
+    } else {
+        reply_lines(alloc, effort, copies, k, question)
+    }
+}
+
+/// The lines of text.
+fn reply_lines(
+    alloc: Global,
+    effort: Effort,
+    copies: &[CopyLine],
+    k: usize,
+    question: &Question,
+) -> Result<Vec<u8>, AllocError>
+    requires limits { IsQuestion (question_body question.now) }
+    requires names { AreNamed copies.now }
+    requires few { length copies.now ≤ 4 }
+    ensures { IfOk result (λ text. IsTextOf (copy_mode false effort) [] k (with_copies (map copy_view copies.now) (question_view question.now)) text.items) }
 {
     match extend(alloc, question, copies) {
         Ok(extended) => proof_lines(alloc, effort, k, &extended),
         Err(fault) => misfit_line(alloc, k, fault),
+    }
+}
+
+/// The line of a report.
+fn reply_report(
+    alloc: Global,
+    effort: Effort,
+    copies: &[CopyLine],
+    k: usize,
+    question: &Question,
+) -> Result<Vec<u8>, AllocError>
+    requires limits { IsQuestion (question_body question.now) }
+    requires names { AreNamed copies.now }
+    requires few { length copies.now ≤ 4 }
+    ensures { IfOk result (λ text. IsTextOf (copy_mode true effort) [] k (with_copies (map copy_view copies.now) (question_view question.now)) text.items) }
+{
+    let head = head_text(alloc, copies)?;
+    let text = question.text(alloc)?;
+    let source = SourceText::Copies {
+        head: head.as_slice(),
+        question: text.as_slice(),
+    };
+    match extend(alloc, question, copies) {
+        Ok(extended) => proof_report(alloc, effort, source, &extended),
+        Err(fault) => misfit_report(alloc, source, fault),
     }
 }
 

@@ -6,13 +6,16 @@ ghost use Rattle.it_question.specs.Questions.{question_body, question_view};
 ghost use Rattle.it_sharing.specs.Sharings.{IsSharing, made_question, sharing_view, maximal_count, minimal_count};
 ghost use Rattle.it_cli.specs.InnerEnds.{EndsForBytes, EndsForItems, IsTextOf};
 ghost use Rattle.it_cli.specs.Outputs.{sharing_mode};
-ghost use Rattle.it_cli.specs.SharingReplies.{sharing_heading};
+ghost use Rattle.it_cli.specs.SharingReplies.{said_by, sharing_heading};
+ghost use Rattle.it_certificate.specs.Values.{OfSharing, misfit_members, report_text};
 
 use crate::answering::tell_fault;
 use crate::copying::proof_lines;
 use crate::factoring::factor_line;
+use crate::reporting::proof_report;
 use crate::status::Status;
 use crate::telling::tell;
+use it_certificate::{SourceText, misfit_json};
 use it_outside::Sink;
 use it_print::write_number;
 use it_prove::Effort;
@@ -25,37 +28,123 @@ use std::alloc::{AllocError, Global};
 const MANY: &[u8] = b"misfit many\n";
 
 /// What is done for the bytes of a sharing file.
-pub fn answer_sharing<K: Sink>(alloc: Global, effort: Effort, bytes: &[u8], sink: &mut K) -> Status
+pub fn answer_sharing<K: Sink>(
+    alloc: Global,
+    report: bool,
+    effort: Effort,
+    bytes: &[u8],
+    sink: &mut K,
+) -> Status
     requires { length bytes.now ≤ 1048576 }
-    ensures { EndsForBytes K.taken K.faults (sharing_mode effort) sink.old sink.new bytes.now result }
+    ensures { EndsForBytes K.taken K.faults (sharing_mode report effort) sink.old sink.new bytes.now result }
 {
     match sharing(alloc, bytes) {
-        Ok(sharing) => reply(alloc, effort, &sharing, sink),
+        Ok(sharing) => reply(alloc, report, effort, bytes, &sharing, sink),
         Err(FileFault::Fault { line, column, code }) => tell_fault(alloc, line, column, code, sink),
         Err(FileFault::Memory) => Status::Memory,
     }
 }
 
 /// Writes the lines for what a sharing file asks.
-fn reply<K: Sink>(alloc: Global, effort: Effort, sharing: &Sharing, sink: &mut K) -> Status
+fn reply<K: Sink>(
+    alloc: Global,
+    report: bool,
+    effort: Effort,
+    bytes: &[u8],
+    sharing: &Sharing,
+    sink: &mut K,
+) -> Status
     requires { IsSharing (sharing_view sharing.now) }
-    ensures { EndsForItems K.taken K.faults (sharing_mode effort) sink.old sink.new (sharing_view sharing.now ∷ []) result }
+    ensures { EndsForItems K.taken K.faults (sharing_mode report effort) sink.old sink.new (said_by bytes.now (sharing_view sharing.now) ∷ []) result }
 {
-    match lines(alloc, effort, sharing) {
+    match text(alloc, report, effort, bytes, sharing) {
         Ok(text) => tell(sink, text.as_slice(), Status::Done),
         Err(_) => Status::Memory,
     }
 }
 
-/// The lines of the right reply to what a sharing file asks.
-fn lines(alloc: Global, effort: Effort, sharing: &Sharing) -> Result<Vec<u8>, AllocError>
+/// The lines of the right reply to what a sharing file asks, or the line of a report.
+fn text(
+    alloc: Global,
+    report: bool,
+    effort: Effort,
+    bytes: &[u8],
+    sharing: &Sharing,
+) -> Result<Vec<u8>, AllocError>
     requires { IsSharing (sharing_view sharing.now) }
-    ensures { IfOk result (λ text. IsTextOf (sharing_mode effort) [] 1 (sharing_view sharing.now) text.items) }
+    ensures { IfOk result (λ text. IsTextOf (sharing_mode report effort) [] 1 (said_by bytes.now (sharing_view sharing.now)) text.items) }
+{
+    if report {
+        report_line(alloc, effort, bytes, sharing)
+    } else {
+        lines(alloc, effort, bytes, sharing)
+    }
+}
+
+/// The lines of the right reply to what a sharing file asks.
+fn lines(
+    alloc: Global,
+    effort: Effort,
+    bytes: &[u8],
+    sharing: &Sharing,
+) -> Result<Vec<u8>, AllocError>
+    requires { IsSharing (sharing_view sharing.now) }
+    ensures { IfOk result (λ text. IsTextOf (sharing_mode false effort) [] 1 (said_by bytes.now (sharing_view sharing.now)) text.items) }
 {
     match made(alloc, sharing) {
-        Ok(made) => made_lines(alloc, effort, sharing, &made),
+        Ok(made) => made_lines(alloc, effort, bytes, sharing, &made),
         Err(MadeFault::Many) => many_line(alloc),
         Err(MadeFault::Memory) => Err(AllocError),
+    }
+}
+
+/// The line of a report of the right reply to what a sharing file asks.
+fn report_line(
+    alloc: Global,
+    effort: Effort,
+    bytes: &[u8],
+    sharing: &Sharing,
+) -> Result<Vec<u8>, AllocError>
+    requires { IsSharing (sharing_view sharing.now) }
+    ensures { IfOk result (λ text. IsTextOf (sharing_mode true effort) [] 1 (said_by bytes.now (sharing_view sharing.now)) text.items) }
+{
+    match made(alloc, sharing) {
+        Ok(made) => made_report(alloc, effort, bytes, sharing, &made),
+        Err(MadeFault::Many) => cause_report(alloc, bytes, b"many"),
+        Err(MadeFault::Memory) => Err(AllocError),
+    }
+}
+
+/// The line of a report where there is no question, or one that has no report, with the word of the reason.
+fn cause_report(alloc: Global, bytes: &[u8], cause: &[u8]) -> Result<Vec<u8>, AllocError>
+    ensures { IfOk result (λ text. text.items ≡ report_text (OfSharing bytes.now) (misfit_members cause.now) ++ codes "\n") }
+{
+    let mut line = misfit_json(alloc, SourceText::Sharing(bytes), cause)?;
+    line.extend_from_slice(b"\n")?;
+    Ok(line)
+}
+
+/// The line of a report of the right reply to the question that a sharing file makes, or that factors have no report.
+fn made_report(
+    alloc: Global,
+    effort: Effort,
+    bytes: &[u8],
+    sharing: &Sharing,
+    made: &Made,
+) -> Result<Vec<u8>, AllocError>
+    requires question { question_view made.now.question ≡ made_question (sharing_view sharing.now) }
+    requires limits { IsQuestion (question_body made.now.question) }
+    requires minimal { made.now.minimal ≡ minimal_count (sharing_view sharing.now) }
+    requires maximal { made.now.maximal ≡ maximal_count (sharing_view sharing.now) }
+    requires few { made.now.minimal + made.now.maximal ≤ most_lines }
+    ensures { IfOk result (λ text. IsTextOf (sharing_mode true effort) [] 1 (said_by bytes.now (sharing_view sharing.now)) text.items) }
+{
+    if sharing.best {
+        let text = cause_report(alloc, bytes, b"best")?;
+        Ok(text)
+    } else {
+        let line = proof_report(alloc, effort, SourceText::Sharing(bytes), &made.question)?;
+        Ok(line)
     }
 }
 
@@ -72,6 +161,7 @@ fn many_line(alloc: Global) -> Result<Vec<u8>, AllocError>
 fn made_lines(
     alloc: Global,
     effort: Effort,
+    bytes: &[u8],
     sharing: &Sharing,
     made: &Made,
 ) -> Result<Vec<u8>, AllocError>
@@ -80,7 +170,7 @@ fn made_lines(
     requires minimal { made.now.minimal ≡ minimal_count (sharing_view sharing.now) }
     requires maximal { made.now.maximal ≡ maximal_count (sharing_view sharing.now) }
     requires few { made.now.minimal + made.now.maximal ≤ most_lines }
-    ensures { IfOk result (λ text. IsTextOf (sharing_mode effort) [] 1 (sharing_view sharing.now) text.items) }
+    ensures { IfOk result (λ text. IsTextOf (sharing_mode false effort) [] 1 (said_by bytes.now (sharing_view sharing.now)) text.items) }
 {
     if sharing.best {
         let line = factor_line(alloc, effort, 1, &made.question)?;

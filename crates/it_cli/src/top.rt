@@ -190,9 +190,11 @@ fn reply<K: Sink>(
             let budgets = budgets_of(run, pivots, rows, tries);
             bench(alloc, seed, count, budgets, boxes, sink)
         }
-        Settings::Copy { run, pivots } => {
-            answer_with_copies(alloc, effort_of(run, pivots), bytes, sink)
-        }
+        Settings::Copy {
+            report,
+            run,
+            pivots,
+        } => answer_with_copies(alloc, report, effort_of(run, pivots), bytes, sink),
         Settings::Best { run, pivots } => {
             find_factors(alloc, effort_of(run, pivots), bytes, sink)
         }
@@ -205,8 +207,10 @@ fn reply<K: Sink>(
             let limits = limits_of(run, pivots, rows, tries);
             find_bounds(alloc, limits, bytes, sink)
         }
-        Settings::Sharing { run, pivots } => {
-            answer_sharing(alloc, effort_of(run, pivots), bytes, sink)
-        }
+        Settings::Sharing {
+            report,
+            run,
+            pivots,
+        } => answer_sharing(alloc, report, effort_of(run, pivots), bytes, sink),
     }
 }

@@ -1,18 +1,17 @@
 -- Each line of a report has a verdict, and so a line about it.
-use Rattle.std.proofs.Common.{◌≡◌, ℕ, Bool, true, false, List, Option, Some, None, Result, Ok, Err, IsUtf8, codes, refl, sym, ◌∙◌}
+use Rattle.std.proofs.Common.{◌≡◌, ℕ, Bool, true, false, List, Option, Some, None, Result, Ok, Err, IsUtf8, refl, sym, ◌∙◌}
 use Rattle.std.specs.Str.{is_utf8}
 use Rattle.std.proofs.lemmas.Bool.{true≢false}
 use Rattle.std.proofs.lemmas.Str.{IsUtf8-from_is_utf8, is_utf8-from_IsUtf8}
 use Rattle.serde_json.specs.Data.{Data}
-use Rattle.serde_json.specs.Find.{get}
 use Rattle.serde_json.specs.Read.{read}
 use Rattle.it_space.specs.Answers.{AnswerView}
-use Rattle.it_question.specs.Questions.{BodyView, QuestionView}
+use Rattle.it_question.specs.Questions.{BodyView}
 use Rattle.it_question.specs.ProblemLines.{problem_names}
 use Rattle.it_certificate.specs.declared.keys.Key.{Key}
-use Rattle.it_certificate.specs.Parts.{text_of}
-use Rattle.it_certificate.specs.Reports.{ReadsReport, report_of}
-use Rattle.it_certificate.proofs.ReportLemmas.{question_there}
+use Rattle.it_certificate.specs.Reports.{Answered, Misfit, ReadsReport, Reading, report_of}
+use Rattle.it_certificate.specs.Sources.{asked}
+use Rattle.it_certificate.proofs.SourceLemmas.{source_there}
 use Rattle.it_check.specs.declared.verdicts.Verdict.{Verdict}
 use Rattle.it_report.specs.LineVerdicts.{LineVerdict, NotJson, Shape, Skipped, Judged, verdict_line, is_invalid}
 use Rattle.it_report.specs.Judging.{verdict_of, IsAnswerVerdict, IsVerdict}
@@ -33,11 +32,12 @@ answer_verdict_there q a = by_option (verdict_of q a) refl
 abbrev VerdictThere : List ℕ → Type 0
 VerdictThere line = (v : LineVerdict) × IsVerdict line v
 
-verdict_read : (line : List ℕ) (r : Result (QuestionView × AnswerView) Key) → ReadsReport line r → VerdictThere line
+verdict_read : (line : List ℕ) (r : Result Reading Key) → ReadsReport line r → VerdictThere line
 verdict_read line (Err key) h = (Shape key, h)
-verdict_read line (Ok (q, a)) h =
-    let v = answer_verdict_there q.body a in
-    (v.0, read_verdict line q a v.0 h v.1)
+verdict_read line (Ok (Answered source a)) h =
+    let v = answer_verdict_there (asked source).body a in
+    (v.0, read_verdict line (Answered source a) v.0 h v.1)
+verdict_read line (Ok Misfit) h = (Skipped, read_verdict line Misfit Skipped h refl)
 
 verdict_there : (line : List ℕ) → VerdictThere line
 verdict_there line = by_bytes (is_utf8 line) refl
@@ -48,8 +48,8 @@ verdict_there line = by_bytes (is_utf8 line) refl
     by_value : IsUtf8 line → (o : Option Data) → read line ≡ o → VerdictThere line
     by_value u None e = none_there e
     by_value u (Some d) e =
-        let own = question_there d (text_of (get (codes "question") d)) refl in
-        verdict_read line (report_of own.0 d) (record { value = d; utf8 = u; is_json = e; reads = record { own = own.0; question = own.1; is = refl } })
+        let own = source_there d in
+        verdict_read line (report_of own.0 d) (record { value = d; utf8 = u; is_json = e; reads = record { own = own.0; source = own.1; is = refl } })
 
     by_bytes : (b : Bool) → is_utf8 line ≡ b → VerdictThere line
     by_bytes true e = by_value (IsUtf8-from_is_utf8 line e) (read line) refl

@@ -2,7 +2,7 @@
 use Rattle.std.proofs.Common.{◌≡◌, ℕ, ℤ, lit<, ◌^◌, ◌<◌, ◌≤◌, List, length, take, Bool, true, false, Some, Result, Ok, Err, IfOk, refl, sym, ap, ◌∙◌, subst, arith, map}
 use Rattle.std.proofs.lemmas.List.Elements.{All-weaker}
 use Rattle.it_space.specs.declared.spaces.Space.{Space}
-use Rattle.it_space.specs.Answers.{AnswerView, CertificateView}
+use Rattle.it_space.specs.Answers.{AnswerView, CertificateView, answer_view}
 use Rattle.it_space.specs.Answers.AnswerView.{Yes, No, Contained}
 use Rattle.it_space.specs.Problems.{ProblemView, problem_view}
 use Rattle.it_space.specs.Rows.{Terms}
@@ -29,13 +29,16 @@ use Rattle.it_region.specs.Pairs.{IsPair, IsPairOf, Pairs, IsContainment, FitsPa
 use Rattle.it_region.proofs.TextLemmas.{text_rows, parts_fit, rows_as_pulled, pulled_rows_are}
 use Rattle.it_certificate.specs.AnswerShapes.{HasQuestionShape, HasVerbShape, HasContainmentShape}
 use Rattle.it_certificate.specs.declared.keys.ReportFault.{ReportFault}
-use Rattle.it_certificate.specs.Reports.{ReadsReport, Reports}
+use Rattle.it_certificate.specs.Reports.{Answered, IsReported, Misfit, ReadsReport, Reading, Reports}
+use Rattle.it_certificate.specs.Sources.{asked}
+use Rattle.it_certificate.specs.declared.types.Reported.{Reported}
+use Rattle.it_certificate.specs.declared.types.Reported.TheVariants as variants
 use Rattle.it_check.specs.declared.verdicts.Verdict.{Verdict}
 use Rattle.it_region.proofs.PairLemmas.{pair_of_verb}
 use Rattle.it_report.specs.RowVerdicts.{place_named}
 use Rattle.it_report.specs.LineVerdicts.{LineVerdict, NotJson, Shape, Skipped, Judged, IsLineOf}
-use Rattle.it_report.specs.Judging.{answer_verdict, IsAnswerVerdict, IsVerdict, IsJudgedLine}
-use Rattle.it_report.specs.Steps.{IsAboutRelation, IsFaultLine, IsJudgedAnswer}
+use Rattle.it_report.specs.Judging.{answer_verdict, IsAnswerVerdict, IsReadingVerdict, IsVerdict, IsJudgedLine}
+use Rattle.it_report.specs.Steps.{IsAboutRelation, IsFaultLine, IsJudgedAnswer, IsJudgedReport}
 use Rattle.it_demand.specs.RowsOfForms.{terms_of_form}
 use Rattle.it_canon.proofs.PosesLemmas.{one_problem}
 use Rattle.it_region.specs.AnswerForms.{answer_forms_by, answer_forms}
@@ -43,11 +46,13 @@ use Rattle.it_certificate.specs.declared.keys.ReportFault.TheVariants as faults
 
 -- ---- lines
 
-pub read_verdict : (line : List ℕ) (q : QuestionView) (a : AnswerView) (v : LineVerdict) → ReadsReport line (Ok (q, a)) → IsAnswerVerdict q.body a v → IsVerdict line v
-read_verdict line q a NotJson h is = absurd is
-read_verdict line q a (Shape key) h is = absurd is
-read_verdict line q a Skipped h is = record { question = q; answer = a; reads = h; verdict = is }
-read_verdict line q a (Judged names v) h is = record { question = q; answer = a; reads = h; verdict = is }
+pub read_verdict : (line : List ℕ) (reading : Reading) (v : LineVerdict) → ReadsReport line (Ok reading) → IsReadingVerdict reading v → IsVerdict line v
+read_verdict line (Answered source a) NotJson h is = absurd is
+read_verdict line (Answered source a) (Shape key) h is = absurd is
+read_verdict line Misfit NotJson h is = absurd cc
+read_verdict line Misfit (Shape key) h is = absurd cc
+read_verdict line reading Skipped h is = record { reading = reading; reads = h; verdict = is }
+read_verdict line reading (Judged names v) h is = record { reading = reading; reads = h; verdict = is }
 
 module _ {L E : Type 0} (text : L → List ℕ) (invalid : L → Bool) (k : ℕ) where
   pub fault_is_judged : (line : List ℕ) (fault : ReportFault) (r : Result L E) → Reports line (Err fault) → IfOk r (λ j. IsFaultLine k fault (text j) (invalid j)) → IfOk r (λ j. IsJudgedLine k line (text j) (invalid j))
@@ -56,9 +61,18 @@ module _ {L E : Type 0} (text : L → List ℕ) (invalid : L → Bool) (k : ℕ)
   fault_is_judged line (faults.Shape key) (Ok j) h told = record { verdict = Shape key; is = h; told = told }
   fault_is_judged line fault (Err e) h told = tt
 
-  pub answer_is_judged : (line : List ℕ) (q : QuestionView) (a : AnswerView) (r : Result L E) → ReadsReport line (Ok (q, a)) → IfOk r (λ j. IsJudgedAnswer k q.body a (text j) (invalid j)) → IfOk r (λ j. IsJudgedLine k line (text j) (invalid j))
-  answer_is_judged line q a (Ok j) h judged = record { verdict = judged.verdict; is = read_verdict line q a judged.verdict h judged.is; told = judged.told }
-  answer_is_judged line q a (Err e) h judged = tt
+  pub report_is_judged : (line : List ℕ) (reported : Reported) (r : Result L E) → Reports line (Ok reported) → IfOk r (λ j. IsJudgedReport k reported (text j) (invalid j)) → IfOk r (λ j. IsJudgedLine k line (text j) (invalid j))
+  report_is_judged line reported (Ok j) h judged = by_reading h.0 reported h.1 h.2 judged
+    where
+      by_reading : (reading : Reading) (reported : Reported) → IsReported reading reported → ReadsReport line (Ok reading) → IsJudgedReport k reported (text j) (invalid j) → IsJudgedLine k line (text j) (invalid j)
+      by_reading (Answered source a) (variants.Answered question answer) same h judged =
+          let verdict : IsAnswerVerdict (asked source).body a judged.verdict =
+              subst (λ b. IsAnswerVerdict (asked source).body b judged.verdict) (sym same.1) (subst (λ (q : QuestionView). IsAnswerVerdict q.body (answer_view answer) judged.verdict) (sym same.0) judged.is) in
+          record { verdict = judged.verdict; is = read_verdict line (Answered source a) judged.verdict h verdict; told = judged.told }
+      by_reading (Answered source a) variants.Misfit same h judged = absurd same
+      by_reading Misfit (variants.Answered question answer) same h judged = absurd same
+      by_reading Misfit variants.Misfit same h judged = record { verdict = Skipped; is = read_verdict line Misfit Skipped h refl; told = judged }
+  report_is_judged line reported (Err e) h judged = tt
 
   pub verdict_is_told : (q : BodyView) (a : AnswerView) (names : NamesView) (v : Verdict) (r : Result L E) → IsAnswerVerdict q a (Judged names v) → IfOk r (λ j. IsLineOf k (Judged names v) (text j) (invalid j)) → IfOk r (λ j. IsJudgedAnswer k q a (text j) (invalid j))
   verdict_is_told q a names v (Ok j) h told = record { verdict = Judged names v; is = h; told = told }

@@ -3,4 +3,5 @@ pub mod JudgingLemmas
 pub mod CountLemmas
 pub mod OneLemmas
 pub mod TruthLemmas
+pub mod SourceTruth
 pub mod ExistenceLemmas

@@ -5,17 +5,15 @@ use Rattle.serde_json.specs.Data.{Data}
 use Rattle.it_space.specs.Answers.{AnswerView}
 use Rattle.it_space.proofs.OptionLemmas.{some_same}
 use Rattle.it_syntax.specs.NamesViews.{NamesView}
-use Rattle.it_question.specs.Questions.{QuestionView}
+use Rattle.it_question.specs.Questions.{BodyView}
 use Rattle.it_certificate.specs.declared.keys.Key.{Key}
-use Rattle.it_certificate.specs.Reports.{ReadsReport}
+use Rattle.it_certificate.specs.Reports.{Answered, Misfit, ReadsReport, Reading}
+use Rattle.it_certificate.specs.Sources.{asked}
 use Rattle.it_certificate.proofs.OneLemmas.{one_reading}
 use Rattle.it_check.specs.declared.verdicts.Verdict.{Verdict}
 use Rattle.it_report.specs.LineVerdicts.{LineVerdict, NotJson, Shape, Skipped, Judged}
-use Rattle.it_report.specs.Judging.{IsAnswerVerdict, HasAnswer}
+use Rattle.it_report.specs.Judging.{IsAnswerVerdict, IsReadingVerdict, HasReading}
 use Rattle.it_report.specs.Meaning.{OneVerdict}
-
-abbrev pub Reading : Type 0
-Reading = QuestionView × AnswerView
 
 abbrev pub as_read : Reading → Result Reading Key
 as_read x = Ok x
@@ -35,40 +33,48 @@ one_key k j e = cc
 no_key : (k : Key) (x : Reading) → Err k ≡ Ok x → ⊥
 no_key k x e = cc
 
-pub one_pair : (x y : Reading) → as_read x ≡ as_read y → x ≡ y
-one_pair x y e = cc
+pub same_read : (x y : Reading) → as_read x ≡ as_read y → x ≡ y
+same_read x y e = cc
 
 none_judged : (v : Verdict) → None ≡ Some v → ⊥
 none_judged v e = cc
 
-judged_once : (x y : Reading) → x ≡ y → (m n : NamesView) (v w : Verdict) → IsAnswerVerdict x.0.body x.1 (Judged m v) → IsAnswerVerdict y.0.body y.1 (Judged n w) → Judged m v ≡ Judged n w
-judged_once x y e m n v w h k =
-    let same : IsAnswerVerdict x.0.body x.1 (Judged n w) = subst (λ z. IsAnswerVerdict z.0.body z.1 (Judged n w)) (sym e) k in
-    ap₂ Judged (h.0 ∙ sym same.0) (some_same v w (sym h.1 ∙ same.1))
+-- of an answer one thing is told
+answer_once : (q : BodyView) (a : AnswerView) (v w : LineVerdict) → IsAnswerVerdict q a v → IsAnswerVerdict q a w → v ≡ w
+answer_once q a NotJson w h k = absurd h
+answer_once q a (Shape j) w h k = absurd h
+answer_once q a Skipped NotJson h k = absurd k
+answer_once q a Skipped (Shape j) h k = absurd k
+answer_once q a Skipped Skipped h k = refl
+answer_once q a Skipped (Judged n w) h k = absurd (none_judged w (sym h ∙ k.1))
+answer_once q a (Judged m v) NotJson h k = absurd k
+answer_once q a (Judged m v) (Shape j) h k = absurd k
+answer_once q a (Judged m v) Skipped h k = absurd (none_judged v (sym k ∙ h.1))
+answer_once q a (Judged m v) (Judged n w) h k = ap₂ Judged (h.0 ∙ sym k.0) (some_same v w (sym h.1 ∙ k.1))
 
-skipped_once : (x y : Reading) → x ≡ y → (n : NamesView) (w : Verdict) → IsAnswerVerdict x.0.body x.1 Skipped → IsAnswerVerdict y.0.body y.1 (Judged n w) → ⊥
-skipped_once x y e n w h k = none_judged w (sym (subst (λ z. IsAnswerVerdict z.0.body z.1 Skipped) e h) ∙ k.1)
+told_once : (x : Reading) (v w : LineVerdict) → IsReadingVerdict x v → IsReadingVerdict x w → v ≡ w
+told_once (Answered source a) v w h k = answer_once (asked source).body a v w h k
+told_once Misfit v w h k = h ∙ sym k
 
-abbrev pair : (line : List ℕ) (v : LineVerdict) → HasAnswer line v → Reading
-pair line v h = (h.question, h.answer)
-
-one_answer : (line : List ℕ) (v w : LineVerdict) (h : HasAnswer line v) (k : HasAnswer line w) → pair line v h ≡ pair line w k
-one_answer line v w h k = one_pair (h.question, h.answer) (k.question, k.answer) (one_reading line (Ok (h.question, h.answer)) (Ok (k.question, k.answer)) h.reads k.reads)
+once : (line : List ℕ) (v w : LineVerdict) → HasReading line v → HasReading line w → v ≡ w
+once line v w h k =
+    let e : k.reading ≡ h.reading = same_read k.reading h.reading (one_reading line (Ok k.reading) (Ok h.reading) k.reads h.reads) in
+    told_once h.reading v w h.verdict (subst (λ x. IsReadingVerdict x w) e k.verdict)
 
 pub one_verdict : OneVerdict
 one_verdict line NotJson NotJson a b = refl
 one_verdict line NotJson (Shape j) a b = absurd (has_json line (Err j) b a)
-one_verdict line NotJson Skipped a b = absurd (has_json line (Ok (b.question, b.answer)) b.reads a)
-one_verdict line NotJson (Judged n w) a b = absurd (has_json line (Ok (b.question, b.answer)) b.reads a)
+one_verdict line NotJson Skipped a b = absurd (has_json line (Ok b.reading) b.reads a)
+one_verdict line NotJson (Judged n w) a b = absurd (has_json line (Ok b.reading) b.reads a)
 one_verdict line (Shape k) NotJson a b = absurd (has_json line (Err k) a b)
 one_verdict line (Shape k) (Shape j) a b = ap Shape (one_key k j (one_reading line (Err k) (Err j) a b))
-one_verdict line (Shape k) Skipped a b = absurd (no_key k (b.question, b.answer) (one_reading line (Err k) (Ok (b.question, b.answer)) a b.reads))
-one_verdict line (Shape k) (Judged n w) a b = absurd (no_key k (b.question, b.answer) (one_reading line (Err k) (Ok (b.question, b.answer)) a b.reads))
-one_verdict line Skipped NotJson a b = absurd (has_json line (Ok (a.question, a.answer)) a.reads b)
-one_verdict line Skipped (Shape j) a b = absurd (no_key j (a.question, a.answer) (one_reading line (Err j) (Ok (a.question, a.answer)) b a.reads))
+one_verdict line (Shape k) Skipped a b = absurd (no_key k b.reading (one_reading line (Err k) (Ok b.reading) a b.reads))
+one_verdict line (Shape k) (Judged n w) a b = absurd (no_key k b.reading (one_reading line (Err k) (Ok b.reading) a b.reads))
+one_verdict line Skipped NotJson a b = absurd (has_json line (Ok a.reading) a.reads b)
+one_verdict line Skipped (Shape j) a b = absurd (no_key j a.reading (one_reading line (Err j) (Ok a.reading) b a.reads))
 one_verdict line Skipped Skipped a b = refl
-one_verdict line Skipped (Judged n w) a b = absurd (skipped_once (a.question, a.answer) (b.question, b.answer) (one_answer line Skipped (Judged n w) a b) n w a.verdict b.verdict)
-one_verdict line (Judged m v) NotJson a b = absurd (has_json line (Ok (a.question, a.answer)) a.reads b)
-one_verdict line (Judged m v) (Shape j) a b = absurd (no_key j (a.question, a.answer) (one_reading line (Err j) (Ok (a.question, a.answer)) b a.reads))
-one_verdict line (Judged m v) Skipped a b = absurd (skipped_once (b.question, b.answer) (a.question, a.answer) (one_answer line Skipped (Judged m v) b a) m v b.verdict a.verdict)
-one_verdict line (Judged m v) (Judged n w) a b = judged_once (a.question, a.answer) (b.question, b.answer) (one_answer line (Judged m v) (Judged n w) a b) m n v w a.verdict b.verdict
+one_verdict line Skipped (Judged n w) a b = once line Skipped (Judged n w) a b
+one_verdict line (Judged m v) NotJson a b = absurd (has_json line (Ok a.reading) a.reads b)
+one_verdict line (Judged m v) (Shape j) a b = absurd (no_key j a.reading (one_reading line (Err j) (Ok a.reading) b a.reads))
+one_verdict line (Judged m v) Skipped a b = once line (Judged m v) Skipped a b
+one_verdict line (Judged m v) (Judged n w) a b = once line (Judged m v) (Judged n w) a b

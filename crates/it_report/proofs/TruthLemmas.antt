@@ -1,7 +1,7 @@
 -- The claim of a valid line is true.
-use Rattle.std.proofs.Common.{◌≡◌, ℕ, zero, suc, ◌<◌, ℤ, pos, neg_ℤ, ◌≤ℤ◌, List, [], ◌∷◌, map, length, get_or, Bool, Option, Some, None, Result, Ok, Err, All, if◌then◌else◌, refl, sym, ap, subst, ◌∙◌, arith}
+use Rattle.std.proofs.Common.{◌≡◌, ℕ, zero, suc, ◌<◌, ℤ, pos, neg_ℤ, ◌≤ℤ◌, List, [], ◌∷◌, map, length, get_or, Bool, true, false, Option, Some, None, Result, Ok, Err, All, if◌then◌else◌, refl, sym, ap, subst, ◌∙◌, arith}
 use Rattle.std.specs.Prelude.{ok_or}
-use Rattle.std.proofs.lemmas.List.Elements.{All-nil, All-cons, All-head}
+use Rattle.std.proofs.lemmas.List.Elements.{All-nil, All-cons}
 use Rattle.std.proofs.lemmas.List.{length-map}
 use Rattle.serde_json.specs.Data.{Data}
 use Rattle.it_space.specs.declared.spaces.Space.{Space}
@@ -15,9 +15,8 @@ use Rattle.it_polymatroid.specs.Certificates.{Form}
 use Rattle.it_polymatroid.specs.Polymatroid.{IsPolymatroid}
 use Rattle.it_syntax.specs.Meaning.{RelationView, common_denominator, side_at}
 use Rattle.it_question.specs.Limits.{IsQuestion}
-use Rattle.it_question.specs.Questions.{BodyView, QuestionView, RegionView, VerbView, Prove, Eliminate, Contain}
-use Rattle.it_question.proofs.FileReadings.{file_limits}
-use Rattle.it_question.proofs.NumberLemmas.{QuestionHasSmallNumbers, file_has_small_numbers}
+use Rattle.it_question.specs.Questions.{BodyView, RegionView, VerbView, Prove, Eliminate, Contain}
+use Rattle.it_question.proofs.NumberLemmas.{QuestionHasSmallNumbers}
 use Rattle.it_demand.specs.Canonical.{form_of}
 use Rattle.it_demand.specs.Targets.{targets}
 use Rattle.it_demand.specs.QuestionSpaces.{space_of}
@@ -38,67 +37,72 @@ use Rattle.it_certificate.specs.declared.kinds.AnswerKind.{AnswerKind}
 use Rattle.it_certificate.specs.AnswerReading.{and_then}
 use Rattle.it_certificate.specs.AnswerShapes.{HasQuestionShape, HasContainmentShape}
 use Rattle.it_certificate.specs.Parts.{answer_kind_at}
-use Rattle.it_certificate.specs.Reports.{ReadsReport, IsQuestionOf, IsQuestionAt, verb_answer, report_of}
+use Rattle.it_certificate.specs.Reports.{Answered, Misfit, ReadsReport, Reading, answer_to, report_of, tells_misfit}
+use Rattle.it_certificate.specs.Sources.{IsSourceAt, IsSourceOf, Source, asked, source_key}
 use Rattle.it_certificate.proofs.FitLemmas.{answer_fits}
 use Rattle.it_certificate.proofs.OneLemmas.{one_reading}
+use Rattle.it_certificate.proofs.SourceNumbers.{source_limits, source_numbers}
 use Rattle.it_check.specs.Meaning.{CertifiesRow, RefutesRow}
 use Rattle.it_check.specs.declared.verdicts.Verdict.{Verdict}
 use Rattle.it_check.specs.declared.verdicts.Verdict.TheVariants.{Valid, BadScale, UnknownGenerator, NegativeWeight, Width, Mismatch, BrokenElemental, UnmetConstraint, NotViolated}
 use Rattle.it_check.proofs.Truth.{valid_yes_is, valid_no_is, yes_is_true}
 use Rattle.it_report.specs.RowVerdicts.{is_valid, proof_verdict, proofs_verdict, point_verdict, place_named}
 use Rattle.it_report.specs.LineVerdicts.{Judged}
-use Rattle.it_report.specs.Judging.{answer_verdict, verdict_of, IsAnswerVerdict}
+use Rattle.it_report.specs.Judging.{answer_verdict, verdict_of, IsAnswerVerdict, IsReadingVerdict}
 use Rattle.it_region.specs.AnswerForms.{answer_forms_by}
 use Rattle.it_report.specs.Meaning.{IsClaimTrueBy, ValidIsTrue}
 use Rattle.it_report.proofs.JudgingLemmas.{verb_fits, target_is_there, point_is_complete, parts_as_named}
 use Rattle.it_report.proofs.CountLemmas.{obligations_counted, targets_counted}
-use Rattle.it_report.proofs.OneLemmas.{Reading, as_read, one_pair}
+use Rattle.it_report.proofs.OneLemmas.{as_read, same_read}
 
--- ---- what was read fits its question
+-- ---- what was read fits the question that is asked
 
-abbrev with_answer : QuestionView → AnswerView → Result Reading Key
-with_answer p b = Ok (p, b)
+abbrev with_answer : Source → AnswerView → Result Reading Key
+with_answer source b = Ok (Answered source b)
 
 no_answer : (k : Key) (x : Reading) → Err k ≡ as_read x → ⊥
 no_answer k x e = cc
 
-read_is : (own : Option QuestionView) (d : Data) (q : QuestionView) (a : AnswerView) → report_of own d ≡ Ok (q, a) → (own ≡ Some q) × HasQuestionShape q.body a
+misfit_or_answer : (source : Source) (a : AnswerView) → Misfit ≡ Answered source a → ⊥
+misfit_or_answer source a e = cc
+
+same_source : (s t : Source) (a b : AnswerView) → Answered s a ≡ Answered t b → (s ≡ t) × (a ≡ b)
+same_source s t a b e = let f : s ≡ t = cc in let g : a ≡ b = cc in (f, g)
+
+read_is : (own : Option Source) (d : Data) (source : Source) (a : AnswerView) → report_of own d ≡ Ok (Answered source a) → (own ≡ Some source) × HasQuestionShape (asked source).body a
 unfolding report_of
-read_is own d q a e = by_kind (answer_kind_at d) own e
+read_is own d source a e = by_word (tells_misfit d) e
   where
-    by_result : (kind : AnswerKind) (p : QuestionView) (r : Result AnswerView Key) → verb_answer p.body.names p.body.verb kind d ≡ r → and_then r (with_answer p) ≡ as_read (q, a) → (Some p ≡ Some q) × HasQuestionShape q.body a
-    by_result kind p (Err k) is f = absurd (no_answer k (q, a) f)
-    by_result kind p (Ok b) is f = let same = one_pair (p, b) (q, a) f in (ap (λ x. Some x.0) same, subst (λ x. HasQuestionShape x.0.body x.1) same (answer_fits p kind d b is))
+    by_result : (kind : AnswerKind) (s : Source) (r : Result AnswerView Key) → answer_to s kind d ≡ r → and_then r (with_answer s) ≡ as_read (Answered source a) → (Some s ≡ Some source) × HasQuestionShape (asked source).body a
+    by_result kind s (Err k) is f = absurd (no_answer k (Answered source a) f)
+    by_result kind s (Ok b) is f =
+        let same = same_source s source b a (same_read (Answered s b) (Answered source a) f) in
+        (ap Some same.0, subst (λ c. HasQuestionShape (asked source).body c) same.1 (subst (λ t. HasQuestionShape (asked t).body b) same.0 (answer_fits (asked s) kind d b is)))
 
-    by_kind : (o : Option AnswerKind) (own : Option QuestionView)
-        → and_then (ok_or o keys.Answer) (λ kind. and_then (ok_or own keys.Question) (λ p. and_then (verb_answer p.body.names p.body.verb kind d) (with_answer p))) ≡ as_read (q, a) → (own ≡ Some q) × HasQuestionShape q.body a
-    by_kind None own f = absurd (no_answer keys.Answer (q, a) f)
-    by_kind (Some kind) None f = absurd (no_answer keys.Question (q, a) f)
-    by_kind (Some kind) (Some p) f = by_result kind p (verb_answer p.body.names p.body.verb kind d) refl f
+    by_kind : (o : Option AnswerKind) (own : Option Source)
+        → and_then (ok_or o keys.Answer) (λ kind. and_then (ok_or own (source_key d)) (λ s. and_then (answer_to s kind d) (with_answer s))) ≡ as_read (Answered source a) → (own ≡ Some source) × HasQuestionShape (asked source).body a
+    by_kind None own f = absurd (no_answer keys.Answer (Answered source a) f)
+    by_kind (Some kind) None f = absurd (no_answer (source_key d) (Answered source a) f)
+    by_kind (Some kind) (Some s) f = by_result kind s (answer_to s kind d) refl f
 
-pub fits_question : (line : List ℕ) (q : QuestionView) (a : AnswerView) → ReadsReport line (Ok (q, a)) → HasQuestionShape q.body a
-fits_question line q a h = (read_is h.reads.own h.value q a h.reads.is).1
+    by_word : (told : Bool) → (if told then Ok Misfit else and_then (ok_or (answer_kind_at d) keys.Answer) (λ kind. and_then (ok_or own (source_key d)) (λ s. and_then (answer_to s kind d) (with_answer s)))) ≡ as_read (Answered source a)
+        → (own ≡ Some source) × HasQuestionShape (asked source).body a
+    by_word true f = absurd (misfit_or_answer source a (same_read Misfit (Answered source a) f))
+    by_word false f = by_kind (answer_kind_at d) own f
 
--- ---- and its question keeps the limits
+pub fits_question : (line : List ℕ) (source : Source) (a : AnswerView) → ReadsReport line (Ok (Answered source a)) → HasQuestionShape (asked source).body a
+fits_question line source a h = (read_is h.reads.own h.value source a h.reads.is).1
 
-of_question : (d : Data) (q : QuestionView) → IsQuestionOf d q → IsQuestion q.body
-unfolding IsQuestionOf
-of_question d q h = All-head (λ (q : QuestionView). IsQuestion q.body) q [] (file_limits h.0 (q ∷ []) h.1.1.1)
+-- the line's value is about that
+pub source_read : (line : List ℕ) (source : Source) (a : AnswerView) (h : ReadsReport line (Ok (Answered source a))) → IsSourceOf h.value source
+source_read line source a h = subst (IsSourceAt h.value) (read_is h.reads.own h.value source a h.reads.is).0 h.reads.source
 
--- the question that was read is that of the line's value
-pub question_read : (line : List ℕ) (q : QuestionView) (a : AnswerView) (h : ReadsReport line (Ok (q, a))) → IsQuestionOf h.value q
-question_read line q a h = subst (IsQuestionAt h.value) (read_is h.reads.own h.value q a h.reads.is).0 h.reads.question
+-- so the question keeps the limits and has small numbers
+pub limits_question : (line : List ℕ) (source : Source) (a : AnswerView) → ReadsReport line (Ok (Answered source a)) → IsQuestion (asked source).body
+limits_question line source a h = source_limits h.value source (source_read line source a h)
 
-pub limits_question : (line : List ℕ) (q : QuestionView) (a : AnswerView) → ReadsReport line (Ok (q, a)) → IsQuestion q.body
-limits_question line q a h = of_question h.value q (question_read line q a h)
-
--- and has small numbers
-numbers_of_question : (d : Data) (q : QuestionView) → IsQuestionOf d q → QuestionHasSmallNumbers q.body
-unfolding IsQuestionOf
-numbers_of_question d q h = (file_has_small_numbers h.0 (q ∷ []) h.1.1.1).0
-
-pub small_numbers : (line : List ℕ) (q : QuestionView) (a : AnswerView) → ReadsReport line (Ok (q, a)) → QuestionHasSmallNumbers q.body
-small_numbers line q a h = numbers_of_question h.value q (question_read line q a h)
+pub small_numbers : (line : List ℕ) (source : Source) (a : AnswerView) → ReadsReport line (Ok (Answered source a)) → QuestionHasSmallNumbers (asked source).body
+small_numbers line source a h = source_numbers h.value source (source_read line source a h)
 
 -- ---- valid certificates
 
@@ -214,7 +218,7 @@ judged_true q (Contain first second tries) a about k small fits e =
     by_answer (Open tried) fits e = tt
 
 pub valid_is_true : ValidIsTrue
-valid_is_true line names q a h reads =
-    let e = one_pair (h.question, h.answer) (q, a) (one_reading line (Ok (h.question, h.answer)) (Ok (q, a)) h.reads reads) in
-    let judged : IsAnswerVerdict q.body a (Judged names Valid) = subst (λ x. IsAnswerVerdict x.0.body x.1 (Judged names Valid)) e h.verdict in
-    judged_true q.body q.body.verb a refl (limits_question line q a reads) (small_numbers line q a reads) (fits_question line q a reads) judged.1
+valid_is_true line names source a h reads =
+    let e : h.reading ≡ Answered source a = same_read h.reading (Answered source a) (one_reading line (Ok h.reading) (Ok (Answered source a)) h.reads reads) in
+    let judged : IsAnswerVerdict (asked source).body a (Judged names Valid) = subst (λ x. IsReadingVerdict x (Judged names Valid)) e h.verdict in
+    judged_true (asked source).body (asked source).body.verb a refl (limits_question line source a reads) (small_numbers line source a reads) (fits_question line source a reads) judged.1

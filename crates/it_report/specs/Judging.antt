@@ -6,11 +6,12 @@ use Rattle.it_space.specs.Answers.{AnswerView}
 use Rattle.it_space.specs.Answers.AnswerView.{Yes, No, Contained}
 use Rattle.it_space.specs.Problems.{ProblemView}
 use Rattle.it_space.specs.Rows.{Terms}
-use Rattle.it_question.specs.Questions.{BodyView, QuestionView}
+use Rattle.it_question.specs.Questions.{BodyView}
 use Rattle.it_question.specs.ProblemLines.{problem_names}
 use Rattle.it_canon.specs.QuestionDemands.{problem_of, terms_in}
 use Rattle.it_region.specs.AnswerForms.{answer_forms}
-use Rattle.it_certificate.specs.Reports.{ReadsReport}
+use Rattle.it_certificate.specs.Reports.{Answered, Misfit, ReadsReport, Reading}
+use Rattle.it_certificate.specs.Sources.{asked}
 use Rattle.it_check.specs.declared.verdicts.Verdict.{Verdict}
 use Rattle.it_report.specs.RowVerdicts.{proofs_verdict, point_verdict}
 use Rattle.it_report.specs.LineVerdicts.{LineVerdict, NotJson, Shape, Skipped, Judged, IsLineOf}
@@ -32,18 +33,22 @@ IsAnswerVerdict q answer Skipped = verdict_of q answer ≡ None
 IsAnswerVerdict q answer (Judged names v) = (names ≡ problem_names q) × (verdict_of q answer ≡ Some v)
 IsAnswerVerdict q answer verdict = ⊥
 
--- the line reads as a question with an answer, which has this verdict
-pub record HasAnswer (line : List ℕ) (v : LineVerdict) : Type 0 where
-  pub question : QuestionView
-  pub answer : AnswerView
-  pub reads : ReadsReport line (Ok (question, answer))
-  pub verdict : IsAnswerVerdict question.body answer v
+-- what is told of what a line says: the verdict on an answer to the question that is asked; and that a misfit isn't judged
+abbrev pub IsReadingVerdict : Reading → LineVerdict → Type 0
+IsReadingVerdict (Answered source answer) v = IsAnswerVerdict (asked source).body answer v
+IsReadingVerdict Misfit v = v ≡ Skipped
 
--- the verdict on a line: it is no JSON; this key is the first that is missing or of another shape; or it has an answer, and this is its verdict
+-- the line says something, and this is told of it
+pub record HasReading (line : List ℕ) (v : LineVerdict) : Type 0 where
+  pub reading : Reading
+  pub reads : ReadsReport line (Ok reading)
+  pub verdict : IsReadingVerdict reading v
+
+-- the verdict on a line: it is no JSON; this key is the first that is missing or of another shape; or it says something, of which this is told
 abbrev pub IsVerdict : List ℕ → LineVerdict → Type 0
 IsVerdict line NotJson = IsUtf8 line → read line ≡ None
 IsVerdict line (Shape key) = ReadsReport line (Err key)
-IsVerdict line verdict = HasAnswer line verdict
+IsVerdict line verdict = HasReading line verdict
 
 -- the text is the line of the verdict on line k of a report, and `invalid` tells whether it says so
 pub record IsJudgedLine (k : ℕ) (line text : List ℕ) (invalid : Bool) : Type 0 where

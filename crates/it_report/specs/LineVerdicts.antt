@@ -26,6 +26,8 @@ is_invalid verdict = true
 -- a key as it stands in reports
 abbrev pub key_text : Key → List ℕ
 key_text keys.Answer = codes "answer"
+key_text keys.Sharing = codes "sharing"
+key_text keys.Copies = codes "copies"
 key_text keys.Question = codes "question"
 key_text keys.Proofs = codes "proofs"
 key_text keys.Point = codes "point"

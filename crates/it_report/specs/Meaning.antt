@@ -1,15 +1,21 @@
 -- What the verdicts mean: each line has one and no other, and the claim of a valid one is true.
-use Rattle.std.specs.Prelude.{◌≡◌, ℕ, ℤ, pos, neg_ℤ, ◌≤ℤ◌, List, Bool, get_or, Ok}
-use Rattle.it_space.specs.Answers.{AnswerView}
+use Rattle.std.specs.Prelude.{◌≡◌, ℕ, ℤ, pos, neg_ℤ, ◌≤ℤ◌, List, length, Bool, get_or, Ok}
+use Rattle.it_space.specs.Answers.{AnswerView, CertificateView}
 use Rattle.it_space.specs.Answers.AnswerView.{Yes, No, Contained}
 use Rattle.it_space.specs.Rows.{point_of}
-use Rattle.it_syntax.specs.Meaning.{Holds}
+use Rattle.it_syntax.specs.Meaning.{Holds, RelationView}
 use Rattle.it_syntax.specs.NamesViews.{NamesView}
 use Rattle.it_question.specs.Questions.{BodyView, QuestionView, VerbView, Prove, Contain}
 use Rattle.it_canon.specs.TrueLines.{variable_count, AreTrueTogether}
 use Rattle.it_demand.specs.Targets.{targets}
 use Rattle.it_region.specs.Regions.{LiesIn}
-use Rattle.it_certificate.specs.Reports.{ReadsReport}
+use Rattle.it_copy.specs.CopyLines.{CopyView}
+use Rattle.it_copy.specs.Extensions.{extended}
+use Rattle.it_copy.specs.Points.{HasCopies}
+use Rattle.it_sharing.specs.Sharings.{SharingView}
+use Rattle.it_sharing.specs.Truth.{IsTrueOfSharing}
+use Rattle.it_certificate.specs.Reports.{Answered, ReadsReport}
+use Rattle.it_certificate.specs.Sources.{Source, Copies, Sharing, asked}
 use Rattle.it_check.specs.declared.verdicts.Verdict.TheVariants.{Valid}
 use Rattle.it_report.specs.RowVerdicts.{place_named}
 use Rattle.it_report.specs.LineVerdicts.{LineVerdict, Judged}
@@ -37,7 +43,18 @@ IsClaimTrueBy q verb answer = Unit {0}
 abbrev pub IsClaimTrue : BodyView → AnswerView → Type 0
 IsClaimTrue q answer = IsClaimTrueBy q q.verb answer
 
--- The claim of a line with the verdict `Valid` is true.
+-- The claim of a line with the verdict `Valid` is true of the question that is asked.
 abbrev pub ValidIsTrue : Type 0
-ValidIsTrue = (line : List ℕ) (names : NamesView) (q : QuestionView) (answer : AnswerView)
-    → IsVerdict line (Judged names Valid) → ReadsReport line (Ok (q, answer)) → IsClaimTrue q.body answer
+ValidIsTrue = (line : List ℕ) (names : NamesView) (source : Source) (answer : AnswerView)
+    → IsVerdict line (Judged names Valid) → ReadsReport line (Ok (Answered source answer)) → IsClaimTrue (asked source).body answer
+
+-- With a head, a valid yes says that the relation of the text's own question holds at every polymatroid and rates that have such copies.
+abbrev pub ValidIsTrueByCopies : Type 0
+ValidIsTrueByCopies = (line : List ℕ) (names : NamesView) (q : QuestionView) (copies : List CopyView) (r : RelationView) (ws : List CertificateView)
+    → IsVerdict line (Judged names Valid) → ReadsReport line (Ok (Answered (Copies q copies) (Yes ws))) → q.body.verb ≡ Prove r
+    → (p : ℕ → ℤ) → HasCopies q.body (extended q.body copies) p → Holds (length q.body.names.variables) p r
+
+-- Of a sharing file, a valid answer is true wherever the secret is shared perfectly.
+abbrev pub ValidIsTrueOfSharing : Type 0
+ValidIsTrueOfSharing = (line : List ℕ) (names : NamesView) (x : SharingView) (answer : AnswerView)
+    → IsVerdict line (Judged names Valid) → ReadsReport line (Ok (Answered (Sharing x) answer)) → IsTrueOfSharing x answer

@@ -1,13 +1,15 @@
 -- No public clause cites this module: the lines of faults and of answers, of which the line about a report's line is one, and the
 -- coordinates that verdicts name.
 use Rattle.std.specs.Prelude.{ℕ, ◌<◌, List, Bool}
-use Rattle.it_space.specs.Answers.{AnswerView}
-use Rattle.it_question.specs.Questions.{BodyView, VerbView, Prove, Eliminate, Contain}
+use Rattle.it_space.specs.Answers.{AnswerView, answer_view}
+use Rattle.it_question.specs.Questions.{BodyView, VerbView, Prove, Eliminate, Contain, question_body}
 use Rattle.it_certificate.specs.declared.keys.ReportFault.{ReportFault}
 use Rattle.it_certificate.specs.declared.keys.ReportFault.TheVariants as faults
+use Rattle.it_certificate.specs.declared.types.Reported.{Reported}
+use Rattle.it_certificate.specs.declared.types.Reported.TheVariants as reported
 use Rattle.it_check.specs.declared.verdicts.Verdict.{Verdict}
 use Rattle.it_check.specs.declared.verdicts.Verdict.TheVariants.{Mismatch}
-use Rattle.it_report.specs.LineVerdicts.{LineVerdict, NotJson, Shape, IsLineOf}
+use Rattle.it_report.specs.LineVerdicts.{LineVerdict, NotJson, Shape, Skipped, IsLineOf}
 use Rattle.it_report.specs.Judging.{IsAnswerVerdict}
 
 -- the question is about a relation
@@ -27,6 +29,11 @@ pub record IsJudgedAnswer (k : ℕ) (q : BodyView) (answer : AnswerView) (text :
   pub verdict : LineVerdict
   pub is : IsAnswerVerdict q answer verdict
   pub told : IsLineOf k verdict text invalid
+
+-- the line about what was read
+abbrev pub IsJudgedReport : ℕ → Reported → List ℕ → Bool → Type 0
+IsJudgedReport k (reported.Answered question answer) text invalid = IsJudgedAnswer k (question_body question) (answer_view answer) text invalid
+IsJudgedReport k reported.Misfit text invalid = IsLineOf k Skipped text invalid
 
 -- the coordinate of a verdict, where it has one, is below a bound
 abbrev pub IsVerdictOver : ℕ → Verdict → Type 0

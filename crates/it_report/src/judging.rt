@@ -7,12 +7,13 @@ ghost use Rattle.it_question.specs.Limits.{IsQuestion};
 ghost use Rattle.it_question.specs.Questions.{Prove, question_body};
 ghost use Rattle.it_certificate.specs.AnswerShapes.{HasQuestionShape};
 ghost use Rattle.it_report.specs.Judging.{IsJudgedLine};
-ghost use Rattle.it_report.specs.Steps.{IsAboutRelation, IsFaultLine, IsJudgedAnswer};
+ghost use Rattle.it_certificate.specs.Reports.{KeepsLimits};
+ghost use Rattle.it_report.specs.Steps.{IsAboutRelation, IsFaultLine, IsJudgedAnswer, IsJudgedReport};
 
 use crate::lines::{JudgedLine, not_json_line, shape_line, skipped_line, verdict_line};
 use crate::rows::{point_verdict, proofs_verdict};
 use it_canon::{problem, problem_names, target_rows};
-use it_certificate::{ReportFault, answer_from_json};
+use it_certificate::{ReportFault, Reported, answer_from_json};
 use it_question::types::{Question, Verb};
 use it_region::{candidate, obligations, pair};
 use it_space::{Answer, Certificate, Point, VarSet};
@@ -21,13 +22,13 @@ use std::alloc::{AllocError, Global};
 
 /// The line about line k of a report; lines are counted from 1, and `line` comes without its end. A yes and a containment
 /// have the verdict of the first of their certificates that isn't valid, a no that of its point against the target on its
-/// side. Answers that claim nothing of polymatroids, or whose claim isn't judged, are skipped: undecided, regions and open
-/// questions.
+/// side. Answers that claim nothing of polymatroids, or whose claim isn't judged, are skipped: undecided, regions, open
+/// questions and misfits.
 pub fn judge(alloc: Global, k: usize, line: &[u8]) -> Result<JudgedLine, AllocError>
     ensures { IfOk result (λ j. IsJudgedLine k line.now j.text.items j.invalid) }
 {
     match answer_from_json(alloc, line) {
-        Ok(reported) => answer_line(alloc, k, &reported.question, &reported.answer),
+        Ok(reported) => report_line(alloc, k, &reported),
         Err(fault) => fault_line(alloc, k, fault),
     }
 }
@@ -40,6 +41,17 @@ fn fault_line(alloc: Global, k: usize, fault: ReportFault) -> Result<JudgedLine,
         ReportFault::Memory => Err(AllocError),
         ReportFault::NotJson => not_json_line(alloc, k),
         ReportFault::Shape { key } => shape_line(alloc, k, key),
+    }
+}
+
+/// The line about what was read.
+fn report_line(alloc: Global, k: usize, reported: &Reported) -> Result<JudgedLine, AllocError>
+    requires { KeepsLimits reported.now }
+    ensures { IfOk result (λ j. IsJudgedReport k reported.now j.text.items j.invalid) }
+{
+    match reported {
+        Reported::Answered { question, answer } => answer_line(alloc, k, question, answer),
+        Reported::Misfit => skipped_line(alloc, k),
     }
 }
 

@@ -1,5 +1,5 @@
 //! What the verdicts mean, each theorem as the contract of a function.
-ghost use Rattle.it_report.specs.Meaning.{EachLineIsJudged, OneVerdict, ValidIsTrue};
+ghost use Rattle.it_report.specs.Meaning.{EachLineIsJudged, OneVerdict, ValidIsTrue, ValidIsTrueByCopies, ValidIsTrueOfSharing};
 
 /// Each line of a report, whatever its bytes, has a verdict and so a line about it.
 pub fn each_line_is_judged()
@@ -12,8 +12,11 @@ pub fn verdict_is_one()
     ensures { OneVerdict }
 {}
 
-/// The claim of a valid line is true: a yes holds everywhere, the point of a no violates the target on its side, and of a
-/// containment the first region lies in the second.
+/// The claim of a valid line is true of the question that is asked: a yes holds everywhere, the point of a no violates the target on its
+/// side, and of a containment the first region lies in the second. With a head, a yes holds of the question's own relation wherever there
+/// are such copies; of a sharing file, an answer is true wherever the secret is shared perfectly.
 pub fn valid_is_true()
-    ensures { ValidIsTrue }
+    ensures claim { ValidIsTrue }
+    ensures copies { ValidIsTrueByCopies }
+    ensures sharing { ValidIsTrueOfSharing }
 {}

@@ -16,6 +16,8 @@ pub fn key_name(key: Key) -> &'static str
 {
     match key {
         Key::Answer => "answer",
+        Key::Sharing => "sharing",
+        Key::Copies => "copies",
         Key::Question => "question",
         Key::Proofs => "proofs",
         Key::Point => "point",

@@ -4,14 +4,14 @@ use Rattle.clap.specs.Words.{App, Text, Kinds, FailsBy, IsAmong, fault_of, is_si
 use Rattle.clap.specs.declared.error.Error.{Error}
 use Rattle.clap.specs.declared.parser.matches.ArgMatches.{ArgMatches}
 use Rattle.clap.specs.declared.error.kind.ErrorKind.TheVariants as kinds
-use Rattle.it_settings.specs.App.{option_rule, mode_rule, bare_app, itip_app}
+use Rattle.it_settings.specs.App.{option_rule, flag_rule, mode_rule, bare_app, itip_app}
 
 pub itip_is_simple : is_simple_and_free itip_app ≡ true
-unfolding itip_app bare_app mode_rule option_rule
+unfolding itip_app bare_app mode_rule option_rule flag_rule
 itip_is_simple = refl
 
 pub itip_is_plain : is_simple itip_app ≡ true
-unfolding itip_app bare_app mode_rule option_rule
+unfolding itip_app bare_app mode_rule option_rule flag_rule
 itip_is_plain = refl
 
 fits_by : {T : Type 0} (ks : Kinds) (r : Result T Error) → FailsBy ks r → IfOk r (λ m. ks ≡ [])

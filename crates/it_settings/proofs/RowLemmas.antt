@@ -1,12 +1,12 @@
 -- The command lines of the tables, computed.
 use Rattle.std.proofs.Common.{refl}
 use Rattle.clap.proofs.OnLiterals.{clap_on_literals}
-use Rattle.it_settings.specs.App.{option_rule, mode_rule, bare_app, itip_app}
+use Rattle.it_settings.specs.App.{option_rule, flag_rule, mode_rule, bare_app, itip_app}
 use Rattle.it_settings.specs.Settings.{settings_of, settings_by, answer_of, bench_of, runs_of, outer_of, number_of, pivots_of, format_of, run_of}
-use Rattle.it_settings.specs.Rows.{ModesAreRead, FormsAreRead, NumbersAreRead, BenchIsRead, RunsAreRead, CopyIsRead, BestIsRead, SharingIsRead, OuterIsRead, OtherModesAreRead}
+use Rattle.it_settings.specs.Rows.{ModesAreRead, FormsAreRead, NumbersAreRead, BenchIsRead, RunsAreRead, CopyIsRead, BestIsRead, SharingIsRead, OuterIsRead, OtherModesAreRead, ReportsAreRead}
 
 pub modes_are_read : ModesAreRead
-unfolding clap_on_literals settings_of settings_by answer_of bench_of number_of pivots_of format_of run_of itip_app bare_app mode_rule option_rule
+unfolding clap_on_literals settings_of settings_by answer_of bench_of number_of pivots_of format_of run_of itip_app bare_app mode_rule option_rule flag_rule
 modes_are_read = record {
   answer = refl;
   check = refl;
@@ -30,7 +30,7 @@ modes_are_read = record {
 }
 
 pub forms_are_read : FormsAreRead
-unfolding clap_on_literals settings_of settings_by answer_of bench_of number_of pivots_of format_of run_of itip_app bare_app mode_rule option_rule
+unfolding clap_on_literals settings_of settings_by answer_of bench_of number_of pivots_of format_of run_of itip_app bare_app mode_rule option_rule flag_rule
 forms_are_read = record {
   spaced = refl;
   joined = refl;
@@ -53,7 +53,7 @@ forms_are_read = record {
 }
 
 pub numbers_are_read : NumbersAreRead
-unfolding clap_on_literals settings_of settings_by answer_of bench_of number_of pivots_of format_of run_of itip_app bare_app mode_rule option_rule
+unfolding clap_on_literals settings_of settings_by answer_of bench_of number_of pivots_of format_of run_of itip_app bare_app mode_rule option_rule flag_rule
 numbers_are_read = record {
   pivots_zero = refl;
   pivots_least = refl;
@@ -86,7 +86,7 @@ numbers_are_read = record {
 }
 
 pub bench_is_read : BenchIsRead
-unfolding clap_on_literals settings_of settings_by answer_of bench_of number_of pivots_of format_of run_of itip_app bare_app mode_rule option_rule
+unfolding clap_on_literals settings_of settings_by answer_of bench_of number_of pivots_of format_of run_of itip_app bare_app mode_rule option_rule flag_rule
 bench_is_read = record {
   all_options = refl;
   seed_least = refl;
@@ -103,7 +103,7 @@ bench_is_read = record {
 }
 
 pub other_modes_are_read : OtherModesAreRead
-unfolding clap_on_literals settings_of settings_by answer_of bench_of number_of pivots_of format_of run_of itip_app bare_app mode_rule option_rule
+unfolding clap_on_literals settings_of settings_by answer_of bench_of number_of pivots_of format_of run_of itip_app bare_app mode_rule option_rule flag_rule
 other_modes_are_read = record {
   check_format = refl;
   check_pivots = refl;
@@ -118,7 +118,7 @@ other_modes_are_read = record {
 }
 
 pub runs_are_read : RunsAreRead
-unfolding clap_on_literals settings_of settings_by answer_of bench_of number_of pivots_of format_of run_of itip_app bare_app mode_rule option_rule
+unfolding clap_on_literals settings_of settings_by answer_of bench_of number_of pivots_of format_of run_of itip_app bare_app mode_rule option_rule flag_rule
 runs_are_read = record {
   quick = refl;
   bland = refl;
@@ -134,7 +134,7 @@ runs_are_read = record {
 }
 
 pub copy_is_read : CopyIsRead
-unfolding clap_on_literals settings_of settings_by answer_of bench_of runs_of number_of pivots_of format_of run_of itip_app bare_app mode_rule option_rule
+unfolding clap_on_literals settings_of settings_by answer_of bench_of runs_of number_of pivots_of format_of run_of itip_app bare_app mode_rule option_rule flag_rule
 copy_is_read = record {
   alone = refl;
   pivots = refl;
@@ -152,7 +152,7 @@ copy_is_read = record {
 }
 
 pub best_is_read : BestIsRead
-unfolding clap_on_literals settings_of settings_by answer_of bench_of runs_of number_of pivots_of format_of run_of itip_app bare_app mode_rule option_rule
+unfolding clap_on_literals settings_of settings_by answer_of bench_of runs_of number_of pivots_of format_of run_of itip_app bare_app mode_rule option_rule flag_rule
 best_is_read = record {
   alone = refl;
   pivots = refl;
@@ -170,7 +170,7 @@ best_is_read = record {
 }
 
 pub sharing_is_read : SharingIsRead
-unfolding clap_on_literals settings_of settings_by answer_of bench_of runs_of number_of pivots_of format_of run_of itip_app bare_app mode_rule option_rule
+unfolding clap_on_literals settings_of settings_by answer_of bench_of runs_of number_of pivots_of format_of run_of itip_app bare_app mode_rule option_rule flag_rule
 sharing_is_read = record {
   alone = refl;
   pivots = refl;
@@ -188,7 +188,7 @@ sharing_is_read = record {
 }
 
 pub outer_is_read : OuterIsRead
-unfolding clap_on_literals settings_of settings_by answer_of bench_of runs_of outer_of number_of pivots_of format_of run_of itip_app bare_app mode_rule option_rule
+unfolding clap_on_literals settings_of settings_by answer_of bench_of runs_of outer_of number_of pivots_of format_of run_of itip_app bare_app mode_rule option_rule flag_rule
 outer_is_read = record {
   alone = refl;
   all_options = refl;
@@ -199,4 +199,20 @@ outer_is_read = record {
   seed = refl;
   count = refl;
   two_modes = refl;
+}
+
+pub reports_are_read : ReportsAreRead
+unfolding clap_on_literals settings_of settings_by answer_of bench_of runs_of outer_of number_of pivots_of format_of run_of itip_app bare_app mode_rule option_rule flag_rule
+reports_are_read = record {
+  copy = refl;
+  sharing = refl;
+  with_all = refl;
+  twice = refl;
+  value = refl;
+  word_after = refl;
+  answer = refl;
+  check = refl;
+  bench = refl;
+  best = refl;
+  outer = refl;
 }

@@ -1,5 +1,5 @@
 -- Command lines and what they are read as.
-use Rattle.std.specs.Prelude.{Option, ℕ, ◌≡◌, List, [], ◌∷◌, Some, None, codes}
+use Rattle.std.specs.Prelude.{true, false, Option, ℕ, ◌≡◌, List, [], ◌∷◌, Some, None, codes}
 use Rattle.it_settings.specs.declared.types.Format.TheVariants as formats
 use Rattle.it_settings.specs.declared.types.Run.{Run}
 use Rattle.it_settings.specs.declared.types.Run.TheVariants as runs
@@ -149,7 +149,7 @@ pub record IsReadWithRuns (mode : List ℕ) (read : Run → Option ℕ → Setti
 
 -- mode `copy`
 abbrev pub CopyIsRead : Type 0
-CopyIsRead = IsReadWithRuns (codes "copy") settings.Copy
+CopyIsRead = IsReadWithRuns (codes "copy") (settings.Copy false)
 
 -- mode `best`
 abbrev pub BestIsRead : Type 0
@@ -157,7 +157,7 @@ BestIsRead = IsReadWithRuns (codes "best") settings.Best
 
 -- mode `sharing`
 abbrev pub SharingIsRead : Type 0
-SharingIsRead = IsReadWithRuns (codes "sharing") settings.Sharing
+SharingIsRead = IsReadWithRuns (codes "sharing") (settings.Sharing false)
 
 -- the options of mode `outer`
 pub record OuterIsRead : Type 0 where
@@ -170,3 +170,17 @@ pub record OuterIsRead : Type 0 where
   pub seed : HaveNoReading (codes "outer" ∷ codes "--seed" ∷ codes "1" ∷ [])
   pub count : HaveNoReading (codes "outer" ∷ codes "--count" ∷ codes "1" ∷ [])
   pub two_modes : HaveNoReading (codes "outer" ∷ codes "answer" ∷ [])
+
+-- which modes write reports, and how they are asked for one
+pub record ReportsAreRead : Type 0 where
+  pub copy : AreReadAs (codes "copy" ∷ codes "--report" ∷ []) (settings.Copy true runs.Bland (Some 20000))
+  pub sharing : AreReadAs (codes "--report" ∷ codes "sharing" ∷ []) (settings.Sharing true runs.Bland (Some 20000))
+  pub with_all : AreReadAs (codes "copy" ∷ codes "--pivots=none" ∷ codes "--report" ∷ codes "--run=quick" ∷ []) (settings.Copy true runs.Quick None)
+  pub twice : HaveNoReading (codes "copy" ∷ codes "--report" ∷ codes "--report" ∷ [])
+  pub value : HaveNoReading (codes "copy" ∷ codes "--report=true" ∷ [])
+  pub word_after : HaveNoReading (codes "copy" ∷ codes "--report" ∷ codes "true" ∷ [])
+  pub answer : HaveNoReading (codes "answer" ∷ codes "--report" ∷ [])
+  pub check : HaveNoReading (codes "check" ∷ codes "--report" ∷ [])
+  pub bench : HaveNoReading (codes "bench" ∷ codes "--report" ∷ [])
+  pub best : HaveNoReading (codes "best" ∷ codes "--report" ∷ [])
+  pub outer : HaveNoReading (codes "outer" ∷ codes "--report" ∷ [])

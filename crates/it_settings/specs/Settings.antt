@@ -1,5 +1,5 @@
 -- The settings that words give: what the command takes from them, each value then judged.
-use Rattle.std.specs.Prelude.{ℕ, ◌^◌, ◌≡◌, ◌≤◌, ◌<◌, ◌==◌, ◌&&◌, List, [], ◌∷◌, length, Option, Some, None, is_none, Result, Ok, Err, if◌then◌else◌, codes, option_and_then, option_map, nat_le}
+use Rattle.std.specs.Prelude.{ℕ, ◌^◌, ◌≡◌, ◌≤◌, ◌<◌, ◌==◌, ◌&&◌, List, [], ◌∷◌, length, Bool, false, Option, Some, None, is_none, Result, Ok, Err, if◌then◌else◌, codes, option_and_then, option_map, nat_le}
 use Rattle.std.specs.Str.{bytes_eq}
 use Rattle.std.specs.List.{list_all}
 use Rattle.std.specs.Map.{lookup}
@@ -48,6 +48,14 @@ pivots_in given = option_map_or pivots_of (given (codes "pivots")) (Some (Some 2
 -- how targets are decided, or by the run of Bland's rule where nothing was given
 abbrev pub run_in : (Text → Option Text) → Option Run
 run_in given = option_map_or run_of (given (codes "run")) (Some runs.Bland)
+
+-- whether a report is asked for, by an option without a value
+abbrev pub report_in : (Text → Option Text) → Bool
+report_in given = option_map_or (λ text. bytes_eq text (codes "true")) (given (codes "report")) false
+
+-- what is read where none is
+abbrev pub without_report : {A : Type 0} → (Text → Option Text) → Option A → Option A
+without_report given read = if report_in given then None else read
 
 -- what is read where none of these options was given
 abbrev pub without : {A : Type 0} → (Text → Option Text) → List Text → Option A → Option A
@@ -98,13 +106,13 @@ outer_of given = without given (codes "format" ∷ codes "seed" ∷ codes "count
 -- by the mode's word, without the options of other modes; the modes not named have no reading
 abbrev pub settings_in : (Text → Option Text) → Text → Option Settings
 settings_in given mode =
-    if bytes_eq mode (codes "answer") then without given (codes "seed" ∷ codes "count" ∷ []) (answer_of given) else
-    if bytes_eq mode (codes "check") then without given option_names (Some settings.Check) else
-    if bytes_eq mode (codes "bench") then without given (codes "format" ∷ []) (bench_of given) else
-    if bytes_eq mode (codes "copy") then runs_of given settings.Copy else
-    if bytes_eq mode (codes "best") then runs_of given settings.Best else
-    if bytes_eq mode (codes "outer") then outer_of given else
-    if bytes_eq mode (codes "sharing") then runs_of given settings.Sharing else None
+    if bytes_eq mode (codes "answer") then without_report given (without given (codes "seed" ∷ codes "count" ∷ []) (answer_of given)) else
+    if bytes_eq mode (codes "check") then without_report given (without given option_names (Some settings.Check)) else
+    if bytes_eq mode (codes "bench") then without_report given (without given (codes "format" ∷ []) (bench_of given)) else
+    if bytes_eq mode (codes "copy") then runs_of given (settings.Copy (report_in given)) else
+    if bytes_eq mode (codes "best") then without_report given (runs_of given settings.Best) else
+    if bytes_eq mode (codes "outer") then without_report given (outer_of given) else
+    if bytes_eq mode (codes "sharing") then runs_of given (settings.Sharing (report_in given)) else None
 
 -- without a mode there are none
 unfoldable pub settings_by : (Text → Option Text) → Option Settings
@@ -131,7 +139,7 @@ abbrev pub AreInRange : Settings → Type 0
 AreInRange (settings.Answer format run pivots rows tries) = AreFew rows tries
 AreInRange settings.Check = Unit {0}
 AreInRange (settings.Bench seed count run pivots rows tries) = (seed < 2 ^ 31) × ((1 ≤ count) × (count ≤ 1000)) × AreFew rows tries
-AreInRange (settings.Copy run pivots) = Unit {0}
+AreInRange (settings.Copy report run pivots) = Unit {0}
 AreInRange (settings.Best run pivots) = Unit {0}
 AreInRange (settings.Outer run pivots rows tries) = AreFew rows tries
-AreInRange (settings.Sharing run pivots) = Unit {0}
+AreInRange (settings.Sharing report run pivots) = Unit {0}

@@ -6,8 +6,8 @@ use Rattle.clap.specs.Words.{Text}
 use Rattle.it_settings.specs.declared.reading.Values.{Values}
 
 -- these texts of the mode and of each option, by their names
-abbrev pub by_name : (mode format pivots rows tries seed count run : Option Text) → Text → Option Text
-by_name mode format pivots rows tries seed count run name =
+abbrev pub by_name : (mode format pivots rows tries seed count run report : Option Text) → Text → Option Text
+by_name mode format pivots rows tries seed count run report name =
     if bytes_eq name (codes "mode") then mode else
     if bytes_eq name (codes "format") then format else
     if bytes_eq name (codes "pivots") then pivots else
@@ -15,7 +15,8 @@ by_name mode format pivots rows tries seed count run name =
     if bytes_eq name (codes "tries") then tries else
     if bytes_eq name (codes "seed") then seed else
     if bytes_eq name (codes "count") then count else
-    if bytes_eq name (codes "run") then run else None
+    if bytes_eq name (codes "run") then run else
+    if bytes_eq name (codes "report") then report else None
 
 -- a text that was given, as contracts see it
 abbrev pub text_of : Option (Bor Text) → Option Text
@@ -23,7 +24,7 @@ text_of o = option_map (λ s. s.now) o
 
 -- the texts that were given
 abbrev pub texts_of : Values → Text → Option Text
-texts_of v name = by_name (text_of v.mode) (text_of v.format) (text_of v.pivots) (text_of v.rows) (text_of v.tries) (text_of v.seed) (text_of v.count) (text_of v.run) name
+texts_of v name = by_name (text_of v.mode) (text_of v.format) (text_of v.pivots) (text_of v.rows) (text_of v.tries) (text_of v.seed) (text_of v.count) (text_of v.run) (text_of v.report) name
 
 -- the values are these texts
 pub record AreTexts (given : Text → Option Text) (v : Values) : Type 0 where
@@ -35,3 +36,4 @@ pub record AreTexts (given : Text → Option Text) (v : Values) : Type 0 where
   pub seed : text_of v.seed ≡ given (codes "seed")
   pub count : text_of v.count ≡ given (codes "count")
   pub run : text_of v.run ≡ given (codes "run")
+  pub report : text_of v.report ≡ given (codes "report")

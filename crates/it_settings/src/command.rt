@@ -2,7 +2,7 @@
 ghost use Rattle.std.specs.Prelude.{◌≡◌, [], ◌∷◌, codes, map, IfOk, IfErr, true, false};
 ghost use Rattle.std.specs.List.{fold};
 ghost use Rattle.clap.specs.Words.{app_of, rule_of, with_rule, fault_of, found_of, rows_of, matches_of, kind_of};
-ghost use Rattle.it_settings.specs.App.{option_rule, mode_rule, bare_app, itip_app};
+ghost use Rattle.it_settings.specs.App.{option_rule, flag_rule, mode_rule, bare_app, itip_app};
 
 use clap::error::ErrorKind;
 use clap::{Arg, ArgAction, ArgMatches, Command, Error};
@@ -15,6 +15,15 @@ fn option<'a>(alloc: Global, name: &'a str) -> Arg<'a>
     ensures local { result.global ≡ false }
 {
     Arg::new(alloc, name).long(name).action(ArgAction::Set)
+}
+
+/// An option without a value.
+#[tactic(auto, unfolding(crate::specs::App::flag_rule))]
+fn flag<'a>(alloc: Global, name: &'a str) -> Arg<'a>
+    ensures rule { rule_of result ≡ flag_rule name.entry.now }
+    ensures local { result.global ≡ false }
+{
+    Arg::new(alloc, name).long(name).action(ArgAction::SetTrue)
 }
 
 /// The word for the mode, which must be there.
@@ -50,6 +59,17 @@ fn with_option<'a>(
     command.arg(option(alloc, name))
 }
 
+/// The command with one more option without a value.
+fn with_flag<'a>(
+    command: Command<'a>,
+    alloc: Global,
+    name: &'a str,
+) -> Result<Command<'a>, AllocError>
+    ensures { IfOk result (λ r. app_of r ≡ with_rule (app_of command.entry) (flag_rule name.entry.now)) }
+{
+    command.arg(flag(alloc, name))
+}
+
 /// The command with the word for the mode.
 fn with_mode<'a>(command: Command<'a>, alloc: Global) -> Result<Command<'a>, AllocError>
     ensures { IfOk result (λ r. app_of r ≡ with_rule (app_of command.entry) mode_rule) }
@@ -76,7 +96,8 @@ fn itip<'a>(alloc: Global) -> Result<Command<'a>, AllocError>
     let command = with_answers(command, alloc)?;
     let command = with_option(command, alloc, "seed")?;
     let command = with_option(command, alloc, "count")?;
-    with_option(command, alloc, "run")
+    let command = with_option(command, alloc, "run")?;
+    with_flag(command, alloc, "report")
 }
 
 /// The matches of the words, or clap's error: one of memory, or words that the command doesn't read.

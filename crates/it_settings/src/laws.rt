@@ -1,5 +1,5 @@
 //! What command lines are read as, each table as the contract of a function.
-ghost use Rattle.it_settings.specs.Rows.{ModesAreRead, FormsAreRead, NumbersAreRead, BenchIsRead, RunsAreRead, CopyIsRead, BestIsRead, SharingIsRead, OuterIsRead, OtherModesAreRead};
+ghost use Rattle.it_settings.specs.Rows.{ModesAreRead, FormsAreRead, NumbersAreRead, BenchIsRead, RunsAreRead, CopyIsRead, BestIsRead, SharingIsRead, OuterIsRead, OtherModesAreRead, ReportsAreRead};
 
 /// The word for the mode, alone and among others.
 #[tactic(auto, using(crate::proofs::RowLemmas::modes_are_read))]
@@ -49,4 +49,10 @@ pub fn outer_is_read()
 #[tactic(auto, using(crate::proofs::RowLemmas::other_modes_are_read))]
 pub fn other_modes_are_read()
     ensures { OtherModesAreRead }
+{}
+
+/// The modes that write reports.
+#[tactic(auto, using(crate::proofs::RowLemmas::reports_are_read))]
+pub fn reports_are_read()
+    ensures { ReportsAreRead }
 {}

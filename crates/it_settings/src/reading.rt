@@ -6,7 +6,7 @@ ghost use Rattle.it_settings.specs.ValuesViews.{AreTexts, texts_of};
 ghost use Rattle.it_settings.specs.declared.types.Settings.TheVariants as settings;
 ghost use Rattle.it_settings.specs.App.{option_names};
 ghost use Rattle.it_settings.specs.ErrorKinds.{IsFaultOf};
-ghost use Rattle.it_settings.specs.Settings.{answer_of, bench_of, outer_of, runs_of, settings_by, settings_of, without, TellsReading, AreInRange};
+ghost use Rattle.it_settings.specs.Settings.{answer_of, bench_of, outer_of, report_in, runs_of, settings_by, settings_of, without, without_report, TellsReading, AreInRange};
 
 use crate::command::parse;
 use crate::numbers::{format_or, number_or, pivots_or, rows_or, run_or, tries_or};
@@ -26,6 +26,7 @@ struct Values<'a> {
     seed: Option<&'a str>,
     count: Option<&'a str>,
     run: Option<&'a str>,
+    report: Option<&'a str>,
 }
 
 /// The values that clap matched.
@@ -41,7 +42,24 @@ fn matched_values<'a>(matches: &ArgMatches<'a>) -> Values<'a>
         seed: matches.get_str("seed"),
         count: matches.get_str("count"),
         run: matches.get_str("run"),
+        report: matches.get_str("report"),
     }
+}
+
+/// Whether a report is asked for.
+fn has_report(values: Values) -> bool
+    ensures { result ≡ report_in (texts_of values.entry) }
+{
+    values.report == Some("true")
+}
+
+/// The settings of a mode that has no reports, unless one is asked for.
+fn without_report(values: Values, read: Option<Settings>) -> Option<Settings>
+    requires { IfSome read AreInRange }
+    ensures reads { result ≡ without_report (texts_of values.entry) read }
+    ensures ranges { IfSome result AreInRange }
+{
+    if has_report(values) { None } else { read }
 }
 
 /// The settings of mode `answer`.
@@ -107,7 +125,7 @@ fn bench(values: Values) -> Option<Settings>
     })
 }
 
-/// Whether no option was given but how targets are decided and the budget of steps.
+/// Whether no option was given but how targets are decided, the budget of steps and a report.
 fn has_runs_alone(values: Values) -> bool
     ensures { result ≡ list_all (λ name. is_none (texts_of values.entry name)) (codes "format" ∷ codes "rows" ∷ codes "tries" ∷ codes "seed" ∷ codes "count" ∷ []) }
 {
@@ -121,7 +139,7 @@ fn has_runs_alone(values: Values) -> bool
 /// The settings of mode `copy`.
 #[tactic(auto, unfolding(crate::specs::Settings::runs_of))]
 fn copy(values: Values) -> Option<Settings>
-    ensures reads { result ≡ runs_of (texts_of values.entry) settings.Copy }
+    ensures reads { result ≡ runs_of (texts_of values.entry) (settings.Copy (report_in (texts_of values.entry))) }
     ensures ranges { IfSome result AreInRange }
 {
     if !has_runs_alone(values) {
@@ -129,7 +147,12 @@ fn copy(values: Values) -> Option<Settings>
     }
     let run = run_or(values.run)?;
     let pivots = pivots_or(values.pivots)?;
-    Some(Settings::Copy { run, pivots })
+    let report = has_report(values);
+    Some(Settings::Copy {
+        report,
+        run,
+        pivots,
+    })
 }
 
 /// The settings of mode `best`.
@@ -170,7 +193,7 @@ fn outer(values: Values) -> Option<Settings>
 /// The settings of mode `sharing`.
 #[tactic(auto, unfolding(crate::specs::Settings::runs_of))]
 fn sharing(values: Values) -> Option<Settings>
-    ensures reads { result ≡ runs_of (texts_of values.entry) settings.Sharing }
+    ensures reads { result ≡ runs_of (texts_of values.entry) (settings.Sharing (report_in (texts_of values.entry))) }
     ensures ranges { IfSome result AreInRange }
 {
     if !has_runs_alone(values) {
@@ -178,7 +201,12 @@ fn sharing(values: Values) -> Option<Settings>
     }
     let run = run_or(values.run)?;
     let pivots = pivots_or(values.pivots)?;
-    Some(Settings::Sharing { run, pivots })
+    let report = has_report(values);
+    Some(Settings::Sharing {
+        report,
+        run,
+        pivots,
+    })
 }
 
 /// The settings by the mode's word.
@@ -188,12 +216,12 @@ fn settings_by_mode(values: Values) -> Option<Settings>
     ensures ranges { IfSome result AreInRange }
 {
     match values.mode {
-        Some("answer") => answer(values),
-        Some("check") => check(values),
-        Some("bench") => bench(values),
+        Some("answer") => without_report(values, answer(values)),
+        Some("check") => without_report(values, check(values)),
+        Some("bench") => without_report(values, bench(values)),
         Some("copy") => copy(values),
-        Some("best") => best(values),
-        Some("outer") => outer(values),
+        Some("best") => without_report(values, best(values)),
+        Some("outer") => without_report(values, outer(values)),
         Some("sharing") => sharing(values),
         _ => None,
     }

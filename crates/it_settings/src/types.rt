@@ -47,6 +47,8 @@ pub enum Settings {
     },
     /// Answer the questions of a file whose head asks for copies of variables.
     Copy {
+        /// Whether a line of a report is written in the place of lines of text.
+        report: bool,
         /// As in mode `answer`.
         run: Run,
         pivots: Option<u32>,
@@ -69,6 +71,8 @@ pub enum Settings {
     },
     /// Answer what is asked of a secret sharing file.
     Sharing {
+        /// As in mode `copy`.
+        report: bool,
         /// As in mode `answer`, or as in mode `best` where the file asks for a factor.
         run: Run,
         pivots: Option<u32>,

@@ -1,5 +1,5 @@
 -- What a call that is done has written, that each line has a telling, and that what is told is true.
-use Rattle.std.proofs.Common.{◌≡◌, ℕ, ℤ, ◌+◌, inl, inr, List, [], ◌∷◌, ◌++◌, Bool, true, false, Option, Some, None, option_and_then, codes, refl, ap, sym, subst, ◌∙◌}
+use Rattle.std.proofs.Common.{◌≡◌, ℕ, ℤ, ◌+◌, inl, inr, List, [], ◌∷◌, ◌++◌, Bool, true, false, Option, Some, None, Ok, option_and_then, codes, refl, ap, sym, subst, ◌∙◌}
 use Rattle.std.specs.List.{zip}
 use Rattle.std.proofs.lemmas.Bool.{true≢false}
 use Rattle.it_outside.specs.Groups.{Groups}
@@ -12,18 +12,21 @@ use Rattle.it_space.specs.Answers.AnswerView.{Yes, No, Undecided, Region, Contai
 use Rattle.it_space.specs.Rows.{Terms}
 use Rattle.it_polymatroid.specs.Certificates.{Form}
 use Rattle.it_syntax.specs.NamesViews.{NamesView}
-use Rattle.it_question.specs.Questions.{BodyView, QuestionView, VerbView, Prove, Eliminate, Contain}
+use Rattle.it_question.specs.Questions.{BodyView, VerbView, Prove, Eliminate, Contain}
 use Rattle.it_question.specs.ProblemLines.{problem_names}
 use Rattle.it_check.specs.declared.verdicts.Verdict.{Verdict}
 use Rattle.it_print.specs.Lines.{certificate_text, row_text, values_text}
-use Rattle.it_report.specs.Judging.{HasAnswer, IsVerdict, verdict_of}
+use Rattle.it_report.specs.Judging.{IsReadingVerdict, IsVerdict, verdict_of}
 use Rattle.it_region.specs.AnswerForms.{answer_forms}
 use Rattle.it_report.specs.LineVerdicts.{LineVerdict, NotJson, Shape, Skipped, Judged, is_invalid}
 use Rattle.it_report.specs.Meaning.{IsClaimTrueBy}
 use Rattle.it_report.proofs.ExistenceLemmas.{each_line_is_judged}
-use Rattle.it_report.proofs.OneLemmas.{one_pair}
+use Rattle.it_report.proofs.OneLemmas.{same_read}
 use Rattle.it_report.proofs.TruthLemmas.{valid_is_true}
 use Rattle.it_certificate.proofs.OneLemmas.{one_reading}
+use Rattle.it_certificate.specs.Reports as reports
+use Rattle.it_certificate.specs.Reports.{ReadsReport, Reading}
+use Rattle.it_certificate.specs.Sources.{Source, asked}
 use Rattle.it_cli.specs.Ends.{Call}
 use Rattle.it_cli.specs.Modes.{WholeOutput}
 use Rattle.it_canon.specs.QuestionDemands.{question_origins}
@@ -98,10 +101,11 @@ details_there q with_steps (Region rows) = lines_there indented_line (IsMarkedRo
 details_there q with_steps (Contained parts proofs) = lines_there proof_lines (AreProofTexts q with_steps) (proof_there q with_steps) (zip (answer_forms q (Contained parts proofs)) proofs)
 details_there q with_steps (Open tried) = ([], refl)
 
-answer_there : (with_steps : Bool) (line : List ℕ) (v : LineVerdict) → IsVerdict line v → is_invalid v ≡ false → HasAnswer line v → (telling : Telling) × IsTelling with_steps line telling
-answer_there with_steps line v is accepted h =
-    let details = details_there h.question.body with_steps h.answer in
-    (Answered h.question h.answer details.0, (record { verdict = v; is = is; accepted = accepted; reads = h.reads }, details.1))
+reading_there : (with_steps : Bool) (line : List ℕ) (v : LineVerdict) → IsVerdict line v → is_invalid v ≡ false → (x : Reading) → ReadsReport line (Ok x) → (telling : Telling) × IsTelling with_steps line telling
+reading_there with_steps line v is accepted (reports.Answered source a) reads =
+    let details = details_there (asked source).body with_steps a in
+    (Answered source a details.0, (record { verdict = v; is = is; accepted = accepted; reads = reads }, details.1))
+reading_there with_steps line v is accepted reports.Misfit reads = (tellings.Misfit, reads)
 
 pub each_line_is_told : EachLineIsTold
 each_line_is_told with_steps line = let judged = (each_line_is_judged 1 line).2 in by_verdict judged.verdict judged.is
@@ -109,12 +113,12 @@ each_line_is_told with_steps line = let judged = (each_line_is_judged 1 line).2 
     by_verdict : (v : LineVerdict) → IsVerdict line v → (telling : Telling) × IsTelling with_steps line telling
     by_verdict NotJson is = (tellings.Invalid NotJson, (is, refl))
     by_verdict (Shape key) is = (tellings.Invalid (Shape key), (is, refl))
-    by_verdict Skipped is = answer_there with_steps line Skipped is refl is
+    by_verdict Skipped is = reading_there with_steps line Skipped is refl is.reading is.reads
     by_verdict (Judged names v) is = by_test (is_invalid (Judged names v)) refl
       where
         by_test : (b : Bool) → is_invalid (Judged names v) ≡ b → (telling : Telling) × IsTelling with_steps line telling
         by_test true e = (tellings.Invalid (Judged names v), (is, e))
-        by_test false e = answer_there with_steps line (Judged names v) is e is
+        by_test false e = reading_there with_steps line (Judged names v) is e is.reading is.reads
 
 -- ---- what is told is true
 
@@ -133,13 +137,13 @@ none_claims_nothing q (Contain first second tries) (Region rows) e = tt
 none_claims_nothing q (Contain first second tries) (Open tried) e = tt
 
 pub told_answers_are_true : ToldAnswersAreTrue
-told_answers_are_true with_steps line q a details (h, lines) = by_verdict h.verdict h.is h.accepted
+told_answers_are_true with_steps line source a details (h, lines) = by_verdict h.verdict h.is h.accepted
   where
-    by_verdict : (v : LineVerdict) → IsVerdict line v → is_invalid v ≡ false → IsClaimTrueBy q.body q.body.verb a
+    by_verdict : (v : LineVerdict) → IsVerdict line v → is_invalid v ≡ false → IsClaimTrueBy (asked source).body (asked source).body.verb a
     by_verdict NotJson is accepted = absurd (true≢false accepted)
     by_verdict (Shape key) is accepted = absurd (true≢false accepted)
     by_verdict Skipped is accepted =
-        let same = one_pair (is.question, is.answer) (q, a) (one_reading line _ _ is.reads h.reads) in
-        none_claims_nothing q.body q.body.verb a (subst (λ (x : QuestionView × AnswerView). verdict_of x.0.body x.1 ≡ None) same is.verdict)
+        let same = same_read is.reading (reports.Answered source a) (one_reading line (Ok is.reading) (Ok (reports.Answered source a)) is.reads h.reads) in
+        none_claims_nothing (asked source).body (asked source).body.verb a (subst (λ (x : Reading). IsReadingVerdict x Skipped) same is.verdict)
     by_verdict (Judged names v) is accepted =
-        valid_is_true line names q a (subst (λ (w : Verdict). IsVerdict line (Judged names w)) (not_invalid_is_valid v accepted) is) h.reads
+        valid_is_true line names source a (subst (λ (w : Verdict). IsVerdict line (Judged names w)) (not_invalid_is_valid v accepted) is) h.reads

@@ -1,24 +1,25 @@
 -- What is told of a line of a report, step by step as the code forms it.
-use Rattle.std.proofs.Common.{◌≡◌, ℕ, List, length, Bool, true, false, Some, None, Ok, Err, IsUtf8, refl, sym, subst, ◌∙◌}
+use Rattle.std.proofs.Common.{◌≡◌, ℕ, List, Bool, true, false, Some, None, Ok, Err, IsUtf8, refl, sym, subst, ◌∙◌}
 use Rattle.std.proofs.lemmas.Bool.{true≢false}
 use Rattle.serde_json.specs.Read.{read}
-use Rattle.it_space.specs.declared.answers.Answer.{Answer}
 use Rattle.it_space.specs.Answers.{AnswerView, answer_view}
-use Rattle.it_question.specs.Limits.{IsQuestion}
-use Rattle.it_question.specs.Questions.{QuestionView}
-use Rattle.it_canon.specs.QuestionDemands.{question_demands}
-use Rattle.it_certificate.specs.AnswerShapes.{HasQuestionShape}
+use Rattle.it_question.specs.Questions.{QuestionView, question_body}
+use Rattle.it_question.proofs.NumberLemmas.{QuestionHasSmallNumbers}
 use Rattle.it_certificate.specs.declared.keys.Key.{Key}
-use Rattle.it_certificate.specs.Reports.{ReadsReport}
+use Rattle.it_certificate.specs.Reports as reports
+use Rattle.it_certificate.specs.Reports.{IsReported, KeepsLimits, ReadsReport, Reading, Reports}
+use Rattle.it_certificate.specs.Sources.{Source, asked}
+use Rattle.it_certificate.specs.declared.types.Reported.{Reported}
+use Rattle.it_certificate.specs.declared.types.Reported.TheVariants as variants
 use Rattle.it_certificate.proofs.OneLemmas.{one_reading}
-use Rattle.it_print.specs.Lines.{IsPrintable}
-use Rattle.it_report.specs.Judging.{HasAnswer, IsAnswerVerdict, IsJudgedLine, IsVerdict}
+use Rattle.it_report.specs.Judging.{HasReading, IsAnswerVerdict, IsJudgedLine, IsReadingVerdict, IsVerdict}
 use Rattle.it_report.specs.LineVerdicts.{LineVerdict, NotJson, Shape, Skipped, Judged, is_invalid}
-use Rattle.it_report.proofs.OneLemmas.{Reading, as_read, one_pair}
+use Rattle.it_report.proofs.OneLemmas.{as_read, same_read}
 use Rattle.it_canon.proofs.ExistenceLemmas.{question_poses}
 use Rattle.it_report.proofs.TruthLemmas.{small_numbers}
-use Rattle.it_tell.specs.Tellings.{Answered, Invalid, IsAccepted}
-use Rattle.it_tell.specs.Steps.{IsAnsweredText, IsToldLine}
+use Rattle.it_tell.specs.Tellings as tellings
+use Rattle.it_tell.specs.Tellings.{Invalid, IsAccepted}
+use Rattle.it_tell.specs.Steps.{CanBePrinted, IsAnsweredText, IsReportedText, IsToldLine}
 use Rattle.it_tell.proofs.PrintableLemmas.{printable}
 
 -- ---- an invalid line
@@ -33,12 +34,12 @@ invalid_line with_steps k line text invalid judged is = record {
 
 -- ---- any other line
 
--- its verdict, and that it has an answer with it
+-- its verdict, and what it says with it
 pub record HasVerdict (line : List ℕ) : Type 0 where
   pub verdict : LineVerdict
   pub is : IsVerdict line verdict
   pub accepted : is_invalid verdict ≡ false
-  pub answer : HasAnswer line verdict
+  pub said : HasReading line verdict
 
 pub has_verdict : (k : ℕ) (line text : List ℕ) (invalid : Bool) → IsJudgedLine k line text invalid → invalid ≡ false → HasVerdict line
 has_verdict k line text invalid judged e = by_verdict judged.verdict judged.is (sym judged.told.1 ∙ e)
@@ -46,42 +47,55 @@ has_verdict k line text invalid judged e = by_verdict judged.verdict judged.is (
     by_verdict : (v : LineVerdict) → IsVerdict line v → is_invalid v ≡ false → HasVerdict line
     by_verdict NotJson is accepted = absurd (true≢false accepted)
     by_verdict (Shape key) is accepted = absurd (true≢false accepted)
-    by_verdict Skipped is accepted = record { verdict = Skipped; is = is; accepted = accepted; answer = is }
-    by_verdict (Judged names v) is accepted = record { verdict = Judged names v; is = is; accepted = accepted; answer = is }
+    by_verdict Skipped is accepted = record { verdict = Skipped; is = is; accepted = accepted; said = is }
+    by_verdict (Judged names v) is accepted = record { verdict = Judged names v; is = is; accepted = accepted; said = is }
 
 -- so it is JSON
 pub is_json : (line : List ℕ) → HasVerdict line → (IsUtf8 line → read line ≡ None) → ⊥
-is_json line h none = some_is_none (sym h.answer.reads.is_json ∙ none h.answer.reads.utf8)
+is_json line h none = some_is_none (sym h.said.reads.is_json ∙ none h.said.reads.utf8)
   where
-    some_is_none : Some h.answer.reads.value ≡ None → ⊥
+    some_is_none : Some h.said.reads.value ≡ None → ⊥
     some_is_none e = cc
 
 -- and no key is at fault
 pub has_no_fault : (line : List ℕ) (key : Key) → HasVerdict line → ReadsReport line (Err key) → ⊥
-has_no_fault line key h reads = fault_is_answer (h.answer.question, h.answer.answer) (one_reading line (Err key) (Ok (h.answer.question, h.answer.answer)) reads h.answer.reads)
+has_no_fault line key h reads = fault_is_reading h.said.reading (one_reading line (Err key) (Ok h.said.reading) reads h.said.reads)
   where
-    fault_is_answer : (x : Reading) → Err key ≡ as_read x → ⊥
-    fault_is_answer x e = cc
+    fault_is_reading : (x : Reading) → Err key ≡ as_read x → ⊥
+    fault_is_reading x e = cc
 
-module _ (line : List ℕ) (q : QuestionView) (a : AnswerView) (reads : ReadsReport line (Ok (q, a))) where
-  pub accepts : HasVerdict line → IsAccepted line q a
+module _ (line : List ℕ) (source : Source) (a : AnswerView) (reads : ReadsReport line (Ok (reports.Answered source a))) where
+  pub accepts : HasVerdict line → IsAccepted line source a
   accepts h = record { verdict = h.verdict; is = h.is; accepted = h.accepted; reads = reads }
 
   -- the verdict is on the answer that was read
-  pub on_answer : (h : HasVerdict line) → IsAnswerVerdict q.body a h.verdict
+  pub on_answer : (h : HasVerdict line) → IsAnswerVerdict (asked source).body a h.verdict
   on_answer h =
-      let same = one_pair (h.answer.question, h.answer.answer) (q, a) (one_reading line (Ok (h.answer.question, h.answer.answer)) (Ok (q, a)) h.answer.reads reads) in
-      subst (λ x. IsAnswerVerdict x.0.body x.1 h.verdict) same h.answer.verdict
+      let same = same_read h.said.reading (reports.Answered source a) (one_reading line (Ok h.said.reading) (Ok (reports.Answered source a)) h.said.reads reads) in
+      subst (λ x. IsReadingVerdict x h.verdict) same h.said.verdict
 
-pub can_be_printed : (line : List ℕ) (q : QuestionView) (a : Answer) → ReadsReport line (Ok (q, answer_view a)) → IsQuestion q.body → HasQuestionShape q.body (answer_view a) → HasVerdict line
-    → IsPrintable q.body (length (question_demands q.body)) a
-can_be_printed line q a reads k fits h = printable q.body k (question_poses q.body k (small_numbers line q (answer_view a) reads)) h.verdict h.accepted a fits (on_answer line q (answer_view a) reads h)
+pub can_be_printed : (line : List ℕ) (r : Reported) → Reports line (Ok r) → KeepsLimits r → HasVerdict line → CanBePrinted r
+can_be_printed line r read limits h = by_reading read.0 r read.1 read.2 limits
+  where
+    by_reading : (x : Reading) (r : Reported) → IsReported x r → ReadsReport line (Ok x) → KeepsLimits r → CanBePrinted r
+    by_reading (reports.Answered source a) (variants.Answered q answer) same reads limits =
+        let small = subst (λ (x : QuestionView). QuestionHasSmallNumbers x.body) same.0 (small_numbers line source a reads) in
+        let verdict : IsAnswerVerdict (question_body q) (answer_view answer) h.verdict =
+            subst (λ b. IsAnswerVerdict (question_body q) b h.verdict) same.1 (subst (λ (x : QuestionView). IsAnswerVerdict x.body a h.verdict) same.0 (on_answer line source a reads h)) in
+        printable (question_body q) limits.0 (question_poses (question_body q) limits.0 small) h.verdict h.accepted answer limits.1 verdict
+    by_reading (reports.Answered source a) variants.Misfit same reads limits = absurd same
+    by_reading reports.Misfit (variants.Answered q answer) same reads limits = absurd same
+    by_reading reports.Misfit variants.Misfit same reads limits = tt
 
-pub answered_line : (with_steps : Bool) (k : ℕ) (line text : List ℕ) (q : QuestionView) (a : AnswerView) → ReadsReport line (Ok (q, a)) → HasVerdict line → IsAnsweredText with_steps k q.body a text → IsToldLine with_steps k line text false
+pub reported_line : (with_steps : Bool) (k : ℕ) (line text : List ℕ) (r : Reported) → Reports line (Ok r) → HasVerdict line → IsReportedText with_steps k r text → IsToldLine with_steps k line text false
 unfolding IsAnsweredText
-answered_line with_steps k line text q a reads h told = record {
-  telling = Answered q a told.0;
-  is = (accepts line q a reads h, told.1.0);
-  text_is = told.1.1;
-  invalid_is = refl;
-}
+reported_line with_steps k line text r read h told = by_reading read.0 r read.1 read.2 told
+  where
+    by_reading : (x : Reading) (r : Reported) → IsReported x r → ReadsReport line (Ok x) → IsReportedText with_steps k r text → IsToldLine with_steps k line text false
+    by_reading (reports.Answered source a) (variants.Answered q answer) same reads told =
+        let back : IsAnsweredText with_steps k (asked source).body a text =
+            subst (λ b. IsAnsweredText with_steps k (asked source).body b text) (sym same.1) (subst (λ (x : QuestionView). IsAnsweredText with_steps k x.body (answer_view answer) text) (sym same.0) told) in
+        record { telling = tellings.Answered source a back.0; is = (accepts line source a reads h, back.1.0); text_is = back.1.1; invalid_is = refl }
+    by_reading (reports.Answered source a) variants.Misfit same reads told = absurd same
+    by_reading reports.Misfit (variants.Answered q answer) same reads told = absurd same
+    by_reading reports.Misfit variants.Misfit same reads told = record { telling = tellings.Misfit; is = reads; text_is = told; invalid_is = refl }

@@ -1,7 +1,7 @@
 -- What follows from how a call of `tell` ends and from what may be told.
 use Rattle.std.specs.Prelude.{◌≡◌, ℕ, List, ◌++◌, ◌⊎◌, Bool, Some}
 use Rattle.it_space.specs.Answers.{AnswerView}
-use Rattle.it_question.specs.Questions.{QuestionView}
+use Rattle.it_certificate.specs.Sources.{Source, asked}
 use Rattle.it_report.specs.Meaning.{IsClaimTrue}
 use Rattle.it_cli.specs.Ends.{Call}
 use Rattle.it_cli.specs.Modes.{WholeOutput}
@@ -23,4 +23,4 @@ EachLineIsTold = (with_steps : Bool) (line : List ℕ) → (telling : Telling) �
 
 -- What an answer claims that is told is true.
 abbrev pub ToldAnswersAreTrue : Type 0
-ToldAnswersAreTrue = (with_steps : Bool) (line : List ℕ) (q : QuestionView) (answer : AnswerView) (details : List ℕ) → IsTelling with_steps line (Answered q answer details) → IsClaimTrue q.body answer
+ToldAnswersAreTrue = (with_steps : Bool) (line : List ℕ) (source : Source) (answer : AnswerView) (details : List ℕ) → IsTelling with_steps line (Answered source answer details) → IsClaimTrue (asked source).body answer

@@ -1,14 +1,19 @@
 -- No public clause cites this module: what the calls inside `tell` give.
-use Rattle.std.specs.Prelude.{◌≡◌, ℕ, ℤ, List, ◌++◌, Bool, [], map, Option, Some}
+use Rattle.std.specs.Prelude.{◌≡◌, ℕ, ℤ, List, ◌++◌, length, Bool, [], map, codes, Option, Some}
 use Rattle.std.specs.List.{zip}
 use Rattle.std.specs.Borrow.{Bor}
 use Rattle.it_space.specs.declared.spaces.Space.{Space}
 use Rattle.it_space.specs.Rows.{Terms, value}
 use Rattle.it_region.specs.Obligations.{ArePulledRows}
-use Rattle.it_space.specs.Answers.{AnswerView, CertificateView, certificate_view}
+use Rattle.it_space.specs.Answers.{AnswerView, CertificateView, answer_view, certificate_view}
 use Rattle.it_polymatroid.specs.Certificates.{Form}
 use Rattle.it_syntax.specs.NamesViews.{NamesView}
-use Rattle.it_question.specs.Questions.{BodyView}
+use Rattle.it_question.specs.Questions.{BodyView, question_body}
+use Rattle.it_canon.specs.QuestionDemands.{question_demands}
+use Rattle.it_certificate.specs.declared.types.Reported.{Reported}
+use Rattle.it_certificate.specs.declared.types.Reported.TheVariants as variants
+use Rattle.it_print.specs.Lines.{IsPrintable}
+use Rattle.it_report.specs.LineVerdicts.{numbered_line}
 use Rattle.it_region.specs.AnswerForms.{answer_forms}
 use Rattle.it_tell.specs.Tellings.{AreDetails, AreProofTexts, Each, IsPointText, IsTelling, ProofTexts, Telling, head_line, indented_line, proof_lines, tells_invalid, telling_text}
 use Rattle.it_space.specs.Answers.AnswerView.{Contained}
@@ -30,6 +35,16 @@ pub record IsToldLine (with_steps : Bool) (k : ℕ) (line text : List ℕ) (inva
 -- the lines about an answer to a question
 unfoldable pub IsAnsweredText : Bool → ℕ → BodyView → AnswerView → List ℕ → Type 0
 IsAnsweredText with_steps k q answer text = (details : List ℕ) × (AreDetails q with_steps answer details × (text ≡ head_line k q answer ++ details))
+
+-- the lines about what was read
+abbrev pub IsReportedText : Bool → ℕ → Reported → List ℕ → Type 0
+IsReportedText with_steps k (variants.Answered question answer) text = IsAnsweredText with_steps k (question_body question) (answer_view answer) text
+IsReportedText with_steps k variants.Misfit text = text ≡ numbered_line k (codes "misfit")
+
+-- the answer that was read can be printed
+abbrev pub CanBePrinted : Reported → Type 0
+CanBePrinted (variants.Answered question answer) = IsPrintable (question_body question) (length (question_demands (question_body question))) answer
+CanBePrinted variants.Misfit = Unit {0}
 
 -- what tells these items was appended
 unfoldable pub AppendsEach : {X A : Type 0} → (A → List ℕ) → (X → A → Type 0) → List X → List ℕ → List ℕ → Type 0

@@ -12,9 +12,11 @@ use Rattle.it_space.specs.Answers.AnswerView.{Yes, No, Undecided, Region, Contai
 use Rattle.it_space.specs.Rows.{Terms}
 use Rattle.it_polymatroid.specs.Certificates.{Form}
 use Rattle.it_syntax.specs.NamesViews.{NamesView}
-use Rattle.it_question.specs.Questions.{BodyView, QuestionView}
+use Rattle.it_question.specs.Questions.{BodyView}
 use Rattle.it_question.specs.ProblemLines.{problem_names}
+use Rattle.it_certificate.specs.Reports as reports
 use Rattle.it_certificate.specs.Reports.{ReadsReport}
+use Rattle.it_certificate.specs.Sources.{Source, asked}
 use Rattle.it_print.specs.Lines.{certificate_text, contained_line, open_line, row_text, undecided_line, values_text, variable_names}
 use Rattle.it_terms.specs.Tells.{TellsRow}
 use Rattle.it_terms.specs.Proofs.{TellsForm}
@@ -104,29 +106,34 @@ head_line k q (Open tried) = open_line k tried
 
 -- ---- a line of a report
 
--- that it is invalid, with this verdict; or its answer to its question, with these lines below the first one
+-- that it is invalid, with this verdict; its answer to the question that is asked, with these lines below the first one; or that a
+-- question can't have what is asked for
 pub data Telling : Type 0 where
   Invalid : (verdict : LineVerdict) → Telling
-  Answered : (question : QuestionView) (answer : AnswerView) (details : List ℕ) → Telling
+  Answered : (source : Source) (answer : AnswerView) (details : List ℕ) → Telling
+  Misfit : Telling
 
--- the line reads as this question with this answer, and its verdict isn't an invalid one
-pub record IsAccepted (line : List ℕ) (q : QuestionView) (answer : AnswerView) : Type 0 where
+-- the line reads as this answer to this, and its verdict isn't an invalid one
+pub record IsAccepted (line : List ℕ) (source : Source) (answer : AnswerView) : Type 0 where
   pub verdict : LineVerdict
   pub is : IsVerdict line verdict
   pub accepted : is_invalid verdict ≡ false
-  pub reads : ReadsReport line (Ok (q, answer))
+  pub reads : ReadsReport line (Ok (reports.Answered source answer))
 
 -- this may be told of the line, where steps of proofs are asked for or not
 abbrev pub IsTelling : Bool → List ℕ → Telling → Type 0
 IsTelling with_steps line (Invalid v) = IsVerdict line v × (is_invalid v ≡ true)
-IsTelling with_steps line (Answered q answer details) = IsAccepted line q answer × AreDetails q.body with_steps answer details
+IsTelling with_steps line (Answered source answer details) = IsAccepted line source answer × AreDetails (asked source).body with_steps answer details
+IsTelling with_steps line Misfit = ReadsReport line (Ok reports.Misfit)
 
 -- whether it is told to be invalid
 abbrev pub tells_invalid : Telling → Bool
 tells_invalid (Invalid v) = true
-tells_invalid (Answered q answer details) = false
+tells_invalid (Answered source answer details) = false
+tells_invalid Misfit = false
 
 -- the lines about line k
 abbrev pub telling_text : ℕ → Telling → List ℕ
 telling_text k (Invalid v) = verdict_line k v
-telling_text k (Answered q answer details) = head_line k q.body answer ++ details
+telling_text k (Answered source answer details) = head_line k (asked source).body answer ++ details
+telling_text k Misfit = numbered_line k (codes "misfit")

@@ -14,7 +14,7 @@ use std::alloc::{AllocError, Global};
 
 /// The number of the line and words about it.
 #[tactic(auto, unfolding(it_report::specs::LineVerdicts::numbered_line))]
-fn numbered_line(alloc: Global, k: usize, words: &[u8]) -> Result<Vec<u8>, AllocError>
+pub fn numbered_line(alloc: Global, k: usize, words: &[u8]) -> Result<Vec<u8>, AllocError>
     ensures { IfOk result (λ t. t.items ≡ numbered_line k words.now) }
 {
     let mut out = Vec::new(alloc);

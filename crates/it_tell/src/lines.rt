@@ -6,13 +6,14 @@ ghost use Rattle.it_question.specs.Questions.{question_body};
 ghost use Rattle.it_canon.specs.QuestionDemands.{question_demands};
 ghost use Rattle.it_certificate.specs.AnswerShapes.{HasQuestionShape};
 ghost use Rattle.it_print.specs.Lines.{IsPrintable};
-ghost use Rattle.it_tell.specs.Steps.{IsAnsweredText, IsToldLine};
+ghost use Rattle.it_certificate.specs.Reports.{KeepsLimits};
+ghost use Rattle.it_tell.specs.Steps.{CanBePrinted, IsAnsweredText, IsReportedText, IsToldLine};
 
 use crate::details::write_details;
-use crate::heads::head_line;
+use crate::heads::{head_line, numbered_line};
 use crate::settings::Options;
 use it_canon::problem;
-use it_certificate::{ReportFault, answer_from_json};
+use it_certificate::{ReportFault, Reported, answer_from_json};
 use it_question::types::Question;
 use it_report::judge;
 use it_space::Answer;
@@ -46,6 +47,25 @@ fn answered_text(
     Ok(text)
 }
 
+/// The lines about what was read of line k.
+fn reported_text(
+    alloc: Global,
+    options: Options,
+    k: usize,
+    reported: &Reported,
+) -> Result<Vec<u8>, AllocError>
+    requires limits { KeepsLimits reported.now }
+    requires printable { CanBePrinted reported.now }
+    ensures { IfOk result (λ t. IsReportedText options.steps k reported.now t.items) }
+{
+    match reported {
+        Reported::Answered { question, answer } => {
+            answered_text(alloc, options, k, question, answer)
+        }
+        Reported::Misfit => numbered_line(alloc, k, b"misfit"),
+    }
+}
+
 /// What is told of line k of a report; lines are counted from 1, and `line` comes without its end. It is read twice, to be judged and
 /// to be told.
 pub fn tell_line(
@@ -69,7 +89,7 @@ pub fn tell_line(
         Err(ReportFault::NotJson) => unreachable!(),
         Err(ReportFault::Shape { .. }) => unreachable!(),
     };
-    let text = answered_text(alloc, options, k, &reported.question, &reported.answer)?;
+    let text = reported_text(alloc, options, k, &reported)?;
     Ok(ToldLine {
         text,
         invalid: false,

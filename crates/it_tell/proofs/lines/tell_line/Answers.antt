@@ -1,6 +1,4 @@
-use Rattle.it_space.specs.Answers.{answer_view}
-use Rattle.it_question.specs.Questions.{question_view}
-use Rattle.it_tell.proofs.LineLemmas.{answered_line, can_be_printed, has_no_fault, has_verdict, invalid_line}
+use Rattle.it_tell.proofs.LineLemmas.{can_be_printed, has_no_fault, has_verdict, invalid_line, reported_line}
 use Rattle.it_tell.proofs.lines.tell_line.Goals as goal
 
 pub returns-then-judged : goal.returns-then-judged
@@ -10,10 +8,10 @@ pub unreachable-requires-in-Err-Shape : goal.unreachable-requires-in-Err-Shape
 unreachable-requires-in-Err-Shape c = has_no_fault c.args.line.now c.in-Err-Shape.field-0-0
     (has_verdict c.args.k c.args.line.now c.in_ok-judged.judged.text.items c.in_ok-judged.judged.invalid c.in_ok-judged.ensures c.if-judged.false) (rw c.in-Err-Shape.field-0-is at c.in-Err-Shape.ensures.reading)
 
-pub answered_text-requires-clause-printable : goal.answered_text-requires-clause-printable
-answered_text-requires-clause-printable c = can_be_printed c.args.line.now (question_view c.in-Ok.reported.question) c.in-Ok.reported.answer c.in-Ok.ensures.reading c.in-Ok.ensures.limits c.in-Ok.ensures.fits
+pub reported_text-requires-clause-printable : goal.reported_text-requires-clause-printable
+reported_text-requires-clause-printable c = can_be_printed c.args.line.now c.in-Ok.reported c.in-Ok.ensures.reading c.in-Ok.ensures.limits
     (has_verdict c.args.k c.args.line.now c.in_ok-judged.judged.text.items c.in_ok-judged.judged.invalid c.in_ok-judged.ensures c.if-judged.false)
 
 pub returns : goal.returns
-returns c = answered_line c.args.options.steps c.args.k c.args.line.now c.in_ok-text.text.items (question_view c.in-Ok.reported.question) (answer_view c.in-Ok.reported.answer) c.in-Ok.ensures.reading
+returns c = reported_line c.args.options.steps c.args.k c.args.line.now c.in_ok-text.text.items c.in-Ok.reported c.in-Ok.ensures.reading
     (has_verdict c.args.k c.args.line.now c.in_ok-judged.judged.text.items c.in_ok-judged.judged.invalid c.in_ok-judged.ensures c.if-judged.false) c.in_ok-text.ensures
