@@ -185,6 +185,7 @@ fn ascii_byte(byte: u8) -> u8
 }
 
 /// Bytes in ASCII.
+#[tactic(auto, using(crate::proofs::ValueLemmas::are_ascii))]
 fn in_ascii(alloc: Global, bytes: &[u8]) -> Result<Vec<u8>, AllocError>
     ensures bytes { IfOk result (λ v. v.items ≡ map ascii_byte bytes.now) }
     ensures ascii { IfOk result (λ v. IsAscii v.items) }
