@@ -62,7 +62,8 @@ class Codes(Asks):
             self.assertEqual(self.codes(text), [due])
 
     def test_examples(self):
-        """Each point of the examples has a code, or violates Ingleton's inequality; another search (over tables of all subspaces) had the same numbers but for one point, on which it gave up."""
+        """Each point has a code, or violates Ingleton's inequality. Another search, over tables of all subspaces, has the same numbers, and one point
+        on which it gives up."""
         kinds = []
         for path in sorted(EXAMPLES.glob("*.txt")):
             if path.name.startswith("best-"):

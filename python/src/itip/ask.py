@@ -358,6 +358,12 @@ class Asker:
         say(f"{name}, line {number}, column {column}:")
         line = [*as_bytes(text).split(b"\n"), b""][number - 1].removesuffix(b"\r")
         show(*(f"    {as_text(part)}" for part in explained(self.docs, word, line, column)))
+        if word in ("many", "large"):
+            from .limits import passed
+
+            counted = passed(questions.text, word, *map(int, place.split(":")))
+            if counted:
+                show(f"    {counted}")
 
 
 def mode_of(text: str) -> str:
