@@ -37,6 +37,7 @@ class Limits(Asks):
             (PATH.replace("a, b, c, d\n", "a, b, c, d, e, f, g, i, j\n") + "prove H(a) >= 0\n", "parties: 9, of at most 8"),
             (PATH + "qualified a, b\n" * 62 + "prove H(a) >= 0\n", "`qualified` lines of this file: 65, of at most 64"),
             (TEN + "prove 0 >= 0\n", "rows times columns of its table: 1,023 x 12,553 = 12,841,719, of at most 4,000,000"),
+            (TEN + "prove foo $\n", "rows times columns of its table: 1,023 x 12,553 = 12,841,719, of at most 4,000,000"),
             # a line of fewer words makes four
             ("vars A, B, C, D\n" + "given sum A of B, C, D\n" * 17 + "prove H(A) >= 0\n", "`given` lines of this question: 68, of at most 64"),
         ]:
@@ -46,7 +47,7 @@ class Limits(Asks):
     def test_no_count(self):
         """What isn't past a limit isn't told, whatever the place."""
         for word in ("many", "large"):
-            for text, number, column in [("", 1, 1), ("", 2, 1), ("vars A\nprove H(A) >= 0\n", 2, 1), ("prove", 1, 9), ("contain\n", 1, 1)]:
+            for text, number, column in [("", 2, 1), ("vars A\nprove H(A) >= 0\n", 2, 1), ("vars A\nprove H(B) >\n", 2, 1), ("contain\n", 1, 1), ("vars A\nregion\ncontain\n", 3, 1)]:
                 self.assertEqual(passed(text, word, number, column), "")
 
     def test_tables(self):

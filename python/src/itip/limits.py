@@ -4,7 +4,7 @@ from __future__ import annotations
 
 import re
 
-from .errors import ItipError
+from .errors import NotationError
 
 TYPE_CHECKING = False
 if TYPE_CHECKING:
@@ -20,6 +20,7 @@ if TYPE_CHECKING:
 NAME = re.compile("[A-Za-z][A-Za-z0-9_]*")
 SIGNS = re.compile("<=|>=|=|[-+]")
 MOST_ENTRIES = 4_000_000
+VERBS = {"prove": "prove 0 >= 0", "eliminate": "eliminate R", "contain": "contain"}
 
 
 def passed(text: str, word: str, number: int, column: int) -> str:
@@ -94,9 +95,10 @@ def _entries(lines: Sequence[str], number: int) -> str:
     from .questions import parse
 
     begin, _ = _question(lines, number)
+    asks = VERBS.get(_word(lines[number - 1]), "")  # (what stands behind the verb isn't read yet)
     try:
-        rows, columns = table(parse("\n".join(filter(None, lines[begin:number])) + "\n"))
-    except (ItipError, IndexError):
+        rows, columns = table(parse("\n".join([*filter(None, lines[begin : number - 1]), asks]) + "\n"))
+    except (NotationError, IndexError):
         return ""
     entries = rows * columns
     return f"rows times columns of its table: {rows:,} x {columns:,} = {entries:,}, of at most {MOST_ENTRIES:,}" if entries > MOST_ENTRIES else ""
