@@ -92,7 +92,7 @@ class Calls(Asks):
         status, shown, said = self.ask("--help")
         self.assertEqual((status, said), (0, ""))
         words = re.findall("--[a-z]+", shown)
-        known = [*MODES, "steps", "short", "latex", "document", "needs", "if", "copies", "made", "per", "proofs", "version"]
+        known = [*MODES, "steps", "short", "latex", "document", "needs", "if", "copies", "code", "made", "per", "proofs", "version"]
         self.assertEqual(sorted(set(words) - {"--help"}), sorted([*SETTINGS, *(f"--{word}" for word in known)]))
         self.assertIn(f"```\n{shown}```\n", (ROOT / "docs" / "ask.md").read_text())
         self.assertEqual(self.ask("--version"), (0, "ask 1\n", ""))

@@ -22,6 +22,7 @@ Answers question files in the field's own notation (docs/ask.md); - is standard 
 --needs      behind each needed row of a region a point at which it alone fails
 --if         below each no the weakest independences and functions that make a yes of it, on up to six variables
 --copies     below each no the first copy, or pair of copies, with which it is a yes
+--code       below each no a linear code over GF(2) or GF(3) whose ranks are the point's entropies
 --latex      for LaTeX; with --document as a whole document
 --copy       a file with a head of copies, which a file that begins with `copy` is without this word
 --sharing    a sharing file, which a file that begins with `secret` is without this word
@@ -76,13 +77,13 @@ class Words:
 
     def for_questions(self) -> None:
         """Refuses the words that are for question files alone."""
-        if self.options & {"--if", "--copies"}:
+        if self.options & {"--if", "--copies", "--code"}:
             raise WordsError
 
     def _take(self, word: str) -> None:
         if word in ("--steps", "--short"):
             self.telling.append(word)
-        elif word in ("--latex", "--document", "--needs", "--if", "--copies", "--made", "--proofs"):
+        elif word in ("--latex", "--document", "--needs", "--if", "--copies", "--code", "--made", "--proofs"):
             self.options.add(word)
         elif word.startswith("--") and word[2:] in MODES and self.mode in ("", word[2:]):
             self.mode = word[2:]
@@ -196,7 +197,7 @@ class Asker:
         """The status of `tell`, and what it writes of a report."""
         report = [self._settled(name, number, line) for number, line in enumerate(lines, 1)]
         status, told = self._tell(report, self.words.telling)
-        if not self.words.options & {"--needs", "--if", "--copies"}:
+        if not self.words.options & {"--needs", "--if", "--copies", "--code"}:
             return status, told
         answers = grouped(told)
         for number, (line, answer) in enumerate(zip(report, answers), 1):
@@ -209,7 +210,8 @@ class Asker:
             return self._with_needs(name, number, line, told)
         if not line.startswith('{"answer":"no"') or not told:
             return told
-        more = self._conditions(name, number, line) if "--if" in self.words.options else []
+        more = self._code(name, number, line) if "--code" in self.words.options else []
+        more += self._conditions(name, number, line) if "--if" in self.words.options else []
         more += self._copies(name, number, line) if "--copies" in self.words.options else []
         return [*told, *("  " + part for part in more)]
 
@@ -234,6 +236,18 @@ class Asker:
             return list(told)
         _, answers = self._tell(lines[:-1])
         return ["  " + row for row in with_points(rows, grouped(answers))]
+
+    def _code(self, name: str, number: int, line: str) -> list[str]:
+        """A linear code at the point of a no, or why there is none."""
+        from . import linear
+
+        found = decoded(line)
+        said, ranks = linear.told(found)
+        verdict = run([self.prover, "check"], ranks + "\n")[1] if ranks else "1 valid\n"
+        if verdict != "1 valid\n":
+            say(f"{name}, question {number}: itip check finds of the code's ranks: {verdict.partition(' ')[2].strip()}")
+            return [linear.NONE]
+        return [said]
 
     def _conditions(self, name: str, number: int, line: str) -> list[str]:
         """What would make a yes of a no: lines of a question file."""
@@ -344,6 +358,12 @@ class Asker:
         say(f"{name}, line {number}, column {column}:")
         line = [*as_bytes(text).split(b"\n"), b""][number - 1].removesuffix(b"\r")
         show(*(f"    {as_text(part)}" for part in explained(self.docs, word, line, column)))
+        if word in ("many", "large"):
+            from .limits import passed
+
+            counted = passed(questions.text, word, *map(int, place.split(":")))
+            if counted:
+                show(f"    {counted}")
 
 
 def mode_of(text: str) -> str:

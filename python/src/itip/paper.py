@@ -27,6 +27,7 @@ FACTS = (
     (re.compile(f"func ([A-Za-z0-9_]+) of ({LIST})"), r"{}\text{{ a function of }}{}"),
     (re.compile("indep ([A-Za-z0-9_;]+)"), r"{}\text{{ independent}}"),
 )
+CODES = ("over GF(", "no linear code")  # how lines about linear codes begin
 # a ray of an outer bound: what it is, its rates with their numbers, and maybe the rate per which they are
 RAY = re.compile(rf"(corner|point|ray|direction|line) (.*) = ([^=]*?)(?: per ({NAME}))?")
 SENTENCES = {
@@ -174,6 +175,9 @@ class Paper:
             self.rows.append((text, comment))
             return
         self._close_relations()
+        if text.startswith(CODES):
+            self.parts.append(self._code(text))
+            return
         is_point = text.startswith("as point ")
         lines = self._point(text[len("as point ") :]) if is_point else self._facts(text)
         if lines:
@@ -197,6 +201,25 @@ class Paper:
         written = [f"{formula(left, self.names)} &= {right}" for left, right, *_ in pairs]
         lines = [written[place : place + columns] for place in range(0, len(written), columns)]
         return ", \\\\\n  ".join(map(", & ".join, lines))
+
+    def _code(self, text: str) -> str:
+        """A linear code, or why there is none, as a sentence."""
+        first, _, rest = text.partition(": ")
+        first = re.sub(r"GF\(([0-9])\)", r"$\\mathrm{GF}(\1)$", first)
+        code, _, times = rest.partition("; the point")
+        if first.startswith("over"):
+            parts = [self._variable(part) for part in re.findall(rf"{NAME} constant|{NAME} = \([^()]*\)", code)]
+            return f"A linear code {first} has these ranks: " + ", ".join(parts) + (f"; the point{times}" if times else "") + "."
+        four = re.sub(rf"(?<=for )({NAME}), ({NAME}); ({NAME}), ({NAME})$", lambda found: self._four(found.groups()), rest)
+        return first[:1].upper() + first[1:] + (f": {four}" if four else "") + "."
+
+    def _variable(self, part: str) -> str:
+        name, _, of = part.partition(" = ")
+        return f"${formula(name, self.names)} = {formula(of, self.names)}$" if of else f"${formula(part.partition(' ')[0], self.names)}$ constant"
+
+    def _four(self, four: Sequence[str]) -> str:
+        first, second, third, fourth = (f"${formula(name, self.names)}$" for name in four)
+        return f"{first}, {second}; {third}, {fourth}"
 
     def _facts(self, text: str) -> str:
         """Facts with `, ` between them. Nothing, where one is none."""
