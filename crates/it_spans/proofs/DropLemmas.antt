@@ -1,11 +1,12 @@
 -- Rows that go leave a hull of the same rays.
-use Rattle.std.proofs.Common.{◌≡◌, ◌↔◌, ℕ, suc, ◌+◌, ◌-◌, ◌<◌, ◌≤◌, ℤ, pos, ◌≤ℤ◌, List, [], ◌∷◌, ◌++◌, length, take, drop, get_or, Bool, true, false, nat_lt, Option, Some, None, Ok, if◌then◌else◌, refl, sym, ap, subst, ◌∙◌, arith, length-append, All}
+use Rattle.std.proofs.Common.{◌≡◌, ◌↔◌, ℕ, suc, ◌+◌, ◌-◌, ◌<◌, ◌≤◌, ℤ, pos, ◌≤ℤ◌, List, [], ◌∷◌, ◌++◌, length, take, drop, get_or, Bool, true, false, nat_lt, Option, Some, None, IfNone, is_some, Result, Ok, map, if◌then◌else◌, refl, sym, ap, ap₂, subst, ◌∙◌, arith, length-append, All}
 use Rattle.std.specs.List.{remove}
 use Rattle.std.proofs.lemmas.Bool.{ltb-true}
 use Rattle.std.proofs.lemmas.List.{take-append-drop, drop_more, length-drop, length-take-le}
 use Rattle.std.proofs.lemmas.List.Elements.{All-append, All-cons, All-drop, All-take}
 use Rattle.it_space.specs.declared.spaces.Space.{Space}
-use Rattle.it_space.specs.Problems.{IsProblem}
+use Rattle.it_space.proofs.ListLemmas.{drop_item}
+use Rattle.it_space.specs.Problems.{ProblemView, IsProblem}
 use Rattle.it_space.specs.Rows.{Terms, IsOver, value}
 use Rattle.it_space.specs.Spaces.{IsSpace, size_of}
 use Rattle.it_eliminate.specs.Projections.{IsPointOf}
@@ -23,7 +24,8 @@ use Rattle.it_hull.proofs.ConstantLemmas.{constants_are_problem, constants_speak
 use Rattle.it_hull.proofs.RateLemmas.{rates_meet, reduced_is_hull}
 use Rattle.it_spans.specs.declared.types.Fault.{Fault}
 use Rattle.it_spans.specs.declared.types.Fault.TheVariants.{NoRow}
-use Rattle.it_spans.specs.Drops.{DropView, after_drops, drop_fault, drop_verdict, fault_or, verdict_fault}
+use Rattle.it_spans.specs.declared.types.RowDrop.{RowDrop}
+use Rattle.it_spans.specs.Drops.{DropView, after_drops, drop_fault, drop_verdict, drop_view, fault_or, verdict_fault}
 
 -- ---- a list without an item
 
@@ -57,6 +59,9 @@ module _ (s : Space) (h : IsSpace s) (rows : List Terms) (d : DropView) (over : 
   -- the problem under which the row is judged
   pub drop_problem : IsProblem (with_rows (constants s) others)
   drop_problem = problem_limits (constants s) others (constants_are_problem s h) (let k = few_constants s h in omega (arith, k)) (let k = fewer-remove rows d.row listed in omega (arith, k, few)) (all-remove (IsOver (size_of s)) rows d.row over)
+
+  pub made_problem : (givens made : ProblemView) (left : List Terms) → givens ≡ constants s → left ≡ others → made ≡ with_rows givens left → IsProblem made
+  made_problem givens made left g l m = subst (λ (q : ProblemView). IsProblem q) (sym (m ∙ ap₂ (λ (q : ProblemView) (rs : List Terms). with_rows q rs) g l)) drop_problem
 
   rows_alike : drop_verdict s rows d ≡ Valid → (x : ℕ → ℤ) → IsZeroAtSets s.variables x → IsPointOf rows x ↔ IsPointOf others x
   rows_alike valid x zero = (λ a. all-remove (RowHolds x) rows d.row a, λ a. all_with (RowHolds x) rows d.row [] listed (own_holds a) a)
@@ -92,12 +97,15 @@ no_fault s ray number rows d e = by_test (nat_lt d.row (length rows)) refl e
     by_test true l k = (ltb-true d.row (length rows) l, is_valid ray number (drop_verdict s rows d) k)
     by_test false l k = absurd (cc)
 
+abbrev left_by : List Terms → Result (List Terms) Fault
+left_by rows = Ok rows
+
 -- what holds of the rows, and of rows without one that goes, holds of the rows that drops leave
 pub drops_keep : (s : Space) (ray : ℕ) (P : List Terms → Type 0) → ((rows : List Terms) (d : DropView) → P rows → d.row < length rows → drop_verdict s rows d ≡ Valid → P (remove rows d.row))
     → (number : ℕ) (rows : List Terms) (ds : List DropView) (left : List Terms) → P rows → after_drops s ray number rows ds ≡ Ok left → P left
 drops_keep s ray P goes number rows [] left p e = subst P (same_rows rows left e) p
   where
-    same_rows : (xs ys : List Terms) → Ok {E = Fault} xs ≡ Ok ys → xs ≡ ys
+    same_rows : (xs ys : List Terms) → left_by xs ≡ left_by ys → xs ≡ ys
     same_rows xs ys k = cc
 drops_keep s ray P goes number rows (d ∷ ds) left p e = by_fault (drop_fault s ray number rows d) refl e
     (λ l v k. drops_keep s ray P goes (number + 1) (remove rows d.row) ds left (goes rows d p l v) k)
@@ -106,3 +114,37 @@ drops_keep s ray P goes number rows (d ∷ ds) left p e = by_fault (drop_fault s
         → (d.row < length rows → drop_verdict s rows d ≡ Valid → after_drops s ray (number + 1) (remove rows d.row) ds ≡ Ok left → P left) → P left
     by_fault None none k later = let own = no_fault s ray number rows d none in later own.0 own.1 k
     by_fault (Some fault) some k later = absurd (cc)
+
+-- ---- the loop over the drops
+
+-- so many drops went, from the rows with which it began
+pub record AreUnderWay (s : Space) (ray : ℕ) (begun : List Terms) (drops : List RowDrop) (i : ℕ) (rows : List Terms) : Type 0 where
+  pub leads : after_drops s ray i rows (map drop_view (drop i drops)) ≡ after_drops s ray 0 begun (map drop_view drops)
+  pub over : All (IsOver (size_of s)) rows
+  pub few : length rows ≤ 65535
+
+module _ (s : Space) (ray : ℕ) (begun rows : List Terms) (drops : List RowDrop) (i : ℕ) (u : AreUnderWay s ray begun drops i rows) where
+  -- a drop is next
+  module _ (d : RowDrop) (l : i < length drops) (at : d ≡ get_or drops i d) where
+    abbrev later : Result (List Terms) Fault
+    later = after_drops s ray (i + 1) (remove rows d.row) (map drop_view (drop (i + 1) drops))
+
+    next_drop : fault_or (drop_fault s ray i rows (drop_view d)) later ≡ after_drops s ray 0 begun (map drop_view drops)
+    next_drop = sym (ap (λ (ds : List RowDrop). after_drops s ray i rows (map drop_view ds)) (drop_item drops i d l at)) ∙ u.leads
+
+    pub drop_goes : (f : Option Fault) (left : List Terms) → f ≡ drop_fault s ray i rows (drop_view d) → is_some f ≡ false → IfNone f (left ≡ remove rows d.row) → AreUnderWay s ray begun drops (i + 1) left
+    drop_goes (Some fault) left e n gone = absurd (cc)
+    drop_goes None left e n gone =
+        let own = no_fault s ray i rows (drop_view d) (sym e) in
+        subst (λ (rs : List Terms). AreUnderWay s ray begun drops (i + 1) rs) (sym gone) (record {
+          leads = ap (λ (o : Option Fault). fault_or o later) e ∙ next_drop;
+          over = all-remove (IsOver (size_of s)) rows d.row u.over;
+          few = (let k = fewer-remove rows d.row own.0 in let few = u.few in omega (arith, k, few));
+        })
+
+    pub drop_stops : (f : Option Fault) (end : Result (List Terms) Fault) → f ≡ drop_fault s ray i rows (drop_view d) → is_some f ≡ true → after_drops s ray 0 begun (map drop_view drops) ≡ fault_or f end
+    drop_stops None end e n = absurd (cc)
+    drop_stops (Some fault) end e n = sym (ap (λ (o : Option Fault). fault_or o later) e ∙ next_drop)
+
+  pub drops_done : drop i drops ≡ [] → after_drops s ray 0 begun (map drop_view drops) ≡ Ok rows
+  drops_done e = sym (sym (ap (λ (ds : List RowDrop). after_drops s ray i rows (map drop_view ds)) e) ∙ u.leads)

@@ -1,21 +1,15 @@
 -- The rows of hulls between steps, and how lists begin. No public clause cites this module.
-use Rattle.std.specs.Prelude.{◌+◌, ◌^◌, List, [], ◌∷◌, All, Bool, false, Result, Ok, Err}
+use Rattle.std.specs.Prelude.{◌+◌, ◌^◌, List, [], ◌∷◌, All, Bool, false}
 use Rattle.it_space.specs.Rows.{Terms, IsOver}
 use Rattle.it_space.specs.Spaces.{size_of}
 use Rattle.it_eliminate.specs.Elimination.{is_same}
 use Rattle.it_eliminate.specs.Projections.{LacksCoordinate}
-use Rattle.it_spans.specs.declared.types.Fault.{Fault}
 use Rattle.it_spans.specs.declared.types.Frame.{Frame}
 
 -- rows as a step takes them: of the space, without the multipliers' rate
 pub record AreHullRows (f : Frame) (rows : List Terms) : Type 0 where
   pub over : All (IsOver (size_of f.space)) rows
   pub free : LacksCoordinate (2 ^ f.space.variables + f.spare) rows
-
--- where there are rows, they are such
-abbrev pub AreNext : Frame → Result (List Terms) Fault → Type 0
-AreNext f (Ok rows) = AreHullRows f rows
-AreNext f (Err fault) = Unit {0}
 
 -- whether two lists begin with one row
 abbrev pub same_first : List Terms → List Terms → Bool

@@ -6,6 +6,7 @@ use Rattle.it_hull.specs.Hulls.{IsHull}
 use Rattle.it_spans.specs.declared.types.Fault.{Fault}
 use Rattle.it_spans.specs.declared.types.Frame.{Frame}
 use Rattle.it_spans.specs.declared.types.HullVerdict.TheVariants.{Valid}
+use Rattle.it_spans.specs.declared.types.Step.{Step}
 use Rattle.it_spans.specs.Spans.{SpanEnds, StepView, StepsEnd, rays_of}
 use Rattle.it_spans.specs.Verdicts.{VerdictIs}
 
@@ -21,7 +22,7 @@ pub record AreKept (f : Frame) (kept : List ℕ) : Type 0 where
   pub away : ¬ (Contains kept (2 ^ f.space.variables + f.spare))
 
 -- the steps that calls take: rays of the space
-abbrev pub AreSteps : Frame → List StepView → Type 0
+abbrev pub AreSteps : Frame → List Step → Type 0
 AreSteps f steps = All (λ s. length s.ray ≡ size_of f.space) steps
 
 -- where rows are left, they hold exactly at what the rays span

@@ -5,7 +5,7 @@ ghost use Rattle.it_space.specs.Rows.{IsOver};
 ghost use Rattle.it_space.specs.Spaces.{IsSpace, size_of};
 ghost use Rattle.it_hull.specs.Constants.{constants};
 ghost use Rattle.it_spans.specs.Drops.{after_drops, drop_view};
-ghost use Rattle.it_spans.specs.HullRows.{AreHullRows, AreNext};
+ghost use Rattle.it_spans.specs.HullRows.{AreHullRows};
 ghost use Rattle.it_spans.specs.Spans.{SpanEnds, StepEnds, rays_of, spanned_view, step_view, step_views};
 ghost use Rattle.it_spans.specs.Theorems.{AreKept, AreSteps, IsFrame, IsRightSpan};
 
@@ -58,15 +58,18 @@ fn after_step(
     requires givens { problem_view givens.now ≡ constants frame.space }
     requires rows { AreHullRows frame rows.items }
     requires ray { length step.now.ray ≡ size_of frame.space }
-    ensures ends { IfOk result (λ s. StepEnds frame ray rows.items (step_view step.now) (spanned_view s)) }
-    ensures next { IfOk result (λ s. AreNext frame (spanned_view s)) }
+    ensures { IfOk result (λ s. StepEnds frame ray rows.items (step_view step.now) (spanned_view s)) }
 {
     let hull = System {
         space: frame.space,
         rows,
     };
-    match with_ray(alloc, &hull, &step.ray, frame.spare, frame.rows)? {
-        Eliminated::Region(next) => after_drops(alloc, givens, next, step.drops.as_slice(), ray),
+    let left = with_ray(alloc, &hull, &step.ray, frame.spare, frame.rows)?;
+    match left {
+        Eliminated::Region(next) => {
+            let end = after_drops(alloc, givens, next, step.drops.as_slice(), ray)?;
+            Ok(end)
+        }
         Eliminated::Rows { rate: _ } => Ok(Spanned::Faulty(Fault::TooMany { ray })),
         Eliminated::Wide { rate: _ } => Ok(Spanned::Faulty(Fault::TooWide { ray })),
     }
@@ -81,7 +84,7 @@ fn after_steps(
 ) -> Result<Spanned, AllocError>
     requires frame { IsFrame frame }
     requires kept { AreKept frame kept.now }
-    requires steps { AreSteps frame (step_views steps.now) }
+    requires steps { AreSteps frame steps.now }
     ensures { IfOk result (λ s. SpanEnds frame kept.now (step_views steps.now) (spanned_view s)) }
 {
     let givens = constants(alloc, frame.space)?;
@@ -105,7 +108,7 @@ pub fn hull(
 ) -> Result<Spanned, AllocError>
     requires frame { IsFrame frame }
     requires kept { AreKept frame kept.now }
-    requires steps { AreSteps frame (step_views steps.now) }
+    requires steps { AreSteps frame steps.now }
     ensures ends { IfOk result (λ s. SpanEnds frame kept.now (step_views steps.now) (spanned_view s)) }
     ensures hull { IfOk result (λ s. IsRightSpan kept.now (rays_of (step_views steps.now)) (spanned_view s)) }
 {

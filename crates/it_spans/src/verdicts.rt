@@ -31,12 +31,16 @@ fn is_same_at(rows: &[Row], others: &[Row], place: usize) -> bool
 fn first_difference(rows: &[Row], others: &[Row]) -> Option<usize>
     ensures { result ≡ first_difference 0 rows.now others.now }
 {
-    for place in 0..rows.len().max(others.len()) {
+    for place in 0..rows.len() {
         if !is_same_at(rows, others, place) {
             return Some(place);
         }
     }
-    None
+    if rows.len() < others.len() {
+        Some(rows.len())
+    } else {
+        None
+    }
 }
 
 /// The verdict on rows by what steps make.
@@ -63,7 +67,7 @@ pub fn check_hull(
 ) -> Result<HullVerdict, AllocError>
     requires frame { IsFrame frame }
     requires kept { AreKept frame kept.now }
-    requires steps { AreSteps frame (step_views steps.now) }
+    requires steps { AreSteps frame steps.now }
     ensures verdict { IfOk result (VerdictIs frame kept.now (step_views steps.now) rows.now) }
     ensures hull { IfOk result (λ v. v ≡ IsValid → IsHull kept.now rows.now (rays_of (step_views steps.now))) }
 {
