@@ -73,15 +73,15 @@ module _ (s : Search) (h : IsSearch s) where
       by_step (elimination.Wide rate) e a = absurd (cc)
       by_step (elimination.Region list) e (kept, dropped, red, is) =
           let q : ProblemView = constants s.problem.space in
-          let next = next_of_space s.problem.space s.limits.rows s.spare ray rows list h.spare g.over e in
-          let few : length list ≤ 65535 = let k = next.1 in omega (arith, k, h.few_rows) in
+          let left = next_of_space s.problem.space s.limits.rows s.spare ray rows list h.spare g.over e in
+          let few : length list ≤ 65535 = let k = left.1 in omega (arith, k, h.few_rows) in
           let whole : IsHull s.kept list (rays ++ ray ∷ []) = one_more_ray (2 ^ s.problem.space.variables) s.limits.rows ray s.spare s.kept rows list rays h.away g.hull e in
-          let alike = hold_alike q s.limits.effort (constants_are_problem s.problem.space h.problem.space) (let k = few_constants s.problem.space h.problem.space in omega (arith, k)) list kept dropped few next.0 red in
+          let alike = hold_alike q s.limits.effort (constants_are_problem s.problem.space h.problem.space) (let k = few_constants s.problem.space h.problem.space in omega (arith, k)) list kept dropped few left.0 red in
           let same : next ≡ kept_rows kept = rows_of_hull next (kept_rows kept) is in
           subst (λ (rs : List Terms). IsGoing rs (rays ++ ray ∷ [])) (sym same) (record {
             hull = reduced_is_hull s.problem.space.variables s.kept list (kept_rows kept) (rays ++ ray ∷ []) no_sets (all_kept q s.limits.effort (UsesOnly s.kept) [] list kept dropped red whole.over)
                 (λ x z. alike x (rates_meet q x (constants_speak_of_sets s.problem.space) z)) whole;
-            over = all_kept q s.limits.effort (IsOver (size_of s.problem.space)) [] list kept dropped red next.0;
+            over = all_kept q s.limits.effort (IsOver (size_of s.problem.space)) [] list kept dropped red left.0;
             attained = All-append (IsRay s.problem) rays (ray ∷ []) g.attained (All-cons (IsRay s.problem) ray [] r (All-nil (IsRay s.problem)));
           })
         where

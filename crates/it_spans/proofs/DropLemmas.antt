@@ -124,7 +124,6 @@ pub record AreUnderWay (s : Space) (ray : ℕ) (begun : List Terms) (drops : Lis
   pub few : length rows ≤ 65535
 
 module _ (s : Space) (ray : ℕ) (begun rows : List Terms) (drops : List RowDrop) (i : ℕ) (u : AreUnderWay s ray begun drops i rows) where
-  -- a drop is next
   module _ (d : RowDrop) (l : i < length drops) (at : d ≡ get_or drops i d) where
     abbrev later : Result (List Terms) Fault
     later = after_drops s ray (i + 1) (remove rows d.row) (map drop_view (drop (i + 1) drops))
@@ -141,10 +140,3 @@ module _ (s : Space) (ray : ℕ) (begun rows : List Terms) (drops : List RowDrop
           over = all-remove (IsOver (size_of s)) rows d.row u.over;
           few = (let k = fewer-remove rows d.row own.0 in let few = u.few in omega (arith, k, few));
         })
-
-    pub drop_stops : (f : Option Fault) (end : Result (List Terms) Fault) → f ≡ drop_fault s ray i rows (drop_view d) → is_some f ≡ true → after_drops s ray 0 begun (map drop_view drops) ≡ fault_or f end
-    drop_stops None end e n = absurd (cc)
-    drop_stops (Some fault) end e n = sym (ap (λ (o : Option Fault). fault_or o later) e ∙ next_drop)
-
-  pub drops_done : drop i drops ≡ [] → after_drops s ray 0 begun (map drop_view drops) ≡ Ok rows
-  drops_done e = sym (sym (ap (λ (ds : List RowDrop). after_drops s ray i rows (map drop_view ds)) e) ∙ u.leads)

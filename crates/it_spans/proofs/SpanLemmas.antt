@@ -23,10 +23,9 @@ use Rattle.it_hull.proofs.RayLemmas.{next_free, next_of_space, one_more_ray, one
 use Rattle.it_hull.proofs.StepLemmas.{first_is_hull}
 use Rattle.it_spans.specs.declared.types.Fault.{Fault}
 use Rattle.it_spans.specs.declared.types.Frame.{Frame}
-use Rattle.it_spans.specs.declared.types.Fault.TheVariants.{TooMany, TooWide}
 use Rattle.it_spans.specs.declared.types.Spanned.{Spanned}
 use Rattle.it_spans.specs.declared.types.Step.{Step}
-use Rattle.it_spans.specs.Drops.{DropView, after_drops}
+use Rattle.it_spans.specs.Drops.{DropView}
 use Rattle.it_spans.specs.HullRows.{AreHullRows}
 use Rattle.it_spans.specs.Spans.{GoesOn, SpanEnds, StepEnds, StepView, StepsEnd, rays_of, spanned_view, step_end, step_view, step_views}
 use Rattle.it_spans.specs.Theorems.{AreKept, IsFrame, IsRightSpan, OneSpanEnd, SpansAreRight}
@@ -99,7 +98,7 @@ one_span_end f ray rows (s ∷ steps) end other (first, e, later) (second, d, mo
 
 -- ---- one step
 
--- what the calls for the drops require
+-- what the call for the drops requires
 pub record AreDropped (f : Frame) (q : ProblemView) (rows : List Terms) : Type 0 where
   pub space : IsSpace q.space
   pub givens : q ≡ constants q.space
@@ -116,22 +115,6 @@ drops_of_region f q rows ray e next h g a is r =
       over = subst (λ (x : Space). All (IsOver (size_of x)) next.rows.items) same n.over;
       few = n.few;
     }
-
-pub step_of_region : (f : Frame) (q : ProblemView) (rows : List Terms) (ray : ℕ) (s : Step) (e : Eliminated) (next : System) (end : Result (List Terms) Fault) → q ≡ constants f.space → e ≡ eliminated.Region next
-    → RayEnds (2 ^ f.space.variables) f.rows s.ray f.spare rows (eliminated_view e) → end ≡ after_drops q.space ray 0 next.rows.items (step_view s).drops → StepEnds f ray rows (step_view s) end
-step_of_region f q rows ray s e next end g is r d = (
-  eliminated_view e,
-  r,
-  d ∙ ap (λ (p : ProblemView). after_drops p.space ray 0 next.rows.items (step_view s).drops) g ∙ ap (λ (x : Eliminated). step_end f.space ray (step_view s).drops (eliminated_view x)) (sym is),
-)
-
-pub step_too_many : (f : Frame) (rows : List Terms) (ray : ℕ) (s : Step) (e : Eliminated) (rate : ℕ) → e ≡ eliminated.Rows rate → RayEnds (2 ^ f.space.variables) f.rows s.ray f.spare rows (eliminated_view e)
-    → StepEnds f ray rows (step_view s) (Err (TooMany ray))
-step_too_many f rows ray s e rate is r = (eliminated_view e, r, ap (λ (x : Eliminated). step_end f.space ray (step_view s).drops (eliminated_view x)) (sym is))
-
-pub step_too_wide : (f : Frame) (rows : List Terms) (ray : ℕ) (s : Step) (e : Eliminated) (rate : ℕ) → e ≡ eliminated.Wide rate → RayEnds (2 ^ f.space.variables) f.rows s.ray f.spare rows (eliminated_view e)
-    → StepEnds f ray rows (step_view s) (Err (TooWide ray))
-step_too_wide f rows ray s e rate is r = (eliminated_view e, r, ap (λ (x : Eliminated). step_end f.space ray (step_view s).drops (eliminated_view x)) (sym is))
 
 -- ---- the loop over the steps
 
@@ -159,6 +142,3 @@ module _ (f : Frame) (h : IsFrame f) (kept : List ℕ) (steps : List Step) (i : 
 
     pub led_fault : (end : Spanned) (fault : Fault) → spanned_view end ≡ Err fault → StepEnds f i rows (step_view s) (spanned_view end) → SpanEnds f kept (step_views steps) (Err fault)
     led_fault end fault is e = step_first (Err fault) (Err fault) (subst (λ (o : Result (List Terms) Fault). StepEnds f i rows (step_view s) o) is e) refl
-
-  pub led_done : drop i steps ≡ [] → SpanEnds f kept (step_views steps) (Ok rows)
-  led_done e = led.leads (Ok rows) (subst (λ (ss : List Step). StepsEnd f i rows (step_views ss) (Ok rows)) (sym e) refl)

@@ -98,6 +98,3 @@ difference_last xs ys place whole l m more e = ap (λ k. Some k) (let same : len
     by_rest : (zs : List Terms) → 0 < length zs → first_difference place [] zs ≡ Some place
     by_rest [] some = absurd (omega (arith, some))
     by_rest (z ∷ zs) some = refl
-
-pub difference_none : (xs ys : List Terms) (place : ℕ) (whole : Option ℕ) → length xs ≤ place → length ys ≤ length xs → first_difference place (drop place xs) (drop place ys) ≡ whole → None ≡ whole
-difference_none xs ys place whole l fewer e = sym (ap (λ (vs : List Terms). first_difference place [] vs) (drop_all place ys (omega (arith, l, fewer)))) ∙ sym (at_end xs ys place l) ∙ e
