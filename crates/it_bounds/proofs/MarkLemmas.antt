@@ -17,8 +17,8 @@ use Rattle.it_prove.specs.ProofViews.{ProofView}
 use Rattle.it_redundant.specs.declared.types.Reduced.{Reduced}
 use Rattle.it_redundant.specs.Reduction.{IsSystemUnder, NeedView, Needed, Unsettled, Reduces, dropped_by, dropped_view, kept_by, kept_rows, kept_view}
 use Rattle.it_redundant.specs.Theorems.{AreNeeded, IsNeeded}
-use Rattle.it_outer.specs.Outer.{constants}
-use Rattle.it_outer.proofs.ConstantLemmas.{constants_are_problem, few_constants}
+use Rattle.it_hull.specs.Constants.{constants}
+use Rattle.it_hull.proofs.ConstantLemmas.{constants_are_problem, few_constants}
 use Rattle.it_answer.specs.DueEliminations.{mark_of_need, marked_rows}
 use Rattle.it_answer.specs.Truth.{region_rows}
 use Rattle.it_bounds.specs.RowReplies.{AreMarked}

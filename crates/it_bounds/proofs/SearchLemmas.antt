@@ -1,7 +1,6 @@
 -- What holds of each hull of a search holds where it ends.
 use Rattle.std.proofs.Common.{◌≡◌, inl, inr, ℕ, zero, suc, ◌+◌, ◌-◌, ◌*◌, ◌^◌, ◌≤◌, ◌<◌, ℤ, List, [], ◌∷◌, ◌++◌, length, Bool, true, false, if◌then◌else◌, nat_eq, refl, sym, subst, arith, All, None}
 use Rattle.std.specs.List.{list_any}
-use Rattle.std.proofs.lemmas.Nat.{pow_pos}
 use Rattle.std.proofs.lemmas.List.{length-map}
 use Rattle.std.proofs.lemmas.List.Elements.{All-head}
 use Rattle.it_space.specs.Answers.{CertificateView}
@@ -9,11 +8,10 @@ use Rattle.it_space.specs.declared.answers.Cause.{Cause}
 use Rattle.it_space.specs.declared.answers.Cause.TheVariants.{Pivots, Width as WideStep, Scale}
 use Rattle.it_space.specs.declared.spaces.Space.{Space}
 use Rattle.it_space.specs.Problems.{IsProblem, ProblemView}
-use Rattle.it_space.specs.Rows.{Terms, IsOver, point_of}
+use Rattle.it_space.specs.Rows.{Terms, IsOver}
 use Rattle.it_space.specs.Spaces.{size_of}
 use Rattle.it_run.specs.Runs.{RunEndView}
 use Rattle.it_run.specs.Runs as runs
-use Rattle.it_eliminate.specs.Elimination.{EliminatedView}
 use Rattle.it_eliminate.specs.Elimination as elimination
 use Rattle.it_eliminate.proofs.MemberLemmas.{all_back}
 use Rattle.it_prove.specs.declared.types.Effort.{Effort}
@@ -21,15 +19,15 @@ use Rattle.it_prove.specs.ProofViews as proofs
 use Rattle.it_prove.specs.ProofViews.{ProofView, EndsWith, Follows}
 use Rattle.it_prove.proofs.ProofLemmas.{never_out_of_steps}
 use Rattle.it_redundant.specs.Reduction.{NeedView, Reduces, kept_by, kept_rows}
-use Rattle.it_redundant.proofs.ProjectionLemmas.{list_up, step_list}
 use Rattle.it_redundant.proofs.ReductionLemmas.{all_kept}
-use Rattle.it_hull.specs.Hulls.{first_rows, rows_with_multiplier}
-use Rattle.it_hull.proofs.RayLemmas.{multiplier_over}
-use Rattle.it_outer.specs.Outer.{Search, OuterView, Bounds, Undecided, Run, Rows, Width, Rays, constants, kept_coordinates, rates_left, search_without}
+use Rattle.it_hull.specs.Hulls.{first_rows}
+use Rattle.it_hull.proofs.RateLemmas.{first_rows_over}
+use Rattle.it_hull.proofs.RayLemmas.{next_of_space}
+use Rattle.it_hull.specs.Constants.{constants}
+use Rattle.it_outer.specs.Outer.{Search, OuterView, Bounds, Undecided, Run, Rows, Width, Rays, kept_coordinates, rates_left, search_without}
 use Rattle.it_outer.specs.declared.types.Limits.{Limits}
 use Rattle.it_outer.specs.Search.{Proved, Refuted, Left, IsFirstWith, Hull, TooMany, TooWide, NextHull, PassEnds, HullEnds, PassWithEnds, SecondEnds, SearchEnds}
 use Rattle.it_outer.specs.Theorems.{IsSearch}
-use Rattle.it_outer.proofs.BoundLemmas.{first_rows_over}
 use Rattle.it_outer.proofs.FrameLemmas.{without_is_search}
 use Rattle.it_bounds.specs.Lines.{IsOfRun}
 
@@ -145,25 +143,16 @@ module _ (s : Search) (h : IsSearch s) (few_kept : length s.kept ≤ 16) where
     few : length rows ≤ 65535
 
   first_few : AreFew (first_rows s.kept)
-  first_few = record { over = first_rows_over s h; few = let e = first_count s.kept in omega (arith, e, few_kept) }
-
-  lifted_over : (rows : List Terms) (ray : ℕ → ℤ) → All (IsOver (size_of s.problem.space)) rows → All (IsOver (size_of s.problem.space)) (rows_with_multiplier (2 ^ s.problem.space.variables + s.spare) ray rows)
-  lifted_over rows ray o = multiplier_over (size_of s.problem.space) (2 ^ s.problem.space.variables + s.spare) ray rows (omega (arith, pow_pos s.problem.space.variables)) (omega (arith, h.spare, pow_pos s.problem.space.variables)) o
+  first_few = record { over = first_rows_over s.problem.space s.kept h.rates; few = let e = first_count s.kept in omega (arith, e, few_kept) }
 
   next_few : (rows next : List Terms) (ray : List ℤ) → AreFew rows → NextHull s rows ray (Hull next) → AreFew next
   next_few rows next ray f (elimination.Rows rate, e, a) = absurd (cc)
   next_few rows next ray f (elimination.Wide rate, e, a) = absurd (cc)
-  next_few rows next ray f (elimination.Region list, inl e, a) = absurd (not_wide e.1)
-    where
-      not_wide : elimination.Region list ≡ elimination.Wide s.spare → ⊥
-      not_wide k = cc
-  next_few rows next ray f (elimination.Region list, inr e, (kept, dropped, red, is)) =
+  next_few rows next ray f (elimination.Region list, e, (kept, dropped, red, is)) =
+      let left = next_of_space s.problem.space s.limits.rows s.spare ray rows list h.spare f.over e in
       subst (λ (rs : List Terms). AreFew rs) (sym (rows_of_hull next (kept_rows kept) is)) (record {
-        over = all_kept (constants s.problem.space) s.limits.effort (IsOver (size_of s.problem.space)) [] list kept dropped red
-            (list_up (constants s.problem.space) s.limits.rows (rows_with_multiplier (2 ^ s.problem.space.variables + s.spare) (point_of ray) rows) s.spare list (lifted_over rows (point_of ray) f.over) e.1);
-        few = let k = kept_few (constants s.problem.space) s.limits.effort [] list kept dropped red in
-            let l = (step_list (2 ^ s.problem.space.variables) s.limits.rows (elimination.ordered_rows (rows_with_multiplier (2 ^ s.problem.space.variables + s.spare) (point_of ray) rows)) s.spare list e.1).1 in
-            omega (arith, k, l, h.few_rows);
+        over = all_kept (constants s.problem.space) s.limits.effort (IsOver (size_of s.problem.space)) [] list kept dropped red left.0;
+        few = let k = kept_few (constants s.problem.space) s.limits.effort [] list kept dropped red in let l = left.1 in omega (arith, k, l, h.few_rows);
       })
     where
       rows_of_hull : (xs ys : List Terms) → Hull xs ≡ Hull ys → xs ≡ ys

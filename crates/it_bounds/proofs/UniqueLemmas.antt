@@ -11,7 +11,8 @@ use Rattle.it_prove.specs.declared.types.Effort.{Effort}
 use Rattle.it_redundant.specs.Reduction.{NeedView, Reduces}
 use Rattle.it_redundant.proofs.ReductionLemmas.{one_reduction}
 use Rattle.it_outer.specs.declared.types.Limits.{Limits}
-use Rattle.it_outer.specs.Outer.{CauseView, OuterView, Run, constants, search_without}
+use Rattle.it_hull.specs.Constants.{constants}
+use Rattle.it_outer.specs.Outer.{CauseView, OuterView, Run, search_without}
 use Rattle.it_outer.specs.Outer as outers
 use Rattle.it_outer.proofs.EndLemmas.{one_search_end}
 use Rattle.it_answer.specs.Truth.{region_rows}

@@ -16,7 +16,8 @@ use Rattle.it_prove.specs.declared.types.Effort.{Effort}
 use Rattle.it_redundant.specs.Reduction.{NeedView, Reduces}
 use Rattle.it_hull.specs.Hulls.{IsHull}
 use Rattle.it_outer.specs.declared.types.Limits.{Limits}
-use Rattle.it_outer.specs.Outer.{OuterView, CauseView, Run, constants, search_without}
+use Rattle.it_hull.specs.Constants.{constants}
+use Rattle.it_outer.specs.Outer.{OuterView, CauseView, Run, search_without}
 use Rattle.it_outer.specs.Outer as outers
 use Rattle.it_outer.specs.Search.{SearchEnds}
 use Rattle.it_answer.specs.DueEliminations.{marked_rows}

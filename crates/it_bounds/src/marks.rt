@@ -6,7 +6,7 @@ ghost use Rattle.it_space.specs.Spaces.{IsSpace, size_of};
 ghost use Rattle.it_bounds.specs.RowReplies.{AreMarked};
 
 use it_answer::marked_rows;
-use it_outer::constants::constants;
+use it_hull::constants;
 use it_prove::Effort;
 use it_redundant::reduce;
 use it_space::{Mark, Row, Space, System};

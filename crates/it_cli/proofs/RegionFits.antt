@@ -39,7 +39,7 @@ use Rattle.it_redundant.specs.Reduction.{NeedView, kept_rows}
 use Rattle.it_redundant.specs.ReducedElimination.{ProjectedView, ReducedEnds}
 use Rattle.it_redundant.specs.ReducedElimination as projections
 use Rattle.it_redundant.proofs.ReductionLemmas.{all_kept}
-use Rattle.it_redundant.proofs.ProjectionLemmas.{same_list}
+use Rattle.it_eliminate.proofs.RegionLemmas.{same_list}
 use Rattle.it_answer.specs.declared.types.Budgets.{Budgets}
 use Rattle.it_answer.specs.Truth.{IsExactRegion, region_rows}
 use Rattle.it_answer.specs.DueEliminations.{marked_rows, answer_of_end, IsDueElimination}

@@ -9,3 +9,5 @@ pub mod KeptLemmas
 pub mod EndLemmas
 pub mod SpaceLemmas
 pub mod LawLemmas
+pub mod RowLemmas
+pub mod RegionLemmas

@@ -3,3 +3,4 @@ pub mod Projections
 pub mod Views
 pub mod Gathering
 pub mod Laws
+pub mod RowLines

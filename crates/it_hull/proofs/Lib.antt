@@ -5,3 +5,4 @@ pub mod StepLemmas
 pub mod ConeLemmas
 pub mod RateLemmas
 pub mod RayLemmas
+pub mod ConstantLemmas

@@ -1,6 +1,6 @@
 -- Rows over rates: they hold at a point exactly where they hold at the same rates with 0 at each set, which meets whatever speaks of
 -- sets alone.
-use Rattle.std.proofs.Common.{◌≡◌, ◌↔◌, ℕ, ◌-◌, ◌<◌, ◌≤◌, ◌^◌, bit_and, bit_or, ℤ, pos, ◌*ℤ◌, ◌≤ℤ◌, List, [], ◌∷◌, Bool, true, false, cond, nat_lt, refl, sym, ap, subst, arith, All}
+use Rattle.std.proofs.Common.{◌≡◌, ◌↔◌, ℕ, ◌-◌, ◌<◌, ◌≤◌, ◌^◌, bit_and, bit_or, ℤ, pos, negsuc, ◌*ℤ◌, ◌≤ℤ◌, List, [], ◌∷◌, Bool, true, false, cond, nat_lt, refl, sym, ap, subst, arith, All}
 use Rattle.std.specs.Prelude.{Contains}
 use Rattle.std.specs.List.{AllByRecursion as Every}
 use Rattle.std.proofs.lemmas.Int.{ints}
@@ -12,12 +12,14 @@ use Rattle.it_space.specs.declared.problems.Constraint.{Constraint}
 use Rattle.it_space.specs.declared.problems.Kind.{Kind}
 use Rattle.it_space.specs.declared.problems.Kind.TheVariants.{Inequality, Equation}
 use Rattle.it_space.specs.Problems.{Meets, IsMet, AreMet}
+use Rattle.it_space.specs.declared.spaces.Space.{Space}
 use Rattle.it_space.specs.Rows.{Terms, IsOver, value}
+use Rattle.it_space.specs.Spaces.{size_of}
 use Rattle.it_space.proofs.EveryLemmas.{all_of, every_of}
 use Rattle.it_space.proofs.SetLemmas.{inside_below}
 use Rattle.it_polymatroid.specs.Polymatroid.{IsPolymatroid}
 use Rattle.it_eliminate.specs.Projections.{IsPointOf}
-use Rattle.it_hull.specs.Hulls.{UsesOnly}
+use Rattle.it_hull.specs.Hulls.{UsesOnly, first_rows}
 use Rattle.it_hull.specs.Theorems.{AreNoSets, ReducedIsHull, RatesMeet, IsZeroAtSets}
 use Rattle.it_hull.proofs.ValueLemmas.{value_by_kept}
 
@@ -100,3 +102,15 @@ module _ (n : ℕ) (x : ℕ → ℤ) (zero : IsZeroAtSets n x) where
 
 pub rates_meet : RatesMeet
 rates_meet q x sets zero = (zero_polymatroid q.space.variables x zero, zero_met q.space.variables x zero q.constraints sets)
+
+-- ---- the rows of no ray are of the space
+
+pub first_rows_over : (s : Space) (kept : List ℕ) → All (λ c. (2 ^ s.variables ≤ c) × (c ≤ size_of s)) kept → All (IsOver (size_of s)) (first_rows kept)
+first_rows_over s kept rates = all_of (IsOver (size_of s)) (first_rows kept) (each_over kept (every_of (λ (c : ℕ). (2 ^ s.variables ≤ c) × (c ≤ size_of s)) kept rates))
+  where
+    each_over : (cs : List ℕ) → Every (λ c. (2 ^ s.variables ≤ c) × (c ≤ size_of s)) cs → Every (IsOver (size_of s)) (first_rows cs)
+    each_over [] a = tt
+    each_over (c ∷ cs) a = (one (pos 1), (one (negsuc 0), each_over cs a.1))
+      where
+        one : (x : ℤ) → IsOver (size_of s) ((c, x) ∷ [])
+        one x = all_of (λ (t : ℕ × ℤ). (1 ≤ t.0) × (t.0 ≤ size_of s)) ((c, x) ∷ []) ((omega (arith, a.0.0, pow_pos s.variables), a.0.1), tt)

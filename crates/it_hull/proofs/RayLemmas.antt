@@ -17,12 +17,13 @@ use Rattle.it_space.specs.Spaces.{size_of}
 use Rattle.it_space.proofs.EveryLemmas.{all_of, every_of, every-append, every-map, every-same}
 use Rattle.it_eliminate.specs.declared.types.Eliminated.{Eliminated}
 use Rattle.it_eliminate.specs.declared.types.Eliminated.TheVariants as ends
-use Rattle.it_eliminate.specs.Elimination.{EliminatedView, EliminationEnds, Region, Rows, Wide, next_list, ordered_rows}
+use Rattle.it_eliminate.specs.Elimination.{EliminatedView, EliminationEnds, Region, next_list, ordered_rows}
 use Rattle.it_eliminate.specs.Projections.{IsPointOf, Extends, LacksCoordinate, RegionIsProjection}
 use Rattle.it_eliminate.specs.Views.{eliminated_view}
 use Rattle.it_eliminate.proofs.LawLemmas.{one_end}
 use Rattle.it_eliminate.proofs.OrderLemmas.{lacks-ordered_rows}
 use Rattle.it_eliminate.proofs.RateLemmas.{next_keeps_lacking, projection_exact}
+use Rattle.it_eliminate.proofs.RegionLemmas.{not_wide, step_list, step_up}
 use Rattle.it_eliminate.proofs.StepLemmas.{next_lacks}
 use Rattle.it_hull.specs.Hulls.{UsesOnly, rows_with_multiplier, with_multiplier}
 use Rattle.it_hull.specs.Rays.{AddsRay, RayEnds, ValuesFit}
@@ -69,16 +70,6 @@ multiplier_lacks c at ray rows n o = all_of (λ (row : Terms). coefficient row c
 
 -- ---- the next hull
 
-abbrev IsRegionOf : List Terms → EliminatedView → Type 0
-IsRegionOf rows (Region kept) = kept ≡ rows
-IsRegionOf rows (Rows r) = ⊥
-IsRegionOf rows (Wide r) = ⊥
-
-region_of_one : (base most : ℕ) (rows : List Terms) (r : ℕ) (kept : List Terms) → EliminationEnds base most rows (r ∷ []) (Region kept) → kept ≡ next_list (base + r) rows
-region_of_one base most rows r kept (inl e) = absurd (subst (IsRegionOf kept) e.1 refl)
-region_of_one base most rows r kept (inr (inl e)) = absurd (subst (IsRegionOf kept) e.2 refl)
-region_of_one base most rows r kept (inr (inr e)) = sym (subst (IsRegionOf kept) e.2 refl)
-
 module _ (at : ℕ) (ray : ℕ → ℤ) (rows next : List Terms) (list : next ≡ next_list at (ordered_rows (rows_with_multiplier at ray rows))) where
   next_lacking : (c : ℕ) → LacksCoordinate c rows → LacksCoordinate c next
   next_lacking c o = subst (λ (rs : List Terms). LacksCoordinate c rs) (sym list) (by_test (nat_eq c at) refl)
@@ -94,11 +85,29 @@ module _ (at : ℕ) (ray : ℕ → ℤ) (rows next : List Terms) (list : next �
   next_exact x = subst (λ (rs : List Terms). IsPointOf rs x ↔ Extends (at ∷ []) (rows_with_multiplier at ray rows) x) (sym list) (projection_exact (at ∷ []) (rows_with_multiplier at ray rows) x)
 
 pub one_more_ray : OneMoreRay
-one_more_ray base most ray rate kept rows next rays away h (inl e) = absurd (subst (IsRegionOf next) e.1 refl)
+one_more_ray base most ray rate kept rows next rays away h (inl e) = absurd (not_wide next rate e.1)
 one_more_ray base most ray rate kept rows next rays away h (inr e) =
     let at : ℕ = base + rate in
-    let list : next ≡ next_list at (ordered_rows (rows_with_multiplier at (point_of ray) rows)) = region_of_one base most (ordered_rows (rows_with_multiplier at (point_of ray) rows)) rate next e.1 in
+    let list : next ≡ next_list at (ordered_rows (rows_with_multiplier at (point_of ray) rows)) = (step_list base most (ordered_rows (rows_with_multiplier at (point_of ray) rows)) rate next e.1).0 in
     eliminated_is_hull kept rows next rays ray at away h (next_over at (point_of ray) rows next list kept h.over) (next_exact at (point_of ray) rows next list)
+
+-- its rows lack the multiplier's coordinate
+pub next_free : (base most : ℕ) (ray : List ℤ) (rate : ℕ) (rows next : List Terms) → RayEnds base most ray rate rows (Region next) → LacksCoordinate (base + rate) next
+next_free base most ray rate rows next (inl e) = absurd (not_wide next rate e.1)
+next_free base most ray rate rows next (inr e) =
+    let lifted : List Terms = ordered_rows (rows_with_multiplier (base + rate) (point_of ray) rows) in
+    subst (λ (rs : List Terms). LacksCoordinate (base + rate) rs) (sym (step_list base most lifted rate next e.1).0) (next_lacks (base + rate) lifted)
+
+-- they are of the space, and few
+pub next_of_space : (s : Space) (most rate : ℕ) (ray : List ℤ) (rows next : List Terms) → rate < s.rates → All (IsOver (size_of s)) rows → RayEnds (2 ^ s.variables) most ray rate rows (Region next)
+    → All (IsOver (size_of s)) next × (length next ≤ most)
+next_of_space s most rate ray rows next few o (inl e) = absurd (not_wide next rate e.1)
+next_of_space s most rate ray rows next few o (inr e) =
+    let at : ℕ = 2 ^ s.variables + rate in
+    let lifted : List Terms = rows_with_multiplier at (point_of ray) rows in (
+      step_up (size_of s) (2 ^ s.variables) most lifted rate next (multiplier_over (size_of s) at (point_of ray) rows (omega (arith, pow_pos s.variables)) (omega (arith, few, pow_pos s.variables)) o) e.1,
+      (step_list (2 ^ s.variables) most (ordered_rows lifted) rate next e.1).1,
+    )
 
 pub adds_ray : (hull lifted : System) (ray : List ℤ) (most rate : ℕ) (end : Eliminated) → lifted.space ≡ hull.space
     → RayEnds (2 ^ hull.space.variables) most ray rate hull.rows.items (eliminated_view end) → RegionIsProjection lifted (rate ∷ []) end → AddsRay hull ray rate end

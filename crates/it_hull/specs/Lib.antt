@@ -1,4 +1,5 @@
 pub mod Hulls
 pub mod Rays
+pub mod Constants
 pub mod Theorems
 pub mod Places

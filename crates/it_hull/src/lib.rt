@@ -1,8 +1,12 @@
 //! Cones of rays: the rows that hold exactly at what rays span, with one more ray at a time.
 #![tactic(auto)]
 
+mod constant_problems;
+mod first;
 mod hulls;
 pub mod laws;
 mod terms;
 
+pub use constant_problems::constants;
+pub use first::first_rows;
 pub use hulls::with_ray;

@@ -1,9 +1,8 @@
 -- What a search ends with is right, and bounds are the projection.
-use Rattle.std.proofs.Common.{◌≡◌, inl, inr, ℕ, zero, suc, ◌+◌, ◌-◌, ◌^◌, ◌≤◌, ℤ, pos, negsuc, append-nil, ◌≤ℤ◌, List, [], ◌∷◌, ◌++◌, length, sym, subst, arith, append_assoc, All}
+use Rattle.std.proofs.Common.{◌≡◌, inl, inr, ℕ, zero, suc, ◌+◌, ◌-◌, ◌^◌, ◌≤◌, ℤ, pos, append-nil, ◌≤ℤ◌, List, [], ◌∷◌, ◌++◌, length, sym, subst, arith, append_assoc, All}
 use Rattle.std.specs.Prelude.{Contains}
 use Rattle.std.specs.List.{AllZip, AllByRecursion as Every}
 use Rattle.std.proofs.lemmas.Int.{ints}
-use Rattle.std.proofs.lemmas.Nat.{pow_pos}
 use Rattle.std.proofs.lemmas.List.Elements.{All-nil, All-cons, All-head, All-append}
 use Rattle.it_space.specs.Answers.{CertificateView}
 use Rattle.it_space.specs.Problems.{ProblemView, IsProblem}
@@ -20,20 +19,20 @@ use Rattle.it_prove.specs.ProofViews.{AreProofsOf}
 use Rattle.it_prove.specs.declared.types.Effort.{Effort}
 use Rattle.it_prove.proofs.RightLemmas.{ends_are_right}
 use Rattle.it_redundant.specs.Reduction.{kept_rows}
-use Rattle.it_redundant.proofs.ProjectionLemmas.{list_up, step_list}
 use Rattle.it_redundant.proofs.ReductionLemmas.{all_kept, hold_alike}
-use Rattle.it_hull.specs.Hulls.{IsAttained, IsHull, UsesOnly, first_rows, rows_with_multiplier}
+use Rattle.it_hull.specs.Hulls.{IsAttained, IsHull, UsesOnly, first_rows}
 use Rattle.it_hull.specs.Rays.{RayEnds}
 use Rattle.it_hull.specs.Theorems.{MeetsProblem}
 use Rattle.it_hull.proofs.ConeLemmas.{hull_is_projection}
-use Rattle.it_hull.proofs.RateLemmas.{rates_meet, reduced_is_hull}
-use Rattle.it_hull.proofs.RayLemmas.{multiplier_over, one_more_ray}
+use Rattle.it_hull.proofs.RateLemmas.{first_rows_over, rates_meet, reduced_is_hull}
+use Rattle.it_hull.proofs.RayLemmas.{next_of_space, one_more_ray}
 use Rattle.it_hull.proofs.StepLemmas.{first_is_hull}
 use Rattle.it_outer.specs.Bounds.{IsRay, IsRightOuter}
-use Rattle.it_outer.specs.Outer.{Search, OuterView, Bounds, Undecided, CauseView, Run, Rows, Width, Rays, constants}
+use Rattle.it_hull.specs.Constants.{constants}
+use Rattle.it_outer.specs.Outer.{Search, OuterView, Bounds, Undecided, CauseView, Run, Rows, Width, Rays}
 use Rattle.it_outer.specs.Search.{Proved, Refuted, Left, IsFirstWith, Hull, TooMany, TooWide, AfterStep, NextHull, PassEnds, HullEnds, PassWithEnds, SecondEnds}
 use Rattle.it_outer.specs.Theorems.{BoundsAreProjection, EndsAreRight, IsSearch}
-use Rattle.it_outer.proofs.ConstantLemmas.{constants_are_problem, constants_speak_of_sets, few_constants}
+use Rattle.it_hull.proofs.ConstantLemmas.{constants_are_problem, constants_speak_of_sets, few_constants}
 use Rattle.it_outer.proofs.ExtremeLemmas.{all_extreme}
 
 -- ---- certificates
@@ -66,24 +65,6 @@ module _ (s : Search) (h : IsSearch s) where
     over : All (IsOver (size_of s.problem.space)) rows
     attained : All (IsRay s.problem) rays
 
-  abbrev at : ℕ
-  at = 2 ^ s.problem.space.variables + s.spare
-
-  lifted_over : (rows : List Terms) (ray : ℕ → ℤ) → All (IsOver (size_of s.problem.space)) rows → All (IsOver (size_of s.problem.space)) (rows_with_multiplier at ray rows)
-  lifted_over rows ray o = multiplier_over (size_of s.problem.space) at ray rows (omega (arith, pow_pos s.problem.space.variables)) (omega (arith, h.spare, pow_pos s.problem.space.variables)) o
-
-  -- the list that the step leaves is of the space, and few
-  stepped : (ray : List ℤ) (rows next : List Terms) → All (IsOver (size_of s.problem.space)) rows → RayEnds (2 ^ s.problem.space.variables) s.limits.rows ray s.spare rows (elimination.Region next)
-      → All (IsOver (size_of s.problem.space)) next × (length next ≤ 65535)
-  stepped ray rows next o (inl e) = absurd (not_wide e.1)
-    where
-      not_wide : elimination.Region next ≡ elimination.Wide s.spare → ⊥
-      not_wide k = cc
-  stepped ray rows next o (inr e) = (
-    list_up (constants s.problem.space) s.limits.rows (rows_with_multiplier at (point_of ray) rows) s.spare next (lifted_over rows (point_of ray) o) e.1,
-    (let k = (step_list (2 ^ s.problem.space.variables) s.limits.rows (elimination.ordered_rows (rows_with_multiplier at (point_of ray) rows)) s.spare next e.1).1 in omega (arith, k, h.few_rows)),
-  )
-
   next_going : (rows next : List Terms) (rays : List (List ℤ)) (ray : List ℤ) → IsGoing rows rays → IsRay s.problem ray → NextHull s rows ray (Hull next) → IsGoing next (rays ++ ray ∷ [])
   next_going rows next rays ray g r (step, e, a) = by_step step e a
     where
@@ -92,14 +73,15 @@ module _ (s : Search) (h : IsSearch s) where
       by_step (elimination.Wide rate) e a = absurd (cc)
       by_step (elimination.Region list) e (kept, dropped, red, is) =
           let q : ProblemView = constants s.problem.space in
-          let up = stepped ray rows list g.over e in
+          let left = next_of_space s.problem.space s.limits.rows s.spare ray rows list h.spare g.over e in
+          let few : length list ≤ 65535 = let k = left.1 in omega (arith, k, h.few_rows) in
           let whole : IsHull s.kept list (rays ++ ray ∷ []) = one_more_ray (2 ^ s.problem.space.variables) s.limits.rows ray s.spare s.kept rows list rays h.away g.hull e in
-          let alike = hold_alike q s.limits.effort (constants_are_problem s.problem.space h.problem.space) (let k = few_constants s.problem.space h.problem.space in omega (arith, k)) list kept dropped up.1 up.0 red in
+          let alike = hold_alike q s.limits.effort (constants_are_problem s.problem.space h.problem.space) (let k = few_constants s.problem.space h.problem.space in omega (arith, k)) list kept dropped few left.0 red in
           let same : next ≡ kept_rows kept = rows_of_hull next (kept_rows kept) is in
           subst (λ (rs : List Terms). IsGoing rs (rays ++ ray ∷ [])) (sym same) (record {
             hull = reduced_is_hull s.problem.space.variables s.kept list (kept_rows kept) (rays ++ ray ∷ []) no_sets (all_kept q s.limits.effort (UsesOnly s.kept) [] list kept dropped red whole.over)
                 (λ x z. alike x (rates_meet q x (constants_speak_of_sets s.problem.space) z)) whole;
-            over = all_kept q s.limits.effort (IsOver (size_of s.problem.space)) [] list kept dropped red up.0;
+            over = all_kept q s.limits.effort (IsOver (size_of s.problem.space)) [] list kept dropped red left.0;
             attained = All-append (IsRay s.problem) rays (ray ∷ []) g.attained (All-cons (IsRay s.problem) ray [] r (All-nil (IsRay s.problem)));
           })
         where
@@ -148,18 +130,8 @@ module _ (s : Search) (h : IsSearch s) where
   pass_well (suc more) rows rays end g (Refuted values, v, (TooWide, n, later)) = undecided_well end Width later
 
   -- the first hull
-  first_over : (cs : List ℕ) → Every (λ c. (2 ^ s.problem.space.variables ≤ c) × (c ≤ size_of s.problem.space)) cs → Every (IsOver (size_of s.problem.space)) (first_rows cs)
-  first_over [] a = tt
-  first_over (c ∷ cs) a = (one (pos 1), (one (negsuc 0), first_over cs a.1))
-    where
-      one : (x : ℤ) → IsOver (size_of s.problem.space) ((c, x) ∷ [])
-      one x = all_of (λ (t : ℕ × ℤ). (1 ≤ t.0) × (t.0 ≤ size_of s.problem.space)) ((c, x) ∷ []) ((omega (arith, a.0.0, pow_pos s.problem.space.variables), a.0.1), tt)
-
-  pub first_rows_over : All (IsOver (size_of s.problem.space)) (first_rows s.kept)
-  first_rows_over = all_of (IsOver (size_of s.problem.space)) (first_rows s.kept) (first_over s.kept (every_of (λ (c : ℕ). (2 ^ s.problem.space.variables ≤ c) × (c ≤ size_of s.problem.space)) s.kept h.rates))
-
   begun : IsGoing (first_rows s.kept) []
-  begun = record { hull = first_is_hull s.kept; over = first_rows_over; attained = All-nil (IsRay s.problem) }
+  begun = record { hull = first_is_hull s.kept; over = first_rows_over s.problem.space s.kept h.rates; attained = All-nil (IsRay s.problem) }
 
   pass_with_well : (rays : List (List ℤ)) (end : OuterView) → All (IsRay s.problem) rays → PassWithEnds s rays end → IsWell end
   pass_with_well rays end r (Hull rows, e, later) =

@@ -14,7 +14,8 @@ use Rattle.it_redundant.proofs.ReductionLemmas.{one_reduction}
 use Rattle.it_hull.specs.Hulls.{first_rows}
 use Rattle.it_hull.proofs.RayLemmas.{one_ray_end}
 use Rattle.it_outer.specs.Extremes.{extreme_rays}
-use Rattle.it_outer.specs.Outer.{Search, OuterView, Bounds, Undecided, Rays, constants}
+use Rattle.it_hull.specs.Constants.{constants}
+use Rattle.it_outer.specs.Outer.{Search, OuterView, Bounds, Undecided, Rays}
 use Rattle.it_outer.specs.Search.{VisitView, Proved, Refuted, Left, IsFirstWith, VisitEnds, HullView, Hull, TooMany, TooWide, AfterStep, NextHull, AfterHull, AfterVisit, PassEnds, AfterRay, HullEnds, PassWithEnds, SecondEnds}
 use Rattle.it_outer.specs.Theorems.{OneSearchEnd}
 

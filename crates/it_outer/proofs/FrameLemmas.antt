@@ -12,7 +12,8 @@ use Rattle.it_space.proofs.EveryLemmas.{all_of, every-map, every-same}
 use Rattle.it_eliminate.proofs.MemberLemmas.{Member, every_member, member_mapped, member_of}
 use Rattle.it_outer.specs.declared.types.Frame.{Frame}
 use Rattle.it_outer.specs.declared.types.Limits.{Limits}
-use Rattle.it_outer.specs.Outer.{Search, constants, kept_coordinates, rates_left, search_without}
+use Rattle.it_hull.specs.Constants.{constants}
+use Rattle.it_outer.specs.Outer.{Search, kept_coordinates, rates_left, search_without}
 use Rattle.it_outer.specs.Rounds.{ArePlaces, AscendFrom, IsFrame, search_of}
 use Rattle.it_outer.specs.Theorems.{IsSearch}
 

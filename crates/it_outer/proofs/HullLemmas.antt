@@ -1,9 +1,9 @@
 -- Hulls as calls make them.
-use Rattle.std.proofs.Common.{◌≡◌, inl, inr, ℕ, ◌+◌, ◌^◌, ◌<◌, ◌≤◌, ℤ, pos, List, [], ◌∷◌, map, length, drop, get_or, refl, sym, ap, subst, ◌∙◌, arith, All}
+use Rattle.std.proofs.Common.{◌≡◌, ℕ, ◌+◌, ◌^◌, ◌<◌, ◌≤◌, ℤ, pos, List, [], ◌∷◌, map, length, drop, get_or, refl, sym, ap, subst, ◌∙◌, arith, All}
 use Rattle.it_space.specs.declared.problems.System.{System}
 use Rattle.it_space.specs.declared.spaces.Space.{Space}
 use Rattle.it_space.specs.Problems.{ProblemView}
-use Rattle.it_space.specs.Rows.{Terms, IsOver, coefficient, point_of}
+use Rattle.it_space.specs.Rows.{Terms, IsOver, coefficient}
 use Rattle.it_space.specs.Spaces.{IsSpace, size_of}
 use Rattle.it_space.proofs.ListLemmas.{drop_item}
 use Rattle.it_eliminate.specs.Elimination as elimination
@@ -13,25 +13,26 @@ use Rattle.it_eliminate.specs.Projections.{LacksCoordinate}
 use Rattle.it_eliminate.specs.Views.{eliminated_view}
 use Rattle.it_redundant.specs.declared.types.Reduced.{Reduced}
 use Rattle.it_redundant.specs.Reduction.{IsSystemUnder, Reduces, dropped_view, kept_rows, kept_view}
-use Rattle.it_redundant.proofs.ProjectionLemmas.{step_list}
 use Rattle.it_redundant.proofs.ReductionLemmas.{all_kept}
 use Rattle.it_redundant.proofs.VisitLemmas.{rows_kept}
-use Rattle.it_hull.specs.Hulls.{first_rows, rows_with_multiplier}
+use Rattle.it_hull.specs.Hulls.{first_rows}
 use Rattle.it_hull.specs.Rays.{AddsRay, IsNextHull, RayEnds}
+use Rattle.it_hull.proofs.RateLemmas.{first_rows_over}
+use Rattle.it_hull.proofs.RayLemmas.{next_of_space}
 use Rattle.it_hull.proofs.StepLemmas.{first_is_hull}
-use Rattle.it_outer.specs.Outer.{Search, constants}
+use Rattle.it_hull.specs.Constants.{constants}
+use Rattle.it_outer.specs.Outer.{Search}
 use Rattle.it_outer.specs.Rounds.{IsAfterRay, IsHullSystem, Resumes}
 use Rattle.it_outer.specs.Search.{AfterRay, Hull, HullEnds, HullView, NextHull, TooMany, TooWide}
 use Rattle.it_outer.specs.Theorems.{IsSearch}
-use Rattle.it_outer.proofs.BoundLemmas.{first_rows_over}
-use Rattle.it_outer.proofs.ConstantLemmas.{constants_are_problem, few_constants}
+use Rattle.it_hull.proofs.ConstantLemmas.{constants_are_problem, few_constants}
 
 pub first_system : (s : Search) (hull : System) → IsSearch s → hull.space ≡ s.problem.space → hull.rows.items ≡ first_rows s.kept → IsHullSystem s hull
 first_system s hull h same are = record {
   space = same;
   system = record {
     space = subst (λ (x : Space). IsSpace x) (sym same) h.problem.space;
-    rows = subst (λ (x : Space). All (IsOver (size_of x)) hull.rows.items) (sym same) (subst (λ (rs : List Terms). All (IsOver (size_of s.problem.space)) rs) (sym are) (first_rows_over s h));
+    rows = subst (λ (x : Space). All (IsOver (size_of x)) hull.rows.items) (sym same) (subst (λ (rs : List Terms). All (IsOver (size_of s.problem.space)) rs) (sym are) (first_rows_over s.problem.space s.kept h.rates));
   };
   free = subst (λ (rs : List Terms). LacksCoordinate (2 ^ s.problem.space.variables + s.spare) rs) (sym are) (λ k d l. (first_is_hull s.kept).over k d l (2 ^ s.problem.space.variables + s.spare) h.away);
 }
@@ -52,12 +53,7 @@ module _ (s : Search) (h : IsSearch s) (hull : System) (g : IsHullSystem s hull)
     ray_of_hull l = l ∙ ap size_of (sym g.space)
 
     pub few_next : (next : List Terms) → RayEnds (2 ^ hull.space.variables) s.limits.rows ray s.spare hull.rows.items (elimination.Region next) → length next ≤ 65535
-    few_next next (inl e) = absurd (not_wide e.1)
-      where
-        not_wide : elimination.Region next ≡ elimination.Wide s.spare → ⊥
-        not_wide k = cc
-    few_next next (inr e) =
-        let k = (step_list (2 ^ hull.space.variables) s.limits.rows (elimination.ordered_rows (rows_with_multiplier (2 ^ hull.space.variables + s.spare) (point_of ray) hull.rows.items)) s.spare next e.1).1 in omega (arith, k, h.few_rows)
+    few_next next e = let k = (next_of_space hull.space s.limits.rows s.spare ray hull.rows.items next spare_is_rate g.system.rows e).1 in omega (arith, k, h.few_rows)
 
     pub under_constants : (next : System) (q : ProblemView) → q ≡ constants s.problem.space → IsNextHull hull ray s.spare next → IsSystemUnder q next
     under_constants next q is n = subst (λ (p : ProblemView). IsSystemUnder p next) (sym is) (record {

@@ -1,4 +1,3 @@
-pub mod ConstantLemmas
 pub mod ExtremeLemmas
 pub mod BoundLemmas
 pub mod EndLemmas

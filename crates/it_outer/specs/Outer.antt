@@ -1,10 +1,7 @@
 -- What a search for outer bounds in rates is about, and what it ends with.
-use Rattle.std.specs.Prelude.{ℕ, zero, suc, ◌+◌, ◌^◌, ℤ, pos, List, [], ◌∷◌, map, slice_index_or, nat_eq, if◌then◌else◌}
+use Rattle.std.specs.Prelude.{ℕ, zero, suc, ◌+◌, ◌^◌, ℤ, List, [], ◌∷◌, map, slice_index_or, nat_eq, if◌then◌else◌}
 use Rattle.std.specs.List.{list_any}
 use Rattle.it_space.specs.declared.answers.Cause.{Cause}
-use Rattle.it_space.specs.declared.problems.Constraint.{Constraint}
-use Rattle.it_space.specs.declared.problems.Kind.TheVariants.{Equation}
-use Rattle.it_space.specs.declared.problems.Origin.TheVariants.{Given}
 use Rattle.it_space.specs.declared.spaces.Space.{Space}
 use Rattle.it_space.specs.Answers.{CertificateView, certificate_view}
 use Rattle.it_space.specs.Problems.{ProblemView}
@@ -34,15 +31,6 @@ kept_coordinates s gone = map (λ r. 2 ^ s.variables + r) (rates_left gone 0 s.r
 -- the search for the bounds of a problem without some rates, the first of which has the multipliers
 abbrev pub search_without : ProblemView → List ℕ → Limits → Search
 search_without q gone limits = record { problem = q; spare = slice_index_or gone 0 0; kept = kept_coordinates q.space gone; limits = limits }
-
--- lines that say of so many variables, from one on, that each is constant
-abbrev pub constant_lines : ℕ → ℕ → List Constraint
-constant_lines variable zero = []
-constant_lines variable (suc count) = record { row = (2 ^ variable, pos 1) ∷ []; kind = Equation; origin = Given (variable + 1) 1 1 } ∷ constant_lines (variable + 1) count
-
--- the problem of a space in which all variables are constant
-abbrev pub constants : Space → ProblemView
-constants s = record { space = s; constraints = constant_lines 0 s.variables }
 
 -- why bounds stay undecided: the run about a row of the hull has no end within its bounds; one more ray leaves too many rows; a
 -- number passes the limit; a row is refuted, and no more rays are allowed

@@ -1,10 +1,7 @@
 -- The search round by round. No public clause cites this module.
-use Rattle.std.specs.Prelude.{◌≡◌, ℕ, suc, ◌+◌, ◌^◌, ◌≤◌, ℤ, pos, List, [], ◌∷◌, ◌++◌, map, length, All, Bool, nat_eq, if◌then◌else◌}
+use Rattle.std.specs.Prelude.{◌≡◌, ℕ, suc, ◌+◌, ◌^◌, ◌≤◌, ℤ, List, [], ◌∷◌, ◌++◌, map, length, All, Bool, nat_eq, if◌then◌else◌}
 use Rattle.std.specs.List.{list_any}
 use Rattle.std.specs.Global.{Vec}
-use Rattle.it_space.specs.declared.problems.Constraint.{Constraint}
-use Rattle.it_space.specs.declared.problems.Kind.TheVariants.{Equation}
-use Rattle.it_space.specs.declared.problems.Origin.TheVariants.{Given}
 use Rattle.it_space.specs.declared.problems.System.{System}
 use Rattle.it_space.specs.declared.spaces.Space.{Space}
 use Rattle.it_space.specs.Answers.{certificate_view}
@@ -23,13 +20,10 @@ use Rattle.it_outer.specs.declared.types.Round.{Round}
 use Rattle.it_outer.specs.declared.types.Round.TheVariants as rounds
 use Rattle.it_outer.specs.declared.types.Visit.{Visit}
 use Rattle.it_outer.specs.declared.types.Visit.TheVariants as visits
-use Rattle.it_outer.specs.Outer.{Search, OuterView, constants, outer_view}
+use Rattle.it_hull.specs.Constants.{constants}
+use Rattle.it_outer.specs.Outer.{Search, OuterView, outer_view}
 use Rattle.it_outer.specs.Search.{VisitView, Proved, Refuted, Left, HullView, Hull, TooMany, TooWide, AfterHull, HullEnds, NextHull, PassEnds}
 use Rattle.it_outer.specs.Theorems.{IsSearch}
-
--- the line that says that a variable is constant
-abbrev pub constant_line : ℕ → Constraint
-constant_line variable = record { row = (2 ^ variable, pos 1) ∷ []; kind = Equation; origin = Given (variable + 1) 1 1 }
 
 -- a rate's coordinate, unless the rate goes
 abbrev pub own_coordinate : Space → List ℕ → ℕ → List ℕ

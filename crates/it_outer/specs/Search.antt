@@ -14,7 +14,8 @@ use Rattle.it_redundant.specs.Reduction.{NeedView, Reduces, kept_rows}
 use Rattle.it_hull.specs.Hulls.{first_rows}
 use Rattle.it_hull.specs.Rays.{RayEnds, ValuesFit}
 use Rattle.it_outer.specs.Extremes.{extreme_rays}
-use Rattle.it_outer.specs.Outer.{Search, OuterView, Bounds, Undecided, Run, Rows, Width, Rays, constants}
+use Rattle.it_hull.specs.Constants.{constants}
+use Rattle.it_outer.specs.Outer.{Search, OuterView, Bounds, Undecided, Run, Rows, Width, Rays}
 
 -- ---- the rows of a hull, visited in order
 

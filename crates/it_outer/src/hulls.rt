@@ -1,6 +1,5 @@
 //! The hull of rays, one ray after the other.
-ghost use Rattle.std.specs.Prelude.{◌≡◌, ◌≢◌, [], ◌∷◌, pos, length, IfOk};
-ghost use Rattle.it_number.specs.Limit.{IsWithin};
+ghost use Rattle.std.specs.Prelude.{◌≡◌, length, IfOk};
 ghost use Rattle.it_space.specs.Spaces.{size_of};
 ghost use Rattle.it_hull.specs.Hulls.{first_rows};
 ghost use Rattle.it_outer.specs.Rounds.{AreOfSpace, IsAfterRay, IsFrame, IsHullSystem, IsNext, next_view, search_of};
@@ -8,34 +7,10 @@ ghost use Rattle.it_outer.specs.Search.{HullEnds, NextHull};
 
 use crate::types::{Frame, Next};
 use it_eliminate::Eliminated;
-use it_hull::with_ray;
+use it_hull::{first_rows, with_ray};
 use it_redundant::{kept_system, reduce};
-use it_space::{Point, Row, System};
+use it_space::{Point, System};
 use std::alloc::{AllocError, Global};
-
-/// A row of one term.
-fn single(alloc: Global, at: u32, coefficient: i128) -> Result<Row, AllocError>
-    requires some { coefficient ≢ pos 0 }
-    requires within { IsWithin coefficient }
-    ensures { IfOk result (λ r. r ≡ (at, coefficient) ∷ []) }
-{
-    let terms = vec![in alloc; (at, coefficient)]?;
-    Ok(Row::new(terms))
-}
-
-/// The rows of no ray: each kept coordinate is 0.
-fn first_rows(alloc: Global, kept: &[u32]) -> Result<Vec<Row>, AllocError>
-    ensures { IfOk result (λ v. v.items ≡ first_rows kept.now) }
-{
-    let mut rows = Vec::new(alloc);
-    for at in kept {
-        let least = single(alloc, *at, 1)?;
-        rows.push(least)?;
-        let most = single(alloc, *at, -1)?;
-        rows.push(most)?;
-    }
-    Ok(rows)
-}
 
 /// The hull of no ray: each kept coordinate is 0.
 fn first_hull(alloc: Global, frame: &Frame<'_>) -> Result<System, AllocError>

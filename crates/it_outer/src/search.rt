@@ -9,12 +9,12 @@ ghost use Rattle.it_outer.specs.Rounds.{AreOfSpace, AreOutcomes, IsFrame, search
 ghost use Rattle.it_outer.specs.Search.{PassWithEnds, SearchEnds, SecondEnds};
 ghost use Rattle.it_outer.specs.declared.types.Outer.TheVariants as OuterEnds;
 
-use crate::constants::constants;
 use crate::coordinates::kept_coordinates;
 use crate::extremes::extreme_rays;
 use crate::outcomes::Outcomes;
 use crate::passes::pass;
 use crate::types::{Bounds, Frame, Limits, Outer, OuterCause};
+use it_hull::constants;
 use it_space::{Problem, RowFault};
 use std::alloc::{AllocError, Global};
 

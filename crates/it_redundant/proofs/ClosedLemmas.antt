@@ -16,7 +16,7 @@ use Rattle.it_prove.specs.declared.closed.ClosedProblem.{ClosedProblem}
 use Rattle.it_prove.specs.Closed.{collapsed_generator}
 use Rattle.it_prove.specs.ClosedProblems.{AreColumns, IsClosedProblem, SameRows}
 use Rattle.it_columns.specs.Columns.{columns}
-use Rattle.it_redundant.specs.Reduction.{row_constraints, with_rows}
+use Rattle.it_eliminate.specs.RowLines.{row_constraints, with_rows}
 
 -- a row is no dependence
 rows_read : (n g line : ℕ) (rows : List Terms) → read_from n g (row_constraints line rows) ≡ []

@@ -1,4 +1,3 @@
-pub mod RowLemmas
 pub mod ReductionLemmas
 pub mod ClosedLemmas
 pub mod NumberedLemmas

@@ -5,7 +5,7 @@ use Rattle.it_space.specs.declared.problems.Constraint.{Constraint}
 use Rattle.it_space.specs.declared.problems.Kind.TheVariants.{Inequality}
 use Rattle.it_space.specs.declared.problems.Origin.TheVariants.{Rate}
 use Rattle.it_space.specs.Rows.{Terms}
-use Rattle.it_redundant.specs.Reduction.{row_constraints}
+use Rattle.it_eliminate.specs.RowLines.{row_constraints}
 use Rattle.it_redundant.specs.ReductionSteps.{numbered}
 
 -- rows that are numbered anew

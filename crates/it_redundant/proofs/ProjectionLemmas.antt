@@ -17,7 +17,7 @@ use Rattle.it_eliminate.proofs.LawLemmas.{one_end}
 use Rattle.it_eliminate.proofs.MemberLemmas.{Member, member_of, contains_of, member_mapped}
 use Rattle.it_eliminate.proofs.OrderLemmas.{RowLacks, lacks-ordered_rows}
 use Rattle.it_eliminate.proofs.RateLemmas.{next_keeps_lacking, projection_exact, rates_exact}
-use Rattle.it_eliminate.proofs.SpaceLemmas.{projection_up_to}
+use Rattle.it_eliminate.proofs.RegionLemmas.{step_list, step_up}
 use Rattle.it_eliminate.proofs.StepLemmas.{next_lacks}
 use Rattle.it_prove.specs.declared.types.Effort.{Effort}
 use Rattle.it_redundant.specs.declared.types.Projected.{Projected}
@@ -31,33 +31,10 @@ use Rattle.it_redundant.proofs.MultipleLemmas.{multiple_meets}
 use Rattle.it_redundant.proofs.VisitLemmas.{rows_kept}
 use Rattle.it_redundant.proofs.ReductionLemmas.{all_kept, hold_alike, kept_are_needed, one_reduction}
 
--- ---- the step of a rate
-
-not_wide : (next : List Terms) (r : ℕ) → elimination.Region next ≡ elimination.Wide r → ⊥
-not_wide next r e = cc
-
-not_rows : (next : List Terms) (r : ℕ) → elimination.Region next ≡ elimination.Rows r → ⊥
-not_rows next r e = cc
-
-pub same_list : (xs ys : List Terms) → elimination.Region xs ≡ elimination.Region ys → xs ≡ ys
-same_list xs ys e = cc
-
--- a step that ends with a list has the next list, and few rows
-pub step_list : (base most : ℕ) (rows : List Terms) (r : ℕ) (next : List Terms) → EliminationEnds base most rows (r ∷ []) (elimination.Region next) → (next ≡ next_list (base + r) rows) × (length next ≤ most)
-step_list base most rows r next (inl e) = absurd (not_wide next r e.1)
-step_list base most rows r next (inr (inl e)) = absurd (not_rows next r e.2)
-step_list base most rows r next (inr (inr e)) =
-    let is : next ≡ next_list (base + r) rows = same_list next (next_list (base + r) rows) e.2 in (is, subst (λ (xs : List Terms). length xs ≤ most) (sym is) e.1)
-
--- the rows of the list are of the space, and so are those that stay of it
-pub list_up : (givens : ProblemView) (most : ℕ) (rows : List Terms) (r : ℕ) (next : List Terms) → All (IsOver (size_of givens.space)) rows
-    → EliminationEnds (2 ^ givens.space.variables) most (ordered_rows rows) (r ∷ []) (elimination.Region next) → All (IsOver (size_of givens.space)) next
-list_up givens most rows r next up e = subst (λ (xs : List Terms). All (IsOver (size_of givens.space)) xs) (sym (step_list (2 ^ givens.space.variables) most (ordered_rows rows) r next e).0)
-    (projection_up_to (size_of givens.space) ((2 ^ givens.space.variables + r) ∷ []) rows up)
-
+-- the rows that stay of a step's list are of the space
 pub kept_up : (givens : ProblemView) (effort : Effort) (most : ℕ) (rows : List Terms) (r : ℕ) (next : List Terms) (mid : List (Terms × NeedView)) (dropped : List (Terms × CertificateView)) → All (IsOver (size_of givens.space)) rows
     → EliminationEnds (2 ^ givens.space.variables) most (ordered_rows rows) (r ∷ []) (elimination.Region next) → Reduces givens effort [] next mid dropped → All (IsOver (size_of givens.space)) (kept_rows mid)
-kept_up givens effort most rows r next mid dropped up e red = all_kept givens effort (IsOver (size_of givens.space)) [] next mid dropped red (list_up givens most rows r next up e)
+kept_up givens effort most rows r next mid dropped up e red = all_kept givens effort (IsOver (size_of givens.space)) [] next mid dropped red (step_up (size_of givens.space) (2 ^ givens.space.variables) most rows r next up e)
 
 -- ---- rate after rate
 
@@ -140,7 +117,7 @@ module _ (givens : ProblemView) (effort : Effort) (most : ℕ) (limits : IsProbl
     few_next = (step_list (2 ^ givens.space.variables) most (ordered_rows rows) r next e).1
 
     next_up : All (IsOver (size_of givens.space)) next
-    next_up = list_up givens most rows r next up e
+    next_up = step_up (size_of givens.space) (2 ^ givens.space.variables) most rows r next up e
 
     mid_up : All (IsOver (size_of givens.space)) (kept_rows mid)
     mid_up = kept_up givens effort most rows r next mid dropped up e red

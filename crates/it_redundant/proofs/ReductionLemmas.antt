@@ -14,9 +14,10 @@ use Rattle.it_prove.specs.ProofViews.{ProofView, Yes, No, Undecided, EndsWith}
 use Rattle.it_prove.proofs.ProofLemmas.{one_outcome}
 use Rattle.it_prove.proofs.RightLemmas.{ends_are_right}
 use Rattle.it_prove.specs.declared.types.Effort.{Effort}
-use Rattle.it_redundant.specs.Reduction.{NeedView, Needed, Unsettled, Reduces, with_rows, row_constraints, kept_by, dropped_by, kept_rows}
+use Rattle.it_eliminate.specs.RowLines.{with_rows, row_constraints}
+use Rattle.it_redundant.specs.Reduction.{NeedView, Needed, Unsettled, Reduces, kept_by, dropped_by, kept_rows}
 use Rattle.it_redundant.specs.Theorems.{MeetsGivens, HoldAlike, SeparatesRow, IsNeeded, AreNeeded, OneReduction}
-use Rattle.it_redundant.proofs.RowLemmas.{met_rows_hold, problem_is_met, problem_limits}
+use Rattle.it_eliminate.proofs.RowLemmas.{met_rows_hold, problem_is_met, problem_limits}
 
 pub rows_of_parts : (ks ls : List (Terms × NeedView)) → kept_rows (ks ++ ls) ≡ kept_rows ks ++ kept_rows ls
 rows_of_parts ks ls = map-append (λ k. k.0) ks ls

@@ -9,15 +9,16 @@ use Rattle.it_eliminate.specs.Elimination.{EliminatedView, EliminationEnds, orde
 use Rattle.it_eliminate.specs.Elimination as elimination
 use Rattle.it_eliminate.proofs.LawLemmas.{one_end}
 use Rattle.it_eliminate.proofs.MemberLemmas.{all_front, all_back}
+use Rattle.it_eliminate.proofs.RegionLemmas.{step_list, step_up}
 use Rattle.it_prove.specs.ProofViews.{ProofView, Yes, No, Undecided, EndsWith}
 use Rattle.it_prove.specs.declared.types.Effort.{Effort}
 use Rattle.it_prove.proofs.RightLemmas.{ends_agree}
 use Rattle.it_redundant.specs.Reduction as reduction
-use Rattle.it_redundant.specs.Reduction.{NeedView, Reduces, with_rows, kept_by, kept_rows}
+use Rattle.it_eliminate.specs.RowLines.{with_rows}
+use Rattle.it_redundant.specs.Reduction.{NeedView, Reduces, kept_by, kept_rows}
 use Rattle.it_redundant.specs.ReducedElimination.{ProjectedView, Region, Rows, Wide, GoesOn}
 use Rattle.it_redundant.specs.Theorems.{IsSettledRow, SettledEnds, HaveSameRows, SettledRegionsAgree}
 use Rattle.it_redundant.proofs.ReductionLemmas.{AreTaken, own_up, taken_first, taken_next, taken_problem, rows_of_parts, all_kept}
-use Rattle.it_redundant.proofs.ProjectionLemmas.{list_up, step_list}
 
 module _ (givens : ProblemView) (effort other : Effort) (limits : IsProblem givens) (few : length givens.constraints ≤ 65535) where
   -- two outcomes that leave no row unsettled keep the same of a row
@@ -60,7 +61,7 @@ module _ (givens : ProblemView) (effort other : Effort) (limits : IsProblem give
             → ((kept others : List (Terms × NeedView)) (dropped lost : List (Terms × CertificateView)) → kept_rows kept ≡ kept_rows others → All (IsOver (size_of givens.space)) (kept_rows kept)
             → SettledEnds givens effort most (kept_rows kept) kept dropped rs end → SettledEnds givens other most (kept_rows kept) others lost rs other_end → HaveSameRows end other_end) → HaveSameRows end other_end
         by_step (elimination.Region next) e (kept, dropped, reduces, so) (others, lost, reduces_so, also) later =
-            let ups : All (IsOver (size_of givens.space)) next = list_up givens most rows r next up e in
+            let ups : All (IsOver (size_of givens.space)) next = step_up (size_of givens.space) (2 ^ givens.space.variables) most rows r next up e in
             let count : length next ≤ 65535 = let fits : length next ≤ most = (step_list (2 ^ givens.space.variables) most (ordered_rows rows) r next e).1 in omega (arith, fits, few_rows) in
             let agree : kept_rows kept ≡ kept_rows others = reductions_agree [] next kept others dropped lost (taken_first givens effort next count ups) reduces reduces_so so.0 also.0 in
             later kept others dropped lost agree (all_kept givens effort (IsOver (size_of givens.space)) [] next kept dropped reduces ups) so.1

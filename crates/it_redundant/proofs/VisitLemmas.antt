@@ -12,9 +12,10 @@ use Rattle.it_prove.specs.declared.closed.ClosedProblem.{ClosedProblem}
 use Rattle.it_prove.specs.ProofViews.{ProofView, Yes, No, Undecided, EndsWith}
 use Rattle.it_prove.specs.declared.types.Effort.{Effort}
 use Rattle.it_redundant.specs.declared.types.Need.{Need}
-use Rattle.it_redundant.specs.Reduction.{NeedView, Reduces, kept_by, dropped_by, kept_rows, need_view, row_constraints, with_rows}
+use Rattle.it_eliminate.specs.RowLines.{row_constraints, with_rows}
+use Rattle.it_redundant.specs.Reduction.{NeedView, Reduces, kept_by, dropped_by, kept_rows, need_view}
 use Rattle.it_redundant.specs.ReductionSteps.{AreRowsUpTo}
-use Rattle.it_redundant.proofs.RowLemmas.{problem_limits, row_count, row_parts}
+use Rattle.it_eliminate.proofs.RowLemmas.{problem_limits, row_count, row_parts}
 use Rattle.it_redundant.proofs.ReductionLemmas.{few_kept, rows_of_parts, some_keep}
 use Rattle.it_redundant.proofs.ClosedLemmas.{closed_after}
 

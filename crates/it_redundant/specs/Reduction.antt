@@ -1,27 +1,16 @@
 -- Reduction of a list of rows: each in turn goes where the givens and all other rows that still stand give it, and stays otherwise.
-use Rattle.std.specs.Prelude.{◌≡◌, ℕ, ◌+◌, ◌≤◌, ℤ, List, [], ◌∷◌, ◌++◌, length, map}
+use Rattle.std.specs.Prelude.{◌≡◌, ◌≤◌, ℤ, List, [], ◌∷◌, ◌++◌, length, map}
 use Rattle.it_space.specs.declared.answers.Cause.{Cause}
-use Rattle.it_space.specs.declared.problems.Constraint.{Constraint}
-use Rattle.it_space.specs.declared.problems.Kind.TheVariants.{Inequality}
-use Rattle.it_space.specs.declared.problems.Origin.TheVariants.{Rate}
 use Rattle.it_space.specs.Answers.{CertificateView, certificate_view}
 use Rattle.it_space.specs.declared.problems.System.{System}
 use Rattle.it_space.specs.Problems.{ProblemView, IsProblem, IsSystem}
 use Rattle.it_space.specs.Rows.{Terms}
+use Rattle.it_eliminate.specs.RowLines.{with_rows}
 use Rattle.it_prove.specs.ProofViews.{ProofView, Yes, No, Undecided, EndsWith}
 use Rattle.it_prove.specs.declared.types.Effort.{Effort}
 use Rattle.it_redundant.specs.declared.types.Need.{Need}
 use Rattle.it_redundant.specs.declared.types.Need.TheVariants as needs
 use Rattle.it_redundant.specs.declared.types.Reduced.{Reduced}
-
--- rows as the constraints of `row` lines, from line number `line` on
-abbrev pub row_constraints : ℕ → List Terms → List Constraint
-row_constraints line [] = []
-row_constraints line (row ∷ rows) = record { row = row; kind = Inequality; origin = Rate line } ∷ row_constraints (line + 1) rows
-
--- the givens, and rows after them
-abbrev pub with_rows : ProblemView → List Terms → ProblemView
-with_rows givens rows = record { space = givens.space; constraints = givens.constraints ++ row_constraints 1 rows }
 
 -- a system over the space of some givens, which are few enough that their problem with 65,535 rows after them is one
 pub record IsSystemUnder (q : ProblemView) (s : System) : Type 0 where

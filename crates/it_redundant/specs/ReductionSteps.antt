@@ -7,7 +7,8 @@ use Rattle.it_space.specs.Rows.{Terms, IsOver}
 use Rattle.it_prove.specs.ProofViews.{ProofView, EndsWith}
 use Rattle.it_prove.specs.declared.types.Effort.{Effort}
 use Rattle.it_redundant.specs.declared.types.Reduced.{Reduced}
-use Rattle.it_redundant.specs.Reduction.{row_constraints, with_rows, kept_by, dropped_by, kept_rows, kept_view, dropped_view}
+use Rattle.it_eliminate.specs.RowLines.{row_constraints, with_rows}
+use Rattle.it_redundant.specs.Reduction.{kept_by, dropped_by, kept_rows, kept_view, dropped_view}
 
 -- the coordinates of each row are from 1 to a number
 abbrev pub AreRowsUpTo : ℕ → List Terms → Type 0

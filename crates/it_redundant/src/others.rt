@@ -1,73 +1,10 @@
-//! The problem under which a row is judged: the givens, and all other rows that still stand.
-ghost use Rattle.std.specs.Prelude.{◌≡◌, [], ◌∷◌, ◌++◌, ◌+◌, ◌<◌, ◌≤◌, drop, length, take, OnOk, IfOk};
-ghost use Rattle.it_space.specs.Problems.{problem_view};
-ghost use Rattle.it_redundant.specs.Reduction.{row_constraints, with_rows};
+//! The problem under which a row is judged, from one row to the next: the givens, and all other rows that still stand.
+ghost use Rattle.std.specs.Prelude.{◌≡◌, ◌++◌, ◌+◌, ◌<◌, ◌≤◌, drop, length, take, OnOk};
 ghost use Rattle.it_redundant.specs.ReductionSteps.{IsInserted, IsRemoved, numbered};
 
-use it_space::{Constraint, Kind, Origin, Problem, Row};
+use it_eliminate::row_constraint;
+use it_space::{Constraint, Origin, Row};
 use std::alloc::{AllocError, Global};
-
-/// The same constraint once more.
-fn copy_constraint(alloc: Global, constraint: &Constraint) -> Result<Constraint, AllocError>
-    ensures { IfOk result (λ c. c ≡ constraint.now) }
-{
-    Ok(Constraint {
-        row: constraint.row.copy(alloc)?,
-        kind: constraint.kind,
-        origin: constraint.origin,
-    })
-}
-
-/// The constraint of a `row` line.
-fn row_constraint(alloc: Global, line: usize, row: &Row) -> Result<Constraint, AllocError>
-    requires { line ≤ 65535 }
-    ensures { IfOk result (λ c. c ∷ [] ≡ row_constraints line (row.now ∷ [])) }
-{
-    Ok(Constraint {
-        row: row.copy(alloc)?,
-        kind: Kind::Inequality,
-        origin: Origin::Rate { line: line as u16 },
-    })
-}
-
-/// The same constraints once more.
-fn copies(alloc: Global, constraints: &[Constraint]) -> Result<Vec<Constraint>, AllocError>
-    ensures { IfOk result (λ v. v.items ≡ constraints.now) }
-{
-    let mut copies = Vec::new(alloc);
-    for constraint in constraints {
-        copies.push(copy_constraint(alloc, constraint)?)?;
-    }
-    Ok(copies)
-}
-
-/// Puts rows after the constraints, from line 1 on.
-fn push_rows(
-    alloc: Global,
-    constraints: &mut Vec<Constraint>,
-    rows: &[Row],
-) -> Result<(), AllocError>
-    requires { length rows.now ≤ 65535 }
-    ensures { OnOk result (constraints.new.items ≡ constraints.old.items ++ row_constraints 1 rows.now) }
-{
-    for (i, row) in rows.iter().enumerate() {
-        constraints.push(row_constraint(alloc, i + 1, row)?)?;
-    }
-    Ok(())
-}
-
-/// The givens, and rows after them.
-pub fn problem_with(alloc: Global, givens: &Problem, rows: &[Row]) -> Result<Problem, AllocError>
-    requires { length rows.now ≤ 65535 }
-    ensures { IfOk result (λ p. problem_view p ≡ with_rows (problem_view givens.now) rows.now) }
-{
-    let mut constraints = copies(alloc, givens.constraints.as_slice())?;
-    push_rows(alloc, &mut constraints, rows)?;
-    Ok(Problem {
-        space: givens.space,
-        constraints,
-    })
-}
 
 /// Numbers the constraints from a place on as `row` lines, from this line on.
 fn number_from(constraints: &mut Vec<Constraint>, place: usize, line: usize)

@@ -6,12 +6,14 @@ ghost use Rattle.it_space.specs.Rows.{IsOver};
 ghost use Rattle.it_space.specs.Spaces.{size_of};
 ghost use Rattle.it_prove.specs.ClosedProblems.{IsClosedProblem};
 ghost use Rattle.it_prove.specs.ProofViews.{proof_view};
-ghost use Rattle.it_redundant.specs.Reduction.{IsSystemUnder, Reduces, dropped_by, dropped_view, kept_by, kept_rows, kept_view, need_view, with_rows};
+ghost use Rattle.it_eliminate.specs.RowLines.{with_rows};
+ghost use Rattle.it_redundant.specs.Reduction.{IsSystemUnder, Reduces, dropped_by, dropped_view, kept_by, kept_rows, kept_view, need_view};
 ghost use Rattle.it_redundant.specs.ReductionSteps.{AreRowsUpTo, IsVisited};
 ghost use Rattle.it_redundant.specs.Theorems.{AreNeeded, HoldAlike};
 
-use crate::others::{insert_row, problem_with, remove_row};
+use crate::others::{insert_row, remove_row};
 use crate::types::{Need, Reduced};
+use it_eliminate::problem_with;
 use it_prove::{ClosedProblem, Effort, Proof};
 use it_space::{Certificate, Problem, Row, System};
 use std::alloc::{AllocError, Global};

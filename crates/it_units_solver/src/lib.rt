@@ -12,4 +12,6 @@ mod eliminations;
 #[cfg(test)]
 mod spaces;
 #[cfg(test)]
+mod spans;
+#[cfg(test)]
 mod tableaus;

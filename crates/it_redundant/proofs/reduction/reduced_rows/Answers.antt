@@ -5,7 +5,8 @@ use Rattle.it_space.specs.Problems.{problem_view}
 use Rattle.it_space.specs.Rows.{IsOver, Terms}
 use Rattle.it_space.specs.Spaces.{size_of}
 use Rattle.it_prove.specs.ProofViews.{EndsWith}
-use Rattle.it_redundant.specs.Reduction.{with_rows, kept_rows, kept_view, dropped_view}
+use Rattle.it_eliminate.specs.RowLines.{with_rows}
+use Rattle.it_redundant.specs.Reduction.{kept_rows, kept_view, dropped_view}
 use Rattle.it_redundant.specs.ReductionSteps.{AreRowsUpTo}
 use Rattle.it_redundant.proofs.VisitLemmas.{rows_kept, under_way_end, under_way_more}
 use Rattle.it_redundant.proofs.reduction.reduced_rows.Goals as goal

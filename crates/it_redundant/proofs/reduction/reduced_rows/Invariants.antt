@@ -2,7 +2,8 @@ use Rattle.std.proofs.Common.{◌≡◌, ◌++◌, drop, map}
 use Rattle.it_space.specs.Problems.{problem_view}
 use Rattle.it_space.specs.Spaces.{size_of}
 use Rattle.it_prove.specs.ClosedProblems.{IsClosedProblem}
-use Rattle.it_redundant.specs.Reduction.{kept_view, dropped_view, with_rows}
+use Rattle.it_eliminate.specs.RowLines.{with_rows}
+use Rattle.it_redundant.specs.Reduction.{kept_view, dropped_view}
 use Rattle.it_redundant.proofs.VisitLemmas.{IsUnderWay}
 use Rattle.it_redundant.proofs.reduction.reduced_rows.Given as goal
 

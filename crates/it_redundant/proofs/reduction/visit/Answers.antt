@@ -2,7 +2,7 @@ use Rattle.std.proofs.Common.{List, ◌++◌, ◌∙◌, rules, ap, sym, ◌+◌
 use Rattle.it_space.specs.Problems.{problem_view}
 use Rattle.it_space.specs.Rows.{Terms}
 use Rattle.it_prove.specs.ProofViews.{proof_view}
-use Rattle.it_redundant.specs.Reduction.{with_rows}
+use Rattle.it_eliminate.specs.RowLines.{with_rows}
 use Rattle.it_redundant.proofs.VisitLemmas.{lines_within, put_back, room_for_row, row_goes, row_stays, row_within, taken_out, visit_closed, visit_ends, visit_limits}
 use Rattle.it_redundant.proofs.reduction.visit.Goals as goal
 

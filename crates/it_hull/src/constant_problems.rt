@@ -1,11 +1,8 @@
 //! The problem in which all variables are constant. Under it the one closed set is empty, so that runs are over rates alone.
-ghost use Rattle.std.specs.Prelude.{◌≡◌, ◌+◌, ◌^◌, ◌∷◌, [], ◌<◌, pos, IfOk};
-ghost use Rattle.it_space.specs.declared.problems.Kind.TheVariants.{Equation};
-ghost use Rattle.it_space.specs.declared.problems.Origin.TheVariants.{Given};
+ghost use Rattle.std.specs.Prelude.{◌≡◌, ◌<◌, IfOk};
 ghost use Rattle.it_space.specs.Problems.{problem_view};
 ghost use Rattle.it_space.specs.Spaces.{IsSpace};
-ghost use Rattle.it_outer.specs.Outer.{constants};
-ghost use Rattle.it_outer.specs.Rounds.{constant_line};
+ghost use Rattle.it_hull.specs.Constants.{constant_line, constants};
 
 use it_space::{Constraint, Kind, Origin, Problem, Row, Space};
 use std::alloc::{AllocError, Global};

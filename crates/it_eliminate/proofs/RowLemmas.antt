@@ -9,7 +9,7 @@ use Rattle.it_space.specs.Rows.{Terms, IsOver}
 use Rattle.it_space.specs.Spaces.{size_of}
 use Rattle.it_eliminate.specs.Projections.{IsPointOf}
 use Rattle.it_eliminate.proofs.OrderLemmas.{RowHolds}
-use Rattle.it_redundant.specs.Reduction.{row_constraints, with_rows}
+use Rattle.it_eliminate.specs.RowLines.{row_constraints, with_rows}
 
 module _ (p : ℕ → ℤ) where
   pub rows_are_met : (line : ℕ) (rows : List Terms) → IsPointOf rows p → AreMet p (row_constraints line rows)

@@ -1,9 +1,9 @@
 use Rattle.std.proofs.Common.{rules, ◌≡◌, ◌∷◌, [], ◌++◌, List, ap}
 use Rattle.it_space.specs.declared.problems.Constraint.{Constraint}
 use Rattle.it_space.specs.Problems.{ProblemView}
-use Rattle.it_outer.specs.Outer.{constant_lines}
-use Rattle.it_outer.proofs.LoopLemmas.{line_more, lines_done}
-use Rattle.it_outer.proofs.constants.constants.Goals as goal
+use Rattle.it_hull.specs.Constants.{constant_lines}
+use Rattle.it_hull.proofs.ConstantLemmas.{line_more, lines_done}
+use Rattle.it_hull.proofs.constant_problems.constants.Goals as goal
 
 pub loop-variable-preserved : goal.loop-variable-preserved
 loop-variable-preserved c =

@@ -1,5 +1,5 @@
 -- The problem in which all variables are constant.
-use Rattle.std.proofs.Common.{pow_mono, add-one, ◌≡◌, ℕ, zero, suc, ◌+◌, ◌-◌, ◌*◌, ◌^◌, ◌<◌, ◌≤◌, ℤ, pos, [], ◌∷◌, length, refl, ap, ◌∙◌, arith, All}
+use Rattle.std.proofs.Common.{pow_mono, add-one, ◌≡◌, ℕ, zero, suc, ◌+◌, ◌-◌, ◌*◌, ◌^◌, ◌<◌, ◌≤◌, ℤ, pos, List, [], ◌∷◌, ◌++◌, length, refl, sym, ap, ◌∙◌, append_assoc, append-nil, arith, All}
 use Rattle.std.specs.List.{AllByRecursion as Every}
 use Rattle.std.proofs.lemmas.Nat.{pow_pos}
 use Rattle.std.proofs.Math.Nat.{pow-suc}
@@ -9,8 +9,7 @@ use Rattle.it_space.specs.Problems.{IsProblem}
 use Rattle.it_space.specs.Rows.{IsOver}
 use Rattle.it_space.specs.Spaces.{IsSpace, size_of}
 use Rattle.it_space.proofs.EveryLemmas.{all_of}
-use Rattle.it_outer.specs.Outer.{constant_lines, constants}
-use Rattle.it_outer.specs.Rounds.{constant_line}
+use Rattle.it_hull.specs.Constants.{constant_line, constant_lines, constants}
 
 each_line : (P : Constraint → Type 0) (i count : ℕ) → ((k : ℕ) → k < i + count → P (constant_line k)) → Every P (constant_lines i count)
 each_line P i zero f = tt
@@ -37,3 +36,14 @@ constants_are_problem s h = record {
       (each_line (λ c. IsOver (size_of s) c.row) 0 s.variables (λ k l. line_over s.variables (size_of s) k (omega (arith, pow_pos s.variables)) (omega (arith, l))));
   few = let k = few_constants s h in omega (arith, k);
 }
+
+-- ---- the loop over the variables
+
+pub line_more : (i n : ℕ) (xs ys all : List Constraint) (x : Constraint) → i < n → ys ≡ xs ++ x ∷ [] → x ≡ constant_line i → xs ++ constant_lines i (n - i) ≡ all → ys ++ constant_lines (i + 1) (n - (i + 1)) ≡ all
+line_more i n xs ys all x l pushed is e =
+    let left : n - i ≡ suc (n - (i + 1)) = omega arith in
+    ap (λ (zs : List Constraint). zs ++ constant_lines (i + 1) (n - (i + 1))) pushed ∙ append_assoc xs (x ∷ []) (constant_lines (i + 1) (n - (i + 1)))
+    ∙ ap (λ (z : Constraint). xs ++ z ∷ constant_lines (i + 1) (n - (i + 1))) is ∙ ap (λ k. xs ++ constant_lines i k) (sym left) ∙ e
+
+pub lines_done : (i n : ℕ) (xs all : List Constraint) → n ≤ i → xs ++ constant_lines i (n - i) ≡ all → xs ≡ all
+lines_done i n xs all l e = let none : n - i ≡ 0 = omega arith in sym (append-nil xs) ∙ ap (λ k. xs ++ constant_lines i k) (sym none) ∙ e

@@ -1,0 +1,16 @@
+-- Rows as constraints: each as that of a `row` line, after some givens.
+use Rattle.std.specs.Prelude.{ℕ, ◌+◌, List, [], ◌∷◌, ◌++◌}
+use Rattle.it_space.specs.declared.problems.Constraint.{Constraint}
+use Rattle.it_space.specs.declared.problems.Kind.TheVariants.{Inequality}
+use Rattle.it_space.specs.declared.problems.Origin.TheVariants.{Rate}
+use Rattle.it_space.specs.Problems.{ProblemView}
+use Rattle.it_space.specs.Rows.{Terms}
+
+-- rows as the constraints of `row` lines, from line number `line` on
+abbrev pub row_constraints : ℕ → List Terms → List Constraint
+row_constraints line [] = []
+row_constraints line (row ∷ rows) = record { row = row; kind = Inequality; origin = Rate line } ∷ row_constraints (line + 1) rows
+
+-- the givens, and rows after them
+abbrev pub with_rows : ProblemView → List Terms → ProblemView
+with_rows givens rows = record { space = givens.space; constraints = givens.constraints ++ row_constraints 1 rows }

@@ -1,0 +1,69 @@
+//! Rows as constraints after some givens: each as that of a `row` line.
+ghost use Rattle.std.specs.Prelude.{◌≡◌, [], ◌∷◌, ◌++◌, ◌≤◌, length, OnOk, IfOk};
+ghost use Rattle.it_space.specs.Problems.{problem_view};
+ghost use Rattle.it_eliminate.specs.RowLines.{row_constraints, with_rows};
+
+use it_space::{Constraint, Kind, Origin, Problem, Row};
+use std::alloc::{AllocError, Global};
+
+/// The same constraint once more.
+fn copy_constraint(alloc: Global, constraint: &Constraint) -> Result<Constraint, AllocError>
+    ensures { IfOk result (λ c. c ≡ constraint.now) }
+{
+    Ok(Constraint {
+        row: constraint.row.copy(alloc)?,
+        kind: constraint.kind,
+        origin: constraint.origin,
+    })
+}
+
+/// The constraint of a `row` line, counted from 1.
+pub fn row_constraint(alloc: Global, line: usize, row: &Row) -> Result<Constraint, AllocError>
+    requires { line ≤ 65535 }
+    ensures { IfOk result (λ c. c ∷ [] ≡ row_constraints line (row.now ∷ [])) }
+{
+    Ok(Constraint {
+        row: row.copy(alloc)?,
+        kind: Kind::Inequality,
+        origin: Origin::Rate { line: line as u16 },
+    })
+}
+
+/// The same constraints once more.
+fn copies(alloc: Global, constraints: &[Constraint]) -> Result<Vec<Constraint>, AllocError>
+    ensures { IfOk result (λ v. v.items ≡ constraints.now) }
+{
+    let mut copies = Vec::new(alloc);
+    for constraint in constraints {
+        copies.push(copy_constraint(alloc, constraint)?)?;
+    }
+    Ok(copies)
+}
+
+/// Puts rows after the constraints, from line 1 on.
+fn push_rows(
+    alloc: Global,
+    constraints: &mut Vec<Constraint>,
+    rows: &[Row],
+) -> Result<(), AllocError>
+    requires { length rows.now ≤ 65535 }
+    ensures { OnOk result (constraints.new.items ≡ constraints.old.items ++ row_constraints 1 rows.now) }
+{
+    for (i, row) in rows.iter().enumerate() {
+        constraints.push(row_constraint(alloc, i + 1, row)?)?;
+    }
+    Ok(())
+}
+
+/// The givens, and rows after them, as `row` lines counted from 1.
+pub fn problem_with(alloc: Global, givens: &Problem, rows: &[Row]) -> Result<Problem, AllocError>
+    requires { length rows.now ≤ 65535 }
+    ensures { IfOk result (λ p. problem_view p ≡ with_rows (problem_view givens.now) rows.now) }
+{
+    let mut constraints = copies(alloc, givens.constraints.as_slice())?;
+    push_rows(alloc, &mut constraints, rows)?;
+    Ok(Problem {
+        space: givens.space,
+        constraints,
+    })
+}

@@ -1,0 +1,31 @@
+//! The rows of no ray.
+ghost use Rattle.std.specs.Prelude.{◌≡◌, ◌≢◌, [], ◌∷◌, pos, IfOk};
+ghost use Rattle.it_number.specs.Limit.{IsWithin};
+ghost use Rattle.it_hull.specs.Hulls.{first_rows};
+
+use it_space::Row;
+use std::alloc::{AllocError, Global};
+
+/// A row of one term.
+fn single(alloc: Global, at: u32, coefficient: i128) -> Result<Row, AllocError>
+    requires some { coefficient ≢ pos 0 }
+    requires within { IsWithin coefficient }
+    ensures { IfOk result (λ r. r ≡ (at, coefficient) ∷ []) }
+{
+    let terms = vec![in alloc; (at, coefficient)]?;
+    Ok(Row::new(terms))
+}
+
+/// The rows of no ray: each kept coordinate is 0.
+pub fn first_rows(alloc: Global, kept: &[u32]) -> Result<Vec<Row>, AllocError>
+    ensures { IfOk result (λ v. v.items ≡ first_rows kept.now) }
+{
+    let mut rows = Vec::new(alloc);
+    for at in kept {
+        let least = single(alloc, *at, 1)?;
+        rows.push(least)?;
+        let most = single(alloc, *at, -1)?;
+        rows.push(most)?;
+    }
+    Ok(rows)
+}

@@ -1,0 +1,3 @@
+pub mod DropLemmas
+pub mod SpanLemmas
+pub mod VerdictLemmas

@@ -1,0 +1,5 @@
+pub mod Drops
+pub mod Spans
+pub mod Verdicts
+pub mod Theorems
+pub mod HullRows
