@@ -17,7 +17,7 @@ ghost use Rattle.it_report.specs.Steps.{IsAboutRelation};
 ghost use Rattle.it_tell.specs.Tellings.{IsMarkedRowText, IsPointText, IsProofText, IsRowText, indented_line, mark_comment, step_line, AreProofSteps, weights_text};
 ghost use Rattle.it_tell.specs.Steps.{AppendsDetails, AppendsEach, AppendsPoint, AppendsProof, AppendsProofs, AreFormRows, contained_by, form_with_proof};
 
-use crate::settings::Options;
+use crate::settings::{Options, Style};
 use it_canon::{problem_names, target_rows};
 use it_facts::told_point;
 use it_print::{row_text, sum_text, values_text, write_signed};
@@ -25,7 +25,7 @@ use it_question::types::{Question, Verb};
 use it_region::{candidate, obligations, pair};
 use it_space::{Answer, Certificate, Constraint, Kind, Mark, Point, Row, VarSet};
 use it_syntax::types::Relation;
-use it_terms::{told_form, told_row, told_steps};
+use it_terms::{PrintedProof, printed_form, told_form, told_row, told_steps};
 use std::alloc::{AllocError, Global};
 
 /// Appends a text as a line below the first one.
@@ -171,6 +171,38 @@ fn obligation_rows(
     Ok(rows)
 }
 
+/// A printed proof with its comment: the whole one, or the one with names.
+fn printed_line(proof: PrintedProof, whole: bool) -> Result<Vec<u8>, AllocError>
+{
+    let PrintedProof {
+        text: named,
+        whole: written,
+        by,
+    } = proof;
+    let mut text = if whole { written } else { named };
+    text.extend_from_slice(by.as_slice())?;
+    Ok(text)
+}
+
+/// The proof of a row where the question's functions hold, where that is asked for and found; with steps it isn't.
+fn printed_proof(
+    alloc: Global,
+    question: &Question,
+    row: &Row,
+    certificate: &Certificate,
+    options: Options,
+) -> Result<Option<Vec<u8>>, AllocError>
+    requires { IsQuestion (question_body question.now) }
+{
+    if options.style == Style::Plain || options.steps {
+        return Ok(None);
+    }
+    match printed_form(alloc, question, row, certificate, options.short)? {
+        Some(proof) => Ok(Some(printed_line(proof, options.style == Style::Whole)?)),
+        None => Ok(None),
+    }
+}
+
 /// The proof of a row in the question's own terms, or its weights.
 #[tactic(auto, unfolding(crate::specs::Tellings::IsProofText))]
 fn row_proof(
@@ -179,7 +211,7 @@ fn row_proof(
     constraints: &[Constraint],
     row: &Row,
     certificate: &Certificate,
-    short: bool,
+    options: Options,
 ) -> Result<Vec<u8>, AllocError>
     requires question { IsQuestion (question_body question.now) }
     requires some { 1 ≤ variable_count (question_body question.now) }
@@ -187,7 +219,10 @@ fn row_proof(
     requires there { All (λ w. w.0 < length (elementals (variable_count (question_body question.now))) + length constraints.now) certificate.now.weights.items }
     ensures { IfOk result (λ t. IsProofText (question_body question.now) (form_with_proof row.now certificate.now) t.items) }
 {
-    match told_form(alloc, question, row, certificate, short)? {
+    if let Some(text) = printed_proof(alloc, question, row, certificate, options)? {
+        return Ok(text);
+    }
+    match told_form(alloc, question, row, certificate, options.short)? {
         Some(text) => Ok(text),
         None => weights_text(alloc, question, constraints, certificate),
     }
@@ -254,7 +289,7 @@ fn write_proof(
         constraints,
         row,
         certificate,
-        options.short,
+        options,
     )?;
     let steps = steps_of(alloc, question, options.steps, text.as_slice())?;
     write_indented(out, text.as_slice())?;
