@@ -20,11 +20,12 @@ use Rattle.it_report.proofs.TruthLemmas.{small_numbers}
 use Rattle.it_tell.specs.Tellings.{Answered, Invalid, IsAccepted}
 use Rattle.it_tell.specs.Steps.{IsAnsweredText, IsToldLine}
 use Rattle.it_tell.proofs.PrintableLemmas.{printable}
+use Rattle.it_tell.specs.declared.settings.Options.{Options}
 
 -- ---- an invalid line
 
-pub invalid_line : (with_steps : Bool) (k : ℕ) (line text : List ℕ) (invalid : Bool) → IsJudgedLine k line text invalid → invalid ≡ true → IsToldLine with_steps k line text true
-invalid_line with_steps k line text invalid judged is = record {
+pub invalid_line : (options : Options) (k : ℕ) (line text : List ℕ) (invalid : Bool) → IsJudgedLine k line text invalid → invalid ≡ true → IsToldLine options k line text true
+invalid_line options k line text invalid judged is = record {
   telling = Invalid judged.verdict;
   is = (judged.is, sym judged.told.1 ∙ is);
   text_is = judged.told.0;
@@ -77,9 +78,9 @@ pub can_be_printed : (line : List ℕ) (q : QuestionView) (a : Answer) → Reads
     → IsPrintable q.body (length (question_demands q.body)) a
 can_be_printed line q a reads k fits h = printable q.body k (question_poses q.body k (small_numbers line q (answer_view a) reads)) h.verdict h.accepted a fits (on_answer line q (answer_view a) reads h)
 
-pub answered_line : (with_steps : Bool) (k : ℕ) (line text : List ℕ) (q : QuestionView) (a : AnswerView) → ReadsReport line (Ok (q, a)) → HasVerdict line → IsAnsweredText with_steps k q.body a text → IsToldLine with_steps k line text false
+pub answered_line : (options : Options) (k : ℕ) (line text : List ℕ) (q : QuestionView) (a : AnswerView) → ReadsReport line (Ok (q, a)) → HasVerdict line → IsAnsweredText options k q.body a text → IsToldLine options k line text false
 unfolding IsAnsweredText
-answered_line with_steps k line text q a reads h told = record {
+answered_line options k line text q a reads h told = record {
   telling = Answered q a told.0;
   is = (accepts line q a reads h, told.1.0);
   text_is = told.1.1;

@@ -281,7 +281,7 @@ fn write_proof(
     requires some { 1 ≤ variable_count (question_body question.now) }
     requires origins { origins_of constraints.now ≡ question_origins (question_body question.now) }
     requires there { All (λ w. w.0 < length (elementals (variable_count (question_body question.now))) + length constraints.now) certificate.now.weights.items }
-    ensures { OnOk result (AppendsProof (question_body question.now) options.steps (form_with_proof row.now certificate.now) out.old.items out.new.items) }
+    ensures { OnOk result (AppendsProof (question_body question.now) options (form_with_proof row.now certificate.now) out.old.items out.new.items) }
 {
     let text = row_proof(
         alloc,
@@ -311,7 +311,7 @@ fn write_proofs(
     requires origins { origins_of constraints.now ≡ question_origins (question_body question.now) }
     requires there { AreListed (variable_count (question_body question.now)) (length constraints.now) proofs.now }
     requires as_many { length rows.now ≡ length proofs.now }
-    ensures { OnOk result (AppendsProofs (question_body question.now) options.steps rows.now (map certificate_view proofs.now) out.old.items out.new.items) }
+    ensures { OnOk result (AppendsProofs (question_body question.now) options rows.now (map certificate_view proofs.now) out.old.items out.new.items) }
 {
     for (i, certificate) in proofs.iter().enumerate() {
         let row = &rows[i];
@@ -334,7 +334,7 @@ fn write_relation_proofs(
     requires origins { origins_of constraints.now ≡ question_origins (question_body question.now) }
     requires there { AreListed (variable_count (question_body question.now)) (length constraints.now) proofs.now }
     requires fits { HasQuestionShape (question_body question.now) (Yes (map certificate_view proofs.now)) }
-    ensures { OnOk result (AppendsDetails (question_body question.now) options.steps (Yes (map certificate_view proofs.now)) out.old.items out.new.items) }
+    ensures { OnOk result (AppendsDetails (question_body question.now) options (Yes (map certificate_view proofs.now)) out.old.items out.new.items) }
 {
     let rows = relation_rows(alloc, question, proofs)?;
     write_proofs(
@@ -363,7 +363,7 @@ fn write_obligations(
     requires origins { origins_of constraints.now ≡ question_origins (question_body question.now) }
     requires there { AreListed (variable_count (question_body question.now)) (length constraints.now) proofs.now }
     requires fits { HasQuestionShape (question_body question.now) (contained_by parts.now proofs.now) }
-    ensures { OnOk result (AppendsDetails (question_body question.now) options.steps (contained_by parts.now proofs.now) out.old.items out.new.items) }
+    ensures { OnOk result (AppendsDetails (question_body question.now) options (contained_by parts.now proofs.now) out.old.items out.new.items) }
 {
     let rows = obligation_rows(alloc, question, parts, proofs)?;
     write_proofs(
@@ -435,7 +435,7 @@ pub fn write_details(
     requires origins { origins_of constraints.now ≡ question_origins (question_body question.now) }
     requires fits { HasQuestionShape (question_body question.now) (answer_view answer.now) }
     requires printable { IsPrintable (question_body question.now) (length constraints.now) answer.now }
-    ensures { OnOk result (AppendsDetails (question_body question.now) options.steps (answer_view answer.now) out.old.items out.new.items) }
+    ensures { OnOk result (AppendsDetails (question_body question.now) options (answer_view answer.now) out.old.items out.new.items) }
 {
     match answer {
         Answer::Yes(proofs) => write_relation_proofs(

@@ -1,6 +1,6 @@
 //! What words ask for.
 ghost use Rattle.std.specs.Prelude.{◌≡◌, map};
-ghost use Rattle.it_tell.specs.Settings.{alone, no_options, settings_of, with_word, with_words};
+ghost use Rattle.it_tell.specs.Settings.{alone, is_plain, no_options, settings_of, with_word, with_words};
 
 /// How proofs are written: as equations that are true of every map; or where the question's functions hold, with constraints by
 /// the names of their lines, or with the lines' own terms.
@@ -35,12 +35,22 @@ const NO_OPTIONS: Options = Options {
     style: Style::Plain,
 };
 
-/// The options with one that isn't there yet.
+/// Whether no style is asked for.
+fn is_plain(style: Style) -> bool
+    ensures { result ≡ is_plain style }
+{
+    match style {
+        Style::Plain => true,
+        Style::Named | Style::Whole => false,
+    }
+}
+
+/// The options with one that isn't there yet; of two styles one at most is asked for.
 #[tactic(auto, unfolding(crate::specs::Settings::with_word))]
 fn with_word(options: Options, word: &str) -> Option<Options>
     ensures { result ≡ with_word options word.now }
 {
-    let is_plain = options.style == Style::Plain;
+    let is_plain = is_plain(options.style);
     if word == "--steps" && !options.steps {
         Some(Options {
             steps: true,

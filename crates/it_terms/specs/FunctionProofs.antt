@@ -1,6 +1,6 @@
 -- Texts that tell a proof where functions hold: what these make 0 isn't written (W. W. Armstrong, "Dependency structures of data base
 -- relationships", 1974), and other constraints may stand there by the names of their lines.
-use Rattle.std.specs.Prelude.{◌≡◌, ◌<◌, ◌^◌, ℕ, ℤ, pos, int_lt, unsigned_abs, ◌+ℤ◌, ◌≤ℤ◌, true, false, List, [], ◌∷◌, ◌++◌, length, map, All, Bool, if◌then◌else◌, ◌==◌, codes, decimal, slice_index_or}
+use Rattle.std.specs.Prelude.{◌≡◌, ◌<◌, ◌^◌, ℕ, ℤ, pos, int_lt, unsigned_abs, ◌+ℤ◌, ◌≤ℤ◌, true, false, List, [], ◌∷◌, ◌++◌, length, All, Bool, if◌then◌else◌, ◌==◌, codes, decimal, slice_index_or}
 use Rattle.std.specs.List.{Contains}
 use Rattle.it_space.specs.Sets.{IsInside}
 use Rattle.it_space.specs.declared.problems.Origin.{Origin}
@@ -11,7 +11,7 @@ use Rattle.it_closure.specs.Collapse.{spread_out}
 use Rattle.it_syntax.specs.declared.types.Sign.TheVariants.{Equal}
 use Rattle.it_syntax.specs.Meaning.{RelationView, common_denominator}
 use Rattle.it_syntax.specs.NamesViews.{NamesView}
-use Rattle.it_print.specs.Lines.{joined_texts, origin_text}
+use Rattle.it_print.specs.Lines.{origin_text}
 use Rattle.it_question.specs.Questions.{BodyView}
 use Rattle.it_question.specs.ProblemLines.{problem_names}
 use Rattle.it_canon.specs.TrueLines.{AreTrueTogether}
@@ -56,10 +56,14 @@ weight_sign true false = []
 weight_sign false true = codes " - "
 weight_sign false false = codes " + "
 
--- the names of lines as a comment behind a text
+-- names of lines, the first of them after `  # by ` and each other one after `, `
+abbrev pub listed_names : List Origin → Bool → List ℕ → List ℕ
+listed_names origins is_first [] = []
+listed_names origins is_first (l ∷ ls) = (if is_first then codes "  # by " else codes ", ") ++ line_name origins l ++ listed_names origins false ls
+
+-- the names of lines as a comment behind a text, nothing where there are none
 abbrev pub by_comment : List Origin → List ℕ → List ℕ
-by_comment origins [] = []
-by_comment origins (l ∷ ls) = codes "  # by " ++ joined_texts (codes ", ") false (map (line_name origins) (l ∷ ls))
+by_comment origins lines = listed_names origins true lines
 
 -- a weight of a constraint by the name of its line: ` + 2 (row 1)`, as the first of its side or not
 abbrev pub named_weight : List Origin → Bool → ℕ × ℤ → List ℕ
@@ -75,12 +79,16 @@ named_weights origins is_first (w ∷ ws) = named_weight origins is_first w ++ n
 abbrev pub sides_text : List ℕ → List ℕ → List ℕ
 sides_text left right = left ++ codes " = " ++ (if length right == 0 then codes "0" else right)
 
+-- the same with weights of constraints behind the right side by the names of their lines
+abbrev pub named_sides_text : List Origin → List (ℕ × ℤ) → List ℕ → List ℕ → List ℕ
+named_sides_text origins named left right = sides_text left (right ++ named_weights origins (length right == 0) named)
+
 -- under these names the text is this relation, but that these weights of constraints stand behind its right side by the names of their lines
 pub record IsNamedText (v : NamesView) (origins : List Origin) (named : List (ℕ × ℤ)) (text : List ℕ) (r : RelationView) : Type 0 where
   pub left : List ℕ
   pub right : List ℕ
   pub is : IsRelationText v (sides_text left right) r
-  pub text_is : text ≡ sides_text left (right ++ named_weights origins (length right == 0) named)
+  pub text_is : text ≡ named_sides_text origins named left right
 
 -- under these names the text, with constraints of these weights by name, tells a proof of the target from constraints where the functions
 -- hold that these lines say

@@ -1,5 +1,7 @@
 //! Sets that are closed under a question's functions, and terms over them. What comes of them is judged by the equation that it
 //! gives.
+ghost use Rattle.std.specs.Prelude.{◌≤◌};
+
 use it_closure::Dependences;
 use it_space::VarSet;
 use it_syntax::types::Atom;

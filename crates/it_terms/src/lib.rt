@@ -25,7 +25,7 @@ mod under_judging;
 mod untold;
 mod writing;
 
-pub use laws::{texts_move, told_proves};
+pub use laws::{texts_move, told_proves, told_under_proves};
 pub use printing::{PrintedProof, printed_form};
 pub use proving::told_form;
 pub use steps::told_steps;

@@ -62,7 +62,9 @@ fn write_line_name(
 }
 
 /// What stands before the name of a line in a list of them.
-fn before_name(is_first: bool) -> &'static [u8] {
+fn before_name(is_first: bool) -> &'static [u8]
+    ensures { result.now ≡ (if is_first then codes "  # by " else codes ", ") }
+{
     if is_first { b"  # by " } else { b", " }
 }
 
@@ -75,9 +77,11 @@ pub fn by_comment(
     ensures { IfOk result (λ t. t.items ≡ by_comment (origins_of constraints.now) lines.now) }
 {
     let mut out = Vec::new(alloc);
-    for (i, line) in lines.iter().enumerate() {
-        out.extend_from_slice(before_name(i == 0))?;
+    let mut is_first = true;
+    for line in lines {
+        out.extend_from_slice(before_name(is_first))?;
         write_line_name(&mut out, constraints, *line)?;
+        is_first = false;
     }
     Ok(out)
 }

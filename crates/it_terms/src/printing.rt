@@ -3,8 +3,10 @@ ghost use Rattle.std.specs.Prelude.{◌≡◌, ◌≤◌, IfOk, IfSome, length};
 ghost use Rattle.it_space.specs.Problems.{IsProblem, problem_view};
 ghost use Rattle.it_space.specs.Rows.{IsOver, value};
 ghost use Rattle.it_space.specs.Spaces.{size_of};
+ghost use Rattle.it_demand.specs.QuestionSpaces.{space_of};
 ghost use Rattle.it_question.specs.Limits.{IsQuestion};
 ghost use Rattle.it_question.specs.Questions.{question_body};
+ghost use Rattle.it_question.specs.ProblemLines.{problem_names};
 ghost use Rattle.it_terms.specs.FunctionProofs.{ArePrinted};
 ghost use Rattle.it_terms.specs.Proposals.{ArePrintedFrom};
 
@@ -226,11 +228,13 @@ fn printed_by(
 ) -> Result<Option<PrintedProof>, Untold>
     requires some { 1 ≤ length asked.now.names.now.variables }
     requires problem { IsProblem (problem_view problem.now) }
-    ensures { IfOk result (λ o. IfSome o (ArePrintedFrom asked.now.names.now (value asked.now.target.now) problem.now.constraints.items)) }
+    requires space { problem.now.space ≡ record { variables = length asked.now.names.now.variables; rates = length asked.now.names.now.rates } }
+    ensures { IfOk result (λ o. IfSome o (λ t. ArePrintedFrom asked.now.names.now (value asked.now.target.now) problem.now.constraints.items t.text.items t.whole.items t.by.items)) }
 {
     let whole = sides(alloc, asked, summands, false)?;
     let named = sides(alloc, asked, summands, true)?;
-    let row = sides_excess(alloc, asked.names, problem, &whole)?;
+    let constraints = problem.constraints.as_slice();
+    let row = sides_excess(alloc, asked.names, constraints, &whole)?;
     let lines = function_lines(alloc, dependences, count(problem.space.variables))?;
     let lines = needed_lines(alloc, problem, lines.as_slice(), &row)?;
     let lines = lines.as_slice();
@@ -240,7 +244,7 @@ fn printed_by(
     let Some(whole) = judged_under(alloc, asked.names, problem, lines, asked.target, &whole)? else {
         return Ok(None);
     };
-    let by = by_comment(alloc, problem.constraints.as_slice(), lines)?;
+    let by = by_comment(alloc, constraints, lines)?;
     Ok(Some(PrintedProof { text, whole, by }))
 }
 
@@ -255,6 +259,8 @@ fn any_printed(
 ) -> Result<Option<PrintedProof>, Untold>
     requires question { IsQuestion (question_body question.now) }
     requires problem { IsProblem (problem_view problem.now) }
+    requires space { problem.now.space ≡ space_of (problem_names (question_body question.now)) }
+    ensures { IfOk result (λ o. IfSome o (λ t. ArePrintedFrom (problem_names (question_body question.now)) (value target.now) problem.now.constraints.items t.text.items t.whole.items t.by.items)) }
 {
     let names = names_of(question);
     let measures = measures(alloc, question.source.as_slice(), names)?;

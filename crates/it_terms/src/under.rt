@@ -1,5 +1,5 @@
 //! Whether an equation is true where functions hold.
-ghost use Rattle.std.specs.Prelude.{◌≡◌, ◌+ℤ◌, ◌-ℤ◌, ◌≤◌, All, IfOk, IfSome, length, map, pos};
+ghost use Rattle.std.specs.Prelude.{◌≡◌, ◌+ℤ◌, ◌-ℤ◌, ◌≤◌, All, IfOk, IfSome, OnOk, length, map, pos};
 ghost use Rattle.std.specs.Bool.{OnTrue};
 ghost use Rattle.it_space.specs.Problems.{IsProblem, problem_view};
 ghost use Rattle.it_space.specs.Rows.{IsOver, value};
@@ -10,7 +10,7 @@ ghost use Rattle.it_syntax.specs.Givens.{IsRelationOf};
 ghost use Rattle.it_syntax.specs.Meaning.{relation_view};
 ghost use Rattle.it_terms.specs.FunctionProofs.{AreSameUnder, IsSaid};
 ghost use Rattle.it_terms.specs.Proofs.{side_form};
-ghost use Rattle.it_terms.specs.Sums.{IsExcess, are_chosen, constraint_value};
+ghost use Rattle.it_terms.specs.Sums.{AreChosen, IsExcess, IsPlus, constraint_value};
 
 use crate::sums::{add_constraints, add_terms};
 use crate::untold::Untold;
@@ -54,7 +54,8 @@ fn add_both(
     ensures { OnOk result (IsPlus sums.old sums.new (λ p. value terms.now p +ℤ combination weights.now (constraint_value constraints.now p))) }
 {
     add_terms(sums, places, terms, &(0, 1))?;
-    add_constraints(sums, places, constraints, weights)
+    add_constraints(sums, places, constraints, weights)?;
+    Ok(())
 }
 
 /// Whether a row is 0 over closed sets, and no number on the way is too large.

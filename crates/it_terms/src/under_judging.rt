@@ -1,13 +1,15 @@
 //! Whether texts tell a proof where functions hold.
-ghost use Rattle.std.specs.Prelude.{◌≡◌, ◌≤◌, All, IfOk, IfSome, length, map};
+ghost use Rattle.std.specs.Prelude.{◌≡◌, ◌≤◌, ◌^◌, All, IfOk, IfSome, length, map};
 ghost use Rattle.std.specs.Bool.{OnTrue};
 ghost use Rattle.it_space.specs.Problems.{IsProblem, problem_view};
-ghost use Rattle.it_space.specs.Rows.{value};
+ghost use Rattle.it_space.specs.Rows.{IsOver, value};
+ghost use Rattle.it_space.specs.Spaces.{size_of};
 ghost use Rattle.it_elemental.specs.Generators.{forms_of, of_constraint};
 ghost use Rattle.it_print.specs.Lines.{origins_of};
 ghost use Rattle.it_syntax.specs.Givens.{IsRelationOf};
-ghost use Rattle.it_syntax.specs.Meaning.{relation_view};
-ghost use Rattle.it_terms.specs.FunctionProofs.{IsProofUnder, IsSaid, TellsProofUnder, sides_text};
+ghost use Rattle.it_syntax.specs.declared.types.Sign.TheVariants.{Equal};
+ghost use Rattle.it_syntax.specs.Meaning.{common_denominator, relation_view};
+ghost use Rattle.it_terms.specs.FunctionProofs.{IsProofUnder, IsSaid, TellsProofUnder, named_sides_text, sides_text};
 ghost use Rattle.it_terms.specs.Tells.{IsRelationText};
 
 use crate::names::with_names;
@@ -17,7 +19,7 @@ use crate::sums::are_allowed;
 use crate::under::{excess, functions_of, is_nothing_under};
 use crate::untold::Untold;
 use it_closure::Dependences;
-use it_space::{Problem, Row};
+use it_space::{Constraint, Problem, Row};
 use it_syntax::types::{Relation, Sign};
 use it_syntax::{Names, common_denominator};
 use std::alloc::{AllocError, Global};
@@ -56,6 +58,15 @@ fn sides_relation(alloc: Global, names: &Names, sides: &Sides) -> Result<Option<
     relation_text(alloc, text.as_slice(), names)
 }
 
+/// Whether a relation is an equation without denominators.
+fn is_whole_equation(relation: &Relation) -> bool
+    requires some { 1 ≤ common_denominator (relation_view relation.now) }
+    requires small { common_denominator (relation_view relation.now) ≤ 2 ^ 32 }
+    ensures { OnTrue result ((relation.now.sign ≡ Equal) × (common_denominator (relation_view relation.now) ≡ 1)) }
+{
+    relation.sign == Sign::Equal && common_denominator(relation) == 1
+}
+
 /// Whether an equation with weights of constraints proves a target where functions hold.
 fn is_proof_under(
     alloc: Global,
@@ -75,28 +86,28 @@ fn is_proof_under(
     let space = problem.space;
     let constraints = problem.constraints.as_slice();
     let named = sides.named.as_slice();
-    if relation.sign != Sign::Equal || common_denominator(relation) != 1 {
+    if !is_whole_equation(relation) || !are_allowed(constraints, named) {
         return Ok(false);
     }
-    if !are_allowed(constraints, named) {
+    let is_split = is_proof(alloc, relation, space, target, constraints, &sides.split)?;
+    if !is_split {
         return Ok(false);
     }
-    if !is_proof(alloc, relation, space, target, constraints, &sides.split)? {
+    let Some(row) = excess(alloc, relation, space, constraints, named)? else {
         return Ok(false);
-    }
-    match excess(alloc, relation, space, constraints, named)? {
-        Some(row) => is_nothing_under(alloc, functions, &row),
-        None => Ok(false),
-    }
+    };
+    let is_nothing = is_nothing_under(alloc, functions, &row)?;
+    Ok(is_nothing)
 }
 
 /// The text of sides with names of constraints behind the right one.
-fn named_text(alloc: Global, problem: &Problem, sides: &Sides) -> Result<Vec<u8>, Untold>
+fn named_text(alloc: Global, constraints: &[Constraint], sides: &Sides) -> Result<Vec<u8>, Untold>
+    ensures { IfOk result (λ t. t.items ≡ named_sides_text (origins_of constraints.now) sides.now.named.items sides.now.left.items sides.now.right.items) }
 {
     let right = with_names(
         alloc,
         sides.right.as_slice(),
-        problem.constraints.as_slice(),
+        constraints,
         sides.named.as_slice(),
     )?;
     Ok(sides_text(alloc, sides.left.as_slice(), right.as_slice())?)
@@ -113,6 +124,7 @@ pub fn judged_under(
 ) -> Result<Option<Vec<u8>>, Untold>
     requires some { 1 ≤ length names.now.variables }
     requires problem { IsProblem (problem_view problem.now) }
+    requires space { problem.now.space ≡ record { variables = length names.now.variables; rates = length names.now.rates } }
     ensures { IfOk result (λ o. IfSome o (λ t. TellsProofUnder names.now (origins_of problem.now.constraints.items) lines.now sides.now.named.items (value target.now) (forms_of (map of_constraint problem.now.constraints.items)) t.items)) }
 {
     let Some(relation) = sides_relation(alloc, names, sides)? else {
@@ -124,23 +136,23 @@ pub fn judged_under(
     if !is_proof_under(alloc, &relation, problem, &functions, lines, target, sides)? {
         return Ok(None);
     }
-    Ok(Some(named_text(alloc, problem, sides)?))
+    let text = named_text(alloc, problem.constraints.as_slice(), sides)?;
+    Ok(Some(text))
 }
 
 /// The row that has to be 0 where functions hold for the sides to be a proof.
 pub fn sides_excess(
     alloc: Global,
     names: &Names,
-    problem: &Problem,
+    constraints: &[Constraint],
     sides: &Sides,
 ) -> Result<Row, Untold>
     requires some { 1 ≤ length names.now.variables }
-    requires problem { IsProblem (problem_view problem.now) }
+    ensures { IfOk result (IsOver (size_of (record { variables = length names.now.variables; rates = length names.now.rates }))) }
 {
     let Some(relation) = sides_relation(alloc, names, sides)? else {
         return Err(Untold::NotFound);
     };
-    let constraints = problem.constraints.as_slice();
     match excess(alloc, &relation, names.space(), constraints, sides.named.as_slice())? {
         Some(row) => Ok(row),
         None => Err(Untold::NotFound),
