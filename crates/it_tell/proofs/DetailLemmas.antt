@@ -12,9 +12,12 @@ use Rattle.it_syntax.specs.NamesViews.{NamesView}
 use Rattle.it_question.specs.Questions.{BodyView}
 use Rattle.it_question.specs.ProblemLines.{problem_names}
 use Rattle.it_terms.specs.ProofSteps.{TellsSteps}
-use Rattle.it_tell.specs.Tellings.{AreDetails, AreProofTexts, IsMarkedRowText, IsPointText, IsProofText, indented_line, proof_lines, step_line}
-use Rattle.it_tell.specs.Steps.{AppendsDetails, AppendsEach, AppendsPoint, AppendsProof}
+use Rattle.it_terms.specs.FunctionProofs.{ArePrinted}
+use Rattle.it_tell.specs.Tellings.{AreDetails, AreProofTexts, IsMarkedRowText, IsPointText, IsPrintedProof, IsProofText, indented_line, proof_lines, step_line}
+use Rattle.it_tell.specs.Steps.{AppendsDetails, AppendsEach, AppendsPoint, AppendsProof, IsStyledText}
 use Rattle.it_tell.specs.declared.settings.Options.{Options}
+use Rattle.it_tell.specs.declared.settings.Style.{Style}
+use Rattle.it_tell.specs.declared.settings.Style.TheVariants.{Plain, Named, Whole}
 
 module _ {X A : Type 0} (shown : A → List ℕ) (tells : X → A → Type 0) where
   -- what tells the first i items is appended
@@ -37,7 +40,7 @@ module _ {X A : Type 0} (shown : A → List ℕ) (tells : X → A → Type 0) wh
 -- ---- a proof
 
 -- its line is appended, and then those of its steps
-pub proof_appended : (q : BodyView) (options : Options) (proof : Form × CertificateView) (old now new text : List ℕ) (steps : List (List ℕ)) → IsProofText q proof text
+pub proof_appended : (q : BodyView) (options : Options) (proof : Form × CertificateView) (old now new text : List ℕ) (steps : List (List ℕ)) → IsProofText q options.style proof text
     → (steps ≡ []) ⊎ ((options.steps ≡ true) × TellsSteps (problem_names q) text steps) → now ≡ old ++ indented_line text → new ≡ now ++ flat_map step_line steps → AppendsProof q options proof old new
 unfolding AreProofTexts proof_lines
 proof_appended q options proof old now new text steps is are first then = record {
@@ -69,3 +72,24 @@ undecided_details q options cause old = ([], (refl, sym (append-nil old)))
 pub open_details : (q : BodyView) (options : Options) (tried : ℕ) (old : List ℕ) → AppendsDetails q options (Open tried) old old
 unfolding AppendsDetails AreDetails
 open_details q options tried old = ([], (refl, sym (append-nil old)))
+
+-- a printed proof in a style is one with its lines behind it
+pub styled_is_printed : (q : BodyView) (style : Style) (target : Form) (named whole by text : List ℕ) → ArePrinted q target named whole by → IsStyledText style named whole by text
+    → IsPrintedProof q style target text
+styled_is_printed q Plain target named whole by text printed is = absurd is
+styled_is_printed q Named target named whole by text printed is = record {
+  lines = printed.lines;
+  named = printed.named;
+  proof = named;
+  tells = printed.text_tells;
+  names = tt;
+  is = is ∙ ap (λ (b : List ℕ). named ++ b) printed.by_is;
+}
+styled_is_printed q Whole target named whole by text printed is = record {
+  lines = printed.lines;
+  named = [];
+  proof = whole;
+  tells = printed.whole_tells;
+  names = refl;
+  is = is ∙ ap (λ (b : List ℕ). whole ++ b) printed.by_is;
+}

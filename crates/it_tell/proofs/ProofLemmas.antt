@@ -19,6 +19,11 @@ use Rattle.it_tell.specs.Steps.{AppendsDetails, AppendsEach, AppendsProof, Appen
 use Rattle.it_tell.proofs.DetailLemmas.{Appended, all_appended, appended_more, none_appended}
 use Rattle.it_tell.proofs.PrintableLemmas.{contained_counted, yes_counted}
 use Rattle.it_tell.specs.declared.settings.Options.{Options}
+use Rattle.it_tell.specs.declared.settings.Style.{Style}
+use Rattle.it_canon.specs.QuestionDemands.{question_demands}
+use Rattle.it_canon.specs.TrueLines.{variable_count}
+use Rattle.it_terms.specs.Proofs.{constraints_of}
+use Rattle.it_terms.proofs.SameProofs.{proof_of_same, same_constraints, under_of_same_target}
 
 -- the row at a place is that of the form there
 row_at_place : (s : Space) (fs : List Form) (ts : List Terms) (i : ℕ) → ArePulledRows s fs ts → i < length fs → IsPulledRow s (get_or fs i (λ p. pos 0)) (get_or ts i [])
@@ -28,25 +33,23 @@ row_at_place s (f ∷ fs) (t ∷ ts) zero z h = z.0
 row_at_place s (f ∷ fs) (t ∷ ts) (suc i) z h = row_at_place s fs ts i z.1 (omega arith)
 
 -- what tells a proof of a form's row tells one of the form
-form_told : (q : BodyView) (s : Space) (f : Form) (row : Terms) (w : CertificateView) (text : List ℕ) → IsPulledRow s f row → IsProofText q (value row, w) text → IsProofText q (f, w) text
+form_told : (q : BodyView) (style : Style) (s : Space) (f : Form) (row : Terms) (w : CertificateView) (text : List ℕ) → IsPulledRow s f row → IsProofText q style (value row, w) text
+    → IsProofText q style (f, w) text
 unfolding IsProofText
-form_told q s f row w text pulled (inl h) = inl (record {
+form_told q style s f row w text pulled (inl h) = let g = constraints_of (question_demands q) in inl (record {
   relation = h.relation;
   is = h.is;
-  proves = record {
-    shannon = h.proves.shannon;
-    rest = h.proves.rest;
-    right = h.proves.right;
-    plus = h.proves.plus;
-    scale = h.proves.scale;
-    scale_from_one = h.proves.scale_from_one;
-    target_is = λ p z. h.proves.target_is p z ∙ ap (λ x. h.proves.scale *ℤ x) (pulled.same p z);
-    weights = h.proves.weights;
-    allowed = h.proves.allowed;
-    constraints_are = h.proves.constraints_are;
-  };
+  proves = proof_of_same (variable_count q) h.relation (value row) f g g pulled.same (same_constraints g) h.proves;
 })
-form_told q s f row w text pulled (inr e) = inr e
+form_told q style s f row w text pulled (inr (inl h)) = inr (inl (record {
+  lines = h.lines;
+  named = h.named;
+  proof = h.proof;
+  tells = under_of_same_target q h.lines h.named (value row) f h.proof pulled.same h.tells;
+  names = h.names;
+  is = h.is;
+}))
+form_told q style s f row w text pulled (inr (inr e)) = inr (inr e)
 
 -- the lines of the first i proofs are appended, whichever answer the rows are of
 abbrev pub ProofsAppended : BodyView → Bool → List Terms → List CertificateView → List ℕ → List ℕ → ℕ → Type 0
@@ -89,8 +92,8 @@ proofs_more q options rows cs row c old now new i before as_many within row_read
     row_is : get_or rows i [] ≡ row
     row_is = get_or_default rows i [] row in_rows ∙ sym row_read
 
-    form_is_told : IsProofText q (form, certificate_view c) told.texts.proof
-    form_is_told = form_told q are.0 form row (certificate_view c) told.texts.proof (subst (IsPulledRow are.0 form) row_is (row_at_place are.0 forms rows i are.1 in_forms)) told.are.0
+    form_is_told : IsProofText q options.style (form, certificate_view c) told.texts.proof
+    form_is_told = form_told q options.style are.0 form row (certificate_view c) told.texts.proof (subst (IsPulledRow are.0 form) row_is (row_at_place are.0 forms rows i are.1 in_forms)) told.are.0
 
 pub all_proofs : (q : BodyView) (options : Options) (rows : List Terms) (ws : List CertificateView) (old new : List ℕ) (i : ℕ) → ProofsAppended q options rows ws old new i → length ws ≤ i → AppendsProofs q options rows ws old new
 unfolding AppendsProofs

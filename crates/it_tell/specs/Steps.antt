@@ -17,6 +17,8 @@ use Rattle.it_cli.specs.Ends.{call_of}
 use Rattle.it_cli.specs.declared.status.Status.{Status}
 use Rattle.it_tell.specs.declared.settings.Options.{Options}
 use Rattle.it_tell.specs.declared.settings.Settings.TheVariants.{Tell}
+use Rattle.it_tell.specs.declared.settings.Style.{Style}
+use Rattle.it_tell.specs.declared.settings.Style.TheVariants.{Plain, Named, Whole}
 use Rattle.it_tell.specs.Settings.{settings_of}
 use Rattle.it_tell.specs.Ends.{Ends}
 
@@ -71,3 +73,9 @@ abbrev pub EndsForTelling : {S K : Type 0} → (S → Option (List ℕ)) → (S 
 EndsForTelling left read_faults taken write_faults options source source_after sink sink_after s =
     (words : List (Bor (List ℕ))) → settings_of (map (λ w. w.now) words) ≡ Some (Tell options)
     → Ends (call_of left read_faults taken write_faults words [] source source_after sink sink_after) s
+
+-- a proof in a style where functions hold, with the comment behind it
+abbrev pub IsStyledText : Style → List ℕ → List ℕ → List ℕ → List ℕ → Type 0
+IsStyledText Plain named whole by text = ⊥
+IsStyledText Named named whole by text = text ≡ named ++ by
+IsStyledText Whole named whole by text = text ≡ whole ++ by

@@ -1,7 +1,8 @@
 //! The lines below the first one of an answer: rows, proofs and points.
-ghost use Rattle.std.specs.Prelude.{◌≡◌, ◌≤◌, ◌<◌, ◌+◌, ◌^◌, ◌++◌, length, map, codes, All, IfOk, OnOk};
+ghost use Rattle.std.specs.Prelude.{◌≡◌, ◌≤◌, ◌<◌, ◌+◌, ◌^◌, ◌++◌, length, map, codes, All, IfOk, IfSome, OnOk};
 ghost use Rattle.std.specs.List.{flat_map};
 ghost use Rattle.it_space.specs.Answers.{answer_view, certificate_view};
+ghost use Rattle.it_space.specs.Rows.{value};
 ghost use Rattle.it_space.specs.Answers.AnswerView.{Yes};
 ghost use Rattle.it_space.specs.declared.problems.Kind.TheVariants.{Inequality};
 ghost use Rattle.it_polymatroid.specs.Elementals.{elementals};
@@ -14,10 +15,10 @@ ghost use Rattle.it_canon.specs.QuestionDemands.{question_origins};
 ghost use Rattle.it_certificate.specs.AnswerShapes.{HasQuestionShape};
 ghost use Rattle.it_print.specs.Lines.{AreListed, IsPrintable, IsRowOver, origins_of, row_text, values_text};
 ghost use Rattle.it_report.specs.Steps.{IsAboutRelation};
-ghost use Rattle.it_tell.specs.Tellings.{IsMarkedRowText, IsPointText, IsProofText, IsRowText, indented_line, mark_comment, step_line, AreProofSteps, weights_text};
-ghost use Rattle.it_tell.specs.Steps.{AppendsDetails, AppendsEach, AppendsPoint, AppendsProof, AppendsProofs, AreFormRows, contained_by, form_with_proof};
+ghost use Rattle.it_tell.specs.Tellings.{IsMarkedRowText, IsPointText, IsPrintedProof, IsProofText, IsRowText, indented_line, mark_comment, step_line, AreProofSteps, weights_text};
+ghost use Rattle.it_tell.specs.Steps.{AppendsDetails, AppendsEach, AppendsPoint, AppendsProof, AppendsProofs, AreFormRows, IsStyledText, contained_by, form_with_proof};
 
-use crate::settings::{Options, Style};
+use crate::settings::{Options, Style, is_plain};
 use it_canon::{problem_names, target_rows};
 use it_facts::told_point;
 use it_print::{row_text, sum_text, values_text, write_signed};
@@ -171,20 +172,25 @@ fn obligation_rows(
     Ok(rows)
 }
 
-/// A printed proof with its comment: the whole one, or the one with names.
-fn printed_line(proof: PrintedProof, whole: bool) -> Result<Vec<u8>, AllocError>
+/// A proof in a style where functions hold, and behind it the lines that say these; None in the style without.
+fn styled(proof: PrintedProof, style: Style) -> Result<Option<Vec<u8>>, AllocError>
+    ensures { IfOk result (λ o. IfSome o (λ t. IsStyledText style proof.text.items proof.whole.items proof.by.items t.items)) }
 {
     let PrintedProof {
         text: named,
-        whole: written,
+        whole,
         by,
     } = proof;
-    let mut text = if whole { written } else { named };
+    let mut text = match style {
+        Style::Plain => return Ok(None),
+        Style::Named => named,
+        Style::Whole => whole,
+    };
     text.extend_from_slice(by.as_slice())?;
-    Ok(text)
+    Ok(Some(text))
 }
 
-/// The proof of a row where the question's functions hold, where that is asked for and found; with steps it isn't.
+/// The proof of a row where the question's functions hold, where that is asked for without steps, and found.
 fn printed_proof(
     alloc: Global,
     question: &Question,
@@ -193,13 +199,37 @@ fn printed_proof(
     options: Options,
 ) -> Result<Option<Vec<u8>>, AllocError>
     requires { IsQuestion (question_body question.now) }
+    ensures { IfOk result (λ o. IfSome o (λ t. IsPrintedProof (question_body question.now) options.style (value row.now) t.items)) }
 {
-    if options.style == Style::Plain || options.steps {
+    if options.steps || is_plain(options.style) {
         return Ok(None);
     }
-    match printed_form(alloc, question, row, certificate, options.short)? {
-        Some(proof) => Ok(Some(printed_line(proof, options.style == Style::Whole)?)),
-        None => Ok(None),
+    let Some(proof) = printed_form(alloc, question, row, certificate, options.short)? else {
+        return Ok(None);
+    };
+    let text = styled(proof, options.style)?;
+    Ok(text)
+}
+
+/// The proof of a row as an equation that is true of every map, or its weights.
+#[tactic(auto, unfolding(crate::specs::Tellings::IsProofText))]
+fn plain_proof(
+    alloc: Global,
+    question: &Question,
+    constraints: &[Constraint],
+    row: &Row,
+    certificate: &Certificate,
+    options: Options,
+) -> Result<Vec<u8>, AllocError>
+    requires question { IsQuestion (question_body question.now) }
+    requires some { 1 ≤ variable_count (question_body question.now) }
+    requires origins { origins_of constraints.now ≡ question_origins (question_body question.now) }
+    requires there { All (λ w. w.0 < length (elementals (variable_count (question_body question.now))) + length constraints.now) certificate.now.weights.items }
+    ensures { IfOk result (λ t. IsProofText (question_body question.now) options.style (form_with_proof row.now certificate.now) t.items) }
+{
+    match told_form(alloc, question, row, certificate, options.short)? {
+        Some(text) => Ok(text),
+        None => weights_text(alloc, question, constraints, certificate),
     }
 }
 
@@ -217,14 +247,11 @@ fn row_proof(
     requires some { 1 ≤ variable_count (question_body question.now) }
     requires origins { origins_of constraints.now ≡ question_origins (question_body question.now) }
     requires there { All (λ w. w.0 < length (elementals (variable_count (question_body question.now))) + length constraints.now) certificate.now.weights.items }
-    ensures { IfOk result (λ t. IsProofText (question_body question.now) (form_with_proof row.now certificate.now) t.items) }
+    ensures { IfOk result (λ t. IsProofText (question_body question.now) options.style (form_with_proof row.now certificate.now) t.items) }
 {
-    if let Some(text) = printed_proof(alloc, question, row, certificate, options)? {
-        return Ok(text);
-    }
-    match told_form(alloc, question, row, certificate, options.short)? {
+    match printed_proof(alloc, question, row, certificate, options)? {
         Some(text) => Ok(text),
-        None => weights_text(alloc, question, constraints, certificate),
+        None => plain_proof(alloc, question, constraints, row, certificate, options),
     }
 }
 
@@ -232,13 +259,13 @@ fn row_proof(
 fn steps_of(
     alloc: Global,
     question: &Question,
-    with_steps: bool,
+    options: Options,
     proof: &[u8],
 ) -> Result<Vec<Vec<u8>>, AllocError>
     requires { IsQuestion (question_body question.now) }
-    ensures { IfOk result (λ steps. AreProofSteps (question_body question.now) with_steps proof.now (map (λ s. s.items) steps.items)) }
+    ensures { IfOk result (λ steps. AreProofSteps (question_body question.now) options proof.now (map (λ s. s.items) steps.items)) }
 {
-    if !with_steps {
+    if !options.steps {
         return Ok(Vec::new(alloc));
     }
     match told_steps(alloc, question, proof)? {
@@ -291,7 +318,7 @@ fn write_proof(
         certificate,
         options,
     )?;
-    let steps = steps_of(alloc, question, options.steps, text.as_slice())?;
+    let steps = steps_of(alloc, question, options, text.as_slice())?;
     write_indented(out, text.as_slice())?;
     write_steps(out, steps.as_slice())
 }

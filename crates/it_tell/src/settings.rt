@@ -36,7 +36,7 @@ const NO_OPTIONS: Options = Options {
 };
 
 /// Whether no style is asked for.
-fn is_plain(style: Style) -> bool
+pub fn is_plain(style: Style) -> bool
     ensures { result ≡ is_plain style }
 {
     match style {

@@ -125,16 +125,21 @@ under_by_lines q lines named target s cs text are t = record {
       (stated_are_same s (question_demands q) cs are.stated) t.proves;
 }
 
--- texts that tell a proof from a problem's constraints where functions hold tell it from the question's lines
-pub printed_by_lines : (q : BodyView) (target : Form) (s : Space) (cs : List Constraint) (text whole by : List ℕ) → AreStated s (question_origins q) (question_demands q) cs
+printed_from_lines : (q : BodyView) (target : Form) (s : Space) (cs : List Constraint) (text whole by : List ℕ) → AreStated s (question_origins q) (question_demands q) cs
     → ArePrintedFrom (problem_names q) target cs text whole by → ArePrinted q target text whole by
-printed_by_lines q target s cs text whole by are t = record {
+printed_from_lines q target s cs text whole by are t = record {
   lines = t.lines;
   named = t.named;
   text_tells = under_by_lines q t.lines t.named target s cs text are t.text_tells;
   whole_tells = under_by_lines q t.lines [] target s cs whole are t.whole_tells;
   by_is = t.by_is ∙ ap (λ (os : List Origin). by_comment os t.lines) (placed_origins (question_origins q) cs are.placed);
 }
+
+-- texts that tell a proof from a problem's constraints where functions hold tell it from the question's lines
+pub printed_by_lines : {X : Type 0} (text whole by : X → List ℕ) (q : BodyView) (target : Form) (s : Space) (cs : List Constraint) (o : Option X) → AreStated s (question_origins q) (question_demands q) cs
+    → IfSome o (λ x. ArePrintedFrom (problem_names q) target cs (text x) (whole x) (by x)) → IfSome o (λ x. ArePrinted q target (text x) (whole x) (by x))
+printed_by_lines text whole by q target s cs None are h = tt
+printed_by_lines text whole by q target s cs (Some x) are h = printed_from_lines q target s cs (text x) (whole x) (by x) are h
 
 -- constraints are the same as themselves
 pub same_constraints : (g : Generators) → AreSameConstraints g g

@@ -6,7 +6,7 @@ use Rattle.std.proofs.lemmas.List.Elements.{All-replicate, All-weaker}
 use Rattle.it_number.specs.Limit.{IsWithin}
 use Rattle.it_space.specs.declared.spaces.Space.{Space}
 use Rattle.it_space.specs.declared.problems.Constraint.{Constraint}
-use Rattle.it_space.specs.Rows.{Ascends, Terms, value}
+use Rattle.it_space.specs.Rows.{Ascends, IsOver, Terms, value}
 use Rattle.it_space.specs.Sets.{IsInside}
 use Rattle.it_space.specs.Spaces.{size_of}
 use Rattle.it_space.specs.Sums.{terms_from}
@@ -19,7 +19,9 @@ use Rattle.it_closure.specs.Closures.{MeetsDependences}
 use Rattle.it_closure.specs.Collapse.{AreDependences, IsCollapseOf, spread_out}
 use Rattle.it_closure.proofs.Places.{is_spread_out, place-zero}
 use Rattle.it_syntax.specs.declared.types.Sign.TheVariants.{Equal}
+use Rattle.it_syntax.specs.Givens.{IsRelationOf}
 use Rattle.it_syntax.specs.Meaning.{RelationView, common_denominator, difference_at}
+use Rattle.it_print.specs.Lines.{origins_of}
 use Rattle.it_space.specs.declared.problems.Origin.{Origin}
 use Rattle.it_syntax.specs.NamesViews.{NamesView}
 use Rattle.it_demand.specs.Canonical.{IsRowOf}
@@ -28,9 +30,9 @@ use Rattle.it_demand.proofs.CoefficientLemmas.{zeros-total}
 use Rattle.it_demand.proofs.TermLemmas.{row-value}
 use Rattle.it_terms.specs.Tells.{IsRelationText}
 use Rattle.it_terms.specs.Proofs.{side_form}
-use Rattle.it_terms.specs.Proposals.{IsProofFrom}
+use Rattle.it_terms.specs.Proposals.{ArePrintedFrom, IsProofFrom}
 use Rattle.it_terms.specs.Sums.{IsExcess, IsPlus, constraint_value}
-use Rattle.it_terms.specs.FunctionProofs.{AreSameUnder, IsProofUnder, IsSaid, TellsProofUnder, named_sides_text, sides_text}
+use Rattle.it_terms.specs.FunctionProofs.{AreSameUnder, IsProofUnder, IsSaid, TellsProofUnder, by_comment, named_sides_text, sides_text}
 
 -- the row of sums to which all was added
 pub record IsRowOfAll (s : Space) (r : RelationView) (cs : List Constraint) (ws : List (ℕ × ℤ)) (row : Terms) : Type 0 where
@@ -106,4 +108,26 @@ told_by_sides v origins lines named target g s r left right text space is proves
   relation = r;
   is = record { left = left; right = right; is = is; text_is = e };
   proves = subst (λ (z : Space). IsProofUnder z.variables lines r named target g) space proves;
+}
+
+-- a relation of names is one of their space
+pub relation_of_space : (v : NamesView) (s : Space) (r : RelationView) → s ≡ record { variables = length v.variables; rates = length v.rates } → IsRelationOf (length v.variables) (length v.rates) r
+    → IsRelationOf s.variables s.rates r
+relation_of_space v s r e h = subst (λ (z : Space). IsRelationOf z.variables z.rates r) (sym e) h
+
+-- a row over the coordinates of names is one over those of their space
+pub over_of_space : (v : NamesView) (s : Space) (row : Terms) → s ≡ record { variables = length v.variables; rates = length v.rates } → IsOver (size_of (record { variables = length v.variables; rates = length v.rates })) row
+    → IsOver (size_of s) row
+over_of_space v s row e h = subst (λ (z : Space). IsOver (size_of z) row) (sym e) h
+
+-- both texts with the comment
+pub both_printed : (v : NamesView) (target : Form) (cs : List Constraint) (lines : List ℕ) (named none : List (ℕ × ℤ)) (text whole by : List ℕ)
+    → TellsProofUnder v (origins_of cs) lines named target (forms_of (map of_constraint cs)) text → TellsProofUnder v (origins_of cs) lines none target (forms_of (map of_constraint cs)) whole → none ≡ []
+    → by ≡ by_comment (origins_of cs) lines → ArePrintedFrom v target cs text whole by
+both_printed v target cs lines named none text whole by text_tells whole_tells e by_is = record {
+  lines = lines;
+  named = named;
+  text_tells = text_tells;
+  whole_tells = subst (λ (ws : List (ℕ × ℤ)). TellsProofUnder v (origins_of cs) lines ws target (forms_of (map of_constraint cs)) whole) e whole_tells;
+  by_is = by_is;
 }

@@ -66,7 +66,7 @@ abbrev pub by_comment : List Origin → List ℕ → List ℕ
 by_comment origins lines = listed_names origins true lines
 
 -- a weight of a constraint by the name of its line: ` + 2 (row 1)`, as the first of its side or not
-abbrev pub named_weight : List Origin → Bool → ℕ × ℤ → List ℕ
+unfoldable pub named_weight : List Origin → Bool → ℕ × ℤ → List ℕ
 named_weight origins is_first w =
     weight_sign is_first (int_lt w.1 (pos 0)) ++ (if unsigned_abs w.1 == 1 then [] else decimal (unsigned_abs w.1) ++ codes " ") ++ codes "(" ++ line_name origins w.0 ++ codes ")"
 

@@ -4,9 +4,9 @@ ghost use Rattle.it_space.specs.declared.problems.Origin.TheVariants.{Rate};
 ghost use Rattle.it_print.specs.Lines.{origin_text, origins_of};
 ghost use Rattle.it_terms.specs.FunctionProofs.{by_comment, line_name, named_weight, named_weights, weight_sign};
 
-use crate::untold::Untold;
 use it_print::write_number;
 use it_space::{Constraint, Origin};
+use itoa::Buffer;
 use std::alloc::{AllocError, Global};
 
 /// Where the constraint of a number comes from.
@@ -86,11 +86,18 @@ pub fn by_comment(
     Ok(out)
 }
 
-/// The sign of a weight, which is the first of its side or not.
-fn weight_sign(is_first: bool, negative: bool) -> &'static [u8]
-    ensures { result.now ≡ weight_sign is_first negative }
+/// Whether a number is below 0.
+fn is_below_zero(number: i128) -> bool
+    ensures { result ≡ int_lt number (pos 0) }
 {
-    match (is_first, negative) {
+    number < 0
+}
+
+/// The sign of a weight, which is the first of its side or not.
+fn weight_sign(is_first: bool, is_negative: bool) -> &'static [u8]
+    ensures { result.now ≡ weight_sign is_first is_negative }
+{
+    match (is_first, is_negative) {
         (true, true) => b"- ",
         (true, false) => b"",
         (false, true) => b" - ",
@@ -99,32 +106,32 @@ fn weight_sign(is_first: bool, negative: bool) -> &'static [u8]
 }
 
 /// A number before a name with a blank, and nothing where it is 1.
-fn write_times(out: &mut Vec<u8>, number: u64) -> Result<(), AllocError>
+fn write_times(out: &mut Vec<u8>, number: u128) -> Result<(), AllocError>
     ensures { OnOk result (out.new.items ≡ out.old.items ++ (if number == 1 then [] else decimal number ++ codes " ")) }
 {
-    if number == 1 {
-        return Ok(());
+    if number != 1 {
+        let mut buffer = Buffer::new();
+        out.extend_from_slice(buffer.format(number).as_bytes())?;
+        out.extend_from_slice(b" ")?;
     }
-    write_number(out, number as usize)?;
-    out.extend_from_slice(b" ")
+    Ok(())
 }
 
-/// A weight of a constraint by the name of its line, where its number has at most 64 bits.
+/// A weight of a constraint by the name of its line.
+#[tactic(auto, unfolding(crate::specs::FunctionProofs::named_weight))]
 fn write_weight(
     out: &mut Vec<u8>,
     constraints: &[Constraint],
     is_first: bool,
     weight: &(u32, i128),
-) -> Result<(), Untold>
+) -> Result<(), AllocError>
     ensures { OnOk result (out.new.items ≡ out.old.items ++ named_weight (origins_of constraints.now) is_first weight.now) }
 {
-    let number = u64::try_from(weight.1.unsigned_abs())?;
-    out.extend_from_slice(weight_sign(is_first, weight.1 < 0))?;
-    write_times(out, number)?;
+    out.extend_from_slice(weight_sign(is_first, is_below_zero(weight.1)))?;
+    write_times(out, weight.1.unsigned_abs())?;
     out.extend_from_slice(b"(")?;
     write_line_name(out, constraints, weight.0)?;
-    out.extend_from_slice(b")")?;
-    Ok(())
+    out.extend_from_slice(b")")
 }
 
 /// A right side with weights of constraints behind it by the names of their lines.
@@ -133,7 +140,7 @@ pub fn with_names(
     right: &[u8],
     constraints: &[Constraint],
     weights: &[(u32, i128)],
-) -> Result<Vec<u8>, Untold>
+) -> Result<Vec<u8>, AllocError>
     ensures { IfOk result (λ t. t.items ≡ right.now ++ named_weights (origins_of constraints.now) (length right.now == 0) weights.now) }
 {
     let mut out = Vec::from_slice(alloc, right)?;

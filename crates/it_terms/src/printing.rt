@@ -1,5 +1,5 @@
 //! Proofs as papers print them: over closed sets, with constraints by the names of their lines.
-ghost use Rattle.std.specs.Prelude.{◌≡◌, ◌≤◌, IfOk, IfSome, length};
+ghost use Rattle.std.specs.Prelude.{◌≡◌, ◌≤◌, IfOk, IfSome, [], false, length};
 ghost use Rattle.it_space.specs.Problems.{IsProblem, problem_view};
 ghost use Rattle.it_space.specs.Rows.{IsOver, value};
 ghost use Rattle.it_space.specs.Spaces.{size_of};
@@ -125,16 +125,35 @@ fn unfolded(
     })
 }
 
+/// The weights of constraints, where they stand by name.
+fn names_of_weights(
+    alloc: Global,
+    weights: &[(u32, i128)],
+    named: bool,
+) -> Result<Vec<(u32, i128)>, AllocError>
+    ensures { IfOk result (λ ws. named ≡ false → ws.items ≡ []) }
+{
+    if named {
+        Vec::from_slice(alloc, weights)
+    } else {
+        Ok(Vec::new(alloc))
+    }
+}
+
 /// The sides of a proof: with the terms of constraints behind those over sets, or with their names.
-fn sides(alloc: Global, asked: &Asked<'_>, summands: &Summands, named: bool) -> Result<Sides, Untold> {
+fn sides(
+    alloc: Global,
+    asked: &Asked<'_>,
+    summands: &Summands,
+    named: bool,
+) -> Result<Sides, Untold>
+    ensures { IfOk result (λ s. named ≡ false → s.named.items ≡ []) }
+{
     let mut left = Vec::new(alloc);
     put_side(&mut left, asked.goal.terms.as_slice(), 1, summands.scale)?;
     let mut right: Vec<Term> = Vec::from_slice(alloc, summands.shannon.as_slice())?;
     let mut weights = Vec::new(alloc);
-    let mut names = Vec::new(alloc);
-    if named {
-        names.extend_from_slice(summands.weights.as_slice())?;
-    } else {
+    if !named {
         right.extend_from_slice(summands.rest.as_slice())?;
         weights.extend_from_slice(summands.weights.as_slice())?;
     }
@@ -149,6 +168,7 @@ fn sides(alloc: Global, asked: &Asked<'_>, summands: &Summands, named: bool) -> 
     if left_text.is_empty() {
         left_text.extend_from_slice(b"0")?;
     }
+    let names = names_of_weights(alloc, summands.weights.as_slice(), named)?;
     Ok(Sides {
         left: left_text,
         right: terms_text(alloc, asked.measures, asked.names, right.as_slice())?,
@@ -219,6 +239,7 @@ fn needed_lines(
 }
 
 /// The proof that summands make, where it is one.
+#[tactic(auto, using(crate::proofs::UnderLemmas::both_printed, crate::proofs::UnderLemmas::over_of_space))]
 fn printed_by(
     alloc: Global,
     asked: &Asked<'_>,

@@ -101,7 +101,11 @@ fn is_proof_under(
 }
 
 /// The text of sides with names of constraints behind the right one.
-fn named_text(alloc: Global, constraints: &[Constraint], sides: &Sides) -> Result<Vec<u8>, Untold>
+fn named_text(
+    alloc: Global,
+    constraints: &[Constraint],
+    sides: &Sides,
+) -> Result<Vec<u8>, AllocError>
     ensures { IfOk result (λ t. t.items ≡ named_sides_text (origins_of constraints.now) sides.now.named.items sides.now.left.items sides.now.right.items) }
 {
     let right = with_names(
@@ -110,10 +114,11 @@ fn named_text(alloc: Global, constraints: &[Constraint], sides: &Sides) -> Resul
         constraints,
         sides.named.as_slice(),
     )?;
-    Ok(sides_text(alloc, sides.left.as_slice(), right.as_slice())?)
+    sides_text(alloc, sides.left.as_slice(), right.as_slice())
 }
 
 /// The text of sides, where it tells a proof of a target where the functions hold that the constraints of these numbers say.
+#[tactic(auto, using(crate::proofs::UnderLemmas::told_by_sides, crate::proofs::UnderLemmas::relation_of_space))]
 pub fn judged_under(
     alloc: Global,
     names: &Names,
@@ -121,7 +126,7 @@ pub fn judged_under(
     lines: &[u32],
     target: &Row,
     sides: &Sides,
-) -> Result<Option<Vec<u8>>, Untold>
+) -> Result<Option<Vec<u8>>, AllocError>
     requires some { 1 ≤ length names.now.variables }
     requires problem { IsProblem (problem_view problem.now) }
     requires space { problem.now.space ≡ record { variables = length names.now.variables; rates = length names.now.rates } }

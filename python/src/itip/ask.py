@@ -19,6 +19,7 @@ HELP = """usage: ./ask [WORDS] FILE..
 Answers question files in the field's own notation (docs/ask.md); - is standard input.
 --steps      below each proof its steps
 --short      proofs with the least sum of terms, which may take long
+--whole      proofs with the terms of the lines that they name, to be pasted
 --needs      behind each needed row of a region a point at which it alone fails
 --if         below each no the weakest independences and functions that make a yes of it, on up to six variables
 --copies     below each no the first copy, or pair of copies, with which it is a yes
@@ -73,6 +74,8 @@ class Words:
             raise WordsError
         if self.mode:
             self.for_questions()
+        if "--whole" not in self.telling:
+            self.telling.append("--named")
 
     def for_questions(self) -> None:
         """Refuses the words that are for question files alone."""
@@ -80,7 +83,7 @@ class Words:
             raise WordsError
 
     def _take(self, word: str) -> None:
-        if word in ("--steps", "--short"):
+        if word in ("--steps", "--short", "--whole"):
             self.telling.append(word)
         elif word in ("--latex", "--document", "--needs", "--if", "--copies", "--made", "--proofs"):
             self.options.add(word)
