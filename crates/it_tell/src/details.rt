@@ -310,14 +310,7 @@ fn write_proof(
     requires there { All (λ w. w.0 < length (elementals (variable_count (question_body question.now))) + length constraints.now) certificate.now.weights.items }
     ensures { OnOk result (AppendsProof (question_body question.now) options (form_with_proof row.now certificate.now) out.old.items out.new.items) }
 {
-    let text = row_proof(
-        alloc,
-        question,
-        constraints,
-        row,
-        certificate,
-        options,
-    )?;
+    let text = row_proof(alloc, question, constraints, row, certificate, options)?;
     let steps = steps_of(alloc, question, options, text.as_slice())?;
     write_indented(out, text.as_slice())?;
     write_steps(out, steps.as_slice())

@@ -26,7 +26,10 @@ struct Pair {
 fn add(summands: &mut Vec<Summand>, times: u64, term: ClosedTerm) -> Result<(), Untold> {
     for i in 0..summands.len() {
         if summands[i].term == term {
-            let times = summands[i].times.checked_add(times).ok_or(Untold::NotFound)?;
+            let times = summands[i]
+                .times
+                .checked_add(times)
+                .ok_or(Untold::NotFound)?;
             summands[i] = Summand { times, term };
             return Ok(());
         }

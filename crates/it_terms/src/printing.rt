@@ -17,7 +17,9 @@ use crate::joining::joined_terms;
 use crate::measures::measures;
 use crate::names::by_comment;
 use crate::proof_judging::Split;
-use crate::proving::{Asked, Summands, goal_of, least_summands, put_weighted, sum_of_numbers, summed_up};
+use crate::proving::{
+    Asked, Summands, goal_of, least_summands, put_weighted, sum_of_numbers, summed_up,
+};
 use crate::telling::names_of;
 use crate::under::{functions_of, is_nothing_under};
 use crate::under_judging::{Sides, judged_under, sides_excess};
@@ -75,14 +77,29 @@ fn folded(
         rest: Vec::new(alloc),
         weights: Vec::new(alloc),
     };
-    put_weights(&mut folded, asked, closures, summands.weights.as_slice(), false)?;
-    put_weights(&mut folded, asked, closures, summands.weights.as_slice(), true)?;
+    put_weights(
+        &mut folded,
+        asked,
+        closures,
+        summands.weights.as_slice(),
+        false,
+    )?;
+    put_weights(
+        &mut folded,
+        asked,
+        closures,
+        summands.weights.as_slice(),
+        true,
+    )?;
     Ok(folded)
 }
 
 /// How many terms and names a proof has.
 fn pieces(summands: &Summands) -> usize {
-    summands.shannon.len().saturating_add(summands.weights.len())
+    summands
+        .shannon
+        .len()
+        .saturating_add(summands.weights.len())
 }
 
 /// What is summed up, over closed sets, or by a proof with the least sum of terms where that has no more terms and names then.
@@ -100,7 +117,11 @@ fn short_folded(
         Err(Untold::NotFound) => return Ok(plain),
         Err(Untold::Memory) => return Err(Untold::Memory),
     };
-    Ok(if pieces(&least) <= pieces(&plain) { least } else { plain })
+    Ok(if pieces(&least) <= pieces(&plain) {
+        least
+    } else {
+        plain
+    })
 }
 
 /// The terms over sets, as they are without folding where nothing folds and that is no longer.

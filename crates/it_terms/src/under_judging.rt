@@ -49,7 +49,11 @@ fn sides_text(alloc: Global, left: &[u8], right: &[u8]) -> Result<Vec<u8>, Alloc
 }
 
 /// The relation that the sides are, None where they aren't read as one.
-fn sides_relation(alloc: Global, names: &Names, sides: &Sides) -> Result<Option<Relation>, AllocError>
+fn sides_relation(
+    alloc: Global,
+    names: &Names,
+    sides: &Sides,
+) -> Result<Option<Relation>, AllocError>
     requires some { 1 ≤ length names.now.variables }
     ensures is { IfOk result (λ o. IfSome o (λ r. IsRelationText names.now (sides_text sides.now.left.items sides.now.right.items) (relation_view r))) }
     ensures limits { IfOk result (λ o. IfSome o (λ r. IsRelationOf (length names.now.variables) (length names.now.rates) (relation_view r))) }
@@ -158,7 +162,13 @@ pub fn sides_excess(
     let Some(relation) = sides_relation(alloc, names, sides)? else {
         return Err(Untold::NotFound);
     };
-    match excess(alloc, &relation, names.space(), constraints, sides.named.as_slice())? {
+    match excess(
+        alloc,
+        &relation,
+        names.space(),
+        constraints,
+        sides.named.as_slice(),
+    )? {
         Some(row) => Ok(row),
         None => Err(Untold::NotFound),
     }

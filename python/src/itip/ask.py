@@ -328,7 +328,8 @@ class Asker:
 
     def _told_below(self, line: str) -> tuple[int, list[str]]:
         """The status of `tell`, and what it writes below the first line of an answer; of an invalid one that, in its place."""
-        status, told = self._tell([line], self.words.telling)
+        # (the lines that names would count are those of a made question)
+        status, told = self._tell([line], [word for word in self.words.telling if word not in ("--named", "--whole")])
         first, *below = told.split("\n")[:-1] or [""]
         return status, below if status != 1 else [f"  {first.partition(' ')[2]}"]
 
