@@ -35,7 +35,7 @@ most_bytes = 67108864
 -- the text that is asked for in place of a telling
 abbrev pub shown_by : Settings → Option (List ℕ)
 shown_by (Tell options) = None
-shown_by Help = Some (codes "usage: tell [--steps] [--short] <REPORT\nTells what the lines of a report say, as `itip answer --format json` writes one, in the field's own notation.\n--steps: below each proof its steps\n--short: proofs with the least sum of terms, which may take long\n--named: proofs where the question's functions hold, with constraints by their lines' names\n--whole: these with the lines' own terms, to be pasted\n")
+shown_by Help = Some (codes "usage: tell [--steps] [--short] [--named | --whole] <REPORT\nTells what the lines of a report say, as `itip answer --format json` writes one, in the field's own notation.\n--steps: below each proof its steps\n--short: proofs with the least sum of terms, which may take long\n--named: proofs where the question's functions hold, with constraints by their lines' names\n--whole: these with the lines' own terms, to be pasted\n")
 shown_by Version = Some (codes "tell 1\n")
 
 -- the words ask for this text

@@ -4,7 +4,7 @@ use Rattle.std.specs.List.{AllByRecursion as Every, AllZip}
 use Rattle.std.proofs.lemmas.Grind.{take_at_read}
 use Rattle.std.proofs.lemmas.Int.{ints}
 use Rattle.std.proofs.lemmas.List.{length-map}
-use Rattle.std.proofs.lemmas.List.Elements.{All-get_or, Contains-get_or}
+use Rattle.std.proofs.lemmas.List.Elements.{All-cons, All-get_or, All-nil, Contains-get_or}
 use Rattle.it_space.specs.declared.spaces.Space.{Space}
 use Rattle.it_space.specs.declared.problems.Constraint.{Constraint}
 use Rattle.it_space.specs.Problems.{IsProblem}
@@ -84,6 +84,14 @@ chosen_over size cs lines chosen over a =
   where
     All-at : (P : Constraint → Type 0) (cs : List Constraint) (i : ℕ) (c : Constraint) → i < length cs → c ≡ get_or cs i c → All P cs → P c
     All-at P cs i c h e all = subst P (sym e) (All-get_or P cs i c h all)
+
+-- who chooses constraints names ones that are there
+pub chosen_are_there : (cs : List Constraint) (lines : List ℕ) (chosen : List Constraint) → AreChosen cs lines chosen → All (λ l. l < (forms_of (map of_constraint cs)).count) lines
+chosen_are_there cs [] [] a = All-nil (λ l. l < (forms_of (map of_constraint cs)).count)
+chosen_are_there cs [] (x ∷ chosen) a = absurd a
+chosen_are_there cs (l ∷ lines) [] a = absurd a
+chosen_are_there cs (l ∷ lines) (x ∷ chosen) a =
+    All-cons (λ l. l < (forms_of (map of_constraint cs)).count) l lines (subst (λ (m : ℕ). l < m) (sym (length-map cs of_constraint)) a.0.0) (chosen_are_there cs lines chosen a.1)
 
 pub chosen_are_said : (s : Space) (cs chosen : List Constraint) (lines : List ℕ) → All (λ c. IsOver (size_of s) c.row) chosen → AreChosen cs lines chosen
     → All (IsSaid s.variables (forms_of (map of_constraint cs)) lines) (dependences_of (record { space = s; constraints = chosen }))

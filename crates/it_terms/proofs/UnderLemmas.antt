@@ -62,13 +62,14 @@ nothing_collapsed n ds row new c e p z = sym (c p z) ∙ ap (λ (t : Terms). val
 -- an equation whose excess is 0 under functions is a proof where they hold
 pub proof_by_excess : (s : Space) (lines : List ℕ) (r : RelationView) (named : List (ℕ × ℤ)) (target : Terms) (cs : List Constraint) (ds : List Dependence) (row : Terms) → r.sign ≡ Equal
     → common_denominator r ≡ 1 → IsProofFrom s.variables r target cs → All (IsAllowed (forms_of (map of_constraint cs))) named
-    → All (IsSaid s.variables (forms_of (map of_constraint cs)) lines) ds → IsExcess s r cs named row → AreSameUnder s.variables ds (value row) (λ p. pos 0)
+    → All (λ l. l < (forms_of (map of_constraint cs)).count) lines → All (IsSaid s.variables (forms_of (map of_constraint cs)) lines) ds → IsExcess s r cs named row → AreSameUnder s.variables ds (value row) (λ p. pos 0)
     → IsProofUnder s.variables lines r named (value target) (forms_of (map of_constraint cs))
-proof_by_excess s lines r named target cs ds row equal one proves allowed said is none = record {
+proof_by_excess s lines r named target cs ds row equal one proves allowed there said is none = record {
   equality = equal;
   whole = one;
   proves = proves;
   allowed = allowed;
+  there = there;
   functions = ds;
   said = said;
   adds_up = λ p z.

@@ -35,12 +35,13 @@ AreSameUnder n ds f g = (p : ℕ → ℤ) → p 0 ≡ pos 0 → f (spread_out n 
 
 -- The equation of n variables, without denominators, has on its left a multiple of the target, on its right terms with a plus over sets and
 -- multiples of constraints. With these weights of named constraints on its right, of which only equations have a minus, it is true of
--- each map with one value at sets of one closure under functions that these lines say.
+-- each map with one value at sets of one closure under functions that these lines say, which are lines that are there.
 pub record IsProofUnder (n : ℕ) (lines : List ℕ) (r : RelationView) (named : List (ℕ × ℤ)) (target : Form) (g : Generators) : Type 0 where
   pub equality : r.sign ≡ Equal
   pub whole : common_denominator r ≡ 1
   pub proves : IsProofOf n r target g
   pub allowed : All (IsAllowed g) named
+  pub there : All (λ l. l < g.count) lines
   pub functions : List Dependence
   pub said : All (IsSaid n g lines) functions
   pub adds_up : AreSameUnder n functions (side_form n r r.left) (λ p. side_form n r r.right p +ℤ combination named (λ i. g.form i p))

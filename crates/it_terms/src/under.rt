@@ -1,5 +1,5 @@
 //! Whether an equation is true where functions hold.
-ghost use Rattle.std.specs.Prelude.{◌≡◌, ◌+ℤ◌, ◌-ℤ◌, ◌≤◌, All, IfOk, IfSome, OnOk, length, map, pos};
+ghost use Rattle.std.specs.Prelude.{◌≡◌, ◌+ℤ◌, ◌-ℤ◌, ◌<◌, ◌≤◌, All, IfOk, IfSome, OnOk, length, map, pos};
 ghost use Rattle.std.specs.Bool.{OnTrue};
 ghost use Rattle.it_space.specs.Problems.{IsProblem, problem_view};
 ghost use Rattle.it_space.specs.Rows.{IsOver, value};
@@ -112,6 +112,7 @@ pub fn functions_of(
 ) -> Result<Option<Dependences>, AllocError>
     requires { IsProblem (problem_view problem.now) }
     ensures space { IfOk result (λ o. IfSome o (λ d. d.space ≡ problem.now.space)) }
+    ensures there { IfOk result (λ o. IfSome o (λ d. All (λ l. l < (forms_of (map of_constraint problem.now.constraints.items)).count) lines.now)) }
     ensures said { IfOk result (λ o. IfSome o (λ d. All (IsSaid problem.now.space.variables (forms_of (map of_constraint problem.now.constraints.items)) lines.now) d.list)) }
 {
     if lines.len() > problem.constraints.len() {

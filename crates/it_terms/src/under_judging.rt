@@ -1,5 +1,5 @@
 //! Whether texts tell a proof where functions hold.
-ghost use Rattle.std.specs.Prelude.{◌≡◌, ◌≤◌, ◌^◌, All, IfOk, IfSome, length, map};
+ghost use Rattle.std.specs.Prelude.{◌≡◌, ◌<◌, ◌≤◌, ◌^◌, All, IfOk, IfSome, length, map};
 ghost use Rattle.std.specs.Bool.{OnTrue};
 ghost use Rattle.it_space.specs.Problems.{IsProblem, problem_view};
 ghost use Rattle.it_space.specs.Rows.{IsOver, value};
@@ -84,6 +84,7 @@ fn is_proof_under(
     requires problem { IsProblem (problem_view problem.now) }
     requires within { IsRelationOf problem.now.space.variables problem.now.space.rates (relation_view relation.now) }
     requires space { functions.now.space ≡ problem.now.space }
+    requires there { All (λ l. l < (forms_of (map of_constraint problem.now.constraints.items)).count) lines.now }
     requires said { All (IsSaid problem.now.space.variables (forms_of (map of_constraint problem.now.constraints.items)) lines.now) functions.now.list }
     ensures { IfOk result (λ b. OnTrue b (IsProofUnder problem.now.space.variables lines.now (relation_view relation.now) sides.now.named.items (value target.now) (forms_of (map of_constraint problem.now.constraints.items)))) }
 {

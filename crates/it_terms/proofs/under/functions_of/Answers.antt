@@ -5,7 +5,7 @@ use Rattle.it_closure.specs.declared.dependences.Dependence.{Dependence}
 use Rattle.it_demand.proofs.ZipLemmas.{zip-length}
 use Rattle.it_terms.specs.FunctionProofs.{IsSaid}
 use Rattle.it_terms.specs.Sums.{AreChosen}
-use Rattle.it_terms.proofs.SaidLemmas.{chosen_are_said, chosen_over}
+use Rattle.it_terms.proofs.SaidLemmas.{chosen_are_said, chosen_are_there, chosen_over}
 use Rattle.it_terms.proofs.under.functions_of.Goals as goal
 
 pub read-requires : goal.read-requires
@@ -30,3 +30,11 @@ returns-in_ok-read-in-Some-clause-said c =
     let are : AreChosen cs lines chosen = rw c.as_slice.ensures.value at rw c.in-Some.is at c.in_ok-constraints.ensures in
     subst (λ (ds : List Dependence). All (IsSaid s.variables (forms_of (map of_constraint cs)) lines) ds) (sym c.in_ok-read-in-Some.ensures.list)
     (chosen_are_said s cs chosen lines (chosen_over (size_of s) cs lines chosen c.requires.rows are) are)
+
+pub returns-in_ok-read-in-Some-clause-there : goal.returns-in_ok-read-in-Some-clause-there
+returns-in_ok-read-in-Some-clause-there c =
+    let cs = c.args.problem.now.constraints.items in
+    let lines = c.args.lines.now in
+    let chosen = c.in-Some.constraints.items in
+    let are : AreChosen cs lines chosen = rw c.as_slice.ensures.value at rw c.in-Some.is at c.in_ok-constraints.ensures in
+    chosen_are_there cs lines chosen are

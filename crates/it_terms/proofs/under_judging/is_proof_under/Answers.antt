@@ -27,6 +27,6 @@ returns c =
     proof_by_excess s c.args.lines.now r named c.args.target.now cs ds row whole.0 whole.1
     (subst (λ (xs : List Constraint). IsProofFrom s.variables r c.args.target.now xs) all (OnTrue_at c.if-not-is_split.false c.in_ok-is_split.ensures))
     (subst₂ (λ (xs : List Constraint) (ws : List (ℕ × ℤ)). All (IsAllowed (forms_of (map of_constraint xs))) ws) all weights c.if-not-are_allowed.ensures)
-    c.requires.said
+    c.requires.there c.requires.said
     (subst₂ (λ (xs : List Constraint) (ws : List (ℕ × ℤ)). IsExcess s r xs ws row) all weights (rw c.in-Some.is at c.in_ok-row.ensures))
     (subst (λ (z : Space). AreSameUnder z.variables ds (value row) (λ p. pos 0)) c.requires.space (OnTrue_at e c.in_ok-is_nothing.ensures)))
