@@ -92,7 +92,7 @@ class Calls(Asks):
         status, shown, said = self.ask("--help")
         self.assertEqual((status, said), (0, ""))
         words = re.findall("--[a-z]+", shown)
-        known = [*MODES, "steps", "short", "latex", "document", "needs", "if", "copies", "code", "made", "per", "proofs", "version"]
+        known = [*MODES, "steps", "short", "whole", "latex", "document", "needs", "if", "copies", "code", "made", "per", "proofs", "version"]
         self.assertEqual(sorted(set(words) - {"--help"}), sorted([*SETTINGS, *(f"--{word}" for word in known)]))
         self.assertIn(f"```\n{shown}```\n", (ROOT / "docs" / "ask.md").read_text())
         self.assertEqual(self.ask("--version"), (0, "ask 1\n", ""))
@@ -105,6 +105,15 @@ class Calls(Asks):
         self.assertEqual(self.ask("--rows", "1", self.file(BINNED)), (0, "1 undecided rows S\n", ""))
         outside = self.file("vars X, Y\nrates R\nregion\nrow R <= H(X,Y)\nregion\nrow R <= H(X)\ncontain\n")
         self.assertEqual(self.ask("--tries", "1", outside)[:2], (0, "1 open 1\n"))
+
+    def test_names_of_lines(self):
+        """A proof names the lines that it needs; by `--whole` it has their terms."""
+        head, goal = "vars X, Y, Z\n", "prove I(X;Y) >= I(X;Z)\n"
+        chain, function = (self.file(head + line + goal) for line in ("given markov X; Y; Z\n", "given func Z of Y\n"))
+        self.assertEqual(self.ask(chain)[1], "1 yes\n  I(X;Y) - I(X;Z) = I(X;Y|Z) - (given 1)\n")
+        self.assertEqual(self.ask("--whole", chain)[1], "1 yes\n  I(X;Y) - I(X;Z) = I(X;Y|Z) - I(X;Z|Y)\n")
+        for words in [(), ("--whole",)]:
+            self.assertEqual(self.ask(*words, function)[1], "1 yes\n  I(X;Y) - I(X;Z) = I(X;Y|Z)  # by given 1\n")
 
     def test_input(self):
         """`-` is standard input."""

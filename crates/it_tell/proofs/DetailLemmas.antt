@@ -12,8 +12,12 @@ use Rattle.it_syntax.specs.NamesViews.{NamesView}
 use Rattle.it_question.specs.Questions.{BodyView}
 use Rattle.it_question.specs.ProblemLines.{problem_names}
 use Rattle.it_terms.specs.ProofSteps.{TellsSteps}
-use Rattle.it_tell.specs.Tellings.{AreDetails, AreProofTexts, IsMarkedRowText, IsPointText, IsProofText, indented_line, proof_lines, step_line}
-use Rattle.it_tell.specs.Steps.{AppendsDetails, AppendsEach, AppendsPoint, AppendsProof}
+use Rattle.it_terms.specs.FunctionProofs.{ArePrinted}
+use Rattle.it_tell.specs.Tellings.{AreDetails, AreProofTexts, IsMarkedRowText, IsPointText, IsPrintedProof, IsProofText, indented_line, proof_lines, step_line}
+use Rattle.it_tell.specs.Steps.{AppendsDetails, AppendsEach, AppendsPoint, AppendsProof, IsStyledText}
+use Rattle.it_tell.specs.declared.settings.Options.{Options}
+use Rattle.it_tell.specs.declared.settings.Style.{Style}
+use Rattle.it_tell.specs.declared.settings.Style.TheVariants.{Plain, Named, Whole}
 
 module _ {X A : Type 0} (shown : A → List ℕ) (tells : X → A → Type 0) where
   -- what tells the first i items is appended
@@ -36,10 +40,10 @@ module _ {X A : Type 0} (shown : A → List ℕ) (tells : X → A → Type 0) wh
 -- ---- a proof
 
 -- its line is appended, and then those of its steps
-pub proof_appended : (q : BodyView) (with_steps : Bool) (proof : Form × CertificateView) (old now new text : List ℕ) (steps : List (List ℕ)) → IsProofText q proof text
-    → (steps ≡ []) ⊎ ((with_steps ≡ true) × TellsSteps (problem_names q) text steps) → now ≡ old ++ indented_line text → new ≡ now ++ flat_map step_line steps → AppendsProof q with_steps proof old new
+pub proof_appended : (q : BodyView) (options : Options) (proof : Form × CertificateView) (old now new text : List ℕ) (steps : List (List ℕ)) → IsProofText q options.style proof text
+    → (steps ≡ []) ⊎ ((options.steps ≡ true) × TellsSteps (problem_names q) text steps) → now ≡ old ++ indented_line text → new ≡ now ++ flat_map step_line steps → AppendsProof q options proof old new
 unfolding AreProofTexts proof_lines
-proof_appended q with_steps proof old now new text steps is are first then = record {
+proof_appended q options proof old now new text steps is are first then = record {
   texts = record { proof = text; steps = steps };
   are = (is, are);
   new_is = then ∙ ap (λ t. t ++ flat_map step_line steps) first ∙ append_assoc old (indented_line text) (flat_map step_line steps);
@@ -53,18 +57,39 @@ point_appended v values old new text is then = (text, (is, then))
 
 -- ---- each answer
 
-pub region_details : (q : BodyView) (with_steps : Bool) (rows : List (Mark × Terms)) (old new : List ℕ) → AppendsEach indented_line (IsMarkedRowText (problem_names q)) rows old new → AppendsDetails q with_steps (Region rows) old new
+pub region_details : (q : BodyView) (options : Options) (rows : List (Mark × Terms)) (old new : List ℕ) → AppendsEach indented_line (IsMarkedRowText (problem_names q)) rows old new → AppendsDetails q options (Region rows) old new
 unfolding AppendsDetails AppendsEach AreDetails
-region_details q with_steps rows old new h = h
+region_details q options rows old new h = h
 
-pub point_details : (q : BodyView) (with_steps back : Bool) (values : List ℤ) (old new : List ℕ) → AppendsPoint (problem_names q) values old new → AppendsDetails q with_steps (No back values) old new
+pub point_details : (q : BodyView) (options : Options) (back : Bool) (values : List ℤ) (old new : List ℕ) → AppendsPoint (problem_names q) values old new → AppendsDetails q options (No back values) old new
 unfolding AppendsDetails AppendsPoint AreDetails
-point_details q with_steps back values old new h = (indented_line h.0, ((h.0, (h.1.0, refl)), h.1.1))
+point_details q options back values old new h = (indented_line h.0, ((h.0, (h.1.0, refl)), h.1.1))
 
-pub undecided_details : (q : BodyView) (with_steps : Bool) (cause : Cause) (old : List ℕ) → AppendsDetails q with_steps (Undecided cause) old old
+pub undecided_details : (q : BodyView) (options : Options) (cause : Cause) (old : List ℕ) → AppendsDetails q options (Undecided cause) old old
 unfolding AppendsDetails AreDetails
-undecided_details q with_steps cause old = ([], (refl, sym (append-nil old)))
+undecided_details q options cause old = ([], (refl, sym (append-nil old)))
 
-pub open_details : (q : BodyView) (with_steps : Bool) (tried : ℕ) (old : List ℕ) → AppendsDetails q with_steps (Open tried) old old
+pub open_details : (q : BodyView) (options : Options) (tried : ℕ) (old : List ℕ) → AppendsDetails q options (Open tried) old old
 unfolding AppendsDetails AreDetails
-open_details q with_steps tried old = ([], (refl, sym (append-nil old)))
+open_details q options tried old = ([], (refl, sym (append-nil old)))
+
+-- a printed proof in a style is one with its lines behind it
+pub styled_is_printed : (q : BodyView) (style : Style) (target : Form) (named whole by text : List ℕ) → ArePrinted q target named whole by → IsStyledText style named whole by text
+    → IsPrintedProof q style target text
+styled_is_printed q Plain target named whole by text printed is = absurd is
+styled_is_printed q Named target named whole by text printed is = record {
+  lines = printed.lines;
+  named = printed.named;
+  proof = named;
+  tells = printed.text_tells;
+  names = tt;
+  is = is ∙ ap (λ (b : List ℕ). named ++ b) printed.by_is;
+}
+styled_is_printed q Whole target named whole by text printed is = record {
+  lines = printed.lines;
+  named = [];
+  proof = whole;
+  tells = printed.whole_tells;
+  names = refl;
+  is = is ∙ ap (λ (b : List ℕ). whole ++ b) printed.by_is;
+}

@@ -14,7 +14,7 @@ use Rattle.it_tell.specs.Ends.{AsksToTell, Ends, HasNone, IsReport, most_bytes, 
 
 module _ (r : Call) (options : Options) (asked : AsksToTell r options) where
   -- the report was read
-  pub end_of_report : (bytes : List ℕ) (s : Status) → r.read_faults_after ≡ r.read_faults → IsReport r bytes → EndOfBytes (tell_mode options.steps) r.taken r.taken_after r.write_faults r.write_faults_after bytes s → Ends r s
+  pub end_of_report : (bytes : List ℕ) (s : Status) → r.read_faults_after ≡ r.read_faults → IsReport r bytes → EndOfBytes (tell_mode options) r.taken r.taken_after r.write_faults r.write_faults_after bytes s → Ends r s
   end_of_report bytes Done read report (stayed, h) =
       ((read, stayed), inl (record { options = options; asked = asked; bytes = bytes; out = h.out; report = report; output = h.output; wrote = h.wrote }))
   end_of_report bytes Invalid read report (stayed, h) = ((read, stayed), record { options = options; asked = asked; bytes = bytes; out = h.out; report = report; output = h.output; wrote = h.wrote })

@@ -47,12 +47,12 @@ one_asked : (r : Call) (options others : Options) → AsksToTell r options → A
 one_asked r options others e f = let same : Some (Tell options) ≡ Some (Tell others) = sym e ∙ f in cc
 
 written : (r : Call) (options : Options) (s : Status) (bytes old new : List ℕ) → AsksToTell r options → HasTold r s → r.left ≡ Some bytes → r.taken ≡ Some old → r.taken_after ≡ Some new
-    → (out : List ℕ) × (WholeOutput (tell_mode options.steps) bytes out s × (new ≡ old ++ out))
+    → (out : List ℕ) × (WholeOutput (tell_mode options) bytes out s × (new ≡ old ++ out))
 written r options s bytes old new asked h left taken taken_after =
     let gave : Gave (Some bytes) r.left_after h.bytes = subst (λ (o : Option (List ℕ)). Gave o r.left_after h.bytes) left h.report.0 in
     let gained : Gains (Some old) (Some new) h.out = subst (λ (o : Option (List ℕ)). Gains o (Some new) h.out) taken (subst (λ (o : Option (List ℕ)). Gains r.taken o h.out) taken_after h.wrote) in
     let same : h.options ≡ options = one_asked r h.options options h.asked asked in
-    (h.out, (subst (λ (o : Options). WholeOutput (tell_mode o.steps) bytes h.out s) same (subst (λ (b : List ℕ). WholeOutput (tell_mode h.options.steps) b h.out s) (end_comes_last bytes h.bytes r.left_after gave) h.output), gained))
+    (h.out, (subst (λ (o : Options). WholeOutput (tell_mode o) bytes h.out s) same (subst (λ (b : List ℕ). WholeOutput (tell_mode h.options) b h.out s) (end_comes_last bytes h.bytes r.left_after gave) h.output), gained))
 
 -- who asks for a telling asks for no text
 no_text_asked : (r : Call) (options : Options) (text : List ℕ) → AsksToTell r options → AsksForText r text → ⊥
@@ -64,11 +64,11 @@ no_text_asked r options text asked shown = none_is_some (sym (ap (option_and_the
 pub headline : Headline
 headline r options s bytes old new asked ends (inl is) left taken taken_after = by_end (subst (Ends r) is ends)
   where
-    by_end : Ends r Done → (out : List ℕ) × (WholeOutput (tell_mode options.steps) bytes out s × (new ≡ old ++ out))
-    by_end (faultless, inl told) = subst (λ (t : Status). (out : List ℕ) × (WholeOutput (tell_mode options.steps) bytes out t × (new ≡ old ++ out))) (sym is) (written r options Done bytes old new asked told left taken taken_after)
+    by_end : Ends r Done → (out : List ℕ) × (WholeOutput (tell_mode options) bytes out s × (new ≡ old ++ out))
+    by_end (faultless, inl told) = subst (λ (t : Status). (out : List ℕ) × (WholeOutput (tell_mode options) bytes out t × (new ≡ old ++ out))) (sym is) (written r options Done bytes old new asked told left taken taken_after)
     by_end (faultless, inr shown) = absurd (no_text_asked r options shown.0 asked shown.1.0.asked)
 headline r options s bytes old new asked ends (inr is) left taken taken_after =
-    subst (λ (t : Status). (out : List ℕ) × (WholeOutput (tell_mode options.steps) bytes out t × (new ≡ old ++ out))) (sym is) (written r options Invalid bytes old new asked (subst (Ends r) is ends).1 left taken taken_after)
+    subst (λ (t : Status). (out : List ℕ) × (WholeOutput (tell_mode options) bytes out t × (new ≡ old ++ out))) (sym is) (written r options Invalid bytes old new asked (subst (Ends r) is ends).1 left taken taken_after)
 
 -- ---- each line
 
@@ -84,41 +84,41 @@ row_there : (v : NamesView) (row : Mark × Terms) → (text : List ℕ) × IsMar
 unfolding IsMarkedRowText IsRowText
 row_there v row = let own = codes "as row " ++ row_text v Inequality row.1 in (own ++ mark_comment row.0, (own, (inr refl, refl)))
 
-proof_there : (q : BodyView) (with_steps : Bool) (proof : Form × CertificateView) → (t : ProofTexts) × AreProofTexts q with_steps proof t
+proof_there : (q : BodyView) (options : Options) (proof : Form × CertificateView) → (t : ProofTexts) × AreProofTexts q options proof t
 unfolding AreProofTexts IsProofText
-proof_there q with_steps proof = (record { proof = codes "as weights " ++ certificate_text (problem_names q).variables (question_origins q) proof.1; steps = [] }, (inr refl, inl refl))
+proof_there q options proof = (record { proof = codes "as weights " ++ certificate_text (problem_names q).variables (question_origins q) proof.1; steps = [] }, (inr (inr refl), inl refl))
 
 point_there : (q : BodyView) (values : List ℤ) → (text : List ℕ) × IsPointText (problem_names q) values text
 unfolding IsPointText
 point_there q values = (codes "as point " ++ values_text (problem_names q) values, inr refl)
 
-details_there : (q : BodyView) (with_steps : Bool) (a : AnswerView) → (out : List ℕ) × AreDetails q with_steps a out
+details_there : (q : BodyView) (options : Options) (a : AnswerView) → (out : List ℕ) × AreDetails q options a out
 unfolding AreDetails
-details_there q with_steps (Yes proofs) = lines_there proof_lines (AreProofTexts q with_steps) (proof_there q with_steps) (zip (answer_forms q (Yes proofs)) proofs)
-details_there q with_steps (No back values) = let point = point_there q values in (indented_line point.0, (point.0, (point.1, refl)))
-details_there q with_steps (Undecided cause) = ([], refl)
-details_there q with_steps (Region rows) = lines_there indented_line (IsMarkedRowText (problem_names q)) (row_there (problem_names q)) rows
-details_there q with_steps (Contained parts proofs) = lines_there proof_lines (AreProofTexts q with_steps) (proof_there q with_steps) (zip (answer_forms q (Contained parts proofs)) proofs)
-details_there q with_steps (Open tried) = ([], refl)
+details_there q options (Yes proofs) = lines_there proof_lines (AreProofTexts q options) (proof_there q options) (zip (answer_forms q (Yes proofs)) proofs)
+details_there q options (No back values) = let point = point_there q values in (indented_line point.0, (point.0, (point.1, refl)))
+details_there q options (Undecided cause) = ([], refl)
+details_there q options (Region rows) = lines_there indented_line (IsMarkedRowText (problem_names q)) (row_there (problem_names q)) rows
+details_there q options (Contained parts proofs) = lines_there proof_lines (AreProofTexts q options) (proof_there q options) (zip (answer_forms q (Contained parts proofs)) proofs)
+details_there q options (Open tried) = ([], refl)
 
-reading_there : (with_steps : Bool) (line : List ℕ) (v : LineVerdict) → IsVerdict line v → is_invalid v ≡ false → (x : Reading) → ReadsReport line (Ok x) → (telling : Telling) × IsTelling with_steps line telling
-reading_there with_steps line v is accepted (reports.Answered source a) reads =
-    let details = details_there (asked source).body with_steps a in
+reading_there : (options : Options) (line : List ℕ) (v : LineVerdict) → IsVerdict line v → is_invalid v ≡ false → (x : Reading) → ReadsReport line (Ok x) → (telling : Telling) × IsTelling options line telling
+reading_there options line v is accepted (reports.Answered source a) reads =
+    let details = details_there (asked source).body options a in
     (Answered source a details.0, (record { verdict = v; is = is; accepted = accepted; reads = reads }, details.1))
-reading_there with_steps line v is accepted reports.Misfit reads = (tellings.Misfit, reads)
+reading_there options line v is accepted reports.Misfit reads = (tellings.Misfit, reads)
 
 pub each_line_is_told : EachLineIsTold
-each_line_is_told with_steps line = let judged = (each_line_is_judged 1 line).2 in by_verdict judged.verdict judged.is
+each_line_is_told options line = let judged = (each_line_is_judged 1 line).2 in by_verdict judged.verdict judged.is
   where
-    by_verdict : (v : LineVerdict) → IsVerdict line v → (telling : Telling) × IsTelling with_steps line telling
+    by_verdict : (v : LineVerdict) → IsVerdict line v → (telling : Telling) × IsTelling options line telling
     by_verdict NotJson is = (tellings.Invalid NotJson, (is, refl))
     by_verdict (Shape key) is = (tellings.Invalid (Shape key), (is, refl))
-    by_verdict Skipped is = reading_there with_steps line Skipped is refl is.reading is.reads
+    by_verdict Skipped is = reading_there options line Skipped is refl is.reading is.reads
     by_verdict (Judged names v) is = by_test (is_invalid (Judged names v)) refl
       where
-        by_test : (b : Bool) → is_invalid (Judged names v) ≡ b → (telling : Telling) × IsTelling with_steps line telling
+        by_test : (b : Bool) → is_invalid (Judged names v) ≡ b → (telling : Telling) × IsTelling options line telling
         by_test true e = (tellings.Invalid (Judged names v), (is, e))
-        by_test false e = reading_there with_steps line (Judged names v) is e is.reading is.reads
+        by_test false e = reading_there options line (Judged names v) is e is.reading is.reads
 
 -- ---- what is told is true
 
@@ -137,7 +137,7 @@ none_claims_nothing q (Contain first second tries) (Region rows) e = tt
 none_claims_nothing q (Contain first second tries) (Open tried) e = tt
 
 pub told_answers_are_true : ToldAnswersAreTrue
-told_answers_are_true with_steps line source a details (h, lines) = by_verdict h.verdict h.is h.accepted
+told_answers_are_true options line source a details (h, lines) = by_verdict h.verdict h.is h.accepted
   where
     by_verdict : (v : LineVerdict) → IsVerdict line v → is_invalid v ≡ false → IsClaimTrueBy (asked source).body (asked source).body.verb a
     by_verdict NotJson is accepted = absurd (true≢false accepted)

@@ -21,11 +21,12 @@ use Rattle.it_tell.specs.Tellings as tellings
 use Rattle.it_tell.specs.Tellings.{Invalid, IsAccepted}
 use Rattle.it_tell.specs.Steps.{CanBePrinted, IsAnsweredText, IsReportedText, IsToldLine}
 use Rattle.it_tell.proofs.PrintableLemmas.{printable}
+use Rattle.it_tell.specs.declared.settings.Options.{Options}
 
 -- ---- an invalid line
 
-pub invalid_line : (with_steps : Bool) (k : ℕ) (line text : List ℕ) (invalid : Bool) → IsJudgedLine k line text invalid → invalid ≡ true → IsToldLine with_steps k line text true
-invalid_line with_steps k line text invalid judged is = record {
+pub invalid_line : (options : Options) (k : ℕ) (line text : List ℕ) (invalid : Bool) → IsJudgedLine k line text invalid → invalid ≡ true → IsToldLine options k line text true
+invalid_line options k line text invalid judged is = record {
   telling = Invalid judged.verdict;
   is = (judged.is, sym judged.told.1 ∙ is);
   text_is = judged.told.0;
@@ -87,14 +88,14 @@ can_be_printed line r read limits h = by_reading read.0 r read.1 read.2 limits
     by_reading reports.Misfit (variants.Answered q answer) same reads limits = absurd same
     by_reading reports.Misfit variants.Misfit same reads limits = tt
 
-pub reported_line : (with_steps : Bool) (k : ℕ) (line text : List ℕ) (r : Reported) → Reports line (Ok r) → HasVerdict line → IsReportedText with_steps k r text → IsToldLine with_steps k line text false
+pub reported_line : (options : Options) (k : ℕ) (line text : List ℕ) (r : Reported) → Reports line (Ok r) → HasVerdict line → IsReportedText options k r text → IsToldLine options k line text false
 unfolding IsAnsweredText
-reported_line with_steps k line text r read h told = by_reading read.0 r read.1 read.2 told
+reported_line options k line text r read h told = by_reading read.0 r read.1 read.2 told
   where
-    by_reading : (x : Reading) (r : Reported) → IsReported x r → ReadsReport line (Ok x) → IsReportedText with_steps k r text → IsToldLine with_steps k line text false
+    by_reading : (x : Reading) (r : Reported) → IsReported x r → ReadsReport line (Ok x) → IsReportedText options k r text → IsToldLine options k line text false
     by_reading (reports.Answered source a) (variants.Answered q answer) same reads told =
-        let back : IsAnsweredText with_steps k (asked source).body a text =
-        subst (λ b. IsAnsweredText with_steps k (asked source).body b text) (sym same.1) (subst (λ (x : QuestionView). IsAnsweredText with_steps k x.body (answer_view answer) text) (sym same.0) told) in
+        let back : IsAnsweredText options k (asked source).body a text =
+        subst (λ b. IsAnsweredText options k (asked source).body b text) (sym same.1) (subst (λ (x : QuestionView). IsAnsweredText options k x.body (answer_view answer) text) (sym same.0) told) in
         record { telling = tellings.Answered source a back.0; is = (accepts line source a reads h, back.1.0); text_is = back.1.1; invalid_is = refl }
     by_reading (reports.Answered source a) variants.Misfit same reads told = absurd same
     by_reading reports.Misfit (variants.Answered q answer) same reads told = absurd same

@@ -18,6 +18,12 @@ use Rattle.it_tell.specs.Tellings.{AreDetails, AreProofTexts, IsProofText, proof
 use Rattle.it_tell.specs.Steps.{AppendsDetails, AppendsEach, AppendsProof, AppendsProofs, AreFormRows}
 use Rattle.it_tell.proofs.DetailLemmas.{Appended, all_appended, appended_more, none_appended}
 use Rattle.it_tell.proofs.PrintableLemmas.{contained_counted, yes_counted}
+use Rattle.it_tell.specs.declared.settings.Options.{Options}
+use Rattle.it_tell.specs.declared.settings.Style.{Style}
+use Rattle.it_canon.specs.QuestionDemands.{question_demands}
+use Rattle.it_canon.specs.TrueLines.{variable_count}
+use Rattle.it_terms.specs.Proofs.{constraints_of}
+use Rattle.it_terms.proofs.SameProofs.{proof_of_same, same_constraints, under_of_same_target}
 
 -- the row at a place is that of the form there
 row_at_place : (s : Space) (fs : List Form) (ts : List Terms) (i : ℕ) → ArePulledRows s fs ts → i < length fs → IsPulledRow s (get_or fs i (λ p. pos 0)) (get_or ts i [])
@@ -27,38 +33,36 @@ row_at_place s (f ∷ fs) (t ∷ ts) zero z h = z.0
 row_at_place s (f ∷ fs) (t ∷ ts) (suc i) z h = row_at_place s fs ts i z.1 (omega arith)
 
 -- what tells a proof of a form's row tells one of the form
-form_told : (q : BodyView) (s : Space) (f : Form) (row : Terms) (w : CertificateView) (text : List ℕ) → IsPulledRow s f row → IsProofText q (value row, w) text → IsProofText q (f, w) text
+form_told : (q : BodyView) (style : Style) (s : Space) (f : Form) (row : Terms) (w : CertificateView) (text : List ℕ) → IsPulledRow s f row → IsProofText q style (value row, w) text
+    → IsProofText q style (f, w) text
 unfolding IsProofText
-form_told q s f row w text pulled (inl h) = inl (record {
+form_told q style s f row w text pulled (inl h) = let g = constraints_of (question_demands q) in inl (record {
   relation = h.relation;
   is = h.is;
-  proves = record {
-    shannon = h.proves.shannon;
-    rest = h.proves.rest;
-    right = h.proves.right;
-    plus = h.proves.plus;
-    scale = h.proves.scale;
-    scale_from_one = h.proves.scale_from_one;
-    target_is = λ p z. h.proves.target_is p z ∙ ap (λ x. h.proves.scale *ℤ x) (pulled.same p z);
-    weights = h.proves.weights;
-    allowed = h.proves.allowed;
-    constraints_are = h.proves.constraints_are;
-  };
+  proves = proof_of_same (variable_count q) h.relation (value row) f g g pulled.same (same_constraints g) h.proves;
 })
-form_told q s f row w text pulled (inr e) = inr e
+form_told q style s f row w text pulled (inr (inl h)) = inr (inl (record {
+  lines = h.lines;
+  named = h.named;
+  proof = h.proof;
+  tells = under_of_same_target q h.lines h.named (value row) f h.proof pulled.same h.tells;
+  names = h.names;
+  is = h.is;
+}))
+form_told q style s f row w text pulled (inr (inr e)) = inr (inr e)
 
 -- the lines of the first i proofs are appended, whichever answer the rows are of
 abbrev pub ProofsAppended : BodyView → Bool → List Terms → List CertificateView → List ℕ → List ℕ → ℕ → Type 0
-ProofsAppended q with_steps rows ws old new i = (answer : AnswerView) → AreFormRows q answer rows → Appended proof_lines (AreProofTexts q with_steps) old new (zip (answer_forms q answer) ws) i
+ProofsAppended q options rows ws old new i = (answer : AnswerView) → AreFormRows q answer rows → Appended proof_lines (AreProofTexts q options) old new (zip (answer_forms q answer) ws) i
 
-pub no_proof_appended : (q : BodyView) (with_steps : Bool) (rows : List Terms) (ws : List CertificateView) (old : List ℕ) → ProofsAppended q with_steps rows ws old old 0
-no_proof_appended q with_steps rows ws old answer are = none_appended proof_lines (AreProofTexts q with_steps) old (zip (answer_forms q answer) ws)
+pub no_proof_appended : (q : BodyView) (options : Options) (rows : List Terms) (ws : List CertificateView) (old : List ℕ) → ProofsAppended q options rows ws old old 0
+no_proof_appended q options rows ws old answer are = none_appended proof_lines (AreProofTexts q options) old (zip (answer_forms q answer) ws)
 
-pub proofs_more : (q : BodyView) (with_steps : Bool) (rows : List Terms) (cs : List Certificate) (row : Terms) (c : Certificate) (old now new : List ℕ) (i : ℕ) → ProofsAppended q with_steps rows (map certificate_view cs) old now i
-    → length rows ≡ length cs → i < length cs → row ≡ get_or rows i row → c ≡ get_or cs i c → AppendsProof q with_steps (value row, certificate_view c) now new → ProofsAppended q with_steps rows (map certificate_view cs) old new (i + 1)
+pub proofs_more : (q : BodyView) (options : Options) (rows : List Terms) (cs : List Certificate) (row : Terms) (c : Certificate) (old now new : List ℕ) (i : ℕ) → ProofsAppended q options rows (map certificate_view cs) old now i
+    → length rows ≡ length cs → i < length cs → row ≡ get_or rows i row → c ≡ get_or cs i c → AppendsProof q options (value row, certificate_view c) now new → ProofsAppended q options rows (map certificate_view cs) old new (i + 1)
 unfolding AreFormRows AreProofTexts
-proofs_more q with_steps rows cs row c old now new i before as_many within row_read read told answer are =
-    appended_more proof_lines (AreProofTexts q with_steps) old now new (zip forms ws) i (form, certificate_view c) told.texts (before answer are) in_zip at_zip (form_is_told, told.are.1) told.new_is
+proofs_more q options rows cs row c old now new i before as_many within row_read read told answer are =
+    appended_more proof_lines (AreProofTexts q options) old now new (zip forms ws) i (form, certificate_view c) told.texts (before answer are) in_zip at_zip (form_is_told, told.are.1) told.new_is
   where
     forms : List Form
     forms = answer_forms q answer
@@ -88,13 +92,13 @@ proofs_more q with_steps rows cs row c old now new i before as_many within row_r
     row_is : get_or rows i [] ≡ row
     row_is = get_or_default rows i [] row in_rows ∙ sym row_read
 
-    form_is_told : IsProofText q (form, certificate_view c) told.texts.proof
-    form_is_told = form_told q are.0 form row (certificate_view c) told.texts.proof (subst (IsPulledRow are.0 form) row_is (row_at_place are.0 forms rows i are.1 in_forms)) told.are.0
+    form_is_told : IsProofText q options.style (form, certificate_view c) told.texts.proof
+    form_is_told = form_told q options.style are.0 form row (certificate_view c) told.texts.proof (subst (IsPulledRow are.0 form) row_is (row_at_place are.0 forms rows i are.1 in_forms)) told.are.0
 
-pub all_proofs : (q : BodyView) (with_steps : Bool) (rows : List Terms) (ws : List CertificateView) (old new : List ℕ) (i : ℕ) → ProofsAppended q with_steps rows ws old new i → length ws ≤ i → AppendsProofs q with_steps rows ws old new
+pub all_proofs : (q : BodyView) (options : Options) (rows : List Terms) (ws : List CertificateView) (old new : List ℕ) (i : ℕ) → ProofsAppended q options rows ws old new i → length ws ≤ i → AppendsProofs q options rows ws old new
 unfolding AppendsProofs
-all_proofs q with_steps rows ws old new i u all answer are =
-    all_appended proof_lines (AreProofTexts q with_steps) old new (zip (answer_forms q answer) ws) i (u answer are) (omega (arith, length-zip (answer_forms q answer) ws, all))
+all_proofs q options rows ws old new i u all answer are =
+    all_appended proof_lines (AreProofTexts q options) old new (zip (answer_forms q answer) ws) i (u answer are) (omega (arith, length-zip (answer_forms q answer) ws, all))
 
 -- ---- a relation and a containment
 
@@ -109,11 +113,11 @@ relation_rows_counted q cs rows fits are = rows_counted q (Yes (map certificate_
 pub obligation_rows_counted : (q : BodyView) (parts : List ℕ) (cs : List Certificate) (rows : List Terms) → HasQuestionShape q (Contained parts (map certificate_view cs)) → AreFormRows q (Contained parts (map certificate_view cs)) rows → length rows ≡ length cs
 obligation_rows_counted q parts cs rows fits are = rows_counted q (Contained parts (map certificate_view cs)) cs rows (contained_counted q parts (map certificate_view cs) fits) are
 
-pub yes_details : (q : BodyView) (with_steps : Bool) (ws : List CertificateView) (rows : List Terms) (old new : List ℕ) → AreFormRows q (Yes ws) rows → AppendsProofs q with_steps rows ws old new → AppendsDetails q with_steps (Yes ws) old new
+pub yes_details : (q : BodyView) (options : Options) (ws : List CertificateView) (rows : List Terms) (old new : List ℕ) → AreFormRows q (Yes ws) rows → AppendsProofs q options rows ws old new → AppendsDetails q options (Yes ws) old new
 unfolding AppendsDetails AppendsEach AppendsProofs AreDetails
-yes_details q with_steps ws rows old new are h = h (Yes ws) are
+yes_details q options ws rows old new are h = h (Yes ws) are
 
-pub contained_details : (q : BodyView) (with_steps : Bool) (parts : List ℕ) (ws : List CertificateView) (rows : List Terms) (old new : List ℕ) → AreFormRows q (Contained parts ws) rows → AppendsProofs q with_steps rows ws old new
-    → AppendsDetails q with_steps (Contained parts ws) old new
+pub contained_details : (q : BodyView) (options : Options) (parts : List ℕ) (ws : List CertificateView) (rows : List Terms) (old new : List ℕ) → AreFormRows q (Contained parts ws) rows → AppendsProofs q options rows ws old new
+    → AppendsDetails q options (Contained parts ws) old new
 unfolding AppendsDetails AppendsEach AppendsProofs AreDetails
-contained_details q with_steps parts ws rows old new are h = h (Contained parts ws) are
+contained_details q options parts ws rows old new are h = h (Contained parts ws) are

@@ -16,14 +16,14 @@ use Rattle.it_tell.specs.declared.settings.Settings.TheVariants.{Tell, Help, Ver
 use Rattle.it_tell.specs.Settings.{settings_of}
 use Rattle.it_tell.specs.Tellings.{IsTelling, Telling, tells_invalid, telling_text}
 
--- what is told of each line of a report, with steps of proofs where these are asked for, and whether one is invalid
-abbrev pub tell_mode : Bool → Mode
-tell_mode with_steps = record {
+-- what is told of each line of a report, as these options ask for it, and whether one is invalid
+abbrev pub tell_mode : Options → Mode
+tell_mode options = record {
   Item = List ℕ;
   Reply = Telling;
   Asks = λ bytes lines. lines ≡ split_lines bytes;
   FaultAt = λ bytes line column code. ⊥;
-  IsRight = λ earlier line telling. IsTelling with_steps line telling;
+  IsRight = λ earlier line telling. IsTelling options line telling;
   text = λ k line telling. telling_text k telling;
   status = λ tellings. verdict_status (list_any tells_invalid tellings);
 }
@@ -35,7 +35,7 @@ most_bytes = 67108864
 -- the text that is asked for in place of a telling
 abbrev pub shown_by : Settings → Option (List ℕ)
 shown_by (Tell options) = None
-shown_by Help = Some (codes "usage: tell [--steps] [--short] <REPORT\nTells what the lines of a report say, as `itip answer --format json` writes one, in the field's own notation.\n--steps: below each proof its steps\n--short: proofs with the least sum of terms, which may take long\n")
+shown_by Help = Some (codes "usage: tell [--steps] [--short] [--named | --whole] <REPORT\nTells what the lines of a report say, as `itip answer --format json` writes one, in the field's own notation.\n--steps: below each proof its steps\n--short: proofs with the least sum of terms, which may take long\n--named: proofs where the question's functions hold, with constraints by their lines' names\n--whole: these with the lines' own terms, to be pasted\n")
 shown_by Version = Some (codes "tell 1\n")
 
 -- the words ask for this text
@@ -65,7 +65,7 @@ pub record HasTold (r : Call) (status : Status) : Type 0 where
   pub bytes : List ℕ
   pub out : List ℕ
   pub report : IsReport r bytes
-  pub output : WholeOutput (tell_mode options.steps) bytes out status
+  pub output : WholeOutput (tell_mode options) bytes out status
   pub wrote : Wrote r out
 
 -- of the first lines, each whole
@@ -75,7 +75,7 @@ pub record HasToldFirst (r : Call) : Type 0 where
   pub bytes : List ℕ
   pub out : List ℕ
   pub report : IsReport r bytes
-  pub output : (later : List (tell_mode options.steps).Item) × FirstOutput (tell_mode options.steps) later bytes out
+  pub output : (later : List (tell_mode options).Item) × FirstOutput (tell_mode options) later bytes out
   pub wrote : Wrote r out
 
 -- of the first lines, and a prefix of what is told of the next one
@@ -85,7 +85,7 @@ pub record HasToldInPart (r : Call) : Type 0 where
   pub bytes : List ℕ
   pub out : List ℕ
   pub report : IsReport r bytes
-  pub output : OutputInPart (tell_mode options.steps) bytes out
+  pub output : OutputInPart (tell_mode options) bytes out
   pub wrote : Wrote r out
 
 -- the words ask for a text, and the source wasn't read

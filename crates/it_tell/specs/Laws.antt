@@ -15,12 +15,12 @@ use Rattle.it_tell.specs.Ends.{AsksToTell, Ends, tell_mode}
 -- the source had.
 abbrev pub Headline : Type 0
 Headline = (r : Call) (options : Options) (s : Status) (bytes old new : List ℕ) → AsksToTell r options → Ends r s → (s ≡ Done) ⊎ (s ≡ Invalid) → r.left ≡ Some bytes → r.taken ≡ Some old → r.taken_after ≡ Some new
-    → (out : List ℕ) × (WholeOutput (tell_mode options.steps) bytes out s × (new ≡ old ++ out))
+    → (out : List ℕ) × (WholeOutput (tell_mode options) bytes out s × (new ≡ old ++ out))
 
 -- Something may be told of each line, whatever its bytes.
 abbrev pub EachLineIsTold : Type 0
-EachLineIsTold = (with_steps : Bool) (line : List ℕ) → (telling : Telling) × IsTelling with_steps line telling
+EachLineIsTold = (options : Options) (line : List ℕ) → (telling : Telling) × IsTelling options line telling
 
 -- What an answer claims that is told is true.
 abbrev pub ToldAnswersAreTrue : Type 0
-ToldAnswersAreTrue = (with_steps : Bool) (line : List ℕ) (source : Source) (answer : AnswerView) (details : List ℕ) → IsTelling with_steps line (Answered source answer details) → IsClaimTrue (asked source).body answer
+ToldAnswersAreTrue = (options : Options) (line : List ℕ) (source : Source) (answer : AnswerView) (details : List ℕ) → IsTelling options line (Answered source answer details) → IsClaimTrue (asked source).body answer

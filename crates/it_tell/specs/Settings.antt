@@ -1,15 +1,25 @@
 -- What the words of `tell` ask for.
-use Rattle.std.specs.Prelude.{ℕ, List, [], ◌∷◌, true, false, not, ◌&&◌, Option, Some, None, if◌then◌else◌, codes, option_and_then, option_map}
+use Rattle.std.specs.Prelude.{ℕ, Bool, List, [], ◌∷◌, true, false, not, ◌&&◌, Option, Some, None, if◌then◌else◌, codes, option_and_then, option_map}
 use Rattle.std.specs.Str.{bytes_eq}
 use Rattle.it_tell.specs.declared.settings.Options.{Options}
 use Rattle.it_tell.specs.declared.settings.Settings.{Settings}
+use Rattle.it_tell.specs.declared.settings.Style.{Style}
+use Rattle.it_tell.specs.declared.settings.Style.TheVariants.{Plain, Named, Whole}
 use Rattle.it_tell.specs.declared.settings.Settings.TheVariants.{Tell, Help, Version}
 
--- with this word, where it is an option that isn't there yet
+-- whether no style is asked for
+abbrev pub is_plain : Style → Bool
+is_plain Plain = true
+is_plain Named = false
+is_plain Whole = false
+
+-- with this word, where it is an option that isn't there yet; of two styles one at most is asked for
 unfoldable pub with_word : Options → List ℕ → Option Options
 with_word o word =
-    if bytes_eq word (codes "--steps") && not o.steps then Some (record { steps = true; short = o.short }) else
-    if bytes_eq word (codes "--short") && not o.short then Some (record { steps = o.steps; short = true }) else None
+    if bytes_eq word (codes "--steps") && not o.steps then Some (record { steps = true; short = o.short; style = o.style }) else
+    if bytes_eq word (codes "--short") && not o.short then Some (record { steps = o.steps; short = true; style = o.style }) else
+    if bytes_eq word (codes "--named") && is_plain o.style then Some (record { steps = o.steps; short = o.short; style = Named }) else
+    if bytes_eq word (codes "--whole") && is_plain o.style then Some (record { steps = o.steps; short = o.short; style = Whole }) else None
 
 -- with these words, one after the other
 abbrev pub with_words : Options → List (List ℕ) → Option Options
@@ -18,7 +28,7 @@ with_words o (word ∷ words) = option_and_then (λ p. with_words p words) (with
 
 -- without words
 abbrev pub no_options : Options
-no_options = record { steps = false; short = false }
+no_options = record { steps = false; short = false; style = Plain }
 
 -- what one word asks for that stands alone
 unfoldable pub alone : List ℕ → Option Settings

@@ -22,24 +22,26 @@ use Rattle.it_cli.specs.Ends.{call_of}
 use Rattle.it_cli.specs.declared.status.Status.{Status}
 use Rattle.it_tell.specs.declared.settings.Options.{Options}
 use Rattle.it_tell.specs.declared.settings.Settings.TheVariants.{Tell}
+use Rattle.it_tell.specs.declared.settings.Style.{Style}
+use Rattle.it_tell.specs.declared.settings.Style.TheVariants.{Plain, Named, Whole}
 use Rattle.it_tell.specs.Settings.{settings_of}
 use Rattle.it_tell.specs.Ends.{Ends}
 
 -- the text has the lines about line k, and `invalid` tells whether they say so
-pub record IsToldLine (with_steps : Bool) (k : ℕ) (line text : List ℕ) (invalid : Bool) : Type 0 where
+pub record IsToldLine (options : Options) (k : ℕ) (line text : List ℕ) (invalid : Bool) : Type 0 where
   pub telling : Telling
-  pub is : IsTelling with_steps line telling
+  pub is : IsTelling options line telling
   pub text_is : text ≡ telling_text k telling
   pub invalid_is : invalid ≡ tells_invalid telling
 
 -- the lines about an answer to a question
-unfoldable pub IsAnsweredText : Bool → ℕ → BodyView → AnswerView → List ℕ → Type 0
-IsAnsweredText with_steps k q answer text = (details : List ℕ) × (AreDetails q with_steps answer details × (text ≡ head_line k q answer ++ details))
+unfoldable pub IsAnsweredText : Options → ℕ → BodyView → AnswerView → List ℕ → Type 0
+IsAnsweredText options k q answer text = (details : List ℕ) × (AreDetails q options answer details × (text ≡ head_line k q answer ++ details))
 
 -- the lines about what was read
-abbrev pub IsReportedText : Bool → ℕ → Reported → List ℕ → Type 0
-IsReportedText with_steps k (variants.Answered question answer) text = IsAnsweredText with_steps k (question_body question) (answer_view answer) text
-IsReportedText with_steps k variants.Misfit text = text ≡ numbered_line k (codes "misfit")
+abbrev pub IsReportedText : Options → ℕ → Reported → List ℕ → Type 0
+IsReportedText options k (variants.Answered question answer) text = IsAnsweredText options k (question_body question) (answer_view answer) text
+IsReportedText options k variants.Misfit text = text ≡ numbered_line k (codes "misfit")
 
 -- the answer that was read can be printed
 abbrev pub CanBePrinted : Reported → Type 0
@@ -51,8 +53,8 @@ unfoldable pub AppendsEach : {X A : Type 0} → (A → List ℕ) → (X → A �
 AppendsEach shown tells items old new = (lines : List ℕ) × (Each shown tells items lines × (new ≡ old ++ lines))
 
 -- the lines below the first one were appended
-unfoldable pub AppendsDetails : BodyView → Bool → AnswerView → List ℕ → List ℕ → Type 0
-AppendsDetails q with_steps answer old new = (details : List ℕ) × (AreDetails q with_steps answer details × (new ≡ old ++ details))
+unfoldable pub AppendsDetails : BodyView → Options → AnswerView → List ℕ → List ℕ → Type 0
+AppendsDetails q options answer old new = (details : List ℕ) × (AreDetails q options answer details × (new ≡ old ++ details))
 
 -- the line of a point was appended
 unfoldable pub AppendsPoint : NamesView → List ℤ → List ℕ → List ℕ → Type 0
@@ -67,9 +69,9 @@ abbrev pub contained_by : List ℕ → List Certificate → AnswerView
 contained_by parts proofs = Contained parts (map certificate_view proofs)
 
 -- the lines of a proof of a form were appended
-pub record AppendsProof (q : BodyView) (with_steps : Bool) (proof : Form × CertificateView) (old new : List ℕ) : Type 0 where
+pub record AppendsProof (q : BodyView) (options : Options) (proof : Form × CertificateView) (old new : List ℕ) : Type 0 where
   pub texts : ProofTexts
-  pub are : AreProofTexts q with_steps proof texts
+  pub are : AreProofTexts q options proof texts
   pub new_is : new ≡ old ++ proof_lines texts
 
 -- these are rows of the forms that an answer speaks of, in order
@@ -77,12 +79,18 @@ unfoldable pub AreFormRows : BodyView → AnswerView → List Terms → Type 0
 AreFormRows q answer rows = (s : Space) × ArePulledRows s (answer_forms q answer) rows
 
 -- the lines of each proof of a row were appended, whichever answer the rows are of
-unfoldable pub AppendsProofs : BodyView → Bool → List Terms → List CertificateView → List ℕ → List ℕ → Type 0
-AppendsProofs q with_steps rows ws old new =
-    (answer : AnswerView) → AreFormRows q answer rows → AppendsEach proof_lines (AreProofTexts q with_steps) (zip (answer_forms q answer) ws) old new
+unfoldable pub AppendsProofs : BodyView → Options → List Terms → List CertificateView → List ℕ → List ℕ → Type 0
+AppendsProofs q options rows ws old new =
+    (answer : AnswerView) → AreFormRows q answer rows → AppendsEach proof_lines (AreProofTexts q options) (zip (answer_forms q answer) ws) old new
 
 -- how a call ends whichever words ask for a telling, by the meanings of a source and a sink and their states before and after
 abbrev pub EndsForTelling : {S K : Type 0} → (S → Option (List ℕ)) → (S → ℕ) → (K → Option (List ℕ)) → (K → ℕ) → Options → S → S → K → K → Status → Type 0
 EndsForTelling left read_faults taken write_faults options source source_after sink sink_after s =
     (words : List (Bor (List ℕ))) → settings_of (map (λ w. w.now) words) ≡ Some (Tell options)
     → Ends (call_of left read_faults taken write_faults words [] source source_after sink sink_after) s
+
+-- a proof in a style where functions hold, with the comment behind it
+abbrev pub IsStyledText : Style → List ℕ → List ℕ → List ℕ → List ℕ → Type 0
+IsStyledText Plain named whole by text = ⊥
+IsStyledText Named named whole by text = text ≡ named ++ by
+IsStyledText Whole named whole by text = text ≡ whole ++ by

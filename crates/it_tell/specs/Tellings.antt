@@ -20,12 +20,16 @@ use Rattle.it_certificate.specs.Sources.{Source, asked}
 use Rattle.it_print.specs.Lines.{certificate_text, contained_line, open_line, row_text, undecided_line, values_text, variable_names}
 use Rattle.it_terms.specs.Tells.{TellsRow}
 use Rattle.it_terms.specs.Proofs.{TellsForm}
+use Rattle.it_terms.specs.FunctionProofs.{TellsFormUnder, by_comment}
 use Rattle.it_facts.specs.Points.{TellsPoint}
 use Rattle.it_terms.specs.ProofSteps.{TellsSteps}
 use Rattle.it_report.specs.Judging.{IsVerdict}
 use Rattle.it_region.specs.AnswerForms.{answer_forms}
 use Rattle.it_report.specs.LineVerdicts.{LineVerdict, is_invalid, numbered_line, verdict_line}
 use Rattle.it_canon.specs.QuestionDemands.{question_origins}
+use Rattle.it_tell.specs.declared.settings.Options.{Options}
+use Rattle.it_tell.specs.declared.settings.Style.{Style}
+use Rattle.it_tell.specs.declared.settings.Style.TheVariants.{Plain, Named, Whole}
 
 -- ---- the lines below an answer's first one
 
@@ -59,9 +63,24 @@ IsMarkedRowText v row text = (own : List ℕ) × (IsRowText v row.1 own × (text
 abbrev pub weights_text : BodyView → List Origin → CertificateView → List ℕ
 weights_text q origins w = codes "as weights " ++ certificate_text (variable_names q) origins w
 
--- a proof of a form in the question's own terms, or the weights as answers have them
-unfoldable pub IsProofText : BodyView → Form × CertificateView → List ℕ → Type 0
-IsProofText q proof text = TellsForm q proof.0 text ⊎ (text ≡ weights_text q (question_origins q) proof.1)
+-- whether a proof of this style may have constraints of these weights by name
+abbrev pub MayName : Style → List (ℕ × ℤ) → Type 0
+MayName Plain named = ⊥
+MayName Named named = Unit {0}
+MayName Whole named = named ≡ []
+
+-- a proof of a form where functions hold, and behind it the lines that say these
+pub record IsPrintedProof (q : BodyView) (style : Style) (target : Form) (text : List ℕ) : Type 0 where
+  pub lines : List ℕ
+  pub named : List (ℕ × ℤ)
+  pub proof : List ℕ
+  pub tells : TellsFormUnder q lines named target proof
+  pub names : MayName style named
+  pub is : text ≡ proof ++ by_comment (question_origins q) lines
+
+-- a proof of a form in the question's own terms, true of every map or where functions hold, or the weights as answers have them
+unfoldable pub IsProofText : BodyView → Style → Form × CertificateView → List ℕ → Type 0
+IsProofText q style proof text = TellsForm q proof.0 text ⊎ (IsPrintedProof q style proof.0 text ⊎ (text ≡ weights_text q (question_origins q) proof.1))
 
 -- a point by facts that determine it, or its values as answers have them and said to be that
 unfoldable pub IsPointText : NamesView → List ℤ → List ℕ → Type 0
@@ -77,21 +96,21 @@ unfoldable pub proof_lines : ProofTexts → List ℕ
 proof_lines t = indented_line t.proof ++ flat_map step_line t.steps
 
 -- no steps of a proof, or its steps where they are asked for
-abbrev pub AreProofSteps : BodyView → Bool → List ℕ → List (List ℕ) → Type 0
-AreProofSteps q with_steps proof steps = (steps ≡ []) ⊎ ((with_steps ≡ true) × TellsSteps (problem_names q) proof steps)
+abbrev pub AreProofSteps : BodyView → Options → List ℕ → List (List ℕ) → Type 0
+AreProofSteps q options proof steps = (steps ≡ []) ⊎ ((options.steps ≡ true) × TellsSteps (problem_names q) proof steps)
 
 -- texts of a proof: without steps, or with them
-unfoldable pub AreProofTexts : BodyView → Bool → Form × CertificateView → ProofTexts → Type 0
-AreProofTexts q with_steps proof t = IsProofText q proof t.proof × AreProofSteps q with_steps t.proof t.steps
+unfoldable pub AreProofTexts : BodyView → Options → Form × CertificateView → ProofTexts → Type 0
+AreProofTexts q options proof t = IsProofText q options.style proof t.proof × AreProofSteps q options t.proof t.steps
 
 -- the lines below the first one: of the proofs of what the answer says, of its rows, or of its point
-unfoldable pub AreDetails : BodyView → Bool → AnswerView → List ℕ → Type 0
-AreDetails q with_steps (Yes proofs) out = Each proof_lines (AreProofTexts q with_steps) (zip (answer_forms q (Yes proofs)) proofs) out
-AreDetails q with_steps (No back values) out = (text : List ℕ) × (IsPointText (problem_names q) values text × (out ≡ indented_line text))
-AreDetails q with_steps (Undecided cause) out = out ≡ []
-AreDetails q with_steps (Region rows) out = Each indented_line (IsMarkedRowText (problem_names q)) rows out
-AreDetails q with_steps (Contained parts proofs) out = Each proof_lines (AreProofTexts q with_steps) (zip (answer_forms q (Contained parts proofs)) proofs) out
-AreDetails q with_steps (Open tried) out = out ≡ []
+unfoldable pub AreDetails : BodyView → Options → AnswerView → List ℕ → Type 0
+AreDetails q options (Yes proofs) out = Each proof_lines (AreProofTexts q options) (zip (answer_forms q (Yes proofs)) proofs) out
+AreDetails q options (No back values) out = (text : List ℕ) × (IsPointText (problem_names q) values text × (out ≡ indented_line text))
+AreDetails q options (Undecided cause) out = out ≡ []
+AreDetails q options (Region rows) out = Each indented_line (IsMarkedRowText (problem_names q)) rows out
+AreDetails q options (Contained parts proofs) out = Each proof_lines (AreProofTexts q options) (zip (answer_forms q (Contained parts proofs)) proofs) out
+AreDetails q options (Open tried) out = out ≡ []
 
 -- ---- the first line
 
@@ -121,10 +140,10 @@ pub record IsAccepted (line : List ℕ) (source : Source) (answer : AnswerView) 
   pub reads : ReadsReport line (Ok (reports.Answered source answer))
 
 -- this may be told of the line, where steps of proofs are asked for or not
-abbrev pub IsTelling : Bool → List ℕ → Telling → Type 0
-IsTelling with_steps line (Invalid v) = IsVerdict line v × (is_invalid v ≡ true)
-IsTelling with_steps line (Answered source answer details) = IsAccepted line source answer × AreDetails (asked source).body with_steps answer details
-IsTelling with_steps line Misfit = ReadsReport line (Ok reports.Misfit)
+abbrev pub IsTelling : Options → List ℕ → Telling → Type 0
+IsTelling options line (Invalid v) = IsVerdict line v × (is_invalid v ≡ true)
+IsTelling options line (Answered source answer details) = IsAccepted line source answer × AreDetails (asked source).body options answer details
+IsTelling options line Misfit = ReadsReport line (Ok reports.Misfit)
 
 -- whether it is told to be invalid
 abbrev pub tells_invalid : Telling → Bool

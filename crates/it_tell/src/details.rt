@@ -1,7 +1,8 @@
 //! The lines below the first one of an answer: rows, proofs and points.
-ghost use Rattle.std.specs.Prelude.{◌≡◌, ◌≤◌, ◌<◌, ◌+◌, ◌^◌, ◌++◌, length, map, codes, All, IfOk, OnOk};
+ghost use Rattle.std.specs.Prelude.{◌≡◌, ◌≤◌, ◌<◌, ◌+◌, ◌^◌, ◌++◌, length, map, codes, All, IfOk, IfSome, OnOk};
 ghost use Rattle.std.specs.List.{flat_map};
 ghost use Rattle.it_space.specs.Answers.{answer_view, certificate_view};
+ghost use Rattle.it_space.specs.Rows.{value};
 ghost use Rattle.it_space.specs.Answers.AnswerView.{Yes};
 ghost use Rattle.it_space.specs.declared.problems.Kind.TheVariants.{Inequality};
 ghost use Rattle.it_polymatroid.specs.Elementals.{elementals};
@@ -14,10 +15,10 @@ ghost use Rattle.it_canon.specs.QuestionDemands.{question_origins};
 ghost use Rattle.it_certificate.specs.AnswerShapes.{HasQuestionShape};
 ghost use Rattle.it_print.specs.Lines.{AreListed, IsPrintable, IsRowOver, origins_of, row_text, values_text};
 ghost use Rattle.it_report.specs.Steps.{IsAboutRelation};
-ghost use Rattle.it_tell.specs.Tellings.{IsMarkedRowText, IsPointText, IsProofText, IsRowText, indented_line, mark_comment, step_line, AreProofSteps, weights_text};
-ghost use Rattle.it_tell.specs.Steps.{AppendsDetails, AppendsEach, AppendsPoint, AppendsProof, AppendsProofs, AreFormRows, contained_by, form_with_proof};
+ghost use Rattle.it_tell.specs.Tellings.{IsMarkedRowText, IsPointText, IsPrintedProof, IsProofText, IsRowText, indented_line, mark_comment, step_line, AreProofSteps, weights_text};
+ghost use Rattle.it_tell.specs.Steps.{AppendsDetails, AppendsEach, AppendsPoint, AppendsProof, AppendsProofs, AreFormRows, IsStyledText, contained_by, form_with_proof};
 
-use crate::settings::Options;
+use crate::settings::{Options, Style, is_plain};
 use it_canon::{problem_names, target_rows};
 use it_facts::told_point;
 use it_print::{row_text, sum_text, values_text, write_signed};
@@ -25,7 +26,7 @@ use it_question::types::{Question, Verb};
 use it_region::{candidate, obligations, pair};
 use it_space::{Answer, Certificate, Constraint, Kind, Mark, Point, Row, VarSet};
 use it_syntax::types::Relation;
-use it_terms::{told_form, told_row, told_steps};
+use it_terms::{PrintedProof, printed_form, told_form, told_row, told_steps};
 use std::alloc::{AllocError, Global};
 
 /// Appends a text as a line below the first one.
@@ -171,6 +172,67 @@ fn obligation_rows(
     Ok(rows)
 }
 
+/// A proof in a style where functions hold, and behind it the lines that say these; None in the style without.
+fn styled(proof: PrintedProof, style: Style) -> Result<Option<Vec<u8>>, AllocError>
+    ensures { IfOk result (λ o. IfSome o (λ t. IsStyledText style proof.text.items proof.whole.items proof.by.items t.items)) }
+{
+    let PrintedProof {
+        text: named,
+        whole,
+        by,
+    } = proof;
+    let mut text = match style {
+        Style::Plain => return Ok(None),
+        Style::Named => named,
+        Style::Whole => whole,
+    };
+    text.extend_from_slice(by.as_slice())?;
+    Ok(Some(text))
+}
+
+/// The proof of a row where the question's functions hold, where that is asked for without steps, and found.
+fn printed_proof(
+    alloc: Global,
+    question: &Question,
+    row: &Row,
+    certificate: &Certificate,
+    options: Options,
+) -> Result<Option<Vec<u8>>, AllocError>
+    requires { IsQuestion (question_body question.now) }
+    ensures { IfOk result (λ o. IfSome o (λ t. IsPrintedProof (question_body question.now) options.style (value row.now) t.items)) }
+{
+    if options.steps || is_plain(options.style) {
+        return Ok(None);
+    }
+    let Some(proof) = printed_form(alloc, question, row, certificate, options.short)? else {
+        return Ok(None);
+    };
+    let text = styled(proof, options.style)?;
+    Ok(text)
+}
+
+/// The proof of a row as an equation that is true of every map, or its weights.
+#[tactic(auto, unfolding(crate::specs::Tellings::IsProofText))]
+fn plain_proof(
+    alloc: Global,
+    question: &Question,
+    constraints: &[Constraint],
+    row: &Row,
+    certificate: &Certificate,
+    options: Options,
+) -> Result<Vec<u8>, AllocError>
+    requires question { IsQuestion (question_body question.now) }
+    requires some { 1 ≤ variable_count (question_body question.now) }
+    requires origins { origins_of constraints.now ≡ question_origins (question_body question.now) }
+    requires there { All (λ w. w.0 < length (elementals (variable_count (question_body question.now))) + length constraints.now) certificate.now.weights.items }
+    ensures { IfOk result (λ t. IsProofText (question_body question.now) options.style (form_with_proof row.now certificate.now) t.items) }
+{
+    match told_form(alloc, question, row, certificate, options.short)? {
+        Some(text) => Ok(text),
+        None => weights_text(alloc, question, constraints, certificate),
+    }
+}
+
 /// The proof of a row in the question's own terms, or its weights.
 #[tactic(auto, unfolding(crate::specs::Tellings::IsProofText))]
 fn row_proof(
@@ -179,17 +241,17 @@ fn row_proof(
     constraints: &[Constraint],
     row: &Row,
     certificate: &Certificate,
-    short: bool,
+    options: Options,
 ) -> Result<Vec<u8>, AllocError>
     requires question { IsQuestion (question_body question.now) }
     requires some { 1 ≤ variable_count (question_body question.now) }
     requires origins { origins_of constraints.now ≡ question_origins (question_body question.now) }
     requires there { All (λ w. w.0 < length (elementals (variable_count (question_body question.now))) + length constraints.now) certificate.now.weights.items }
-    ensures { IfOk result (λ t. IsProofText (question_body question.now) (form_with_proof row.now certificate.now) t.items) }
+    ensures { IfOk result (λ t. IsProofText (question_body question.now) options.style (form_with_proof row.now certificate.now) t.items) }
 {
-    match told_form(alloc, question, row, certificate, short)? {
+    match printed_proof(alloc, question, row, certificate, options)? {
         Some(text) => Ok(text),
-        None => weights_text(alloc, question, constraints, certificate),
+        None => plain_proof(alloc, question, constraints, row, certificate, options),
     }
 }
 
@@ -197,13 +259,13 @@ fn row_proof(
 fn steps_of(
     alloc: Global,
     question: &Question,
-    with_steps: bool,
+    options: Options,
     proof: &[u8],
 ) -> Result<Vec<Vec<u8>>, AllocError>
     requires { IsQuestion (question_body question.now) }
-    ensures { IfOk result (λ steps. AreProofSteps (question_body question.now) with_steps proof.now (map (λ s. s.items) steps.items)) }
+    ensures { IfOk result (λ steps. AreProofSteps (question_body question.now) options proof.now (map (λ s. s.items) steps.items)) }
 {
-    if !with_steps {
+    if !options.steps {
         return Ok(Vec::new(alloc));
     }
     match told_steps(alloc, question, proof)? {
@@ -246,17 +308,10 @@ fn write_proof(
     requires some { 1 ≤ variable_count (question_body question.now) }
     requires origins { origins_of constraints.now ≡ question_origins (question_body question.now) }
     requires there { All (λ w. w.0 < length (elementals (variable_count (question_body question.now))) + length constraints.now) certificate.now.weights.items }
-    ensures { OnOk result (AppendsProof (question_body question.now) options.steps (form_with_proof row.now certificate.now) out.old.items out.new.items) }
+    ensures { OnOk result (AppendsProof (question_body question.now) options (form_with_proof row.now certificate.now) out.old.items out.new.items) }
 {
-    let text = row_proof(
-        alloc,
-        question,
-        constraints,
-        row,
-        certificate,
-        options.short,
-    )?;
-    let steps = steps_of(alloc, question, options.steps, text.as_slice())?;
+    let text = row_proof(alloc, question, constraints, row, certificate, options)?;
+    let steps = steps_of(alloc, question, options, text.as_slice())?;
     write_indented(out, text.as_slice())?;
     write_steps(out, steps.as_slice())
 }
@@ -276,7 +331,7 @@ fn write_proofs(
     requires origins { origins_of constraints.now ≡ question_origins (question_body question.now) }
     requires there { AreListed (variable_count (question_body question.now)) (length constraints.now) proofs.now }
     requires as_many { length rows.now ≡ length proofs.now }
-    ensures { OnOk result (AppendsProofs (question_body question.now) options.steps rows.now (map certificate_view proofs.now) out.old.items out.new.items) }
+    ensures { OnOk result (AppendsProofs (question_body question.now) options rows.now (map certificate_view proofs.now) out.old.items out.new.items) }
 {
     for (i, certificate) in proofs.iter().enumerate() {
         let row = &rows[i];
@@ -299,7 +354,7 @@ fn write_relation_proofs(
     requires origins { origins_of constraints.now ≡ question_origins (question_body question.now) }
     requires there { AreListed (variable_count (question_body question.now)) (length constraints.now) proofs.now }
     requires fits { HasQuestionShape (question_body question.now) (Yes (map certificate_view proofs.now)) }
-    ensures { OnOk result (AppendsDetails (question_body question.now) options.steps (Yes (map certificate_view proofs.now)) out.old.items out.new.items) }
+    ensures { OnOk result (AppendsDetails (question_body question.now) options (Yes (map certificate_view proofs.now)) out.old.items out.new.items) }
 {
     let rows = relation_rows(alloc, question, proofs)?;
     write_proofs(
@@ -328,7 +383,7 @@ fn write_obligations(
     requires origins { origins_of constraints.now ≡ question_origins (question_body question.now) }
     requires there { AreListed (variable_count (question_body question.now)) (length constraints.now) proofs.now }
     requires fits { HasQuestionShape (question_body question.now) (contained_by parts.now proofs.now) }
-    ensures { OnOk result (AppendsDetails (question_body question.now) options.steps (contained_by parts.now proofs.now) out.old.items out.new.items) }
+    ensures { OnOk result (AppendsDetails (question_body question.now) options (contained_by parts.now proofs.now) out.old.items out.new.items) }
 {
     let rows = obligation_rows(alloc, question, parts, proofs)?;
     write_proofs(
@@ -400,7 +455,7 @@ pub fn write_details(
     requires origins { origins_of constraints.now ≡ question_origins (question_body question.now) }
     requires fits { HasQuestionShape (question_body question.now) (answer_view answer.now) }
     requires printable { IsPrintable (question_body question.now) (length constraints.now) answer.now }
-    ensures { OnOk result (AppendsDetails (question_body question.now) options.steps (answer_view answer.now) out.old.items out.new.items) }
+    ensures { OnOk result (AppendsDetails (question_body question.now) options (answer_view answer.now) out.old.items out.new.items) }
 {
     match answer {
         Answer::Yes(proofs) => write_relation_proofs(

@@ -38,7 +38,7 @@ fn answered_text(
     requires question { IsQuestion (question_body question.now) }
     requires fits { HasQuestionShape (question_body question.now) (answer_view answer.now) }
     requires printable { IsPrintable (question_body question.now) (length (question_demands (question_body question.now))) answer.now }
-    ensures { IfOk result (λ t. IsAnsweredText options.steps k (question_body question.now) (answer_view answer.now) t.items) }
+    ensures { IfOk result (λ t. IsAnsweredText options k (question_body question.now) (answer_view answer.now) t.items) }
 {
     let problem = problem(alloc, question)?;
     let constraints = problem.constraints.as_slice();
@@ -56,7 +56,7 @@ fn reported_text(
 ) -> Result<Vec<u8>, AllocError>
     requires limits { KeepsLimits reported.now }
     requires printable { CanBePrinted reported.now }
-    ensures { IfOk result (λ t. IsReportedText options.steps k reported.now t.items) }
+    ensures { IfOk result (λ t. IsReportedText options k reported.now t.items) }
 {
     match reported {
         Reported::Answered { question, answer } => {
@@ -74,7 +74,7 @@ pub fn tell_line(
     k: usize,
     line: &[u8],
 ) -> Result<ToldLine, AllocError>
-    ensures { IfOk result (λ t. IsToldLine options.steps k line.now t.text.items t.invalid) }
+    ensures { IfOk result (λ t. IsToldLine options k line.now t.text.items t.invalid) }
 {
     let judged = judge(alloc, k, line)?;
     if judged.invalid {

@@ -13,7 +13,7 @@ use std::alloc::Global;
 
 /// What is done for the bytes of a report: what is told of a line is written as soon as it is there.
 pub fn tell_report<K: Sink>(alloc: Global, options: Options, bytes: &[u8], sink: &mut K) -> Status
-    ensures { EndsForBytes K.taken K.faults (tell_mode options.steps) sink.old sink.new bytes.now result }
+    ensures { EndsForBytes K.taken K.faults (tell_mode options) sink.old sink.new bytes.now result }
 {
     let mut rest = bytes;
     let mut count: usize = 0;

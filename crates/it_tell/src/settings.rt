@@ -1,12 +1,23 @@
 //! What words ask for.
 ghost use Rattle.std.specs.Prelude.{◌≡◌, map};
-ghost use Rattle.it_tell.specs.Settings.{alone, no_options, settings_of, with_word, with_words};
+ghost use Rattle.it_tell.specs.Settings.{alone, is_plain, no_options, settings_of, with_word, with_words};
 
-/// How it is told: with the steps of proofs or without; and whether short proofs are looked for, which may take long.
+/// How proofs are written: as equations that are true of every map; or where the question's functions hold, with constraints by
+/// the names of their lines, or with the lines' own terms.
+#[derive(Clone, Copy, Debug, PartialEq, Eq)]
+pub enum Style {
+    Plain,
+    Named,
+    Whole,
+}
+
+/// How it is told: with the steps of proofs or without; whether short proofs are looked for, which may take long; and in which style
+/// proofs without steps are written.
 #[derive(Clone, Copy, Debug, PartialEq, Eq)]
 pub struct Options {
     pub steps: bool,
     pub short: bool,
+    pub style: Style,
 }
 
 /// What the words ask for.
@@ -21,22 +32,44 @@ pub enum Settings {
 const NO_OPTIONS: Options = Options {
     steps: false,
     short: false,
+    style: Style::Plain,
 };
 
-/// The options with one that isn't there yet.
+/// Whether no style is asked for.
+pub fn is_plain(style: Style) -> bool
+    ensures { result ≡ is_plain style }
+{
+    match style {
+        Style::Plain => true,
+        Style::Named | Style::Whole => false,
+    }
+}
+
+/// The options with one that isn't there yet; of two styles one at most is asked for.
 #[tactic(auto, unfolding(crate::specs::Settings::with_word))]
 fn with_word(options: Options, word: &str) -> Option<Options>
     ensures { result ≡ with_word options word.now }
 {
+    let is_plain = is_plain(options.style);
     if word == "--steps" && !options.steps {
         Some(Options {
             steps: true,
-            short: options.short,
+            ..options
         })
     } else if word == "--short" && !options.short {
         Some(Options {
-            steps: options.steps,
             short: true,
+            ..options
+        })
+    } else if word == "--named" && is_plain {
+        Some(Options {
+            style: Style::Named,
+            ..options
+        })
+    } else if word == "--whole" && is_plain {
+        Some(Options {
+            style: Style::Whole,
+            ..options
         })
     } else {
         None

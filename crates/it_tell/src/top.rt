@@ -19,7 +19,7 @@ const LONG: &[u8] = b"refused long\n";
 
 /// What `--help` asks for.
 const HELP: &[u8] =
-    b"usage: tell [--steps] [--short] <REPORT\nTells what the lines of a report say, as `itip answer --format json` writes one, in the field's own notation.\n--steps: below each proof its steps\n--short: proofs with the least sum of terms, which may take long\n";
+    b"usage: tell [--steps] [--short] [--named | --whole] <REPORT\nTells what the lines of a report say, as `itip answer --format json` writes one, in the field's own notation.\n--steps: below each proof its steps\n--short: proofs with the least sum of terms, which may take long\n--named: proofs where the question's functions hold, with constraints by their lines' names\n--whole: these with the lines' own terms, to be pasted\n";
 
 /// What `--version` asks for.
 const VERSION: &[u8] = b"tell 1\n";

@@ -6,3 +6,6 @@ pub mod SameProofs
 pub mod NameLemmas
 pub mod ToldProofs
 pub mod StepLemmas
+pub mod SaidLemmas
+pub mod UnderLemmas
+pub mod ToldUnder

@@ -1,5 +1,5 @@
 -- Sums by place to which forms are added, item by item.
-use Rattle.std.proofs.Common.{◌≡◌, ℕ, ◌+◌, ◌<◌, ◌≤◌, ◌^◌, ℤ, pos, ◌+ℤ◌, ◌*ℤ◌, Bool, ◌&&◌, refl, sym, ap, ap₂, ◌∙◌, arith, lit<, List, [], ◌∷◌, length, drop, get_or, replicate, Result, Ok, Err, IfOk}
+use Rattle.std.proofs.Common.{◌≡◌, ℕ, ◌+◌, ◌<◌, ◌≤◌, ◌^◌, ℤ, pos, ◌+ℤ◌, ◌*ℤ◌, Bool, ◌&&◌, refl, sym, ap, ap₂, ◌∙◌, arith, lit<, List, [], ◌∷◌, length, All, drop, get_or, replicate, Result, Ok, Err, IfOk}
 use Rattle.std.specs.Bool.{Decides, OnTrue}
 use Rattle.std.specs.Prelude.{nat_eq}
 use Rattle.std.specs.Ordering.{int_eq}
@@ -9,6 +9,7 @@ use Rattle.std.proofs.lemmas.Bool.{OnTrue_at, OnTrue_from}
 use Rattle.std.proofs.lemmas.Bool.Decides.{Decides-and, Decides-eqb, Decides-int_eq}
 use Rattle.std.proofs.lemmas.Int.{ints}
 use Rattle.std.proofs.lemmas.List.{drop_all, length-replicate}
+use Rattle.it_number.specs.Limit.{IsWithin}
 use Rattle.it_number.proofs.Integers.{mul_assoc, mul-add}
 use Rattle.it_space.proofs.ListLemmas.{drop_item}
 use Rattle.it_space.specs.declared.spaces.Space.{Space}
@@ -26,21 +27,35 @@ pub plus_from_added : (old new : List ℤ) (at : ℕ) (times x amount : ℤ) →
 plus_from_added old new at times x amount h e a =
     let f = form_added old new at amount h a in record {
       complete = f.complete;
+      within = a.within;
       sum = λ p. f.sum p ∙ ap (λ (z : ℤ). dense_form old p +ℤ z) (ap (λ (z : ℤ). z *ℤ p at) e ∙ mul_assoc times x (p at));
     }
+
+-- one form added once, and then another one
+pub plus_both : (old now new : List ℤ) (f g : Form) → IsPlus old now (λ p. pos 1 *ℤ f p) → IsPlus now new g → IsPlus old new (λ p. f p +ℤ g p)
+plus_both old now new f g a b = record {
+  complete = b.complete ∙ a.complete;
+  within = λ w. b.within (a.within w);
+  sum = λ p. one_after_another (dense_form new p) (dense_form now p) (dense_form old p) (f p) (g p) (b.sum p) (a.sum p);
+}
+  where
+    one_after_another : (new now old x y : ℤ) → new ≡ now +ℤ y → now ≡ old +ℤ pos 1 *ℤ x → new ≡ old +ℤ (x +ℤ y)
+    one_after_another new now old x y e h = omega (arith, ints, e, h)
 
 -- the form of the first i items is added, and that of the others is still to add
 pub record IsPartAdded {X : Type 0} (form : List X → Form) (old now : List ℤ) (items : List X) (i : ℕ) : Type 0 where
   pub complete : length now ≡ length old
+  pub within : All IsWithin old → All IsWithin now
   pub sum : (p : ℕ → ℤ) → dense_form now p +ℤ form (drop i items) p ≡ dense_form old p +ℤ form items p
 
 pub part_added-first : {X : Type 0} (form : List X → Form) (old : List ℤ) (items : List X) → IsPartAdded form old old items 0
-part_added-first form old items = record { complete = refl; sum = λ p. refl }
+part_added-first form old items = record { complete = refl; within = λ w. w; sum = λ p. refl }
 
 pub part_added-more : {X : Type 0} (form : List X → Form) (one : Form) (old now new : List ℤ) (items : List X) (i : ℕ) (x : X) → i < length items → x ≡ get_or items i x
     → ((p : ℕ → ℤ) → form (x ∷ drop (i + 1) items) p ≡ one p +ℤ form (drop (i + 1) items) p) → IsPlus now new one → IsPartAdded form old now items i → IsPartAdded form old new items (i + 1)
 part_added-more form one old now new items i x h is splits a u = record {
   complete = a.complete ∙ u.complete;
+  within = λ w. a.within (u.within w);
   sum = λ p. sum_with_rest (dense_form new p) (dense_form now p) (dense_form old p) (one p) (form (drop (i + 1) items) p) (form items p)
       (a.sum p) (ap (λ (z : ℤ). dense_form now p +ℤ z) (sym (splits p) ∙ ap (λ xs. form xs p) (sym (drop_item items i x h is))) ∙ u.sum p);
 }
@@ -52,6 +67,7 @@ pub part_added-all : {X : Type 0} (form : List X → Form) (old now : List ℤ) 
     → IsPlus old now (form items)
 part_added-all form old now items i h nothing u = record {
   complete = u.complete;
+  within = u.within;
   sum = λ p. without_rest (dense_form now p) (form (drop i items) p) (dense_form old p +ℤ form items p) (ap (λ xs. form xs p) (drop_all i items h) ∙ nothing p) (u.sum p);
 }
   where

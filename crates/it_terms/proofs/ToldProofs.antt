@@ -27,7 +27,7 @@ use Rattle.it_canon.specs.TrueLines.{AreTrueAt, variable_count}
 use Rattle.it_canon.specs.QuestionDemands.{question_demands}
 use Rattle.it_terms.specs.Proofs.{IsShannon, IsPlusShannon, TellsProof, ToldProves, constraints_of, demand_at}
 
-weighted_least : (g : Generators) (v : ℕ → ℤ) → ((i : ℕ) → i < g.count → pos 0 ≤ℤ v i) → ((i : ℕ) → i < g.count → g.is_equation i ≡ true → v i ≡ pos 0)
+pub weighted_least : (g : Generators) (v : ℕ → ℤ) → ((i : ℕ) → i < g.count → pos 0 ≤ℤ v i) → ((i : ℕ) → i < g.count → g.is_equation i ≡ true → v i ≡ pos 0)
     → (ws : List (ℕ × ℤ)) → All (IsAllowed g) ws → pos 0 ≤ℤ combination ws v
 weighted_least g v least zeros [] a = omega (arith, ints)
 weighted_least g v least zeros (w ∷ ws) a =
@@ -68,7 +68,7 @@ atom_least n p (Mutual left right given) h s =
     let low = h.rises given (bit_and a b) (meet_below n a b x) (inside_both left right given) in
     let u = ap p (both_or left right given) in omega (arith, ints, m, low, u)
 
-terms_least : (n m : ℕ) (p : ℕ → ℤ) (ts : List Term) → IsPolymatroid n p → All (IsPlusShannon n) ts → pos 0 ≤ℤ side_at n p m ts
+pub terms_least : (n m : ℕ) (p : ℕ → ℤ) (ts : List Term) → IsPolymatroid n p → All (IsPlusShannon n) ts → pos 0 ≤ℤ side_at n p m ts
 terms_least n m p [] h s = omega (arith, ints)
 terms_least n m p (t ∷ ts) h s =
     let here : IsPlusShannon n t = All-head (IsPlusShannon n) t ts s in
@@ -77,7 +77,7 @@ terms_least n m p (t ∷ ts) h s =
     (product_least (pos (multiplicity m t)) (atom_at n p t.atom) (omega (arith, ints)) (atom_least n p t.atom h here.1)))
     (terms_least n m p ts h (All-tail (IsPlusShannon n) t ts s))
 
-side-append : (n m : ℕ) (p : ℕ → ℤ) (xs ys : List Term) → side_at n p m (xs ++ ys) ≡ side_at n p m xs +ℤ side_at n p m ys
+pub side-append : (n m : ℕ) (p : ℕ → ℤ) (xs ys : List Term) → side_at n p m (xs ++ ys) ≡ side_at n p m xs +ℤ side_at n p m ys
 side-append n m p [] ys = let z = side_at n p m ys in omega (arith, ints)
 side-append n m p (x ∷ xs) ys = let ih = side-append n m p xs ys in omega (arith, ints, ih)
 
@@ -96,19 +96,19 @@ proof_least v target g text t p h least zeros =
     least_by_multiple s.scale (target p) (let o = s.scale_from_one in omega (arith, ints, o)) (subst (λ (x : ℤ). pos 0 ≤ℤ x) (sym c) (sum_least (side_at n p m s.shannon) (side_at n p m s.rest) a b))
 
 -- what true lines demand is met
-lines_satisfied : (n : ℕ) (own : OwnLinesView) (p : ℕ → ℤ) → AreTrueAt n p own → All (IsSatisfied p) (line_demands n own)
+pub lines_satisfied : (n : ℕ) (own : OwnLinesView) (p : ℕ → ℤ) → AreTrueAt n p own → All (IsSatisfied p) (line_demands n own)
 lines_satisfied n own p t = All-append (IsSatisfied p) (flat_map (demands n) own.givens) (map (demand_of n) own.rows)
     ((givens_satisfied n own.givens p).1 t.givens) ((rows_satisfied n own.rows p).1 t.rows)
 
 -- one of them, by its number
-demand_satisfied : (p : ℕ → ℤ) (ds : List Demand) (i : ℕ) → i < length ds → All (IsSatisfied p) ds → IsSatisfied p (demand_at ds i)
+pub demand_satisfied : (p : ℕ → ℤ) (ds : List Demand) (i : ℕ) → i < length ds → All (IsSatisfied p) ds → IsSatisfied p (demand_at ds i)
 demand_satisfied p ds i within all = All-get_or (IsSatisfied p) ds i (equation (λ p. pos 0)) within all
 
-met_least : (k : Kind) (x : ℤ) → Meets k x → pos 0 ≤ℤ x
+pub met_least : (k : Kind) (x : ℤ) → Meets k x → pos 0 ≤ℤ x
 met_least Inequality x h = h
 met_least Equation x h = omega (arith, ints, h)
 
-met_zero : (k : Kind) (x : ℤ) → is_equation k ≡ true → Meets k x → x ≡ pos 0
+pub met_zero : (k : Kind) (x : ℤ) → is_equation k ≡ true → Meets k x → x ≡ pos 0
 met_zero Inequality x e h = cc
 met_zero Equation x e h = h
 

@@ -3,3 +3,4 @@ pub mod Proofs
 pub mod ProofSteps
 pub mod Sums
 pub mod Proposals
+pub mod FunctionProofs

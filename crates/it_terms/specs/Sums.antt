@@ -1,15 +1,32 @@
--- No public clause cites this module: sums by place to which forms are added, and the values of constraints by number.
-use Rattle.std.specs.Prelude.{◌≡◌, ℕ, ℤ, ◌+ℤ◌, List, length, map}
+-- No public clause cites this module: sums by place to which forms are added, and constraints by number.
+use Rattle.std.specs.Prelude.{◌≡◌, ◌<◌, ℕ, ℤ, ◌+ℤ◌, ◌-ℤ◌, List, All, length, map, get_or}
+use Rattle.std.specs.List.{AllZip}
+use Rattle.it_number.specs.Limit.{IsWithin}
+use Rattle.it_space.specs.declared.spaces.Space.{Space}
+use Rattle.it_space.specs.Rows.{IsOver, Terms, value}
+use Rattle.it_space.specs.Spaces.{size_of}
+use Rattle.it_syntax.specs.Meaning.{RelationView}
+use Rattle.it_terms.specs.Proofs.{AreSame, side_form}
 use Rattle.it_space.specs.declared.problems.Constraint.{Constraint}
-use Rattle.it_polymatroid.specs.Certificates.{Form}
+use Rattle.it_polymatroid.specs.Certificates.{Form, combination}
 use Rattle.it_elemental.specs.Generators.{forms_of, of_constraint}
 use Rattle.it_demand.specs.Coefficients.{dense_form}
 
--- a form was added to the one of these coefficients
+-- a form was added to the one of these coefficients, and none is past the limit for it
 pub record IsPlus (old new : List ℤ) (form : Form) : Type 0 where
   pub complete : length new ≡ length old
+  pub within : All IsWithin old → All IsWithin new
   pub sum : (p : ℕ → ℤ) → dense_form new p ≡ dense_form old p +ℤ form p
 
 -- the value of a constraint by its number
 abbrev pub constraint_value : List Constraint → (ℕ → ℤ) → ℕ → ℤ
 constraint_value cs p i = (forms_of (map of_constraint cs)).form i p
+
+-- the row of the space is what the right side of a relation with multiples of constraints is more than the left one
+pub record IsExcess (s : Space) (r : RelationView) (cs : List Constraint) (ws : List (ℕ × ℤ)) (row : Terms) : Type 0 where
+  pub coordinates : IsOver (size_of s) row
+  pub same : AreSame (value row) (λ p. side_form s.variables r r.right p +ℤ combination ws (constraint_value cs p) -ℤ side_form s.variables r r.left p)
+
+-- constraints by their numbers, in order
+abbrev pub AreChosen : List Constraint → List ℕ → List Constraint → Type 0
+AreChosen cs lines chosen = AllZip (λ line c. (line < length cs) × (c ≡ get_or cs line c)) lines chosen

@@ -1,6 +1,7 @@
 //! What told texts are good for, each theorem as the contract of a function.
 ghost use Rattle.it_terms.specs.Tells.{TextsMove};
 ghost use Rattle.it_terms.specs.Proofs.{ToldProves};
+ghost use Rattle.it_terms.specs.FunctionProofs.{ToldUnderProves};
 
 /// A text that is a relation is the same one after whatever stands before it in a line.
 #[tactic(auto, using(crate::proofs::Moves::texts_move))]
@@ -11,4 +12,9 @@ pub fn texts_move()
 /// A target that a text tells a proof of is at least 0 wherever the question's lines are true.
 pub fn told_proves()
     ensures { ToldProves }
+{}
+
+/// A target that a text tells a proof of where functions hold is at least 0 wherever the question's lines are true.
+pub fn told_under_proves()
+    ensures { ToldUnderProves }
 {}

@@ -1,14 +1,18 @@
 //! Rows and proofs in the field's notation, as texts that are read back and judged before they are handed out.
 #![tactic(auto)]
 
+mod closed;
 mod constraints;
 mod drafts;
 mod equations;
 mod finding;
+mod folding;
 mod joining;
 mod judging;
 mod laws;
 mod measures;
+mod names;
+mod printing;
 mod proof_judging;
 mod proving;
 mod reading;
@@ -16,10 +20,13 @@ mod shortest;
 mod steps;
 mod sums;
 mod telling;
+mod under;
+mod under_judging;
 mod untold;
 mod writing;
 
-pub use laws::{texts_move, told_proves};
+pub use laws::{texts_move, told_proves, told_under_proves};
+pub use printing::{PrintedProof, printed_form};
 pub use proving::told_form;
 pub use steps::told_steps;
 pub use telling::told_row;

@@ -16,14 +16,20 @@ use it_syntax::types::{Atom, Relation, Term};
 use it_syntax::{Names, common_denominator};
 use std::alloc::{AllocError, Global};
 
-/// A proof that is proposed: its text, how many terms of the right side are over sets, the weight of the target on the left,
-/// which is number 0, and the weights of the constraints, which the other terms are.
+/// What the sides of an equation are said to be: how many terms of the right side are over sets, the weight of the target on the
+/// left, which is number 0, and the weights of the constraints, which the other terms are.
 #[derive(Drop)]
-pub struct Proposal {
-    pub text: Vec<u8>,
+pub struct Split {
     pub shannon: usize,
     pub target: (u32, i128),
     pub weights: Vec<(u32, i128)>,
+}
+
+/// A proof that is proposed: its text, and what its sides are.
+#[derive(Drop)]
+pub struct Proposal {
+    pub text: Vec<u8>,
+    pub split: Split,
 }
 
 /// Whether a term is over sets and has a plus.
@@ -52,30 +58,30 @@ fn are_plus(terms: &[Term], space: Space) -> bool
 
 /// Whether an equation's right side begins with so many terms over sets, its other terms there are the constraints with
 /// their weights, and its left side is the target so many times.
-fn is_proof(
+pub fn is_proof(
     alloc: Global,
     relation: &Relation,
     space: Space,
     target: &Row,
     constraints: &[Constraint],
-    proposal: &Proposal,
+    split: &Split,
 ) -> Result<bool, AllocError>
     requires space { IsSpace space }
     requires within { IsRelationOf space.variables space.rates (relation_view relation.now) }
     ensures { IfOk result (λ b. OnTrue b (IsProofFrom space.variables (relation_view relation.now) target.now constraints.now)) }
 {
     let right = relation.right.terms.as_slice();
-    let weights = proposal.weights.as_slice();
-    if proposal.shannon > right.len() || proposal.target.1 < 1 {
+    let weights = split.weights.as_slice();
+    if split.shannon > right.len() || split.target.1 < 1 {
         return Ok(false);
     }
-    let (shannon, rest) = right.split_at(proposal.shannon);
+    let (shannon, rest) = right.split_at(split.shannon);
     if !are_plus(shannon, space) || !are_allowed(constraints, weights) {
         return Ok(false);
     }
     let multiple = common_denominator(relation);
     let left = side_row(alloc, relation.left.terms.as_slice(), multiple, space)?;
-    let is_target = is_multiple(alloc, space, &left, target, &proposal.target)?;
+    let is_target = is_multiple(alloc, space, &left, target, &split.target)?;
     drop(left);
     if !is_target {
         return Ok(false);
@@ -103,7 +109,7 @@ pub fn tells_proof(
             names.space(),
             target,
             constraints,
-            proposal,
+            &proposal.split,
         ),
         None => Ok(false),
     }

@@ -13,7 +13,7 @@ use crate::finding::{joint_sum, own_sum};
 use crate::joining::{add_term, joined_terms};
 use crate::judging::is_same;
 use crate::measures::{Measure, measures};
-use crate::proof_judging::{Proposal, tells_proof};
+use crate::proof_judging::{Proposal, Split, tells_proof};
 use crate::shortest::shortest;
 use crate::telling::names_of;
 use crate::untold::Untold;
@@ -28,9 +28,9 @@ use it_syntax::types::{Atom, Relation, Sign, Term};
 use std::alloc::{AllocError, Global};
 
 /// The terms of a target, and how often they have it.
-struct Goal {
-    terms: Vec<Term>,
-    factor: i128,
+pub struct Goal {
+    pub terms: Vec<Term>,
+    pub factor: i128,
 }
 
 impl Drop for Goal {
@@ -43,11 +43,11 @@ impl Drop for Goal {
 }
 
 /// What is summed up, for a target so many times: terms over sets, the terms of constraints, and the weights of these.
-struct Summands {
-    scale: i128,
-    shannon: Vec<Term>,
-    rest: Vec<Term>,
-    weights: Vec<(u32, i128)>,
+pub struct Summands {
+    pub scale: i128,
+    pub shannon: Vec<Term>,
+    pub rest: Vec<Term>,
+    pub weights: Vec<(u32, i128)>,
 }
 
 impl Drop for Summands {
@@ -64,13 +64,13 @@ impl Drop for Summands {
 /// What is to be proved and what may be used: a target, its terms, the constraints of the question's problem, and how these
 /// are written.
 #[derive(Drop)]
-struct Asked<'a> {
-    question: &'a Question,
-    measures: &'a [Measure],
-    names: &'a Names,
-    target: &'a Row,
-    goal: &'a Goal,
-    constraints: &'a [Constraint],
+pub struct Asked<'a> {
+    pub question: &'a Question,
+    pub measures: &'a [Measure],
+    pub names: &'a Names,
+    pub target: &'a Row,
+    pub goal: &'a Goal,
+    pub constraints: &'a [Constraint],
 }
 
 /// The set of one variable.
@@ -103,7 +103,7 @@ fn elemental_atom(n: u8, index: u32) -> Atom
 }
 
 /// Adds a constraint by its number so many times.
-fn put_weighted(
+pub fn put_weighted(
     summands: &mut Summands,
     asked: &Asked<'_>,
     index: u32,
@@ -119,7 +119,7 @@ fn put_weighted(
 }
 
 /// What a certificate sums up, as often as the goal has its target.
-fn summed_up(
+pub fn summed_up(
     alloc: Global,
     asked: &Asked<'_>,
     certificate: &Certificate,
@@ -182,9 +182,11 @@ fn proposal(
     let shannon = if is_empty { 1 } else { shannon.len() };
     Ok(Proposal {
         text,
-        shannon,
-        target,
-        weights,
+        split: Split {
+            shannon,
+            target,
+            weights,
+        },
     })
 }
 
@@ -230,7 +232,7 @@ fn proof_by(
 }
 
 /// The sum of the numbers of terms.
-fn sum_of_numbers(terms: &[Term]) -> i128 {
+pub fn sum_of_numbers(terms: &[Term]) -> i128 {
     let mut sum: i128 = 0;
     for term in terms {
         sum = sum.saturating_add(term.number as i128);
@@ -239,7 +241,7 @@ fn sum_of_numbers(terms: &[Term]) -> i128 {
 }
 
 /// What a proof with the least sum of terms over sets sums up: no more terms than so many.
-fn least_summands(
+pub fn least_summands(
     alloc: Global,
     asked: &Asked<'_>,
     scale: i128,
@@ -312,7 +314,7 @@ fn place_of(rows: &[Row], row: &Row) -> Option<usize> {
 }
 
 /// A row as a goal: in the own terms of the relation that the question asks for, where it is the row of one of its targets.
-fn goal_of(
+pub fn goal_of(
     alloc: Global,
     question: &Question,
     measures: &[Measure],

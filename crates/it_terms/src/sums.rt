@@ -34,7 +34,7 @@ fn add_term(
 }
 
 /// Adds the terms of a row so often as a weight says.
-fn add_terms(
+pub fn add_terms(
     sums: &mut Sums,
     places: usize,
     terms: &[(u32, i128)],
@@ -68,7 +68,7 @@ fn add_constraint(
 }
 
 /// Adds each constraint so often as its weight says.
-fn add_constraints(
+pub fn add_constraints(
     sums: &mut Sums,
     places: usize,
     constraints: &[Constraint],

@@ -89,6 +89,20 @@ fn write_side(
     Ok(())
 }
 
+/// The text of the terms of a side, nothing where there are none.
+pub fn terms_text(
+    alloc: Global,
+    measures: &[Measure],
+    names: &Names,
+    terms: &[Term],
+) -> Result<Vec<u8>, AllocError> {
+    let mut out = Vec::new(alloc);
+    if !terms.is_empty() {
+        write_side(&mut out, measures, names, terms)?;
+    }
+    Ok(out)
+}
+
 /// What stands between the sums.
 fn sign_text(sign: Sign) -> &'static [u8] {
     match sign {

@@ -19,6 +19,7 @@ HELP = """usage: ./ask [WORDS] FILE..
 Answers question files in the field's own notation (docs/ask.md); - is standard input.
 --steps      below each proof its steps
 --short      proofs with the least sum of terms, which may take long
+--whole      proofs with the terms of the lines that they name, to be pasted
 --needs      behind each needed row of a region a point at which it alone fails
 --if         below each no the weakest independences and functions that make a yes of it, on up to six variables
 --copies     below each no the first copy, or pair of copies, with which it is a yes
@@ -74,6 +75,8 @@ class Words:
             raise WordsError
         if self.mode:
             self.for_questions()
+        if "--whole" not in self.telling:
+            self.telling.append("--named")
 
     def for_questions(self) -> None:
         """Refuses the words that are for question files alone."""
@@ -81,7 +84,7 @@ class Words:
             raise WordsError
 
     def _take(self, word: str) -> None:
-        if word in ("--steps", "--short"):
+        if word in ("--steps", "--short", "--whole"):
             self.telling.append(word)
         elif word in ("--latex", "--document", "--needs", "--if", "--copies", "--code", "--made", "--proofs"):
             self.options.add(word)
@@ -339,7 +342,8 @@ class Asker:
 
     def _told_below(self, line: str) -> tuple[int, list[str]]:
         """The status of `tell`, and what it writes below the first line of an answer; of an invalid one that, in its place."""
-        status, told = self._tell([line], self.words.telling)
+        # (the lines that names would count are those of a made question)
+        status, told = self._tell([line], [word for word in self.words.telling if word not in ("--named", "--whole")])
         first, *below = told.split("\n")[:-1] or [""]
         return status, below if status != 1 else [f"  {first.partition(' ')[2]}"]
 

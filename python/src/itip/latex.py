@@ -14,12 +14,13 @@ WIDTH = 72  # of a line, in letters of the text form
 LEFT = 40  # of what stands left of a sign
 SIGNS = {"<=": r"\le", ">=": r"\ge", "=": "="}  # as text and as LaTeX
 ESCAPES = str.maketrans({"\\": r"\textbackslash{}", "~": r"\~{}", "^": r"\^{}", **{sign: "\\" + sign for sign in "#$%&_{}"}})
-# a name or a number, with the bracket that makes it the word of an entropy; a fraction; a bar; a sign
-TOKEN = re.compile(r"([0-9]+)/([0-9]+) |([A-Za-z0-9_]+)(\(?)|\||[<>]=")
+# the name of a line; a name or a number, with the bracket that makes it the word of an entropy; a fraction; a bar; a sign
+LINE = r"\((given|row)[ ~]([0-9.]+)\)"
+TOKEN = re.compile(LINE + r"|([0-9]+)/([0-9]+) |([A-Za-z0-9_]+)(\(?)|\||[<>]=")
 NUMBER = re.compile("-?[0-9]+")
-ATOM = re.compile(r"[A-Za-z_][A-Za-z0-9_]*|[HIh]\([A-Za-z0-9_,;|]+\)")
+ATOM = re.compile(r"[A-Za-z_][A-Za-z0-9_]*|[HIh]\([A-Za-z0-9_,;|]+\)|" + LINE)
 # a sign, or a term: its sign, its number and what that counts
-PIECE = re.compile(r"<=|>=|=|(?:[-+] )*(?:-?[0-9]+(?:/[0-9]+)? (?=[A-Za-z_]))?[^ ]+")
+PIECE = re.compile(r"<=|>=|=|(?:[-+] )*(?:-?[0-9]+(?:/[0-9]+)? (?=[A-Za-z_(]))?[^ ]+")
 
 
 def escaped(text: str) -> str:
@@ -61,11 +62,15 @@ def formula(text: str, names: Names | None = None) -> str:
 
     >>> print(formula("1/2 H(X1) + 2 R <= I(X1;Key|Z)"))
     \tfrac{1}{2}\,H(X_{1}) + 2 R \le I(X_{1};\mathit{Key}\mid Z)
+    >>> print(formula("I(X;Y) - 2 (given 1)"))
+    I(X;Y) - 2 (\text{given 1})
     """
     known = names or Names()
 
     def written(token: re.Match[str]) -> str:
-        above, below, word, bracket = token.groups()
+        line, number, above, below, word, bracket = token.groups()
+        if line:
+            return rf"(\text{{{line} {number}}})"
         if above:
             return rf"\tfrac{{{above}}}{{{below}}}\,"
         if word:
@@ -75,10 +80,19 @@ def formula(text: str, names: Names | None = None) -> str:
     return TOKEN.sub(written, text)
 
 
+def in_one_word(text: str) -> str:
+    """A text whose names of lines are one word each.
+
+    >>> print(in_one_word("I(X;Y) - 2 (given 1)"))
+    I(X;Y) - 2 (given~1)
+    """
+    return re.sub(LINE, r"(\1~\2)", text)
+
+
 def is_relation(text: str) -> bool:
     """Whether a text is one: sums with signs between them. A sign may begin it."""
     due, signs, is_counted = True, 0, False  # whether a term is due, and whether a number stands before it
-    for place, word in enumerate(text.split()):
+    for place, word in enumerate(in_one_word(text).split()):
         if word in SIGNS:
             if due and place:
                 return False
@@ -123,7 +137,7 @@ def _relation(text: str, room: int, names: Names, width: int) -> list[str]:
     """The lines of one relation, with so much room before its sign; without any, all begins at the left and the sign stands below."""
     lines = [""]
     signs = used = 0
-    for place, piece in enumerate(PIECE.findall(" ".join(text.split()))):
+    for place, piece in enumerate(PIECE.findall(" ".join(in_one_word(text).split()))):
         if piece in SIGNS:
             if signs or (place and not room):
                 lines.append("")

@@ -5,4 +5,4 @@ use Rattle.it_tell.proofs.ProofLemmas.{ProofsAppended}
 use Rattle.it_tell.proofs.details.write_proofs.Given as goal
 
 abbrev pub invariant-loop-i : goal.invariant-loop-i
-invariant-loop-i l = ProofsAppended (question_body l.question) l.options.steps l.rows (map certificate_view l.proofs) l.initial.out.items l.out.items l.i
+invariant-loop-i l = ProofsAppended (question_body l.question) l.options l.rows (map certificate_view l.proofs) l.initial.out.items l.out.items l.i

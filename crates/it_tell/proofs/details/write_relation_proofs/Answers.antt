@@ -11,5 +11,5 @@ write_proofs-requires-clause-as_many c =
 
 pub returns : goal.returns
 returns c = on_ok_weaker c.write_proofs.result
-    (yes_details (question_body c.args.question.now) c.args.options.steps (map certificate_view c.args.proofs.now) c.in_ok-rows.rows.items c.args.out.now.items c.write_proofs.new.out.items c.in_ok-rows.ensures)
+    (yes_details (question_body c.args.question.now) c.args.options (map certificate_view c.args.proofs.now) c.in_ok-rows.rows.items c.args.out.now.items c.write_proofs.new.out.items c.in_ok-rows.ensures)
     (rw c.as_slice.ensures.value at c.write_proofs.ensures)

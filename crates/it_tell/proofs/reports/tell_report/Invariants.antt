@@ -3,7 +3,7 @@ use Rattle.it_tell.proofs.ReportLemmas.{IsTold}
 use Rattle.it_tell.proofs.reports.tell_report.Given as goal
 
 abbrev pub invariant-loop-rest : goal.invariant-loop-rest
-invariant-loop-rest g l = IsTold l.fn.options.steps (g.K.Sink.taken l.initial.sink) (g.K.Sink.taken l.sink) l.fn.bytes l.rest l.count l.some_invalid
+invariant-loop-rest g l = IsTold l.fn.options (g.K.Sink.taken l.initial.sink) (g.K.Sink.taken l.sink) l.fn.bytes l.rest l.count l.some_invalid
     × (g.K.Sink.faults l.sink ≡ g.K.Sink.faults l.initial.sink)
 
 abbrev pub decreases-loop-rest : goal.decreases-loop-rest

@@ -22,7 +22,7 @@ pub side_row-requires-2-clause-denominators : goal.side_row-requires-2-clause-de
 side_row-requires-2-clause-denominators c =
     let k = c.requires.within in
     let all : All (λ (t : Term). 1 ≤ t.denominator) c.as_slice-right.result.now = rw c.as_slice-right.ensures.value (right_denominators (relation_view c.args.relation.now) (k.some_multiple, k.small_multiple)) in
-    rw c.split_at.ensures.back (All-drop (λ (t : Term). 1 ≤ t.denominator) c.args.proposal.now.shannon c.as_slice-right.result.now all)
+    rw c.split_at.ensures.back (All-drop (λ (t : Term). 1 ≤ t.denominator) c.args.split.now.shannon c.as_slice-right.result.now all)
 
 pub returns : goal.returns
 returns c =
@@ -30,12 +30,12 @@ returns c =
     let n : ℕ = s.variables in
     let r : RelationView = relation_view c.args.relation.now in
     let cs : List Constraint = c.args.constraints.now in
-    let count : ℕ = c.args.proposal.now.shannon in
-    let ws : List (ℕ × ℤ) = c.args.proposal.now.weights.items in
-    let scale : ℤ = c.args.proposal.now.target.1 in
+    let count : ℕ = c.args.split.now.shannon in
+    let ws : List (ℕ × ℤ) = c.args.split.now.weights.items in
+    let scale : ℤ = c.args.split.now.target.1 in
     let front : c.split_at.result.0.now ≡ take count r.right = c.split_at.ensures.front ∙ ap (λ (ts : List Term). take count ts) c.as_slice-right.ensures.value in
     let back : c.split_at.result.1.now ≡ drop count r.right = c.split_at.ensures.back ∙ ap (λ (ts : List Term). drop count ts) c.as_slice-right.ensures.value in
-    let one : pos 1 ≤ℤ scale = search (rules, c.if-proposal-lt1.false) in
+    let one : pos 1 ≤ℤ scale = search (rules, c.if-split-lt1.false) in
     OnTrue_from c.in_ok-is_rest.is_rest (IsProofOf n r (value c.args.target.now) (forms_of (map of_constraint cs))) (λ e.
     split_proves s r c.args.target.now cs count c.in_ok-left.left c.in_ok-rest.rest scale ws
     (subst (λ (ts : List Term). All (IsPlusShannon n) ts) front c.if-not-are_plus.ensures)

@@ -1,0 +1,198 @@
+//! Sets that are closed under a question's functions, and terms over them. What comes of them is judged by the equation that it
+//! gives.
+ghost use Rattle.std.specs.Prelude.{◌≤◌};
+
+use it_closure::Dependences;
+use it_space::VarSet;
+use it_syntax::types::Atom;
+use std::alloc::{AllocError, Global};
+
+/// The closures of all sets of some variables by the sets' numbers, and the sets by how many members they have.
+pub struct Closures {
+    table: Vec<VarSet>,
+    by_size: Vec<VarSet>,
+}
+
+impl Drop for Closures {
+    fn drop(self) {
+        let Closures {
+            table: _,
+            by_size: _,
+        } = self;
+    }
+}
+
+/// I(P;Q|C) of closed sets, C inside P and Q; H(P|C) where P and Q are one.
+#[derive(Clone, Copy, PartialEq, Eq)]
+pub struct ClosedTerm {
+    pub first: VarSet,
+    pub second: VarSet,
+    pub given: VarSet,
+}
+
+/// How many members a set has.
+pub fn size(set: VarSet) -> u32 {
+    set.number().count_ones()
+}
+
+/// The sets of so many variables, those of fewer members first.
+fn sets_by_size(alloc: Global, variables: u8) -> Result<Vec<VarSet>, AllocError>
+    requires { variables ≤ 10 }
+{
+    let mut sets = Vec::new(alloc);
+    for members in 0..11 {
+        for number in 0..1u16 << variables {
+            let set = VarSet::from_number(number);
+            if size(set) == members {
+                sets.push(set)?;
+            }
+        }
+    }
+    Ok(sets)
+}
+
+/// The closures of the sets of so many variables.
+pub fn closures_of(
+    alloc: Global,
+    dependences: &Dependences,
+    variables: u8,
+) -> Result<Closures, AllocError>
+    requires { variables ≤ 10 }
+{
+    let mut table = Vec::new(alloc);
+    for number in 0..1u16 << variables {
+        table.push(dependences.close(VarSet::from_number(number)))?;
+    }
+    let by_size = sets_by_size(alloc, variables)?;
+    Ok(Closures { table, by_size })
+}
+
+impl Closures {
+    /// The closure of a set; of another one the set itself.
+    pub fn close(&self, set: VarSet) -> VarSet {
+        let at = set.number() as usize;
+        if at < self.table.len() {
+            self.table[at]
+        } else {
+            set
+        }
+    }
+
+    /// A set of fewest members inside a closed set, without what is given, that with it has this closure.
+    pub fn fewest(&self, closed: VarSet, given: VarSet) -> VarSet {
+        for set in self.by_size.as_slice() {
+            let apart = set.meet(given) == VarSet::empty();
+            if apart && set.inside(closed) && self.close(set.union(given)) == closed {
+                return *set;
+            }
+        }
+        closed.minus(given)
+    }
+
+    /// I(P;Q|C) of closed sets, None where it is 0.
+    pub fn mutual(&self, first: VarSet, second: VarSet, given: VarSet) -> Option<ClosedTerm> {
+        if first == given || second == given {
+            return None;
+        }
+        let (first, second) = if first.inside(second) {
+            (first, first)
+        } else if second.inside(first) {
+            (second, second)
+        } else if first.number() < second.number() {
+            (first, second)
+        } else {
+            (second, first)
+        };
+        Some(ClosedTerm {
+            first,
+            second,
+            given,
+        })
+    }
+
+    /// An entropy or a mutual information over closed sets, None where it is 0.
+    pub fn fold(&self, atom: &Atom) -> Option<ClosedTerm> {
+        match atom {
+            Atom::Entropy { of, given } => {
+                let all = self.close(of.union(*given));
+                self.mutual(all, all, self.close(*given))
+            }
+            Atom::Mutual { left, right, given } => self.mutual(
+                self.close(left.union(*given)),
+                self.close(right.union(*given)),
+                self.close(*given),
+            ),
+            _ => None,
+        }
+    }
+
+    /// What I(A;B|C) and another term are together by the chain rule for the side A: I(A;B|C) + I(A,B;S|B) = I(A;S|C).
+    fn joined_side(
+        &self,
+        a: VarSet,
+        b: VarSet,
+        given: VarSet,
+        second: &ClosedTerm,
+    ) -> Option<ClosedTerm> {
+        if second.given != b {
+            return None;
+        }
+        let both = self.close(a.union(b));
+        if second.first == both {
+            self.mutual(a, second.second, given)
+        } else if second.second == both {
+            self.mutual(a, second.first, given)
+        } else {
+            None
+        }
+    }
+
+    /// What two terms are together by one chain rule, the second one being given more; H(P|C) + H(S|P) = H(S|C).
+    pub fn joined(&self, first: &ClosedTerm, second: &ClosedTerm) -> Option<ClosedTerm> {
+        if first.first == first.second {
+            let goes_on = second.first == second.second && second.given == first.first;
+            return if goes_on {
+                self.mutual(second.first, second.first, first.given)
+            } else {
+                None
+            };
+        }
+        match self.joined_side(first.first, first.second, first.given, second) {
+            Some(term) => Some(term),
+            None => self.joined_side(first.second, first.first, first.given, second),
+        }
+    }
+
+    /// The atom of a term in few names.
+    pub fn atom(&self, term: &ClosedTerm) -> Atom {
+        let given = self.fewest(term.given, VarSet::empty());
+        let left = self.fewest(term.first, given);
+        if term.first == term.second {
+            return Atom::Entropy { of: left, given };
+        }
+        let right = self.fewest(term.second, given);
+        if left.number() <= right.number() {
+            Atom::Mutual { left, right, given }
+        } else {
+            Atom::Mutual {
+                left: right,
+                right: left,
+                given,
+            }
+        }
+    }
+
+    /// The place of a coordinate: the closure of a set, 0 where that is the closure of the empty set; a rate's own.
+    pub fn place(&self, coordinate: u32) -> u32 {
+        let at = coordinate as usize;
+        if at >= self.table.len() {
+            return coordinate;
+        }
+        let closed = self.table[at];
+        if closed == self.close(VarSet::empty()) {
+            0
+        } else {
+            closed.number() as u32
+        }
+    }
+}

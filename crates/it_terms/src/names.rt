@@ -1,0 +1,153 @@
+//! Constraints by the names of their lines.
+ghost use Rattle.std.specs.Prelude.{◌≡◌, ◌++◌, [], codes, decimal, int_lt, length, map, pos, slice_index_or, unsigned_abs, ◌==◌, if◌then◌else◌, nat_lt, IfOk, OnOk};
+ghost use Rattle.it_space.specs.declared.problems.Origin.TheVariants.{Rate};
+ghost use Rattle.it_print.specs.Lines.{origin_text, origins_of};
+ghost use Rattle.it_terms.specs.FunctionProofs.{by_comment, line_name, named_weight, named_weights, weight_sign};
+
+use it_print::write_number;
+use it_space::{Constraint, Origin};
+use itoa::Buffer;
+use std::alloc::{AllocError, Global};
+
+/// Where the constraint of a number comes from.
+fn origin_at(constraints: &[Constraint], line: u32) -> Origin
+    ensures { result ≡ slice_index_or (origins_of constraints.now) line (Rate 0) }
+{
+    let index = line as usize;
+    if index < constraints.len() {
+        constraints[index].origin
+    } else {
+        Origin::Rate { line: 0 }
+    }
+}
+
+/// `.I` where a line gives several constraints.
+fn write_part(out: &mut Vec<u8>, part: u16, parts: u16) -> Result<(), AllocError>
+    ensures { OnOk result (out.new.items ≡ out.old.items ++ (if nat_lt 1 parts then codes "." ++ decimal part else [])) }
+{
+    if parts > 1 {
+        out.extend_from_slice(b".")?;
+        write_number(out, part as usize)?;
+    }
+    Ok(())
+}
+
+/// `given J`, `given J.I` or `row J`.
+#[tactic(auto, unfolding(it_print::specs::Lines::origin_text))]
+fn write_origin(out: &mut Vec<u8>, origin: Origin) -> Result<(), AllocError>
+    ensures { OnOk result (out.new.items ≡ out.old.items ++ origin_text origin) }
+{
+    match origin {
+        Origin::Given { line, part, parts } => {
+            out.extend_from_slice(b"given ")?;
+            write_number(out, line as usize)?;
+            write_part(out, part, parts)
+        }
+        Origin::Rate { line } => {
+            out.extend_from_slice(b"row ")?;
+            write_number(out, line as usize)
+        }
+    }
+}
+
+/// The name of the line of a constraint.
+fn write_line_name(
+    out: &mut Vec<u8>,
+    constraints: &[Constraint],
+    line: u32,
+) -> Result<(), AllocError>
+    ensures { OnOk result (out.new.items ≡ out.old.items ++ line_name (origins_of constraints.now) line) }
+{
+    write_origin(out, origin_at(constraints, line))
+}
+
+/// What stands before the name of a line in a list of them.
+fn before_name(is_first: bool) -> &'static [u8]
+    ensures { result.now ≡ (if is_first then codes "  # by " else codes ", ") }
+{
+    if is_first { b"  # by " } else { b", " }
+}
+
+/// The names of lines as a comment behind a text.
+pub fn by_comment(
+    alloc: Global,
+    constraints: &[Constraint],
+    lines: &[u32],
+) -> Result<Vec<u8>, AllocError>
+    ensures { IfOk result (λ t. t.items ≡ by_comment (origins_of constraints.now) lines.now) }
+{
+    let mut out = Vec::new(alloc);
+    let mut is_first = true;
+    for line in lines {
+        out.extend_from_slice(before_name(is_first))?;
+        write_line_name(&mut out, constraints, *line)?;
+        is_first = false;
+    }
+    Ok(out)
+}
+
+/// Whether a number is below 0.
+fn is_below_zero(number: i128) -> bool
+    ensures { result ≡ int_lt number (pos 0) }
+{
+    number < 0
+}
+
+/// The sign of a weight, which is the first of its side or not.
+fn weight_sign(is_first: bool, is_negative: bool) -> &'static [u8]
+    ensures { result.now ≡ weight_sign is_first is_negative }
+{
+    match (is_first, is_negative) {
+        (true, true) => b"- ",
+        (true, false) => b"",
+        (false, true) => b" - ",
+        (false, false) => b" + ",
+    }
+}
+
+/// A number before a name with a blank, and nothing where it is 1.
+fn write_times(out: &mut Vec<u8>, number: u128) -> Result<(), AllocError>
+    ensures { OnOk result (out.new.items ≡ out.old.items ++ (if number == 1 then [] else decimal number ++ codes " ")) }
+{
+    if number != 1 {
+        let mut buffer = Buffer::new();
+        out.extend_from_slice(buffer.format(number).as_bytes())?;
+        out.extend_from_slice(b" ")?;
+    }
+    Ok(())
+}
+
+/// A weight of a constraint by the name of its line.
+#[tactic(auto, unfolding(crate::specs::FunctionProofs::named_weight))]
+fn write_weight(
+    out: &mut Vec<u8>,
+    constraints: &[Constraint],
+    is_first: bool,
+    weight: &(u32, i128),
+) -> Result<(), AllocError>
+    ensures { OnOk result (out.new.items ≡ out.old.items ++ named_weight (origins_of constraints.now) is_first weight.now) }
+{
+    out.extend_from_slice(weight_sign(is_first, is_below_zero(weight.1)))?;
+    write_times(out, weight.1.unsigned_abs())?;
+    out.extend_from_slice(b"(")?;
+    write_line_name(out, constraints, weight.0)?;
+    out.extend_from_slice(b")")
+}
+
+/// A right side with weights of constraints behind it by the names of their lines.
+pub fn with_names(
+    alloc: Global,
+    right: &[u8],
+    constraints: &[Constraint],
+    weights: &[(u32, i128)],
+) -> Result<Vec<u8>, AllocError>
+    ensures { IfOk result (λ t. t.items ≡ right.now ++ named_weights (origins_of constraints.now) (length right.now == 0) weights.now) }
+{
+    let mut out = Vec::from_slice(alloc, right)?;
+    let mut is_first = right.is_empty();
+    for weight in weights {
+        write_weight(&mut out, constraints, is_first, weight)?;
+        is_first = false;
+    }
+    Ok(out)
+}
