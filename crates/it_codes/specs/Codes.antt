@@ -3,7 +3,7 @@
 use Rattle.std.specs.Prelude.{◌≡◌, ℕ, ◌+◌, ◌*◌, ◌/◌, ◌%◌, ◌^◌, ◌≤◌, ◌<◌, Bool, cond, nat_eq, bit_and, pos, ℤ, List, [], ◌∷◌, map, length}
 use Rattle.std.specs.List.{list_all, count_by, range_with_len}
 use Rattle.it_space.specs.Rows.{point_of}
-use Rattle.it_codes.specs.declared.codes.Code.{Code}
+use Rattle.it_codes.specs.declared.codes.LinearCode.{LinearCode}
 use Rattle.it_codes.specs.declared.codes.Field.{Field}
 use Rattle.it_codes.specs.declared.codes.Field.TheVariants.{Two, Three}
 use Rattle.it_codes.specs.declared.codes.Variable.{Variable}
@@ -41,31 +41,31 @@ abbrev pub count_around : ℕ → List ℕ → ℕ
 count_around s sets = count_by (λ t. nat_eq (bit_and s t) s) sets
 
 -- at how many messages all functions of a set of variables are 0
-abbrev pub kernel_size : Code → ℕ → ℕ
+abbrev pub kernel_size : LinearCode → ℕ → ℕ
 kernel_size code s = count_around s (zero_sets (size code.field) code.symbols code.variables.items)
 
 -- h is the entropy of a set of variables, in units of log q: together they take q ^ h values, each at as many messages as 0
-abbrev pub IsEntropy : Code → ℕ → ℕ → Type 0
+abbrev pub IsEntropy : LinearCode → ℕ → ℕ → Type 0
 IsEntropy code s h = kernel_size code s * size code.field ^ h ≡ size code.field ^ code.symbols
 
 -- how many variables there are
-abbrev pub variables_of : Code → ℕ
+abbrev pub variables_of : LinearCode → ℕ
 variables_of code = length code.variables.items
 
 -- the value of a set at a point is so many times its entropy
-abbrev pub HasEntropy : Code → ℕ → List ℤ → ℕ → Type 0
+abbrev pub HasEntropy : LinearCode → ℕ → List ℤ → ℕ → Type 0
 HasEntropy code times values s = (h : ℕ) × (point_of values s ≡ pos (times * h)) × IsEntropy code s h
 
 -- the values of all sets are
-abbrev pub AreEntropies : Code → ℕ → List ℤ → Type 0
+abbrev pub AreEntropies : LinearCode → ℕ → List ℤ → Type 0
 AreEntropies code times values = (s : ℕ) → 1 ≤ s → s < 2 ^ variables_of code → HasEntropy code times values s
 
 -- some set of variables has no such entropy
-abbrev pub LackEntropy : Code → Type 0
+abbrev pub LackEntropy : LinearCode → Type 0
 LackEntropy code = (s : ℕ) × (1 ≤ s) × (s < 2 ^ variables_of code) × ((h : ℕ) → ¬ IsEntropy code s h)
 
 -- the codes that calls take: of 1 to 10 variables, with at most 4096 messages
-pub record IsCode (code : Code) : Type 0 where
+pub record IsCode (code : LinearCode) : Type 0 where
   pub some : 1 ≤ variables_of code
   pub few : variables_of code ≤ 10
   pub messages : size code.field ^ code.symbols ≤ 4096

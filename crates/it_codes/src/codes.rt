@@ -30,7 +30,7 @@ pub struct Variable {
 
 /// Variables that are functions of one message, which has so many symbols of the field and is uniform.
 #[derive(Debug, Drop)]
-pub struct Code {
+pub struct LinearCode {
     pub field: Field,
     pub symbols: u8,
     pub variables: Vec<Variable>,

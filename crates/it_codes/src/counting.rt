@@ -2,7 +2,7 @@
 ghost use Rattle.std.specs.Prelude.{◌≡◌, ◌+◌, ◌*◌, ◌≤◌, ◌^◌, ◌<◌, cond, length, IfOk};
 ghost use Rattle.it_codes.specs.Codes.{size, IsCode, count_around, is_zero_at, vanishes, zero_set, zero_sets};
 
-use crate::codes::{Code, Variable};
+use crate::codes::{LinearCode, Variable};
 use std::alloc::{AllocError, Global};
 
 /// Whether a linear function is 0 at a message.
@@ -59,7 +59,7 @@ fn zero_set(size: u32, message: u32, variables: &[Variable]) -> u16
 }
 
 /// How many messages there are.
-pub fn message_count(code: &Code) -> u32
+pub fn message_count(code: &LinearCode) -> u32
     requires { IsCode code.now }
     ensures { result ≡ size code.now.field ^ code.now.symbols }
 {
@@ -67,7 +67,7 @@ pub fn message_count(code: &Code) -> u32
 }
 
 /// The sets of variables that are 0, at each message.
-pub fn zero_sets(alloc: Global, code: &Code) -> Result<Vec<u16>, AllocError>
+pub fn zero_sets(alloc: Global, code: &LinearCode) -> Result<Vec<u16>, AllocError>
     requires { IsCode code.now }
     ensures { IfOk result (λ v. v.items ≡ zero_sets (size code.now.field) code.now.symbols code.now.variables.items) }
 {

@@ -3,7 +3,7 @@ ghost use Rattle.std.specs.Prelude.{◌≡◌, ◌≤◌, ◌<◌, ◌*◌, ◌-
 ghost use Rattle.std.specs.Bool.{OnFalse, OnTrue};
 ghost use Rattle.it_codes.specs.Codes.{size, variables_of, zero_sets, AreEntropies, HasEntropy, IsCode, IsEntropy, LackEntropy};
 
-use crate::codes::Code;
+use crate::codes::LinearCode;
 use crate::counting::{count_around, message_count, zero_sets};
 use it_space::{Point, Space};
 use std::alloc::{AllocError, Global};
@@ -32,7 +32,7 @@ fn exponent(count: u32, size: u32, total: u32) -> Option<u32>
 
 /// The entropy of a set of variables. The sets are those of the variables that are 0, at each message.
 #[tactic(auto, using(crate::proofs::EntropyLemmas::zero_set_count, crate::proofs::EntropyLemmas::some_message, crate::proofs::EntropyLemmas::two_elements, crate::proofs::EntropyLemmas::three_elements))]
-fn entropy(code: &Code, sets: &[u16], set: u16) -> Option<u32>
+fn entropy(code: &LinearCode, sets: &[u16], set: u16) -> Option<u32>
     requires code { IsCode code.now }
     requires sets { sets.now ≡ zero_sets (size code.now.field) code.now.symbols code.now.variables.items }
     ensures found { IfSome result (λ h. IsEntropy code.now set h) }
@@ -61,7 +61,7 @@ fn is_product(value: i128, times: u64, entropy: u32) -> bool
 
 /// Whether the value of a set at a point is so many times its entropy.
 #[tactic(auto, using(crate::proofs::EntropyLemmas::one_entropy))]
-fn has_entropy(code: &Code, sets: &[u16], times: u64, point: &Point, set: u16) -> bool
+fn has_entropy(code: &LinearCode, sets: &[u16], times: u64, point: &Point, set: u16) -> bool
     requires code { IsCode code.now }
     requires sets { sets.now ≡ zero_sets (size code.now.field) code.now.symbols code.now.variables.items }
     requires from_one { 1 ≤ set }
@@ -76,7 +76,7 @@ fn has_entropy(code: &Code, sets: &[u16], times: u64, point: &Point, set: u16) -
 }
 
 /// Whether the values of all sets are.
-fn have_entropies(code: &Code, sets: &[u16], times: u64, point: &Point) -> bool
+fn have_entropies(code: &LinearCode, sets: &[u16], times: u64, point: &Point) -> bool
     requires code { IsCode code.now }
     requires sets { sets.now ≡ zero_sets (size code.now.field) code.now.symbols code.now.variables.items }
     requires complete { 2 ^ variables_of code.now - 1 ≤ length point.now }
@@ -94,7 +94,7 @@ fn have_entropies(code: &Code, sets: &[u16], times: u64, point: &Point) -> bool
 /// Whether the values of all sets of a code's variables at a point are so many times their entropies. Rates count nothing.
 pub fn are_entropies(
     alloc: Global,
-    code: &Code,
+    code: &LinearCode,
     times: u64,
     point: &Point,
 ) -> Result<bool, AllocError>
@@ -108,7 +108,7 @@ pub fn are_entropies(
 }
 
 /// The entropies of all sets of a code's variables, by number, in units of one symbol; none where one has none.
-pub fn entropies_of(alloc: Global, code: &Code) -> Result<Option<Point>, AllocError>
+pub fn entropies_of(alloc: Global, code: &LinearCode) -> Result<Option<Point>, AllocError>
     requires { IsCode code.now }
     ensures complete { IfOk result (λ o. IfSome o (λ p. length p ≡ 2 ^ variables_of code.now - 1)) }
     ensures values { IfOk result (λ o. IfSome o (AreEntropies code.now 1)) }

@@ -5,5 +5,5 @@ mod codes;
 mod counting;
 mod entropies;
 
-pub use codes::{Code, Field, Variable};
+pub use codes::{Field, LinearCode, Variable};
 pub use entropies::{are_entropies, entropies_of};
