@@ -64,8 +64,12 @@ AreEntropies code times values = (s : ℕ) → 1 ≤ s → s < 2 ^ variables_of 
 abbrev pub LackEntropy : LinearCode → Type 0
 LackEntropy code = (s : ℕ) × (1 ≤ s) × (s < 2 ^ variables_of code) × ((h : ℕ) → ¬ IsEntropy code s h)
 
--- the codes that calls take: of 1 to 10 variables, with at most 4096 messages
+-- the most messages of a code that calls take
+abbrev pub most_messages : ℕ
+most_messages = 4096
+
+-- the codes that calls take: of 1 to 10 variables, with at most so many messages
 pub record IsCode (code : LinearCode) : Type 0 where
   pub some : 1 ≤ variables_of code
   pub few : variables_of code ≤ 10
-  pub messages : size code.field ^ code.symbols ≤ 4096
+  pub messages : size code.field ^ code.symbols ≤ most_messages
