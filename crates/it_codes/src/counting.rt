@@ -1,0 +1,86 @@
+//! The messages at which functions are 0, by counting.
+ghost use Rattle.std.specs.Prelude.{◌≡◌, ◌+◌, ◌*◌, ◌≤◌, ◌^◌, ◌<◌, cond, length, IfOk};
+ghost use Rattle.it_codes.specs.Codes.{size, IsCode, count_around, is_zero_at, vanishes, zero_set, zero_sets};
+
+use crate::codes::{LinearCode, Variable};
+use std::alloc::{AllocError, Global};
+
+/// Whether a linear function is 0 at a message.
+fn is_zero_at(size: u32, message: u32, function: &[u8]) -> bool
+    requires some { 1 ≤ size }
+    requires few { size ≤ 3 }
+    ensures { result ≡ is_zero_at size message function.now }
+{
+    let mut sum = 0;
+    let mut left = message;
+    for coefficient in function {
+        sum = (sum + *coefficient as u32 * (left % size)) % size;
+        left = left / size;
+    }
+    sum == 0
+}
+
+/// Whether all functions of a variable are 0 at a message.
+fn vanishes(size: u32, message: u32, variable: &Variable) -> bool
+    requires some { 1 ≤ size }
+    requires few { size ≤ 3 }
+    ensures { result ≡ vanishes size message variable.now }
+{
+    variable
+        .functions
+        .iter()
+        .all(|function| is_zero_at(size, message, function.as_slice()))
+}
+
+/// A number with a place added, or without.
+fn with_place(set: u16, place: u16, is_member: bool) -> u16
+    requires set { set < place }
+    requires place { place ≤ 512 }
+    ensures value { result ≡ set + place * cond is_member 1 0 }
+    ensures below { result < 2 * place }
+{
+    if is_member { set + place } else { set }
+}
+
+/// The set of those variables that are 0 at a message.
+fn zero_set(size: u32, message: u32, variables: &[Variable]) -> u16
+    requires some { 1 ≤ size }
+    requires few { size ≤ 3 }
+    requires variables { length variables.now ≤ 10 }
+    ensures { result ≡ zero_set size message variables.now }
+{
+    let mut set = 0;
+    let mut place = 1;
+    for variable in variables {
+        set = with_place(set, place, vanishes(size, message, variable));
+        place *= 2;
+    }
+    set
+}
+
+/// How many messages there are.
+pub fn message_count(code: &LinearCode) -> u32
+    requires { IsCode code.now }
+    ensures { result ≡ size code.now.field ^ code.now.symbols }
+{
+    code.field.size().pow(code.symbols as u32)
+}
+
+/// The sets of variables that are 0, at each message.
+pub fn zero_sets(alloc: Global, code: &LinearCode) -> Result<Vec<u16>, AllocError>
+    requires { IsCode code.now }
+    ensures { IfOk result (λ v. v.items ≡ zero_sets (size code.now.field) code.now.symbols code.now.variables.items) }
+{
+    let size = code.field.size();
+    (0..message_count(code))
+        .map(|message| zero_set(size, message, code.variables.as_slice()))
+        .collect(alloc)
+}
+
+/// How many of some sets hold all members of a set.
+pub fn count_around(set: u16, sets: &[u16]) -> u32
+    requires { length sets.now ≤ 4096 }
+    ensures { result ≡ count_around set sets.now }
+{
+    sets.iter().filter(|other| set & **other == set).count() as u32
+}
