@@ -6,7 +6,9 @@ use Rattle.it_space.proofs.EveryLemmas.{every-append}
 use Rattle.it_polymatroid.specs.Elementals.{span}
 use Rattle.it_closure.specs.Closures.{is_inside}
 use Rattle.it_forms.proofs.FormFacts.{always_any, always_said}
-use Rattle.it_forms.proofs.FormParts.{Always, always_weaker}
+use Rattle.it_forms.specs.Forms.{Form, Give, Take, Then}
+use Rattle.it_forms.specs.Letters.{Letter}
+use Rattle.it_forms.proofs.FormParts.{Always, Fact, always_weaker}
 use Rattle.it_syntax.specs.Givens.{GivenView}
 use Rattle.it_syntax.specs.NamesViews.{NamesView}
 use Rattle.it_question.specs.Lines.{split_lines, letters_of_lines}
@@ -21,8 +23,8 @@ use Rattle.it_copy.specs.Extensions.{equations_at, equations_of, extended, place
 use Rattle.it_copy.specs.Files.{copies_with_questions, IsCopyFile}
 use Rattle.it_copy.proofs.CopyOutlines.{copy_file_has}
 use Rattle.std.specs.Prelude.{codes}
-use Rattle.it_forms.specs.Words.{to_end}
-use Rattle.it_syntax.specs.LineForms.{names, sum}
+use Rattle.it_forms.specs.Words.{file_end, to_end, word}
+use Rattle.it_syntax.specs.LineForms.{names, relation, sum}
 use Rattle.it_syntax.specs.Meaning.{RelationView, multiple_from}
 use Rattle.it_syntax.specs.Multiples.{most_terms}
 use Rattle.it_syntax.specs.Scopes.{Scope, scope_of}
@@ -94,14 +96,32 @@ bound_line_small v = always_weaker (bound (scope_of v true)) _ _ (λ p r h l e u
 aim_small : (v : NamesView) → Always (aim v) (λ p x. AreSmall p → HasSmallNumbers x.1)
 unfolding aim Always
 aim_small v = (
-  λ l e u. always_weaker _ _ _ (λ p r h small. h (front_small p [] (rest_small (l ∷ []) (p ++ []) small))) (relation_line_small v),
-  λ l e u. always_weaker (to_end (bound (scope_of v true))) _ _ (λ p r h small. h (front_small p [] (rest_small (l ∷ []) (p ++ []) small))) (bound_line_small v),
+  λ l e u. always_weaker (to_end (relation (scope_of v true))) (λ p r. AreSmall p → HasSmallNumbers r) (λ p r. AreSmall ((l ∷ []) ++ (p ++ [])) → HasSmallNumbers r) (λ p r h small. h (front_small p [] (rest_small (l ∷ []) (p ++ []) small))) (relation_line_small v),
+  λ l e u. always_weaker (to_end (bound (scope_of v true))) (λ p r. AreSmall p → HasSmallNumbers r) (λ p r. AreSmall ((l ∷ []) ++ (p ++ [])) → HasSmallNumbers r) (λ p r h small. h (front_small p [] (rest_small (l ∷ []) (p ++ []) small))) (bound_line_small v),
 )
 
+-- of a form after another one, whatever that read
+then_any : {A B : Type 0} (f : Form A) (g : A → Form B) (P : Fact B) → ((p : List Letter) (a : A) → Always (g a) (λ q y. P (p ++ q) y)) → Always (Then f g) P
+unfolding Always
+then_any f g P each = always_any f (λ p a. Always (g a) (λ q y. P (p ++ q) y)) each
+
+-- or where that always has a fact
+then_by : {A B : Type 0} (f : Form A) (g : A → Form B) (F : Fact A) (P : Fact B) → Always f F → ((p : List Letter) (a : A) → F p a → Always (g a) (λ q y. P (p ++ q) y)) → Always (Then f g) P
+unfolding Always
+then_by f g F P h each = always_weaker f F (λ p a. Always (g a) (λ q y. P (p ++ q) y)) each h
+
+give_is : {A : Type 0} (a : A) (P : Fact A) → P [] a → Always (Give a) P
+unfolding Always
+give_is a P h = h
+
 sharing_small : Always sharing (λ p x. AreSmall p → HasSmallNumbers x.relation)
-unfolding sharing Always
-sharing_small k e u = always_any secret_name _ (λ p secret l e u. always_any (party_names secret) _ (λ q all m e u. always_any (to_end (names (party_env all))) _ (λ r first. always_any (more_lists (party_env all) (first ∷ [])) _
-    (λ s lists. always_weaker (aim all) _ _ (λ t asked h n e u small. h (front_small t _ (rest_small s _ (rest_small r _ (rest_small (m ∷ []) _ (rest_small q _ (rest_small (l ∷ []) _ (rest_small p _ (rest_small (k ∷ []) _ small))))))))) (aim_small all)))))
+unfolding sharing
+sharing_small =
+    then_any (Take (word (codes "secret"))) _ _ (λ k u. then_any secret_name _ _ (λ p secret.
+    then_any (Take (word (codes "parties"))) _ _ (λ l u. then_any (party_names secret) _ _ (λ q all.
+    then_any (Take (word (codes "qualified"))) _ _ (λ m u. then_any (to_end (names (party_env all))) _ _ (λ r first.
+    then_any (more_lists (party_env all) (first ∷ [])) _ _ (λ s lists. then_by (aim all) _ _ _ (aim_small all) (λ t asked h. then_any file_end _ _ (λ n u.
+    give_is _ _ (λ small. h (front_small t _ (rest_small s _ (rest_small r _ (rest_small m _ (rest_small q _ (rest_small l _ (rest_small p _ (rest_small k _ small))))))))))))))))))
 
 relation_of_file : (bytes : List ℕ) (x : SharingView) → IsSharingFile bytes x → HasSmallNumbers x.relation
 relation_of_file bytes x asked =

@@ -1,5 +1,8 @@
 -- An answer's value has no float and is not deep.
-use Rattle.std.proofs.Common.{◌≡◌, ℕ, ◌≤◌, ℤ, List, [], ◌∷◌, map, filter, refl, ap, ◌∙◌, arith, Bool, true, false, ◌||◌, Result, Ok, Err, IfOk, Some, subst, sym, codes, Ordering, Less, Equal, Greater}
+use Rattle.std.proofs.Common.{◌≡◌, ℕ, ◌≤◌, ◌<◌, lit<, ℤ, List, [], ◌∷◌, map, filter, refl, ap, ◌∙◌, arith, rules, Bool, true, false, cond, nat_lt, ◌||◌, ◌⊎◌, inl, inr, Result, Ok, Err, IfOk, Some, subst, sym, codes, Ordering, Less, Equal, Greater}
+use Rattle.std.specs.Prelude.{IsAscii}
+use Rattle.std.proofs.lemmas.Bool.{cases_lt}
+use Rattle.std.proofs.lemmas.Str.Ascii.{IsAscii-nil, IsAscii-cons}
 use Rattle.std.specs.Cmp.Lexicographic.{slice_cmp}
 use Rattle.std.specs.Ordering.{nat_cmp, match_ordering}
 use Rattle.serde_json.specs.Data.{Data, Members, depth, items_depth, member, no_members, object, put, string}
@@ -52,12 +55,13 @@ rest_none true b e = let f : true ≡ false = e in absurd cc
 
 text_no_float : (key text : List ℕ) (ms : Members) → members_have_float ms ≡ false → members_have_float (put key (string text) ms) ≡ false
 text_no_float key text no_members none = refl
-text_no_float key text (member l e ms) none = by_order (slice_cmp nat_cmp key l)
+text_no_float key text (member l e ms) none = by_order (slice_cmp nat_cmp key l) (text_no_float key text ms (rest_none (has_float e) (members_have_float ms) none))
   where
-    by_order : (o : Ordering) → members_have_float (match_ordering o (member key (string text) (member l e ms)) (member l (string text) ms) (member l e (put key (string text) ms))) ≡ false
-    by_order Less = none
-    by_order Equal = rest_none (has_float e) (members_have_float ms) none
-    by_order Greater = or_none (has_float e) _ (first_none (has_float e) (members_have_float ms) none) (text_no_float key text ms (rest_none (has_float e) (members_have_float ms) none))
+    by_order : (o : Ordering) → members_have_float (put key (string text) ms) ≡ false
+        → members_have_float (match_ordering o (member key (string text) (member l e ms)) (member l (string text) ms) (member l e (put key (string text) ms))) ≡ false
+    by_order Less rest = none
+    by_order Equal rest = rest_none (has_float e) (members_have_float ms) none
+    by_order Greater rest = or_none (has_float e) (members_have_float (put key (string text) ms)) (first_none (has_float e) (members_have_float ms) none) rest
 
 no_float : (text : List ℕ) (v : NamesView) (a : AnswerView) → has_float (answer_value text v a) ≡ false
 unfolding answer_value
@@ -96,11 +100,9 @@ answer_shallow text v (Contained parts proofs) =
     let f = items_shallow proof_value 3 proof_shallow proofs in omega (arith, e, f)
 answer_shallow text v (Open tried) = omega arith
 
-pub line_is : {E : Type 0} {S : Type 0} (bytes : S → List ℕ) (source : SourceTexts) (ms : Members) (d : Data) (out : Result S E) → members_have_float ms ≡ false → d ≡ object (with_source source ms)
-    → IfOk out (λ s. has_float d ≡ false → bytes s ≡ compact_text d) → IfOk out (λ s. bytes s ≡ report_text source ms)
+pub line_is : (source : SourceTexts) (ms : Members) (d : Data) (text : List ℕ) → members_have_float ms ≡ false → d ≡ object (with_source source ms) → (has_float d ≡ false → text ≡ compact_text d) → text ≡ report_text source ms
 unfolding report_text
-line_is bytes source ms d (Ok s) none is h = h (ap has_float is ∙ source_no_float source ms none) ∙ ap compact_text is
-line_is bytes source ms d (Err e) none is h = tt
+line_is source ms d text none is h = h (ap has_float is ∙ source_no_float source ms none) ∙ ap compact_text is
 
 pub text_is : {E : Type 0} {S : Type 0} (bytes : S → List ℕ) (text : List ℕ) (v : NamesView) (a : AnswerView) (d : Data) (out : Result S E) → d ≡ answer_value text v a
     → IfOk out (λ s. has_float d ≡ false → bytes s ≡ compact_text d) → IfOk out (λ s. bytes s ≡ answer_text text v a)
@@ -112,3 +114,19 @@ pub back_is : {E : Type 0} {S : Type 0} (bytes : S → List ℕ) (text : List �
     → IfOk out (λ s. depth d ≤ 127 → read (bytes s) ≡ Some d) → IfOk out (λ s. read (bytes s) ≡ Some (answer_value text v a))
 back_is bytes text v a d (Ok s) is h = h (subst (λ (e : Data). depth e ≤ 127) (sym is) (answer_shallow text v a)) ∙ ap Some is
 back_is bytes text v a d (Err e) is h = tt
+
+-- ---- bytes in ASCII
+
+byte_below : (b : ℕ) → ascii_byte b < 128
+byte_below b = by_cases (cases_lt b 128)
+  where
+    by_cases : (b < 128) ⊎ (128 ≤ b) → ascii_byte b < 128
+    by_cases (inl lt) = let e : nat_lt b 128 ≡ true = search (rules, lt) in subst (λ (t : Bool). cond t b 63 < 128) (sym e) lt
+    by_cases (inr le) = let e : nat_lt b 128 ≡ false = search (rules, le) in subst (λ (t : Bool). cond t b 63 < 128) (sym e) (lit< tt)
+
+bytes_below : (bytes : List ℕ) → IsAscii (map ascii_byte bytes)
+bytes_below [] = IsAscii-nil
+bytes_below (b ∷ bytes) = IsAscii-cons (ascii_byte b) (map ascii_byte bytes) (byte_below b) (bytes_below bytes)
+
+pub are_ascii : (bytes out : List ℕ) → out ≡ map ascii_byte bytes → IsAscii out
+are_ascii bytes out is = subst IsAscii (sym is) (bytes_below bytes)

@@ -14,7 +14,7 @@ use serde_json::Value;
 use std::alloc::Global;
 
 /// The reading of a JSON value.
-#[tactic(auto, using(crate::proofs::ReportLemmas::told_misfit, crate::proofs::ReportLemmas::no_kind, crate::proofs::ReportLemmas::no_source, crate::proofs::ReportLemmas::answer_ok, crate::proofs::ReportLemmas::answer_err, crate::proofs::FitLemmas::answer_fits))]
+#[tactic(auto, using(crate::proofs::ReportLemmas::told_misfit, crate::proofs::ReportLemmas::no_kind, crate::proofs::ReportLemmas::no_source, crate::proofs::ReportLemmas::answer_ok, crate::proofs::ReportLemmas::answer_err))]
 fn report_of(alloc: Global, value: &Value) -> Result<Reported, ReportFault>
     ensures reading { ReadsValue (view value.now) result }
     ensures limits { IfOk result KeepsLimits }

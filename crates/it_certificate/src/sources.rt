@@ -92,11 +92,7 @@ fn refusal_by(fault: CopyFault) -> Refusal
 
 /// The only one of these questions with the copies, if there is one and it can have them.
 #[tactic(auto, using(crate::proofs::SourceLemmas::not_one, crate::proofs::SourceLemmas::extended_only, crate::proofs::SourceLemmas::misfit_only))]
-fn extended(
-    alloc: Global,
-    copies: &[CopyLine],
-    questions: &[Question],
-) -> Result<Question, Refusal>
+fn extended(alloc: Global, copies: &[CopyLine], questions: &[Question]) -> Result<Question, Refusal>
     requires limits { All (λ q. IsQuestion (question_body q)) questions.now }
     requires names { AreNamed copies.now }
     requires few { length copies.now ≤ 4 }

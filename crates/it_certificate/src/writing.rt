@@ -50,11 +50,7 @@ fn no_members(
 
 /// The members of an undecided.
 #[tactic(auto, unfolding(crate::specs::Values::answer_members))]
-fn undecided_members(
-    alloc: Global,
-    names: &Names,
-    cause: Cause,
-) -> Result<Members, AllocError>
+fn undecided_members(alloc: Global, names: &Names, cause: Cause) -> Result<Members, AllocError>
     requires { IfRate (IsAsciiRate names.now) cause }
     ensures { IfOk result (λ m. members_view m.map.entries ≡ answer_members names.now (Undecided cause)) }
 {
@@ -106,11 +102,7 @@ fn open_members(alloc: Global, names: &Names, tried: u32) -> Result<Members, All
 }
 
 /// The members of an answer.
-fn answer_members(
-    alloc: Global,
-    names: &Names,
-    answer: &Answer,
-) -> Result<Members, AllocError>
+fn answer_members(alloc: Global, names: &Names, answer: &Answer) -> Result<Members, AllocError>
     requires { IsWritable names.now (answer_view answer.now) }
     ensures { IfOk result (λ m. members_view m.map.entries ≡ answer_members names.now (answer_view answer.now)) }
 {
@@ -185,6 +177,7 @@ fn ascii_byte(byte: u8) -> u8
 }
 
 /// Bytes in ASCII.
+#[tactic(auto, using(crate::proofs::ValueLemmas::are_ascii))]
 fn in_ascii(alloc: Global, bytes: &[u8]) -> Result<Vec<u8>, AllocError>
     ensures bytes { IfOk result (λ v. v.items ≡ map ascii_byte bytes.now) }
     ensures ascii { IfOk result (λ v. IsAscii v.items) }

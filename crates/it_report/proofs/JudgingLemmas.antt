@@ -67,7 +67,7 @@ module _ {L E : Type 0} (text : L → List ℕ) (invalid : L → Bool) (k : ℕ)
       by_reading : (reading : Reading) (reported : Reported) → IsReported reading reported → ReadsReport line (Ok reading) → IsJudgedReport k reported (text j) (invalid j) → IsJudgedLine k line (text j) (invalid j)
       by_reading (Answered source a) (variants.Answered question answer) same h judged =
           let verdict : IsAnswerVerdict (asked source).body a judged.verdict =
-              subst (λ b. IsAnswerVerdict (asked source).body b judged.verdict) (sym same.1) (subst (λ (q : QuestionView). IsAnswerVerdict q.body (answer_view answer) judged.verdict) (sym same.0) judged.is) in
+          subst (λ b. IsAnswerVerdict (asked source).body b judged.verdict) (sym same.1) (subst (λ (q : QuestionView). IsAnswerVerdict q.body (answer_view answer) judged.verdict) (sym same.0) judged.is) in
           record { verdict = judged.verdict; is = read_verdict line (Answered source a) judged.verdict h verdict; told = judged.told }
       by_reading (Answered source a) variants.Misfit same h judged = absurd same
       by_reading Misfit (variants.Answered question answer) same h judged = absurd same

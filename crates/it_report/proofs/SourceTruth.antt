@@ -1,5 +1,6 @@
 -- What a valid line says of a question with copies, and of a sharing file.
-use Rattle.std.proofs.Common.{◌≡◌, ℕ, ◌<◌, ℤ, pos, neg_ℤ, ◌≤ℤ◌, ◌++◌, length, get_or, map, Bool, List, [], ◌∷◌, refl, subst, arith, ints}
+use Rattle.std.proofs.Common.{◌≡◌, ℕ, ◌<◌, ℤ, pos, neg_ℤ, ◌≤ℤ◌, ◌++◌, length, get_or, map, Bool, List, [], ◌∷◌, refl, subst, arith}
+use Rattle.std.proofs.lemmas.Int.{ints}
 use Rattle.std.proofs.lemmas.List.{length-map}
 use Rattle.std.proofs.lemmas.List.Elements.{All-head}
 use Rattle.it_space.specs.Answers.{AnswerView}

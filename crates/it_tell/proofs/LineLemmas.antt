@@ -81,7 +81,7 @@ can_be_printed line r read limits h = by_reading read.0 r read.1 read.2 limits
     by_reading (reports.Answered source a) (variants.Answered q answer) same reads limits =
         let small = subst (λ (x : QuestionView). QuestionHasSmallNumbers x.body) same.0 (small_numbers line source a reads) in
         let verdict : IsAnswerVerdict (question_body q) (answer_view answer) h.verdict =
-            subst (λ b. IsAnswerVerdict (question_body q) b h.verdict) same.1 (subst (λ (x : QuestionView). IsAnswerVerdict x.body a h.verdict) same.0 (on_answer line source a reads h)) in
+        subst (λ b. IsAnswerVerdict (question_body q) b h.verdict) same.1 (subst (λ (x : QuestionView). IsAnswerVerdict x.body a h.verdict) same.0 (on_answer line source a reads h)) in
         printable (question_body q) limits.0 (question_poses (question_body q) limits.0 small) h.verdict h.accepted answer limits.1 verdict
     by_reading (reports.Answered source a) variants.Misfit same reads limits = absurd same
     by_reading reports.Misfit (variants.Answered q answer) same reads limits = absurd same
@@ -94,7 +94,7 @@ reported_line with_steps k line text r read h told = by_reading read.0 r read.1 
     by_reading : (x : Reading) (r : Reported) → IsReported x r → ReadsReport line (Ok x) → IsReportedText with_steps k r text → IsToldLine with_steps k line text false
     by_reading (reports.Answered source a) (variants.Answered q answer) same reads told =
         let back : IsAnsweredText with_steps k (asked source).body a text =
-            subst (λ b. IsAnsweredText with_steps k (asked source).body b text) (sym same.1) (subst (λ (x : QuestionView). IsAnsweredText with_steps k x.body (answer_view answer) text) (sym same.0) told) in
+        subst (λ b. IsAnsweredText with_steps k (asked source).body b text) (sym same.1) (subst (λ (x : QuestionView). IsAnsweredText with_steps k x.body (answer_view answer) text) (sym same.0) told) in
         record { telling = tellings.Answered source a back.0; is = (accepts line source a reads h, back.1.0); text_is = back.1.1; invalid_is = refl }
     by_reading (reports.Answered source a) variants.Misfit same reads told = absurd same
     by_reading reports.Misfit (variants.Answered q answer) same reads told = absurd same
