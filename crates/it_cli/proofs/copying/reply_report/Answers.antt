@@ -13,8 +13,8 @@ returns-in-Ok c =
     proof_reported c.args.effort (with_copies copies q) c.args.k (question_body c.in-Ok.extended) _ c.proof_report.result
     (texts_are _ _ copies q (c.as_slice.ensures.value ∙ c.in_ok-head.ensures) (c.as_slice-2.ensures.value ∙ c.in_ok-text.ensures)) c.in-Ok.ensures.extension c.proof_report.ensures
 
-pub returns-in-Err : goal.returns-in-Err
-returns-in-Err c =
+pub returns : goal.returns
+returns c =
     let copies = map copy_view c.args.copies.now in
     let q = question_view c.args.question.now in
     misfit_reported c.args.effort (with_copies copies q) c.args.k c.in-Err.fault _ c.misfit_report.result
