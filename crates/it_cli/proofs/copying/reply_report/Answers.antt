@@ -1,6 +1,5 @@
 use Rattle.std.proofs.Common.{map, ◌∙◌}
 use Rattle.it_question.specs.Questions.{question_body, question_view}
-use Rattle.it_certificate.specs.Values.{source_texts}
 use Rattle.it_copy.specs.CopyLines.{copy_view}
 use Rattle.it_cli.specs.Copies.{with_copies}
 use Rattle.it_cli.proofs.CopyLemmas.{misfit_reported, proof_reported, texts_are}
