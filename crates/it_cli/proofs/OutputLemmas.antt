@@ -145,14 +145,14 @@ module _ (one_answer : OneRightAnswer) (effort : Effort) (defined : effort.quick
   one_sharing : OneRightReply → (report : Bool) (x : SharingView) (a b : SharingReply) → IsRightSharing report effort x a → IsRightSharing report effort x b → a ≡ b
   one_sharing one_factor report x Many Many f g = refl
   one_sharing one_factor report x Many (Answered b) f (few, asked, right) = absurd (omega (arith, f, few))
-  one_sharing one_factor report x Many (Factored b) f (few, asked, right) = absurd (omega (arith, f, few))
+  one_sharing one_factor report x Many (Factored b) f (few, asked, told, right) = absurd (omega (arith, f, few))
   one_sharing one_factor report x Many Unreported f (few, asked, told) = absurd (omega (arith, f, few))
   one_sharing one_factor report x (Answered a) Many (few, asked, right) g = absurd (omega (arith, g, few))
   one_sharing one_factor report x (Answered a) (Answered b) (few, asked, right) (few', asked', right') = ap Answered (same_proof (made_question x).body a b right right')
-  one_sharing one_factor report x (Answered a) (Factored b) (few, asked, right) (few', asked', right') = absurd (false≢true (sym asked ∙ asked'))
+  one_sharing one_factor report x (Answered a) (Factored b) (few, asked, right) (few', asked', told', right') = absurd (false≢true (sym asked ∙ asked'))
   one_sharing one_factor report x (Answered a) Unreported (few, asked, right) (few', asked', told) = absurd (false≢true (sym asked ∙ asked'))
-  one_sharing one_factor report x (Factored a) Many (few, asked, right) g = absurd (omega (arith, g, few))
-  one_sharing one_factor report x (Factored a) (Answered b) (few, asked, right) (few', asked', right') = absurd (false≢true (sym asked' ∙ asked))
+  one_sharing one_factor report x (Factored a) Many (few, asked, told, right) g = absurd (omega (arith, g, few))
+  one_sharing one_factor report x (Factored a) (Answered b) (few, asked, told, right) (few', asked', right') = absurd (false≢true (sym asked' ∙ asked))
   one_sharing one_factor report x (Factored a) (Factored b) (few, asked, told, right) (few', asked', told', right') = ap Factored (one_factor effort (made_question x).body a b defined right right')
   one_sharing one_factor report x (Factored a) Unreported (few, asked, told, right) (few', asked', told') = absurd (false≢true (sym told ∙ told'))
   one_sharing one_factor report x Unreported Many (few, asked, told) g = absurd (omega (arith, g, few))

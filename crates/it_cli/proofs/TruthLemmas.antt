@@ -1,16 +1,13 @@
 -- Right replies in modes `copy`, `best` and `sharing` are true.
-use Rattle.std.proofs.Common.{Bool, ◌≡◌, ℕ, ℤ, ◌↔◌, length, true, List, Some, refl, sym, ap, subst, ◌∙◌}
+use Rattle.std.proofs.Common.{Bool, ◌≡◌, ℤ, ◌↔◌, true, List, Some, refl, sym, ap, subst, ◌∙◌}
 use Rattle.it_prove.specs.declared.types.Effort.{Effort}
 use Rattle.it_space.specs.Answers.{AnswerView}
 use Rattle.it_space.specs.Answers.AnswerView.{Yes, No, Undecided, Region, Contained, Open}
 use Rattle.it_space.specs.Rows.{point_of}
 use Rattle.it_space.proofs.OptionLemmas.{none_is_not_some, some_same}
-use Rattle.it_polymatroid.specs.Polymatroid.{IsPolymatroid}
-use Rattle.it_syntax.specs.Meaning.{RelationView, Holds}
+use Rattle.it_syntax.specs.Meaning.{RelationView}
 use Rattle.it_question.specs.Limits.{IsQuestion}
-use Rattle.it_question.specs.ProblemLines.{lines_under, names_under}
 use Rattle.it_question.specs.Questions.{BodyView, VerbView, Prove, Eliminate, Contain}
-use Rattle.it_canon.specs.TrueLines.{AreTrueAt}
 use Rattle.it_copy.specs.CopyLines.{CopyView}
 use Rattle.it_copy.specs.Extensions.{IsExtension, IsProof}
 use Rattle.it_copy.specs.Points.{YesByCopies}

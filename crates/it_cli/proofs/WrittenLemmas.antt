@@ -11,7 +11,7 @@ use Rattle.it_copy.specs.Files.{CopiedQuestionsAreWithin}
 use Rattle.it_copy.specs.Points.{YesByCopies}
 use Rattle.it_sharing.specs.PerfectSharing.{MadeQuestionIsOfPerfectSharing}
 use Rattle.it_sharing.specs.SharingFiles.{SharingIsWithin}
-use Rattle.it_sharing.specs.Sharings.{SharingView, IsSharing, IsBoundWhereBest}
+use Rattle.it_sharing.specs.Sharings.{IsSharing, IsBoundWhereBest}
 use Rattle.it_answer.specs.Replies.{Reply}
 use Rattle.it_answer.specs.Shows as answers
 use Rattle.it_answer.specs.Shows.{Shows}

@@ -1,5 +1,5 @@
 //! Mode `copy`: a file whose head asks for copies of variables, and the answers to its questions with these copies.
-ghost use Rattle.std.specs.Prelude.{[], ◌≤◌, All, IfOk, length, map};
+ghost use Rattle.std.specs.Prelude.{[], ◌≤◌, All, IfOk, length, map, true, false};
 ghost use Rattle.it_question.specs.Limits.{IsQuestion};
 ghost use Rattle.it_question.specs.Questions.{question_body, question_view};
 ghost use Rattle.it_copy.specs.CopyLines.{AreNamed, copy_view};

@@ -1,4 +1,4 @@
-use Rattle.std.proofs.Common.{map, []}
+use Rattle.std.proofs.Common.{false, map, []}
 use Rattle.it_run.proofs.AnswerLemmas.{if_ok}
 use Rattle.it_question.specs.Questions.{question_body, question_view}
 use Rattle.it_copy.specs.CopyLines.{copy_view}

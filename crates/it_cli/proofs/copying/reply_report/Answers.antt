@@ -1,6 +1,5 @@
 use Rattle.std.proofs.Common.{map, ◌∙◌}
 use Rattle.it_question.specs.Questions.{question_body, question_view}
-use Rattle.it_certificate.specs.Values.{source_texts}
 use Rattle.it_copy.specs.CopyLines.{copy_view}
 use Rattle.it_cli.specs.Copies.{with_copies}
 use Rattle.it_cli.proofs.CopyLemmas.{misfit_reported, proof_reported, texts_are}
@@ -13,8 +12,8 @@ returns-in-Ok c =
     proof_reported c.args.effort (with_copies copies q) c.args.k (question_body c.in-Ok.extended) _ c.proof_report.result
     (texts_are _ _ copies q (c.as_slice.ensures.value ∙ c.in_ok-head.ensures) (c.as_slice-2.ensures.value ∙ c.in_ok-text.ensures)) c.in-Ok.ensures.extension c.proof_report.ensures
 
-pub returns-in-Err : goal.returns-in-Err
-returns-in-Err c =
+pub returns : goal.returns
+returns c =
     let copies = map copy_view c.args.copies.now in
     let q = question_view c.args.question.now in
     misfit_reported c.args.effort (with_copies copies q) c.args.k c.in-Err.fault _ c.misfit_report.result

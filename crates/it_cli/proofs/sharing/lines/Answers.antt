@@ -1,4 +1,4 @@
-use Rattle.std.proofs.Common.{◌≡◌, codes, []}
+use Rattle.std.proofs.Common.{◌≡◌, codes, false, []}
 use Rattle.it_run.proofs.AnswerLemmas.{if_ok}
 use Rattle.it_sharing.specs.Sharings.{sharing_view}
 use Rattle.it_cli.specs.InnerEnds.{IsTextOf}

@@ -1,4 +1,4 @@
-use Rattle.std.proofs.Common.{◌≡◌, ◌++◌, codes, []}
+use Rattle.std.proofs.Common.{◌≡◌, ◌++◌, codes, true, []}
 use Rattle.it_run.proofs.AnswerLemmas.{if_ok}
 use Rattle.it_certificate.specs.Values.{OfSharing, misfit_members, report_text}
 use Rattle.it_sharing.specs.Sharings.{sharing_view}
