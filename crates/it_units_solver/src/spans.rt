@@ -40,7 +40,7 @@ fn row_drop(alloc: Global, row: usize, first: i128, last: i128) -> Result<RowDro
 }
 
 /// The verdict on the rows R >= S and S >= 0 as the hull of the rays (1, 0) and (1, 1), after which these drops come. By hand: the
-/// second ray leaves R - S >= 0, R >= 0 and S >= 0, of which R is the sum of the other two.
+/// second ray leaves R - S >= 0, S >= 0 and R >= 0, of which the last is the sum of the other two.
 fn verdict(alloc: Global, drops: Vec<RowDrop>) -> Result<HullVerdict, AllocError> {
     let first = step(alloc, 1, 0, Vec::new(alloc))?;
     let second = step(alloc, 1, 1, drops)?;
@@ -71,17 +71,17 @@ fn verdict_on(
 
 /// Whether the rows are the hull where R goes as the sum of the others, and not where it stays.
 fn are_hull(alloc: Global) -> bool {
-    matches!(verdict_on(alloc, 1, 1, 1), Ok(HullVerdict::Valid))
+    matches!(verdict_on(alloc, 2, 1, 1), Ok(HullVerdict::Valid))
         && matches!(
             verdict(alloc, Vec::new(alloc)),
-            Ok(HullVerdict::OtherRow { place: 1 })
+            Ok(HullVerdict::OtherRow { place: 2 })
         )
 }
 
 /// Whether a wrong weight is refused with its verdict, and a row that isn't there.
 fn are_refused(alloc: Global) -> bool {
     matches!(
-        verdict_on(alloc, 1, 1, 2),
+        verdict_on(alloc, 2, 1, 2),
         Ok(HullVerdict::Faulty(Fault::Refused {
             ray: 1,
             drop: 0,
