@@ -4,6 +4,8 @@
 #[cfg(test)]
 mod closures;
 #[cfg(test)]
+mod codes;
+#[cfg(test)]
 mod divisors;
 #[cfg(test)]
 mod elementals;
