@@ -1,5 +1,5 @@
 -- The lines below the first one of an answer: the groups of it_outside, in a list of bytes.
-use Rattle.std.proofs.Common.{◌≡◌, ℕ, ◌+◌, ◌<◌, ◌≤◌, ℤ, Bool, List, [], ◌++◌, append-nil, append_assoc, length, get_or, ◌⊎◌, true, Some, refl, sym, ap, ◌∙◌}
+use Rattle.std.proofs.Common.{◌≡◌, ℕ, ◌+◌, ◌<◌, ◌≤◌, ℤ, Bool, List, [], ◌++◌, append-nil, append_assoc, length, get_or, ◌⊎◌, true, Some, refl, sym, ap, ◌∙◌, Option, None, IfSome}
 use Rattle.std.specs.List.{flat_map}
 use Rattle.it_outside.proofs.GroupLemmas.{UnderWay, under_way_done, under_way_first, under_way_more}
 use Rattle.it_space.specs.Answers.{CertificateView}
@@ -93,3 +93,9 @@ styled_is_printed q Whole target named whole by text printed is = record {
   names = refl;
   is = is ∙ ap (λ (b : List ℕ). whole ++ b) printed.by_is;
 }
+
+-- so is what may be one
+pub styled_may_be_printed : {X : Type 0} (items : X → List ℕ) (q : BodyView) (style : Style) (target : Form) (named whole by : List ℕ) (o : Option X) → ArePrinted q target named whole by
+    → IfSome o (λ x. IsStyledText style named whole by (items x)) → IfSome o (λ x. IsPrintedProof q style target (items x))
+styled_may_be_printed items q style target named whole by None printed is = tt
+styled_may_be_printed items q style target named whole by (Some x) printed is = styled_is_printed q style target named whole by (items x) printed is

@@ -52,7 +52,7 @@ form_told q style s f row w text pulled (inr (inl h)) = inr (inl (record {
 form_told q style s f row w text pulled (inr (inr e)) = inr (inr e)
 
 -- the lines of the first i proofs are appended, whichever answer the rows are of
-abbrev pub ProofsAppended : BodyView → Bool → List Terms → List CertificateView → List ℕ → List ℕ → ℕ → Type 0
+abbrev pub ProofsAppended : BodyView → Options → List Terms → List CertificateView → List ℕ → List ℕ → ℕ → Type 0
 ProofsAppended q options rows ws old new i = (answer : AnswerView) → AreFormRows q answer rows → Appended proof_lines (AreProofTexts q options) old new (zip (answer_forms q answer) ws) i
 
 pub no_proof_appended : (q : BodyView) (options : Options) (rows : List Terms) (ws : List CertificateView) (old : List ℕ) → ProofsAppended q options rows ws old old 0
