@@ -109,7 +109,7 @@ class Calls(Asks):
     def test_names_of_lines(self):
         """A proof names the lines that it needs; by `--whole` it has their terms."""
         head, goal = "vars X, Y, Z\n", "prove I(X;Y) >= I(X;Z)\n"
-        chain, function = (self.file(head + line + goal) for line in ("given markov X; Y; Z\n", "given func Z of Y\n"))
+        chain, function = (self.file(head + line + goal) for line in ("given markov X -> Y -> Z\n", "given func Z of Y\n"))
         self.assertEqual(self.ask(chain)[1], "1 yes\n  I(X;Y) - I(X;Z) = I(X;Y|Z) - (given 1)\n")
         self.assertEqual(self.ask("--whole", chain)[1], "1 yes\n  I(X;Y) - I(X;Z) = I(X;Y|Z) - I(X;Z|Y)\n")
         for words in [(), ("--whole",)]:
@@ -380,8 +380,9 @@ class Modes(Asks):
     def test_sharing_like_the_package(self):
         s, a, b, c, d = rv("s a b c d")
         answer = sharing(s, a + b, b + c, c + d).prove("H(b) + H(c) >= 3 H(s)")
-        made = "vars s, a, b, c, d\n" + "".join(f"given {part}\n" for part in answer.asked.given) + "prove H(b) + H(c) >= 3 H(s)\n"
-        self.assertEqual(self.asks(f"{PATH}prove H(b) + H(c) >= 3 H(s)\n", "--sharing")[1:], self.asks(made))
+        # (the lines of the made question aren't the file's, so the proof doesn't name them)
+        verdict, proof = default().tell([answer.report], [])[0]
+        self.assertEqual(self.asks(f"{PATH}prove H(b) + H(c) >= 3 H(s)\n", "--sharing")[1:], [f"1 {verdict}", f"  {proof}"])
 
     def test_sides_of_an_equation(self):
         """A point violates that side of an equation which is negative there."""

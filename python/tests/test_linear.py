@@ -79,7 +79,7 @@ class Codes(Asks):
                     self.assertEqual(default().check([ranks]), ["valid"])
                 else:
                     self.assertTrue(said.startswith("no linear code: Ingleton"), (path.name, said))
-        self.assertEqual([kinds.count(kind) for kind in ("over GF(2):", "over GF(3):", "no linear c")], [22, 1, 5])
+        self.assertEqual([kinds.count(kind) for kind in ("over GF(2):", "over GF(3):", "no linear c")], [23, 1, 5])
 
     def test_known(self):
         """Four lines in a plane need three elements; Vamos's matroid has no code (Ingleton, 1971), the plane of Fano one over two elements alone."""
