@@ -19,7 +19,8 @@ use Rattle.it_answer.specs.Truth.{IsTrueAnswer, IsTrueBy}
 use Rattle.it_factor.specs.Replies.{ReplyView, Found, Other}
 use Rattle.it_factor.specs.RightReplies as factors
 use Rattle.it_factor.specs.RightReplies.{IsRightReply}
-use Rattle.it_factor.specs.Truth.{HoldsFor, IsTrueBest, IsTrueReply, asked_by, at_least}
+use Rattle.it_ratio.specs.Truth.{HoldsFor, IsTrueBest, asked_by, at_least}
+use Rattle.it_factor.specs.Truth.{IsTrueReply}
 use Rattle.it_factor.proofs.TruthLemmas.{true_of_same}
 use Rattle.it_report.proofs.SourceTruth.{own_lines}
 use Rattle.it_cli.specs.Copies.{CopyQuestion, CopyReply, IsRightCopy, Misfit, Extended}

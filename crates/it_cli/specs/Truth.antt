@@ -13,7 +13,7 @@ use Rattle.it_sharing.specs.Sharings.{SharingView, maximal_count, minimal_count}
 use Rattle.it_sharing.specs.Truth.{HoldsWherePerfect, IsTrueOfSharing}
 use Rattle.it_answer.specs.Truth.{IsTrueAnswer}
 use Rattle.it_factor.specs.Replies.{Found, Other}
-use Rattle.it_factor.specs.Truth.{IsTrueBest}
+use Rattle.it_ratio.specs.Truth.{IsTrueBest}
 use Rattle.it_cli.specs.Copies.{CopyQuestion, CopyReply, Misfit, Extended}
 use Rattle.it_cli.specs.SharingReplies.{SharingReply, Many, Answered, Factored, Unreported}
 

@@ -1,9 +1,9 @@
 -- Answers about factors, as contracts see them.
 use Rattle.std.specs.Prelude.{ℤ, List}
 use Rattle.it_space.specs.Answers.{CertificateView, certificate_view}
-use Rattle.it_best.specs.declared.types.Best.{Best}
-use Rattle.it_best.specs.declared.types.Best.TheVariants as answers
-use Rattle.it_best.specs.declared.types.BestCause.{BestCause}
+use Rattle.it_ratio.specs.declared.types.Best.{Best}
+use Rattle.it_ratio.specs.declared.types.Best.TheVariants as answers
+use Rattle.it_ratio.specs.declared.types.BestCause.{BestCause}
 
 -- an answer as contracts see it
 pub data BestView : Type 0 where
