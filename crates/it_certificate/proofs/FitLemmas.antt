@@ -40,18 +40,18 @@ use Rattle.it_certificate.specs.AnswerShapes.{IsNumberedAmount, IsNumbered, IsRo
 use Rattle.it_certificate.proofs.WithinLemmas.{and_then_some, map_some, cond_some, pair_some, all_of_holds, integer_at_within, point_within, point_length}
 use Rattle.it_certificate.proofs.RowLemmas.{row_is_canonical}
 
-key_ok : {A : Type 0} (k : Key) (o : Option A) (a : A) → ok_or o k ≡ Ok a → o ≡ Some a
+pub key_ok : {A : Type 0} (k : Key) (o : Option A) (a : A) → ok_or o k ≡ Ok a → o ≡ Some a
 key_ok k None a is = absurd (cc)
 key_ok k (Some b) a is = let e : b ≡ a = cc in ap Some e
 
-then_ok : {A B : Type 0} (r : Result A Key) (f : A → Result B Key) (b : B) → and_then r f ≡ Ok b → (a : A) × ((r ≡ Ok a) × (f a ≡ Ok b))
+pub then_ok : {A B : Type 0} (r : Result A Key) (f : A → Result B Key) (b : B) → and_then r f ≡ Ok b → (a : A) × ((r ≡ Ok a) × (f a ≡ Ok b))
 then_ok (Err k) f b is = absurd (cc)
 then_ok (Ok a) f b is = (a, (refl, is))
 
 abbrev ok_of : {A : Type 0} → A → Result A Key
 ok_of a = Ok a
 
-ok_same : {A : Type 0} (a b : A) → ok_of a ≡ ok_of b → a ≡ b
+pub ok_same : {A : Type 0} (a b : A) → ok_of a ≡ ok_of b → a ≡ b
 ok_same a b is = cc
 
 -- ---- numbers and terms
@@ -74,7 +74,7 @@ pair_numbers d t is =
     let k = pair_some (count_at h.0.0) (integer_at h.0.1) t h.1.1 in
     (count_at_below h.0.0 t.0 k.0, integer_at_within h.0.1 t.1 k.1)
 
-list_numbers : {A : Type 0} (P : A → Type 0) (f : Data → Option A) → ((d : Data) (a : A) → f d ≡ Some a → P a) → (o : Option Data) (xs : List A) → list_at f o ≡ Some xs → All P xs
+pub list_numbers : {A : Type 0} (P : A → Type 0) (f : Data → Option A) → ((d : Data) (a : A) → f d ≡ Some a → P a) → (o : Option Data) (xs : List A) → list_at f o ≡ Some xs → All P xs
 list_numbers P f each o xs is = let h = and_then_some (option_and_then as_array o) (all_of f) xs is in all_of_holds P f each h.0 xs h.1.1
 
 counted_numbers : {A : Type 0} (P : A → Type 0) (f : Data → Option A) → ((d : Data) (a : A) → f d ≡ Some a → P a) → (n : ℕ) (o : Option Data) (xs : List A)
@@ -86,7 +86,7 @@ counted_numbers P f each n o xs is =
     let l : length h.0 ≡ n = let t = m.0 in search (rules, t) in
     (sym (ap length e) ∙ l, subst (λ zs. All P zs) e (list_numbers P f each o h.0 h.1.0))
 
-certificate_numbers : (d : Data) (c : CertificateView) → certificate_at d ≡ Some c → IsNumbered c
+pub certificate_numbers : (d : Data) (c : CertificateView) → certificate_at d ≡ Some c → IsNumbered c
 unfolding certificate_at
 certificate_numbers d c is =
     let scale = option_and_then integer_at (get (codes "scale") d) in
@@ -136,7 +136,7 @@ integer_below : (z : ℤ) (n : ℕ) → count_of_integer z ≡ Some n → n < 2 
 integer_below (pos m) n is = count_below m n is
 integer_below (negsuc m) n is = absurd (cc)
 
-step_below : (text : List ℕ) (n : ℕ) → step_of text ≡ Some n → n < 2 ^ 32
+pub step_below : (text : List ℕ) (n : ℕ) → step_of text ≡ Some n → n < 2 ^ 32
 unfolding step_of
 step_below text n is = let h = and_then_some (integer_of text) count_of_integer n is in integer_below h.0 n h.1.1
 

@@ -15,51 +15,83 @@ use Rattle.it_certificate.specs.declared.keys.ReportFault.{ReportFault}
 use Rattle.it_certificate.specs.declared.keys.ReportFault.TheVariants as faults
 use Rattle.it_certificate.specs.declared.types.Reported.TheVariants as reported
 use Rattle.it_certificate.specs.Parts.{answer_kind_at}
-use Rattle.it_certificate.specs.Reports.{Answered, Misfit, Reading, ReadsAs, answer_to, report_of, tells_misfit, verb_answer}
+use Rattle.it_ratio.specs.BestViews.{BestView, best_view}
+use Rattle.it_ratio.specs.declared.types.Best.{Best}
+use Rattle.it_certificate.specs.declared.kinds.FactorKind.{FactorKind}
+use Rattle.it_certificate.specs.FactorReading.{factor_kind_at, verb_best}
+use Rattle.it_certificate.specs.Reports.{Answered, Factored, Misfit, Reading, ReadsAs, answer_to, best_to, reading_by, report_of, tells_misfit, verb_answer}
 use Rattle.it_certificate.specs.ReportSteps.{GivesSource, ReadsValue}
 use Rattle.it_certificate.specs.Sources.{IsSourceOf, Source, asked, source_key}
 use Rattle.it_certificate.specs.Steps.{GivesKeyed, fault_by}
 use Rattle.it_certificate.specs.AnswerReading.{and_then}
 use Rattle.it_certificate.proofs.SourceLemmas.{source_there}
 
--- of a line that isn't a misfit, by the kind of its answer
-abbrev reading_by : Option Source → Data → Option AnswerKind → Result Reading Key
-reading_by own d kind = and_then (ok_or kind keys.Answer) (λ kind. and_then (ok_or own (source_key d)) (λ source. and_then (answer_to source kind d) (λ a. Ok (Answered source a))))
-
 pub told_misfit : (d : Data) → true ≡ tells_misfit d → ReadsValue d (Ok reported.Misfit)
 unfolding report_of
 told_misfit d told =
     let own = source_there d in
-    (Misfit, tt, record { own = own.0; source = own.1; is = ap (λ b. cond b (Ok Misfit) (reading_by own.0 d (answer_kind_at d))) (sym told) })
+    (Misfit, tt, record { own = own.0; source = own.1; is = ap (λ b. cond b (Ok Misfit) (reading_by own.0 (factor_kind_at d) d)) (sym told) })
 
-module _ (d : Data) (told : false ≡ tells_misfit d) where
-  without_misfit : (o : Option Source) (kind : Option AnswerKind) → kind ≡ answer_kind_at d → report_of o d ≡ reading_by o d kind
+module _ (d : Data) (told : tells_misfit d ≡ false) where
+  by_kind : (o : Option Source) (kind : Option FactorKind) → factor_kind_at d ≡ kind → report_of o d ≡ reading_by o kind d
   unfolding report_of
-  without_misfit o kind is = ap (λ b. cond b (Ok Misfit) (reading_by o d (answer_kind_at d))) (sym told) ∙ ap (reading_by o d) (sym is)
+  by_kind o kind is = ap (λ b. cond b (Ok Misfit) (reading_by o (factor_kind_at d) d)) told ∙ ap (λ k. reading_by o k d) is
 
-  pub no_kind : None ≡ answer_kind_at d → ReadsAs d (Err keys.Answer)
-  no_kind is =
-      let own = source_there d in
-      record { own = own.0; source = own.1; is = without_misfit own.0 None is }
+  -- ---- a line that isn't about factors
 
-  module _ (kind : AnswerKind) (is : Some kind ≡ answer_kind_at d) where
-    pub no_source : (refusal : Refusal) (key : Key) (f : ReportFault) → GivesSource d (Err refusal) → key ≡ source_key d → f ≡ fault_by refusal key → ReadsValue d (Err f)
-    no_source refusals.Shape key f none e made =
-        subst (λ g. ReadsValue d (Err g)) (sym (made ∙ ap faults.Shape e)) (record { own = None; source = none; is = without_misfit None (Some kind) is })
-    no_source refusals.Memory key f none e made = subst (λ g. ReadsValue d (Err g)) (sym made) tt
+  module _ (other : factor_kind_at d ≡ None) where
+    by_answer : (o : Option Source) (kind : Option AnswerKind) → kind ≡ answer_kind_at d
+        → report_of o d ≡ and_then (ok_or kind keys.Answer) (λ kind. and_then (ok_or o (source_key d)) (λ source. and_then (answer_to source kind d) (λ a. Ok (Answered source a))))
+    by_answer o kind is = by_kind o None other
+        ∙ ap (λ k. and_then (ok_or k keys.Answer) (λ kind. and_then (ok_or o (source_key d)) (λ source. and_then (answer_to source kind d) (λ a. Ok (Answered source a))))) (sym is)
 
-    answer_as : (source : Source) (r : Result AnswerView Key) → IsSourceOf d source → answer_to source kind d ≡ r → ReadsAs d (and_then r (λ a. Ok (Answered source a)))
-    answer_as source r own by = record { own = Some source; source = own; is = without_misfit (Some source) (Some kind) is ∙ ap (λ z. and_then z (λ a. Ok (Answered source a))) by }
+    pub no_kind : None ≡ answer_kind_at d → ReadsAs d (Err keys.Answer)
+    no_kind is =
+        let own = source_there d in
+        record { own = own.0; source = own.1; is = by_answer own.0 None is }
 
-    -- the answer to the question that is asked
-    as_asked : (source : Source) (q : QuestionView) (r : Result AnswerView Key) → asked source ≡ q → verb_answer q.body.names q.body.verb kind d ≡ r → answer_to source kind d ≡ r
-    as_asked source q r e by = ap (λ (z : QuestionView). verb_answer z.body.names z.body.verb kind d) e ∙ by
+    module _ (kind : AnswerKind) (is : Some kind ≡ answer_kind_at d) where
+      pub no_source : (refusal : Refusal) (key : Key) (f : ReportFault) → GivesSource d (Err refusal) → key ≡ source_key d → f ≡ fault_by refusal key → ReadsValue d (Err f)
+      no_source refusals.Shape key f none e made =
+          subst (λ g. ReadsValue d (Err g)) (sym (made ∙ ap faults.Shape e)) (record { own = None; source = none; is = by_answer None (Some kind) is })
+      no_source refusals.Memory key f none e made = subst (λ g. ReadsValue d (Err g)) (sym made) tt
 
-    pub answer_ok : (q : Question) (a : Answer) → GivesSource d (Ok q) → verb_answer (question_view q).body.names (question_view q).body.verb kind d ≡ Ok (answer_view a) → ReadsValue d (Ok (reported.Answered q a))
-    answer_ok q a gives by =
-        (Answered gives.0 (answer_view a), (gives.2, refl), answer_as gives.0 (Ok (answer_view a)) gives.1 (as_asked gives.0 (question_view q) (Ok (answer_view a)) gives.2 by))
+      answer_as : (source : Source) (r : Result AnswerView Key) → IsSourceOf d source → answer_to source kind d ≡ r → ReadsAs d (and_then r (λ a. Ok (Answered source a)))
+      answer_as source r own by = record { own = Some source; source = own; is = by_answer (Some source) (Some kind) is ∙ ap (λ z. and_then z (λ a. Ok (Answered source a))) by }
 
-    pub answer_err : (q : Question) (f : ReportFault) → GivesSource d (Ok q) → GivesKeyed answer_view (Err f) (verb_answer (question_view q).body.names (question_view q).body.verb kind d) → ReadsValue d (Err f)
-    answer_err q (faults.Shape key) gives by = answer_as gives.0 (Err key) gives.1 (as_asked gives.0 (question_view q) (Err key) gives.2 by)
-    answer_err q faults.NotJson gives by = by
-    answer_err q faults.Memory gives by = tt
+      -- the answer to the question that is asked
+      as_asked : (source : Source) (q : QuestionView) (r : Result AnswerView Key) → asked source ≡ q → verb_answer q.body.names q.body.verb kind d ≡ r → answer_to source kind d ≡ r
+      as_asked source q r e by = ap (λ (z : QuestionView). verb_answer z.body.names z.body.verb kind d) e ∙ by
+
+      pub answer_ok : (q : Question) (a : Answer) → GivesSource d (Ok q) → verb_answer (question_view q).body.names (question_view q).body.verb kind d ≡ Ok (answer_view a) → ReadsValue d (Ok (reported.Answered q a))
+      answer_ok q a gives by =
+          (Answered gives.0 (answer_view a), (gives.2, refl), answer_as gives.0 (Ok (answer_view a)) gives.1 (as_asked gives.0 (question_view q) (Ok (answer_view a)) gives.2 by))
+
+      pub answer_err : (q : Question) (f : ReportFault) → GivesSource d (Ok q) → GivesKeyed answer_view (Err f) (verb_answer (question_view q).body.names (question_view q).body.verb kind d) → ReadsValue d (Err f)
+      answer_err q (faults.Shape key) gives by = answer_as gives.0 (Err key) gives.1 (as_asked gives.0 (question_view q) (Err key) gives.2 by)
+      answer_err q faults.NotJson gives by = by
+      answer_err q faults.Memory gives by = tt
+
+  -- ---- a line about factors
+
+  module _ (kind : FactorKind) (is : factor_kind_at d ≡ Some kind) where
+    pub no_factor_source : (refusal : Refusal) (key : Key) (f : ReportFault) → GivesSource d (Err refusal) → key ≡ source_key d → f ≡ fault_by refusal key → ReadsValue d (Err f)
+    no_factor_source refusals.Shape key f none e made =
+        subst (λ g. ReadsValue d (Err g)) (sym (made ∙ ap faults.Shape e)) (record { own = None; source = none; is = by_kind None (Some kind) is })
+    no_factor_source refusals.Memory key f none e made = subst (λ g. ReadsValue d (Err g)) (sym made) tt
+
+    best_as : (source : Source) (r : Result BestView Key) → IsSourceOf d source → best_to source kind d ≡ r → ReadsAs d (and_then r (λ b. Ok (Factored source b)))
+    best_as source r own by = record { own = Some source; source = own; is = by_kind (Some source) (Some kind) is ∙ ap (λ z. and_then z (λ b. Ok (Factored source b))) by }
+
+    -- what is found of the factors that the question asks for
+    best_as_asked : (source : Source) (q : QuestionView) (r : Result BestView Key) → asked source ≡ q → verb_best q.body.names q.body.verb kind d ≡ r → best_to source kind d ≡ r
+    best_as_asked source q r e by = ap (λ (z : QuestionView). verb_best z.body.names z.body.verb kind d) e ∙ by
+
+    pub best_ok : (q : Question) (b : Best) → GivesSource d (Ok q) → verb_best (question_view q).body.names (question_view q).body.verb kind d ≡ Ok (best_view b) → ReadsValue d (Ok (reported.Factored q b))
+    best_ok q b gives by =
+        (Factored gives.0 (best_view b), (gives.2, refl), best_as gives.0 (Ok (best_view b)) gives.1 (best_as_asked gives.0 (question_view q) (Ok (best_view b)) gives.2 by))
+
+    pub best_err : (q : Question) (f : ReportFault) → GivesSource d (Ok q) → GivesKeyed best_view (Err f) (verb_best (question_view q).body.names (question_view q).body.verb kind d) → ReadsValue d (Err f)
+    best_err q (faults.Shape key) gives by = best_as gives.0 (Err key) gives.1 (best_as_asked gives.0 (question_view q) (Err key) gives.2 by)
+    best_err q faults.NotJson gives by = by
+    best_err q faults.Memory gives by = tt

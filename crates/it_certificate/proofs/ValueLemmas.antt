@@ -14,7 +14,10 @@ use Rattle.it_space.specs.Answers.{CertificateView, AnswerView, is_nonzero_weigh
 use Rattle.it_space.specs.Answers.AnswerView.{Yes, No, Undecided, Region, Contained, Open}
 use Rattle.it_space.specs.declared.answers.Mark.{Mark}
 use Rattle.it_syntax.specs.NamesViews.{NamesView}
-use Rattle.it_certificate.specs.Values.{SourceTexts, OfCopies, OfSharing, ascii_byte, ascii_string, integer_value, count_value, pair_value, proof_value, row_value, answer_members, answer_value, answer_text, report_text, with_source}
+use Rattle.it_ratio.specs.BestViews.{BestView, Least, Never, Unbounded}
+use Rattle.it_ratio.specs.BestViews.{BestView as bests}
+use Rattle.it_certificate.specs.FactorValues.{best_members, ratio_value}
+use Rattle.it_certificate.specs.Values.{SourceTexts, OfQuestion, OfCopies, OfSharing, ascii_byte, ascii_string, integer_value, count_value, pair_value, proof_value, row_value, answer_members, answer_value, answer_text, report_text, with_source}
 
 items_no_float : {A : Type 0} (f : A → Data) → ((a : A) → has_float (f a) ≡ false) → (xs : List A) → items_have_float (items_of (map f xs)) ≡ false
 items_no_float f none [] = refl
@@ -44,6 +47,13 @@ answer_no_float v (Region rows) = or_none _ false (items_no_float row_value row_
 answer_no_float v (Contained parts proofs) = or_none _ _ (items_no_float count_value (λ n. refl) parts) (or_none _ false (items_no_float proof_value proof_no_float proofs) refl)
 answer_no_float v (Open tried) = refl
 
+pub best_no_float : (best : BestView) → members_have_float (best_members best) ≡ false
+unfolding best_members ratio_value
+best_no_float (Least num den proof values) = or_none _ _ (items_no_float integer_value (λ z. refl) values) (or_none _ false (items_no_float proof_value proof_no_float (proof ∷ [])) refl)
+best_no_float (Never values) = or_none _ false (items_no_float integer_value (λ z. refl) values) refl
+best_no_float (Unbounded num den proof below) = or_none _ false (items_no_float proof_value proof_no_float (proof ∷ below ∷ [])) refl
+best_no_float (bests.Undecided cause) = refl
+
 -- a text that is put among members is no float
 first_none : (a b : Bool) → (a || b) ≡ false → a ≡ false
 first_none false b e = refl
@@ -68,6 +78,7 @@ unfolding answer_value
 no_float text v a = text_no_float (codes "question") text (answer_members v a) (answer_no_float v a)
 
 source_no_float : (source : SourceTexts) (ms : Members) → members_have_float ms ≡ false → has_float (object (with_source source ms)) ≡ false
+source_no_float (OfQuestion text) ms none = text_no_float (codes "question") (map ascii_byte text) ms none
 source_no_float (OfCopies head text) ms none =
     let with_head = put (codes "copies") (ascii_string head) ms in
     text_no_float (codes "question") (map ascii_byte text) with_head (text_no_float (codes "copies") (map ascii_byte head) ms none)

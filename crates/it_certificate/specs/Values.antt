@@ -91,7 +91,7 @@ answer_value text v answer = object (put (codes "question") (string text) (answe
 unfoldable pub answer_text : List ℕ → NamesView → AnswerView → List ℕ
 answer_text text v answer = compact_text (answer_value text v answer)
 
--- ---- lines about a question with copies, or about a sharing file
+-- ---- lines about a text
 
 -- a byte of ASCII, or a question mark in its place
 abbrev pub ascii_byte : ℕ → ℕ
@@ -105,18 +105,21 @@ ascii_string bytes = string (map ascii_byte bytes)
 abbrev pub misfit_members : List ℕ → Members
 misfit_members words = member (codes "answer") (string (codes "misfit")) (member (codes "cause") (ascii_string words) no_members)
 
--- the texts of what a line is about: of a head and a question, or of a sharing file
+-- the texts of what a line is about: of a question, of a head and a question, or of a sharing file
 pub data SourceTexts : Type 0 where
+  OfQuestion : (text : List ℕ) → SourceTexts
   OfCopies : (head text : List ℕ) → SourceTexts
   OfSharing : (text : List ℕ) → SourceTexts
 
 -- texts as contracts see them
 abbrev pub source_texts : SourceText → SourceTexts
+source_texts (texts.Question text) = OfQuestion text.now
 source_texts (texts.Copies head text) = OfCopies head.now text.now
 source_texts (texts.Sharing text) = OfSharing text.now
 
 -- with the members of what the line is about
 abbrev pub with_source : SourceTexts → Members → Members
+with_source (OfQuestion text) ms = put (codes "question") (ascii_string text) ms
 with_source (OfCopies head text) ms = put (codes "question") (ascii_string text) (put (codes "copies") (ascii_string head) ms)
 with_source (OfSharing text) ms = put (codes "sharing") (ascii_string text) ms
 

@@ -2,6 +2,8 @@
 #![tactic(auto)]
 
 mod answers;
+mod factor_values;
+mod factors;
 pub mod keys;
 pub mod kinds;
 mod laws;
@@ -28,4 +30,4 @@ pub use laws::{
 };
 pub use reports::answer_from_json;
 pub use types::{Reported, SourceText};
-pub use writing::{answer_json, misfit_json, report_json};
+pub use writing::{answer_json, best_json, misfit_json, report_json};

@@ -13,7 +13,7 @@ use serde_json::Value;
 use std::alloc::Global;
 
 /// The two values of a pair.
-fn two_values(values: &[Value]) -> Option<(&Value, &Value)>
+pub fn two_values(values: &[Value]) -> Option<(&Value, &Value)>
     ensures { option_map (λ p. (view p.0.now, view p.1.now)) result ≡ two_of (items_view values.now) }
 {
     match values {

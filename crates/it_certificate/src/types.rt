@@ -1,19 +1,21 @@
 //! What a report says.
 use it_question::types::Question;
+use it_ratio::types::Best;
 use it_space::Answer;
 
-/// The texts of what a report line is about, where it isn't a question alone: a question with copies, by the head that asks for them, or
-/// a sharing file.
+/// The texts of what a report line is about: a question, a question with copies, by the head that asks for them, or a sharing file.
 #[derive(Clone, Copy)]
 pub enum SourceText<'a> {
+    Question(&'a [u8]),
     Copies { head: &'a [u8], question: &'a [u8] },
     Sharing(&'a [u8]),
 }
 
-/// The question that is asked with an answer of the shape that it wants, of which nothing says that it is right; or that a question
-/// can't have what is asked for.
+/// The question that is asked with an answer of the shape that it wants, or with what is said of its factors, of which nothing says that
+/// it is right; or that a question can't have what is asked for.
 pub enum Reported {
     Answered { question: Question, answer: Answer },
+    Factored { question: Question, best: Best },
     Misfit,
 }
 
@@ -24,6 +26,10 @@ impl Drop for Reported {
             Reported::Answered {
                 question: _,
                 answer: _,
+            } => {}
+            Reported::Factored {
+                question: _,
+                best: _,
             } => {}
             Reported::Misfit => {}
         }

@@ -13,7 +13,7 @@ use serde_json::{Value, json};
 use std::alloc::{AllocError, Global};
 
 /// An integer as decimal text.
-fn integer(alloc: Global, number: &i128) -> Result<Value, AllocError>
+pub fn integer(alloc: Global, number: &i128) -> Result<Value, AllocError>
     ensures { IfOk result (λ v. view v ≡ integer_value number.now) }
 {
     let mut buffer = Buffer::new();
@@ -22,7 +22,7 @@ fn integer(alloc: Global, number: &i128) -> Result<Value, AllocError>
 }
 
 /// The number of steps, or of one step, as decimal text.
-fn step_number(alloc: Global, number: u32) -> Result<Value, AllocError>
+pub fn step_number(alloc: Global, number: u32) -> Result<Value, AllocError>
     ensures { IfOk result (λ v. view v ≡ string (decimal number)) }
 {
     let mut buffer = Buffer::new();
@@ -54,7 +54,7 @@ fn weights(alloc: Global, weights: &[(u32, i128)]) -> Result<Value, AllocError>
 
 /// A certificate.
 #[tactic(auto, unfolding(crate::specs::Values::proof_value))]
-fn proof(alloc: Global, certificate: &Certificate) -> Result<Value, AllocError>
+pub fn proof(alloc: Global, certificate: &Certificate) -> Result<Value, AllocError>
     ensures { IfOk result (λ v. view v ≡ proof_value (certificate_view certificate.now)) }
 {
     let scale = integer(alloc, &certificate.scale)?;

@@ -6,13 +6,17 @@ ghost use Rattle.serde_json.specs.View.{members_view, view};
 ghost use Rattle.serde_json.specs.Written.{members_have_float};
 ghost use Rattle.it_space.specs.Answers.{IfRate, answer_view, certificate_view};
 ghost use Rattle.it_space.specs.Answers.AnswerView.{Yes, No, Undecided, Region, Contained, Open};
+ghost use Rattle.it_ratio.specs.BestViews.{best_view};
+ghost use Rattle.it_certificate.specs.FactorValues.{best_members};
 ghost use Rattle.it_certificate.specs.Values.{IsAsciiRate, IsWritable, answer_members, answer_text, answer_value, ascii_byte, ascii_string, misfit_members, report_text, source_texts, with_source};
 
+use crate::factor_values::best_members;
 use crate::objects::Members;
 use crate::types::SourceText;
 use crate::values::{
     ascii_text, cause_word, integers, proofs, rows, sets, side_word, step_or_rate_value,
 };
+use it_ratio::types::Best;
 use it_space::{Answer, Cause, Certificate, Mark, Point, Row, VarSet};
 use it_syntax::Names;
 use serde_json::{Value, json};
@@ -211,6 +215,7 @@ fn with_source(
     ensures { IfOk result (λ m. members_view m.map.entries ≡ with_source (source_texts source.entry) (members_view members.map.entries)) }
 {
     match source {
+        SourceText::Question(text) => with_bytes(alloc, members, "question", text),
         SourceText::Copies { head, question } => {
             let members = with_bytes(alloc, members, "copies", head)?;
             with_bytes(alloc, members, "question", question)
@@ -255,6 +260,18 @@ pub fn report_json(
     ensures { IfOk result (λ out. out.items ≡ report_text (source_texts source.entry) (answer_members names.now (answer_view answer.now))) }
 {
     let members = answer_members(alloc, names, answer)?;
+    line_about(alloc, members, source)
+}
+
+/// The line of what is found of the factors of the relation that these texts ask about, without its end, as `report_json` writes it.
+pub fn best_json(
+    alloc: Global,
+    source: SourceText<'_>,
+    best: &Best,
+) -> Result<Vec<u8>, AllocError>
+    ensures { IfOk result (λ out. out.items ≡ report_text (source_texts source.entry) (best_members (best_view best.now))) }
+{
+    let members = best_members(alloc, best)?;
     line_about(alloc, members, source)
 }
 

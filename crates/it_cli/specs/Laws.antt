@@ -105,7 +105,7 @@ AreByBland (Answer format run pivots rows tries) = run ≡ Bland
 AreByBland Check = Unit {0}
 AreByBland (Bench seed count run pivots rows tries) = run ≡ Bland
 AreByBland (Copy report run pivots) = run ≡ Bland
-AreByBland (Best run pivots) = run ≡ Bland
+AreByBland (Best report run pivots) = run ≡ Bland
 AreByBland (Outer run pivots rows tries) = run ≡ Bland
 AreByBland (Sharing report run pivots) = run ≡ Bland
 

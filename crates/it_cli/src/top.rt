@@ -195,9 +195,11 @@ fn reply<K: Sink>(
             run,
             pivots,
         } => answer_with_copies(alloc, report, effort_of(run, pivots), bytes, sink),
-        Settings::Best { run, pivots } => {
-            find_factors(alloc, effort_of(run, pivots), bytes, sink)
-        }
+        Settings::Best {
+            report,
+            run,
+            pivots,
+        } => find_factors(alloc, report, effort_of(run, pivots), bytes, sink),
         Settings::Outer {
             run,
             pivots,

@@ -9,12 +9,12 @@ use Rattle.it_space.specs.Answers.{AnswerView}
 use Rattle.it_question.specs.Questions.{BodyView}
 use Rattle.it_question.specs.ProblemLines.{problem_names}
 use Rattle.it_certificate.specs.declared.keys.Key.{Key}
-use Rattle.it_certificate.specs.Reports.{Answered, Misfit, ReadsReport, Reading, report_of}
+use Rattle.it_certificate.specs.Reports.{Answered, Factored, Misfit, ReadsReport, Reading, report_of}
 use Rattle.it_certificate.specs.Sources.{asked}
 use Rattle.it_certificate.proofs.SourceLemmas.{source_there}
 use Rattle.it_check.specs.declared.verdicts.Verdict.{Verdict}
 use Rattle.it_report.specs.LineVerdicts.{LineVerdict, NotJson, Shape, Skipped, Judged, verdict_line, is_invalid}
-use Rattle.it_report.specs.Judging.{verdict_of, IsAnswerVerdict, IsVerdict}
+use Rattle.it_report.specs.Judging.{factor_line_verdict, verdict_of, IsAnswerVerdict, IsVerdict}
 use Rattle.it_report.specs.Meaning.{EachLineIsJudged}
 use Rattle.it_report.proofs.JudgingLemmas.{read_verdict}
 
@@ -37,6 +37,7 @@ verdict_read line (Err key) h = (Shape key, h)
 verdict_read line (Ok (Answered source a)) h =
     let v = answer_verdict_there (asked source).body a in
     (v.0, read_verdict line (Answered source a) v.0 h v.1)
+verdict_read line (Ok (Factored source b)) h = let v = factor_line_verdict (asked source).body b in (v, read_verdict line (Factored source b) v h refl)
 verdict_read line (Ok Misfit) h = (Skipped, read_verdict line Misfit Skipped h refl)
 
 verdict_there : (line : List ℕ) → VerdictThere line

@@ -7,11 +7,11 @@ use Rattle.it_space.proofs.OptionLemmas.{some_same}
 use Rattle.it_syntax.specs.NamesViews.{NamesView}
 use Rattle.it_question.specs.Questions.{BodyView}
 use Rattle.it_certificate.specs.declared.keys.Key.{Key}
-use Rattle.it_certificate.specs.Reports.{Answered, Misfit, ReadsReport, Reading}
+use Rattle.it_certificate.specs.Reports.{Answered, Factored, Misfit, ReadsReport, Reading}
 use Rattle.it_certificate.specs.Sources.{asked}
 use Rattle.it_certificate.proofs.OneLemmas.{one_reading}
 use Rattle.it_check.specs.declared.verdicts.Verdict.{Verdict}
-use Rattle.it_report.specs.LineVerdicts.{LineVerdict, NotJson, Shape, Skipped, Judged}
+use Rattle.it_report.specs.LineVerdicts.{LineVerdict, NotJson, Shape, Skipped, Judged, Weighed}
 use Rattle.it_report.specs.Judging.{IsAnswerVerdict, IsReadingVerdict, HasReading}
 use Rattle.it_report.specs.Meaning.{OneVerdict}
 
@@ -43,17 +43,21 @@ none_judged v e = cc
 answer_once : (q : BodyView) (a : AnswerView) (v w : LineVerdict) → IsAnswerVerdict q a v → IsAnswerVerdict q a w → v ≡ w
 answer_once q a NotJson w h k = absurd h
 answer_once q a (Shape j) w h k = absurd h
+answer_once q a (Weighed n v) w h k = absurd h
 answer_once q a Skipped NotJson h k = absurd k
 answer_once q a Skipped (Shape j) h k = absurd k
 answer_once q a Skipped Skipped h k = refl
 answer_once q a Skipped (Judged n w) h k = absurd (none_judged w (sym h ∙ k.1))
+answer_once q a Skipped (Weighed n w) h k = absurd k
 answer_once q a (Judged m v) NotJson h k = absurd k
 answer_once q a (Judged m v) (Shape j) h k = absurd k
 answer_once q a (Judged m v) Skipped h k = absurd (none_judged v (sym k ∙ h.1))
+answer_once q a (Judged m v) (Weighed n w) h k = absurd k
 answer_once q a (Judged m v) (Judged n w) h k = ap₂ Judged (h.0 ∙ sym k.0) (some_same v w (sym h.1 ∙ k.1))
 
 told_once : (x : Reading) (v w : LineVerdict) → IsReadingVerdict x v → IsReadingVerdict x w → v ≡ w
 told_once (Answered source a) v w h k = answer_once (asked source).body a v w h k
+told_once (Factored source b) v w h k = h ∙ sym k
 told_once Misfit v w h k = h ∙ sym k
 
 once : (line : List ℕ) (v w : LineVerdict) → HasReading line v → HasReading line w → v ≡ w
@@ -66,15 +70,24 @@ one_verdict line NotJson NotJson a b = refl
 one_verdict line NotJson (Shape j) a b = absurd (has_json line (Err j) b a)
 one_verdict line NotJson Skipped a b = absurd (has_json line (Ok b.reading) b.reads a)
 one_verdict line NotJson (Judged n w) a b = absurd (has_json line (Ok b.reading) b.reads a)
+one_verdict line NotJson (Weighed n w) a b = absurd (has_json line (Ok b.reading) b.reads a)
 one_verdict line (Shape k) NotJson a b = absurd (has_json line (Err k) a b)
 one_verdict line (Shape k) (Shape j) a b = ap Shape (one_key k j (one_reading line (Err k) (Err j) a b))
 one_verdict line (Shape k) Skipped a b = absurd (no_key k b.reading (one_reading line (Err k) (Ok b.reading) a b.reads))
 one_verdict line (Shape k) (Judged n w) a b = absurd (no_key k b.reading (one_reading line (Err k) (Ok b.reading) a b.reads))
+one_verdict line (Shape k) (Weighed n w) a b = absurd (no_key k b.reading (one_reading line (Err k) (Ok b.reading) a b.reads))
 one_verdict line Skipped NotJson a b = absurd (has_json line (Ok a.reading) a.reads b)
 one_verdict line Skipped (Shape j) a b = absurd (no_key j a.reading (one_reading line (Err j) (Ok a.reading) b a.reads))
 one_verdict line Skipped Skipped a b = refl
 one_verdict line Skipped (Judged n w) a b = once line Skipped (Judged n w) a b
+one_verdict line Skipped (Weighed n w) a b = once line Skipped (Weighed n w) a b
 one_verdict line (Judged m v) NotJson a b = absurd (has_json line (Ok a.reading) a.reads b)
 one_verdict line (Judged m v) (Shape j) a b = absurd (no_key j a.reading (one_reading line (Err j) (Ok a.reading) b a.reads))
 one_verdict line (Judged m v) Skipped a b = once line (Judged m v) Skipped a b
 one_verdict line (Judged m v) (Judged n w) a b = once line (Judged m v) (Judged n w) a b
+one_verdict line (Judged m v) (Weighed n w) a b = once line (Judged m v) (Weighed n w) a b
+one_verdict line (Weighed m v) NotJson a b = absurd (has_json line (Ok a.reading) a.reads b)
+one_verdict line (Weighed m v) (Shape j) a b = absurd (no_key j a.reading (one_reading line (Err j) (Ok a.reading) b a.reads))
+one_verdict line (Weighed m v) Skipped a b = once line (Weighed m v) Skipped a b
+one_verdict line (Weighed m v) (Judged n w) a b = once line (Weighed m v) (Judged n w) a b
+one_verdict line (Weighed m v) (Weighed n w) a b = once line (Weighed m v) (Weighed n w) a b

@@ -1,5 +1,7 @@
 pub mod RowVerdicts
+pub mod FactorVerdicts
 pub mod LineVerdicts
 pub mod Judging
 pub mod Steps
+pub mod FactorSteps
 pub mod Meaning

@@ -10,7 +10,8 @@ use Rattle.it_certificate.specs.declared.types.Reported.TheVariants as reported
 use Rattle.it_check.specs.declared.verdicts.Verdict.{Verdict}
 use Rattle.it_check.specs.declared.verdicts.Verdict.TheVariants.{Mismatch}
 use Rattle.it_report.specs.LineVerdicts.{LineVerdict, NotJson, Shape, Skipped, IsLineOf}
-use Rattle.it_report.specs.Judging.{IsAnswerVerdict}
+use Rattle.it_ratio.specs.BestViews.{best_view}
+use Rattle.it_report.specs.Judging.{IsAnswerVerdict, factor_line_verdict}
 
 -- the question is about a relation
 abbrev pub IsAboutRelation : VerbView → Type 0
@@ -33,6 +34,7 @@ pub record IsJudgedAnswer (k : ℕ) (q : BodyView) (answer : AnswerView) (text :
 -- the line about what was read
 abbrev pub IsJudgedReport : ℕ → Reported → List ℕ → Bool → Type 0
 IsJudgedReport k (reported.Answered question answer) text invalid = IsJudgedAnswer k (question_body question) (answer_view answer) text invalid
+IsJudgedReport k (reported.Factored question best) text invalid = IsLineOf k (factor_line_verdict (question_body question) (best_view best)) text invalid
 IsJudgedReport k reported.Misfit text invalid = IsLineOf k Skipped text invalid
 
 -- the coordinate of a verdict, where it has one, is below a bound

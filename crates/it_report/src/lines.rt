@@ -1,10 +1,12 @@
 //! The lines of verdicts.
 ghost use Rattle.std.specs.Prelude.{◌≡◌, ◌<◌, ◌+◌, ◌^◌, length, true, false, IfOk};
-ghost use Rattle.it_report.specs.LineVerdicts.{numbered_line, IsLineOf, NotJson, Shape, Skipped, Judged};
+ghost use Rattle.it_report.specs.LineVerdicts.{is_right, numbered_line, IsLineOf, NotJson, Shape, Skipped, Judged, Weighed};
+ghost use Rattle.it_report.specs.FactorSteps.{IsFactorVerdictOver};
 ghost use Rattle.it_report.specs.Steps.{IsVerdictOver};
 
+use crate::factors::FactorVerdict;
 use crate::rows::is_valid;
-use crate::words::{key_name, write_verdict};
+use crate::words::{key_name, write_factor_verdict, write_verdict};
 use it_certificate::Key;
 use it_check::Verdict;
 use it_print::write_number;
@@ -83,5 +85,34 @@ pub fn verdict_line(
     Ok(JudgedLine {
         text,
         invalid: !is_valid(verdict),
+    })
+}
+
+/// Whether nothing is wrong with what is said of factors.
+fn is_right(verdict: &FactorVerdict) -> bool
+    ensures { result ≡ is_right verdict.now }
+{
+    match verdict {
+        FactorVerdict::Checked(verdict) => is_valid(verdict),
+        FactorVerdict::BelowOne { .. } | FactorVerdict::NotZero { .. } => false,
+    }
+}
+
+/// The line about a line with this verdict on what it says of factors.
+pub fn factor_line(
+    alloc: Global,
+    k: usize,
+    names: &Names,
+    verdict: &FactorVerdict,
+) -> Result<JudgedLine, AllocError>
+    requires { IsFactorVerdictOver (2 ^ length names.now.variables + length names.now.rates) verdict.now }
+    ensures { IfOk result (λ j. IsLineOf k (Weighed names.now verdict.now) j.text.items j.invalid) }
+{
+    let mut words = Vec::new(alloc);
+    write_factor_verdict(&mut words, names, verdict)?;
+    let text = numbered_line(alloc, k, words.as_slice())?;
+    Ok(JudgedLine {
+        text,
+        invalid: !is_right(verdict),
     })
 }

@@ -1,9 +1,11 @@
 //! What the checker's verdicts are called.
 ghost use Rattle.std.specs.Prelude.{◌≡◌, ◌<◌, ◌+◌, ◌^◌, ◌++◌, length, OnOk, codes, decimal};
 ghost use Rattle.std.specs.Fmt.{signed_decimal};
-ghost use Rattle.it_report.specs.LineVerdicts.{key_text, verdict_text, mismatch_text};
+ghost use Rattle.it_report.specs.LineVerdicts.{factor_verdict_text, key_text, verdict_text, mismatch_text};
+ghost use Rattle.it_report.specs.FactorSteps.{IsFactorVerdictOver};
 ghost use Rattle.it_report.specs.Steps.{IsVerdictOver};
 
+use crate::factors::FactorVerdict;
 use it_certificate::Key;
 use it_check::Verdict;
 use it_print::{write_coordinate, write_number, write_signed};
@@ -19,11 +21,13 @@ pub fn key_name(key: Key) -> &'static str
         Key::Sharing => "sharing",
         Key::Copies => "copies",
         Key::Question => "question",
+        Key::Factor => "factor",
         Key::Proofs => "proofs",
         Key::Point => "point",
         Key::Side => "side",
         Key::Cause => "cause",
         Key::At => "at",
+        Key::Phase => "phase",
         Key::Rows => "rows",
         Key::Parts => "parts",
         Key::Tried => "tried",
@@ -101,5 +105,22 @@ pub fn write_verdict(out: &mut Vec<u8>, names: &Names, verdict: &Verdict) -> Res
             write_generator_value(out, b"invalid constraint ", *index, value)
         }
         Verdict::NotViolated { value } => write_value(out, b"invalid target ", value),
+    }
+}
+
+/// Appends the words of a verdict on what is said of factors.
+#[tactic(auto, unfolding(crate::specs::LineVerdicts::factor_verdict_text))]
+pub fn write_factor_verdict(
+    out: &mut Vec<u8>,
+    names: &Names,
+    verdict: &FactorVerdict,
+) -> Result<(), AllocError>
+    requires { IsFactorVerdictOver (2 ^ length names.now.variables + length names.now.rates) verdict.now }
+    ensures { OnOk result (out.new.items ≡ out.old.items ++ factor_verdict_text names.now verdict.now) }
+{
+    match verdict {
+        FactorVerdict::BelowOne { den } => write_value(out, b"invalid factor ", den),
+        FactorVerdict::Checked(verdict) => write_verdict(out, names, verdict),
+        FactorVerdict::NotZero { value } => write_value(out, b"invalid zero ", value),
     }
 }

@@ -55,6 +55,8 @@ pub enum Settings {
     },
     /// Find the best factors between the sides of a file's relations.
     Best {
+        /// As in mode `copy`.
+        report: bool,
         run: Run,
         /// The most steps of each of the three defined runs about a relation.
         pivots: Option<u32>,

@@ -10,6 +10,7 @@ ghost use Rattle.it_certificate.specs.Reports.{KeepsLimits};
 ghost use Rattle.it_tell.specs.Steps.{CanBePrinted, IsAnsweredText, IsReportedText, IsToldLine};
 
 use crate::details::write_details;
+use crate::factors::best_line;
 use crate::heads::{head_line, numbered_line};
 use crate::settings::Options;
 use it_canon::problem;
@@ -62,6 +63,7 @@ fn reported_text(
         Reported::Answered { question, answer } => {
             answered_text(alloc, options, k, question, answer)
         }
+        Reported::Factored { question: _, best } => best_line(alloc, k, best),
         Reported::Misfit => numbered_line(alloc, k, b"misfit"),
     }
 }
