@@ -1,5 +1,5 @@
 -- The line about a report's line, step by step as the code forms it.
-use Rattle.std.proofs.Common.{◌≡◌, ℕ, ℤ, lit<, ◌^◌, ◌<◌, ◌≤◌, List, length, take, Bool, true, false, Some, Result, Ok, Err, IfOk, refl, sym, ap, ◌∙◌, subst, arith, map}
+use Rattle.std.proofs.Common.{◌≡◌, ℕ, ℤ, lit<, ◌^◌, ◌<◌, ◌≤◌, List, length, take, Bool, true, false, Option, Some, None, option_and_then, Result, Ok, Err, IfOk, refl, sym, ap, ap₂, ◌∙◌, subst, arith, map}
 use Rattle.std.proofs.lemmas.List.Elements.{All-weaker}
 use Rattle.it_space.specs.declared.spaces.Space.{Space}
 use Rattle.it_space.specs.Answers.{AnswerView, CertificateView, answer_view}
@@ -28,6 +28,7 @@ use Rattle.it_region.specs.Obligations.{obligations, IsSubstitution, ArePulledRo
 use Rattle.it_region.specs.Pairs.{IsPair, IsPairOf, Pairs, IsContainment, FitsPair, pair_obligations}
 use Rattle.it_region.proofs.TextLemmas.{text_rows, parts_fit, rows_as_pulled, pulled_rows_are}
 use Rattle.it_certificate.specs.AnswerShapes.{HasQuestionShape, HasVerbShape, HasContainmentShape}
+use Rattle.it_certificate.specs.declared.keys.Key.{Key}
 use Rattle.it_certificate.specs.declared.keys.ReportFault.{ReportFault}
 use Rattle.it_certificate.specs.Reports.{Answered, Factored, IsReported, Misfit, ReadsReport, Reading, Reports}
 use Rattle.it_certificate.specs.Sources.{asked}
@@ -36,7 +37,7 @@ use Rattle.it_certificate.specs.declared.types.Reported.TheVariants as variants
 use Rattle.it_check.specs.declared.verdicts.Verdict.{Verdict}
 use Rattle.it_region.proofs.PairLemmas.{pair_of_verb}
 use Rattle.it_report.specs.RowVerdicts.{place_named}
-use Rattle.it_report.specs.LineVerdicts.{LineVerdict, NotJson, Shape, Skipped, Judged, IsLineOf}
+use Rattle.it_report.specs.LineVerdicts.{LineVerdict, NotJson, Shape, Skipped, Judged, Weighed, IsLineOf}
 use Rattle.it_ratio.specs.BestViews.{BestView, best_view}
 use Rattle.it_ratio.specs.Truth.{asked_by}
 use Rattle.it_report.specs.declared.factors.FactorVerdict.{FactorVerdict}
@@ -49,25 +50,19 @@ use Rattle.it_certificate.specs.declared.keys.ReportFault.TheVariants as faults
 
 -- ---- lines
 
+not_json : (q : BodyView) (o : Option FactorVerdict) → NotJson ≡ weighed_by q o → ⊥
+not_json q None e = cc
+not_json q (Some v) e = cc
+
+no_shape : (key : Key) (q : BodyView) (o : Option FactorVerdict) → Shape key ≡ weighed_by q o → ⊥
+no_shape key q None e = cc
+no_shape key q (Some v) e = cc
+
 pub read_verdict : (line : List ℕ) (reading : Reading) (v : LineVerdict) → ReadsReport line (Ok reading) → IsReadingVerdict reading v → IsVerdict line v
 read_verdict line (Answered source a) NotJson h is = absurd is
 read_verdict line (Answered source a) (Shape key) h is = absurd is
-read_verdict line (Factored source b) NotJson h is = absurd (not_told_otherwise (asked source).body b is)
-  where
-    not_told_otherwise : (q : BodyView) (b : BestView) → NotJson ≡ factor_line_verdict q b → ⊥
-    not_told_otherwise q b e = by_option (option_and_then (λ r. factor_verdict_of q r b) (asked_by q.verb)) e
-      where
-        by_option : (o : Option FactorVerdict) → NotJson ≡ weighed_by q o → ⊥
-        by_option None e = cc
-        by_option (Some v) e = cc
-read_verdict line (Factored source b) (Shape key) h is = absurd (not_told_otherwise (asked source).body b is)
-  where
-    not_told_otherwise : (q : BodyView) (b : BestView) → Shape key ≡ factor_line_verdict q b → ⊥
-    not_told_otherwise q b e = by_option (option_and_then (λ r. factor_verdict_of q r b) (asked_by q.verb)) e
-      where
-        by_option : (o : Option FactorVerdict) → Shape key ≡ weighed_by q o → ⊥
-        by_option None e = cc
-        by_option (Some v) e = cc
+read_verdict line (Factored source b) NotJson h is = absurd (not_json (asked source).body (option_and_then (λ r. factor_verdict_of (asked source).body r b) (asked_by (asked source).body.verb)) is)
+read_verdict line (Factored source b) (Shape key) h is = absurd (no_shape key (asked source).body (option_and_then (λ r. factor_verdict_of (asked source).body r b) (asked_by (asked source).body.verb)) is)
 read_verdict line Misfit NotJson h is = absurd cc
 read_verdict line Misfit (Shape key) h is = absurd cc
 read_verdict line reading Skipped h is = record { reading = reading; reads = h; verdict = is }

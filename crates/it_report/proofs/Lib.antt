@@ -5,3 +5,4 @@ pub mod OneLemmas
 pub mod TruthLemmas
 pub mod SourceTruth
 pub mod ExistenceLemmas
+mod FactorTruth
