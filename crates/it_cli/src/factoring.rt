@@ -84,7 +84,8 @@ fn report_line(
     requires { IsQuestion (question_body question.now) }
     ensures { IfOk result (λ text. IsTextOf (best_mode true effort) [] k (question_view question.now) text.items) }
 {
-    let source = SourceText::Question(question.text.as_slice());
+    let text = question.text(alloc)?;
+    let source = SourceText::Question(text.as_slice());
     factor_report(alloc, effort, source, question)
 }
 

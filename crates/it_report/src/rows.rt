@@ -12,7 +12,7 @@ use it_space::{Certificate, Point, Problem, Row};
 
 /// The verdict on a certificate.
 #[tactic(auto, using(crate::proofs::VerdictLemmas::yes_over))]
-fn proof_verdict(problem: &Problem, row: &Row, certificate: &Certificate) -> Verdict
+pub fn proof_verdict(problem: &Problem, row: &Row, certificate: &Certificate) -> Verdict
     requires problem { IsProblem (problem_view problem.now) }
     requires row { IsOver (size_of problem.now.space) row.now }
     ensures verdict { result ≡ proof_verdict (problem_view problem.now) row.now (certificate_view certificate.now) }
