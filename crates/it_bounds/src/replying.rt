@@ -12,16 +12,16 @@ ghost use Rattle.it_bounds.specs.Lines.{IsPrintable};
 ghost use Rattle.it_bounds.specs.Replies.{reply_view};
 ghost use Rattle.it_bounds.specs.RightReplies.{IsRightReply};
 ghost use Rattle.it_bounds.specs.RowReplies.{IsReplyByRows, TellsBounds};
-ghost use Rattle.it_bounds.specs.Truth.{under_all_lines};
+ghost use Rattle.it_rates.specs.Asked.{under_all_lines};
 
 use crate::marks::with_marks;
 use crate::types::{RepliedProblem, Reply};
 use it_closure::size;
 use it_outer::{Bounds, Limits, Outer, outer};
 use it_prove::Effort;
-use it_question::line_constraints;
 use it_question::readers::MOST_ENTRIES;
 use it_question::types::{Question, Verb};
+use it_rates::problem_of_lines;
 use it_space::{Problem, Space};
 use std::alloc::{AllocError, Global};
 
@@ -43,16 +43,6 @@ pub fn reply(
     let problem = problem_of_lines(alloc, question)?;
     let reply = reply_under(alloc, question, &problem, limits)?;
     Ok(RepliedProblem { problem, reply })
-}
-
-/// The problem that all lines of a question pose.
-fn problem_of_lines(alloc: Global, question: &Question) -> Result<Problem, AllocError>
-    requires { IsQuestion (question_body question.now) }
-    ensures { IfOk result (λ p. IsProblemOf (under_all_lines (question_body question.now)) (problem_view p)) }
-{
-    let space = question.names.space();
-    let constraints = line_constraints(alloc, &question.lines, space)?;
-    Ok(Problem { space, constraints })
 }
 
 /// The reply to a question, with the problem that all its lines pose.

@@ -14,15 +14,21 @@ use Rattle.it_certificate.specs.declared.keys.Key.TheVariants as keys
 use Rattle.it_certificate.specs.declared.keys.ReportFault.{ReportFault}
 use Rattle.it_certificate.specs.declared.keys.ReportFault.TheVariants as faults
 use Rattle.it_certificate.specs.declared.types.Reported.TheVariants as reported
+use Rattle.it_certificate.specs.declared.types.ReportedBounds.{ReportedBounds}
 use Rattle.it_certificate.specs.Parts.{answer_kind_at}
-use Rattle.it_certificate.specs.Reports.{Answered, Misfit, Reading, ReadsAs, answer_to, report_of, tells_misfit, verb_answer}
+use Rattle.it_certificate.specs.Bounds.{BoundsView, bounds_view, verb_bounds}
+use Rattle.it_certificate.specs.Reports.{Answered, Bounded, Misfit, Reading, ReadsAs, answer_to, answered_of, bounded_of, bounds_to, report_of, tells_misfit, tells_outer, verb_answer}
 use Rattle.it_certificate.specs.ReportSteps.{GivesSource, ReadsValue}
 use Rattle.it_certificate.specs.Sources.{IsSourceOf, Source, asked, source_key}
 use Rattle.it_certificate.specs.Steps.{GivesKeyed, fault_by}
 use Rattle.it_certificate.specs.AnswerReading.{and_then}
 use Rattle.it_certificate.proofs.SourceLemmas.{source_there}
 
--- of a line that isn't a misfit, by the kind of its answer
+-- of a line that isn't a misfit, by whether it tells bounds
+abbrev reading_of : Option Source → Data → Bool → Result Reading Key
+reading_of own d outer = cond outer (bounded_of own d) (answered_of own d)
+
+-- of one that tells an answer, by its kind
 abbrev reading_by : Option Source → Data → Option AnswerKind → Result Reading Key
 reading_by own d kind = and_then (ok_or kind keys.Answer) (λ kind. and_then (ok_or own (source_key d)) (λ source. and_then (answer_to source kind d) (λ a. Ok (Answered source a))))
 
@@ -30,12 +36,44 @@ pub told_misfit : (d : Data) → true ≡ tells_misfit d → ReadsValue d (Ok re
 unfolding report_of
 told_misfit d told =
     let own = source_there d in
-    (Misfit, tt, record { own = own.0; source = own.1; is = ap (λ b. cond b (Ok Misfit) (reading_by own.0 d (answer_kind_at d))) (sym told) })
+    (Misfit, tt, record { own = own.0; source = own.1; is = ap (λ b. cond b (Ok Misfit) (reading_of own.0 d (tells_outer d))) (sym told) })
 
-module _ (d : Data) (told : false ≡ tells_misfit d) where
+of_no_misfit : (d : Data) → false ≡ tells_misfit d → (o : Option Source) → report_of o d ≡ reading_of o d (tells_outer d)
+unfolding report_of
+of_no_misfit d told o = ap (λ b. cond b (Ok Misfit) (reading_of o d (tells_outer d))) (sym told)
+
+-- ---- an outer bound
+
+module _ (d : Data) (told : false ≡ tells_misfit d) (outer : true ≡ tells_outer d) where
+  of_bounds : (o : Option Source) → report_of o d ≡ bounded_of o d
+  of_bounds o = of_no_misfit d told o ∙ ap (reading_of o d) (sym outer)
+
+  pub no_bounds_source : (refusal : Refusal) (key : Key) (f : ReportFault) → GivesSource d (Err refusal) → key ≡ source_key d → f ≡ fault_by refusal key → ReadsValue d (Err f)
+  no_bounds_source refusals.Shape key f none e made =
+      subst (λ g. ReadsValue d (Err g)) (sym (made ∙ ap faults.Shape e)) (record { own = None; source = none; is = of_bounds None })
+  no_bounds_source refusals.Memory key f none e made = subst (λ g. ReadsValue d (Err g)) (sym made) tt
+
+  bounds_as : (source : Source) (r : Result BoundsView Key) → IsSourceOf d source → bounds_to source d ≡ r → ReadsAs d (and_then r (λ b. Ok (Bounded source b)))
+  bounds_as source r own by = record { own = Some source; source = own; is = of_bounds (Some source) ∙ ap (λ z. and_then z (λ b. Ok (Bounded source b))) by }
+
+  -- the bounds of the question that is asked
+  as_bounded : (source : Source) (q : QuestionView) (r : Result BoundsView Key) → asked source ≡ q → verb_bounds q.body.names q.body.verb d ≡ r → bounds_to source d ≡ r
+  as_bounded source q r e by = ap (λ (z : QuestionView). verb_bounds z.body.names z.body.verb d) e ∙ by
+
+  pub bounds_ok : (q : Question) (b : ReportedBounds) → GivesSource d (Ok q) → verb_bounds (question_view q).body.names (question_view q).body.verb d ≡ Ok (bounds_view b) → ReadsValue d (Ok (reported.Bounded q b))
+  bounds_ok q b gives by =
+      (Bounded gives.0 (bounds_view b), (gives.2, refl), bounds_as gives.0 (Ok (bounds_view b)) gives.1 (as_bounded gives.0 (question_view q) (Ok (bounds_view b)) gives.2 by))
+
+  pub bounds_err : (q : Question) (f : ReportFault) → GivesSource d (Ok q) → GivesKeyed bounds_view (Err f) (verb_bounds (question_view q).body.names (question_view q).body.verb d) → ReadsValue d (Err f)
+  bounds_err q (faults.Shape key) gives by = bounds_as gives.0 (Err key) gives.1 (as_bounded gives.0 (question_view q) (Err key) gives.2 by)
+  bounds_err q faults.NotJson gives by = by
+  bounds_err q faults.Memory gives by = tt
+
+-- ---- an answer
+
+module _ (d : Data) (told : false ≡ tells_misfit d) (other : false ≡ tells_outer d) where
   without_misfit : (o : Option Source) (kind : Option AnswerKind) → kind ≡ answer_kind_at d → report_of o d ≡ reading_by o d kind
-  unfolding report_of
-  without_misfit o kind is = ap (λ b. cond b (Ok Misfit) (reading_by o d (answer_kind_at d))) (sym told) ∙ ap (reading_by o d) (sym is)
+  without_misfit o kind is = of_no_misfit d told o ∙ ap (reading_of o d) (sym other) ∙ ap (reading_by o d) (sym is)
 
   pub no_kind : None ≡ answer_kind_at d → ReadsAs d (Err keys.Answer)
   no_kind is =

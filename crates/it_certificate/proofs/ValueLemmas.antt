@@ -14,7 +14,10 @@ use Rattle.it_space.specs.Answers.{CertificateView, AnswerView, is_nonzero_weigh
 use Rattle.it_space.specs.Answers.AnswerView.{Yes, No, Undecided, Region, Contained, Open}
 use Rattle.it_space.specs.declared.answers.Mark.{Mark}
 use Rattle.it_syntax.specs.NamesViews.{NamesView}
-use Rattle.it_certificate.specs.Values.{SourceTexts, OfCopies, OfSharing, ascii_byte, ascii_string, integer_value, count_value, pair_value, proof_value, row_value, answer_members, answer_value, answer_text, report_text, with_source}
+use Rattle.it_spans.specs.Drops.{DropView}
+use Rattle.it_spans.specs.Spans.{StepView}
+use Rattle.it_certificate.specs.Bounds.{BoundsView}
+use Rattle.it_certificate.specs.Values.{SourceTexts, OfCopies, OfSharing, ascii_byte, ascii_string, integer_value, count_value, pair_value, proof_value, row_value, answer_members, answer_value, answer_text, report_text, with_source, OfQuestion, bounds_members, drop_value, step_value, unmarked_row_value}
 
 items_no_float : {A : Type 0} (f : A → Data) → ((a : A) → has_float (f a) ≡ false) → (xs : List A) → items_have_float (items_of (map f xs)) ≡ false
 items_no_float f none [] = refl
@@ -34,6 +37,23 @@ proof_no_float c = or_none _ false (items_no_float pair_value pair_no_float (fil
 row_no_float : (r : Mark × Terms) → has_float (row_value r) ≡ false
 unfolding row_value
 row_no_float r = or_none _ false (items_no_float pair_value pair_no_float r.1) refl
+
+unmarked_no_float : (r : Terms) → has_float (unmarked_row_value r) ≡ false
+unfolding unmarked_row_value
+unmarked_no_float r = or_none _ false (items_no_float pair_value pair_no_float r) refl
+
+drop_no_float : (d : DropView) → has_float (drop_value d) ≡ false
+unfolding drop_value
+drop_no_float d = or_none _ false (items_no_float pair_value pair_no_float (filter is_nonzero_weight d.proof.weights)) refl
+
+step_no_float : (s : StepView) → has_float (step_value s) ≡ false
+unfolding step_value
+step_no_float s = or_none _ _ (items_no_float drop_value drop_no_float s.drops) (or_none _ false (items_no_float integer_value (λ z. refl) s.ray) refl)
+
+pub bounds_no_float : (b : BoundsView) → members_have_float (bounds_members b) ≡ false
+unfolding bounds_members
+bounds_no_float b = or_none _ _ (items_no_float proof_value proof_no_float b.proofs)
+    (or_none _ _ (items_no_float step_value step_no_float b.steps) (or_none _ false (items_no_float unmarked_row_value unmarked_no_float b.rows) refl))
 
 pub answer_no_float : (v : NamesView) (a : AnswerView) → members_have_float (answer_members v a) ≡ false
 unfolding answer_members
@@ -68,6 +88,7 @@ unfolding answer_value
 no_float text v a = text_no_float (codes "question") text (answer_members v a) (answer_no_float v a)
 
 source_no_float : (source : SourceTexts) (ms : Members) → members_have_float ms ≡ false → has_float (object (with_source source ms)) ≡ false
+source_no_float (OfQuestion text) ms none = text_no_float (codes "question") (map ascii_byte text) ms none
 source_no_float (OfCopies head text) ms none =
     let with_head = put (codes "copies") (ascii_string head) ms in
     text_no_float (codes "question") (map ascii_byte text) with_head (text_no_float (codes "copies") (map ascii_byte head) ms none)

@@ -5,6 +5,7 @@ pub mod Parts
 pub mod Obligations
 pub mod AnswerReading
 pub mod Sources
+pub mod Bounds
 pub mod Reports
 pub mod AnswerShapes
 pub mod Laws

@@ -24,6 +24,7 @@ use Rattle.it_certificate.specs.declared.types.Reported.TheVariants as reported
 use Rattle.it_certificate.specs.Parts.{text_of, answer_kind_at, count_at, proofs_at, rows_at}
 use Rattle.it_certificate.specs.AnswerReading.{and_then, no_at, undecided_at, contained_at}
 use Rattle.it_certificate.specs.AnswerShapes.{HasQuestionShape}
+use Rattle.it_certificate.specs.Bounds.{BoundsView, HasBoundsShape, bounds_view, verb_bounds}
 use Rattle.it_certificate.specs.Obligations.{obligation_count}
 use Rattle.it_certificate.specs.Sources.{Source, IsSourceAt, asked, source_key}
 
@@ -43,27 +44,44 @@ verb_answer v verb kind d = Err keys.Answer
 
 -- ---- the report
 
--- what a line says: an answer to what it is about, or that a question can't have what is asked for, which claims nothing
+-- what a line says: an answer to what it is about; an outer bound; or that a question can't have what is asked for, which claims nothing
 pub data Reading : Type 0 where
   Answered : (source : Source) (answer : AnswerView) → Reading
+  Bounded : (source : Source) (bounds : BoundsView) → Reading
   Misfit : Reading
 
 -- whether the word of the answer is `misfit`
 unfoldable pub tells_misfit : Data → Bool
 tells_misfit d = option_map_or (λ text. bytes_eq text (codes "misfit")) (text_of (get (codes "answer") d)) false
 
+-- whether it is `outer`
+unfoldable pub tells_outer : Data → Bool
+tells_outer d = option_map_or (λ text. bytes_eq text (codes "outer")) (text_of (get (codes "answer") d)) false
+
 -- the answer of this kind to the question that is asked
 abbrev pub answer_to : Source → AnswerKind → Data → Result AnswerView Key
 answer_to source kind d = verb_answer (asked source).body.names (asked source).body.verb kind d
 
--- with what it is about, if that is so: `answer`, what it is about, `answer` again by the verb, and what the answer needs; of a misfit
--- nothing but its word is read
-unfoldable pub report_of : Option Source → Data → Result Reading Key
-report_of own d =
-    if tells_misfit d then Ok Misfit else
+-- the bounds of that question
+abbrev pub bounds_to : Source → Data → Result BoundsView Key
+bounds_to source d = verb_bounds (asked source).body.names (asked source).body.verb d
+
+-- with what it is about, if that is so: an answer by `answer`, what it is about, `answer` again by the verb, and what the answer needs
+abbrev pub answered_of : Option Source → Data → Result Reading Key
+answered_of own d =
     and_then (ok_or (answer_kind_at d) keys.Answer) (λ kind.
     and_then (ok_or own (source_key d)) (λ source.
     and_then (answer_to source kind d) (λ answer. Ok (Answered source answer))))
+
+-- an outer bound in the same order
+abbrev pub bounded_of : Option Source → Data → Result Reading Key
+bounded_of own d =
+    and_then (ok_or own (source_key d)) (λ source.
+    and_then (bounds_to source d) (λ bounds. Ok (Bounded source bounds)))
+
+-- by the word of the answer; of a misfit nothing else is read
+unfoldable pub report_of : Option Source → Data → Result Reading Key
+report_of own d = if tells_misfit d then Ok Misfit else if tells_outer d then bounded_of own d else answered_of own d
 
 -- the reading of a JSON value
 pub record ReadsAs (value : Data) (r : Result Reading Key) : Type 0 where
@@ -81,6 +99,7 @@ pub record ReadsReport (line : List ℕ) (r : Result Reading Key) : Type 0 where
 -- what was read of a line, by the question that is asked
 abbrev pub IsReported : Reading → Reported → Type 0
 IsReported (Answered source a) (reported.Answered question answer) = (asked source ≡ question_view question) × (a ≡ answer_view answer)
+IsReported (Bounded source b) (reported.Bounded question bounds) = (asked source ≡ question_view question) × (b ≡ bounds_view bounds)
 IsReported Misfit reported.Misfit = Unit {0}
 IsReported reading r = ⊥
 
@@ -91,7 +110,8 @@ Reports line (Err (faults.Shape key)) = ReadsReport line (Err key)
 Reports line (Err faults.NotJson) = IsUtf8 line → read line ≡ None
 Reports line (Err faults.Memory) = Unit {0}
 
--- the question that was read with its answer is within the limits, and the answer fits it
+-- the question that was read is within the limits, and its answer or its bounds fit it
 abbrev pub KeepsLimits : Reported → Type 0
 KeepsLimits (reported.Answered q a) = IsQuestion (question_body q) × HasQuestionShape (question_body q) (answer_view a)
+KeepsLimits (reported.Bounded q b) = IsQuestion (question_body q) × HasBoundsShape (question_body q) (bounds_view b)
 KeepsLimits reported.Misfit = Unit {0}

@@ -2,6 +2,7 @@
 #![tactic(auto)]
 
 mod answers;
+mod bounds;
 pub mod keys;
 pub mod kinds;
 mod laws;
@@ -27,5 +28,5 @@ pub use laws::{
     texts_read_as_said,
 };
 pub use reports::answer_from_json;
-pub use types::{Reported, SourceText};
-pub use writing::{answer_json, misfit_json, report_json};
+pub use types::{Reported, ReportedBounds, SourceText};
+pub use writing::{answer_json, bounds_json, misfit_json, report_json};

@@ -98,7 +98,7 @@ fn integer_of_member(value: Option<&Value>) -> Option<i128>
 
 /// A certificate.
 #[tactic(auto, unfolding(crate::specs::Parts::certificate_at))]
-fn certificate_at(alloc: Global, value: &Value) -> Result<Certificate, Refusal>
+pub fn certificate_at(alloc: Global, value: &Value) -> Result<Certificate, Refusal>
     ensures { Yields certificate_view result (certificate_at (view value.now)) }
 {
     let Some(scale) = integer_of_member(value.get("scale")) else {

@@ -19,7 +19,7 @@ use Rattle.it_outer.specs.declared.types.Limits.{Limits}
 use Rattle.it_prove.specs.declared.types.Effort.{Effort}
 use Rattle.it_bounds.specs.Lines.{reply_lines}
 use Rattle.it_bounds.specs.RightReplies as bounds
-use Rattle.it_bounds.specs.Truth.{under_all_lines}
+use Rattle.it_rates.specs.Asked.{under_all_lines}
 use Rattle.it_factor.specs.Lines.{reply_line}
 use Rattle.it_factor.specs.RightReplies.{IsRightReply}
 use Rattle.it_cli.specs.Right.{IsRightAfter, answer_lines, budgets_of, effort_of, limits_of}

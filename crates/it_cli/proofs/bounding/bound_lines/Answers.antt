@@ -5,7 +5,7 @@ use Rattle.it_canon.specs.QuestionDemands.{question_origins}
 use Rattle.it_print.specs.Lines.{origins_of}
 use Rattle.it_bounds.specs.Lines.{reply_lines}
 use Rattle.it_bounds.specs.Replies.{reply_view}
-use Rattle.it_bounds.specs.Truth.{under_all_lines}
+use Rattle.it_rates.specs.Asked.{under_all_lines}
 use Rattle.it_cli.specs.InnerEnds.{IsTextOf}
 use Rattle.it_cli.specs.Outputs.{outer_mode}
 use Rattle.it_cli.proofs.LineLemmas.{origins_same}

@@ -1,21 +1,14 @@
-//! The coordinates that are kept.
-ghost use Rattle.std.specs.Prelude.{◌≡◌, ◌+◌, ◌++◌, ◌^◌, IfOk, OnOk};
+//! The coordinates of the rates that stay.
+ghost use Rattle.std.specs.Prelude.{◌≡◌, ◌++◌, IfOk, OnOk};
 ghost use Rattle.std.specs.List.{list_any};
 ghost use Rattle.std.specs.Prelude.{nat_eq};
 ghost use Rattle.it_space.specs.Spaces.{IsSpace};
-ghost use Rattle.it_outer.specs.Outer.{kept_coordinates};
-ghost use Rattle.it_outer.specs.Rounds.{own_coordinate};
+ghost use Rattle.it_hull.specs.KeptRates.{kept_coordinates};
+ghost use Rattle.it_hull.specs.Places.{own_coordinate};
 
+use crate::hulls::coordinate;
 use it_space::Space;
 use std::alloc::{AllocError, Global};
-
-/// The coordinate of a rate.
-fn coordinate(space: Space, rate: u8) -> u32
-    requires { IsSpace space }
-    ensures { result ≡ 2 ^ space.variables + rate }
-{
-    (1u32 << space.variables) + rate as u32
-}
 
 /// Whether a rate goes.
 fn goes(gone: &[u8], rate: u8) -> bool
