@@ -1,10 +1,10 @@
 -- The problem that all lines of a question pose, and where it is met.
-use Rattle.std.proofs.Common.{◌≡◌, ◌<◌, ℕ, ℤ, List, length, sym, subst, arith}
+use Rattle.std.proofs.Common.{◌≡◌, ◌<◌, ℕ, ℤ, List, length, Some, refl, sym, subst, arith}
 use Rattle.it_space.specs.declared.spaces.Space.{Space}
 use Rattle.it_space.specs.Problems.{ProblemView}
 use Rattle.it_polymatroid.specs.Polymatroid.{IsPolymatroid}
 use Rattle.it_question.specs.Limits.{AreRatesOf, IsQuestion, IsVerbOver}
-use Rattle.it_question.specs.Questions.{BodyView, VerbView, Eliminate}
+use Rattle.it_question.specs.Questions.{BodyView, VerbView, Prove, Eliminate, Contain}
 use Rattle.it_question.specs.LineDemands.{line_demands}
 use Rattle.it_question.specs.LineOrigins.{line_origins}
 use Rattle.it_demand.specs.Origins.{AreStated}
@@ -13,7 +13,7 @@ use Rattle.it_canon.specs.QuestionDemands.{IsProblemOf, question_demands, questi
 use Rattle.it_canon.specs.TrueLines.{AreTrueAt, AreTrueTogether}
 use Rattle.it_canon.proofs.ProblemLemmas.{question_met, question_problem}
 use Rattle.it_hull.specs.Theorems.{MeetsProblem}
-use Rattle.it_rates.specs.Asked.{under_all_lines}
+use Rattle.it_rates.specs.Asked.{eliminated_by, gone_rates, under_all_lines}
 
 -- the question with all its lines given is within the limits too
 pub all_lines_question : (q : BodyView) → IsQuestion q → IsQuestion (under_all_lines q)
@@ -28,6 +28,15 @@ all_lines_question q k = record {
 -- the rates that a question eliminates are among its own, and at least one
 pub eliminated_rates : (q : BodyView) (gone : List ℕ) → IsQuestion q → q.verb ≡ Eliminate gone → AreRatesOf (length q.names.rates) gone
 eliminated_rates q gone k e = subst (λ (v : VerbView). IsVerbOver q.names v) e k.verb
+
+-- the same of the list of rates that go
+pub asked_rates : (q : BodyView) (gone : List ℕ) → IsQuestion q → eliminated_by q.verb ≡ Some gone → AreRatesOf (length q.names.rates) (gone_rates q.verb)
+asked_rates q gone k asked = by_verb q.verb refl asked
+  where
+    by_verb : (verb : VerbView) → q.verb ≡ verb → eliminated_by verb ≡ Some gone → AreRatesOf (length q.names.rates) (gone_rates verb)
+    by_verb (Prove r) e f = absurd (cc)
+    by_verb (Eliminate rates) e f = eliminated_rates q rates k e
+    by_verb (Contain first second tries) e f = absurd (cc)
 
 -- constraints that state what all lines demand are the problem that these pose
 pub posed_by_lines : (q : BodyView) (p : ProblemView) → IsQuestion q → p.space ≡ space_of q.names → AreStated p.space (line_origins p.space.variables q.lines) (line_demands p.space.variables q.lines) p.constraints → IsProblemOf (under_all_lines q) p

@@ -5,3 +5,5 @@ pub mod OneLemmas
 pub mod TruthLemmas
 pub mod SourceTruth
 pub mod ExistenceLemmas
+pub mod FrameLemmas
+pub mod BoundsTruth

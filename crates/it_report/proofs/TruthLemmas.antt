@@ -37,7 +37,8 @@ use Rattle.it_certificate.specs.declared.kinds.AnswerKind.{AnswerKind}
 use Rattle.it_certificate.specs.AnswerReading.{and_then}
 use Rattle.it_certificate.specs.AnswerShapes.{HasQuestionShape, HasContainmentShape}
 use Rattle.it_certificate.specs.Parts.{answer_kind_at}
-use Rattle.it_certificate.specs.Reports.{Answered, Misfit, ReadsReport, Reading, answer_to, report_of, tells_misfit}
+use Rattle.it_certificate.specs.Bounds.{BoundsView}
+use Rattle.it_certificate.specs.Reports.{Answered, Bounded, Misfit, ReadsReport, Reading, answer_to, answered_of, bounded_of, bounds_to, report_of, tells_misfit, tells_outer}
 use Rattle.it_certificate.specs.Sources.{IsSourceAt, IsSourceOf, Source, asked, source_key}
 use Rattle.it_certificate.proofs.FitLemmas.{answer_fits}
 use Rattle.it_certificate.proofs.OneLemmas.{one_reading}
@@ -60,7 +61,7 @@ use Rattle.it_report.proofs.OneLemmas.{as_read, same_read}
 abbrev with_answer : Source → AnswerView → Result Reading Key
 with_answer source b = Ok (Answered source b)
 
-no_answer : (k : Key) (x : Reading) → Err k ≡ as_read x → ⊥
+pub no_answer : (k : Key) (x : Reading) → Err k ≡ as_read x → ⊥
 no_answer k x e = cc
 
 misfit_or_answer : (source : Source) (a : AnswerView) → Misfit ≡ Answered source a → ⊥
@@ -68,6 +69,20 @@ misfit_or_answer source a e = cc
 
 same_source : (s t : Source) (a b : AnswerView) → Answered s a ≡ Answered t b → (s ≡ t) × (a ≡ b)
 same_source s t a b e = let f : s ≡ t = cc in let g : a ≡ b = cc in (f, g)
+
+bounds_or_answer : (s t : Source) (b : BoundsView) (a : AnswerView) → Bounded s b ≡ Answered t a → ⊥
+bounds_or_answer s t b a e = cc
+
+bounds_are_other : (own : Option Source) (d : Data) (source : Source) (a : AnswerView) → bounded_of own d ≡ as_read (Answered source a) → ⊥
+bounds_are_other own d source a e = by_own own e
+  where
+    by_result : (s : Source) (r : Result BoundsView Key) → and_then r (λ b. as_read (Bounded s b)) ≡ as_read (Answered source a) → ⊥
+    by_result s (Err k) f = no_answer k (Answered source a) f
+    by_result s (Ok b) f = bounds_or_answer s source b a (same_read (Bounded s b) (Answered source a) f)
+
+    by_own : (own : Option Source) → and_then (ok_or own (source_key d)) (λ s. and_then (bounds_to s d) (λ b. as_read (Bounded s b))) ≡ as_read (Answered source a) → ⊥
+    by_own None f = no_answer (source_key d) (Answered source a) f
+    by_own (Some s) f = by_result s (bounds_to s d) f
 
 read_is : (own : Option Source) (d : Data) (source : Source) (a : AnswerView) → report_of own d ≡ Ok (Answered source a) → (own ≡ Some source) × HasQuestionShape (asked source).body a
 unfolding report_of
@@ -85,10 +100,13 @@ read_is own d source a e = by_word (tells_misfit d) e
     by_kind (Some kind) None f = absurd (no_answer (source_key d) (Answered source a) f)
     by_kind (Some kind) (Some s) f = by_result kind s (answer_to s kind d) refl f
 
-    by_word : (told : Bool) → (if told then Ok Misfit else and_then (ok_or (answer_kind_at d) keys.Answer) (λ kind. and_then (ok_or own (source_key d)) (λ s. and_then (answer_to s kind d) (with_answer s)))) ≡ as_read (Answered source a)
-        → (own ≡ Some source) × HasQuestionShape (asked source).body a
+    by_outer : (outer : Bool) → (if outer then bounded_of own d else answered_of own d) ≡ as_read (Answered source a) → (own ≡ Some source) × HasQuestionShape (asked source).body a
+    by_outer true f = absurd (bounds_are_other own d source a f)
+    by_outer false f = by_kind (answer_kind_at d) own f
+
+    by_word : (told : Bool) → (if told then Ok Misfit else if tells_outer d then bounded_of own d else answered_of own d) ≡ as_read (Answered source a) → (own ≡ Some source) × HasQuestionShape (asked source).body a
     by_word true f = absurd (misfit_or_answer source a (same_read Misfit (Answered source a) f))
-    by_word false f = by_kind (answer_kind_at d) own f
+    by_word false f = by_outer (tells_outer d) f
 
 pub fits_question : (line : List ℕ) (source : Source) (a : AnswerView) → ReadsReport line (Ok (Answered source a)) → HasQuestionShape (asked source).body a
 fits_question line source a h = (read_is h.reads.own h.value source a h.reads.is).1
@@ -106,7 +124,7 @@ small_numbers line source a h = source_numbers h.value source (source_read line 
 
 -- ---- valid certificates
 
-both_valid : (v u : Verdict) → (if is_valid v then u else v) ≡ Valid → (v ≡ Valid) × (u ≡ Valid)
+pub both_valid : (v u : Verdict) → (if is_valid v then u else v) ≡ Valid → (v ≡ Valid) × (u ≡ Valid)
 both_valid Valid u e = (refl, e)
 both_valid (BadScale s) u e = absurd (cc)
 both_valid (UnknownGenerator i) u e = absurd (cc)

@@ -1,6 +1,6 @@
 -- The verdict on each line of a report: what its answer says of its question, against the problem that the question poses and the
 -- rows of the forms that the answer speaks of.
-use Rattle.std.specs.Prelude.{◌≡◌, ℕ, List, map, Bool, Option, Some, None, Ok, Err, IsUtf8}
+use Rattle.std.specs.Prelude.{◌≡◌, ℕ, List, map, Bool, false, Option, Some, None, Ok, Err, IsUtf8}
 use Rattle.serde_json.specs.Read.{read}
 use Rattle.it_space.specs.Answers.{AnswerView}
 use Rattle.it_space.specs.Answers.AnswerView.{Yes, No, Contained}
@@ -10,11 +10,14 @@ use Rattle.it_question.specs.Questions.{BodyView}
 use Rattle.it_question.specs.ProblemLines.{problem_names}
 use Rattle.it_canon.specs.QuestionDemands.{problem_of, terms_in}
 use Rattle.it_region.specs.AnswerForms.{answer_forms}
-use Rattle.it_certificate.specs.Reports.{Answered, Misfit, ReadsReport, Reading}
+use Rattle.it_certificate.specs.Reports.{Answered, Bounded, Misfit, ReadsReport, Reading}
+use Rattle.it_certificate.specs.Bounds.{BoundsView}
 use Rattle.it_certificate.specs.Sources.{asked}
 use Rattle.it_check.specs.declared.verdicts.Verdict.{Verdict}
-use Rattle.it_report.specs.RowVerdicts.{proofs_verdict, point_verdict}
-use Rattle.it_report.specs.LineVerdicts.{LineVerdict, NotJson, Shape, Skipped, Judged, IsLineOf}
+use Rattle.it_check.specs.declared.verdicts.Verdict.TheVariants.{Valid}
+use Rattle.it_report.specs.BoundsVerdicts.{HullVerdictIs, bounds_verdict}
+use Rattle.it_report.specs.RowVerdicts.{is_valid, proofs_verdict, point_verdict}
+use Rattle.it_report.specs.LineVerdicts.{LineVerdict, NotJson, Shape, Skipped, Judged, Hulled, IsLineOf}
 
 -- the verdict on an answer, by the problem and the rows of these forms; where it claims something of all polymatroids, or of one
 abbrev pub answer_verdict : ProblemView → List Terms → AnswerView → Option Verdict
@@ -33,9 +36,17 @@ IsAnswerVerdict q answer Skipped = verdict_of q answer ≡ None
 IsAnswerVerdict q answer (Judged names v) = (names ≡ problem_names q) × (verdict_of q answer ≡ Some v)
 IsAnswerVerdict q answer verdict = ⊥
 
--- what is told of what a line says: the verdict on an answer to the question that is asked; and that a misfit isn't judged
+-- what is told of an outer bound: what is wrong with a certificate or a point, with the names of the question; where nothing is, the
+-- verdict on its rows as the hull of its rays
+abbrev pub IsBoundsVerdict : BodyView → BoundsView → LineVerdict → Type 0
+IsBoundsVerdict q b (Judged names v) = (names ≡ q.names) × (bounds_verdict q b ≡ v) × (is_valid v ≡ false)
+IsBoundsVerdict q b (Hulled v) = (bounds_verdict q b ≡ Valid) × HullVerdictIs q b v
+IsBoundsVerdict q b verdict = ⊥
+
+-- what is told of what a line says: the verdict on an answer to the question that is asked, or on its bounds; and that a misfit isn't judged
 abbrev pub IsReadingVerdict : Reading → LineVerdict → Type 0
 IsReadingVerdict (Answered source answer) v = IsAnswerVerdict (asked source).body answer v
+IsReadingVerdict (Bounded source b) v = IsBoundsVerdict (asked source).body b v
 IsReadingVerdict Misfit v = v ≡ Skipped
 
 -- the line says something, and this is told of it

@@ -1,4 +1,5 @@
 pub mod RowVerdicts
+pub mod BoundsVerdicts
 pub mod LineVerdicts
 pub mod Judging
 pub mod Steps

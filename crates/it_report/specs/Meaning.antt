@@ -14,11 +14,16 @@ use Rattle.it_copy.specs.Extensions.{extended}
 use Rattle.it_copy.specs.Points.{HasCopies}
 use Rattle.it_sharing.specs.Sharings.{SharingView}
 use Rattle.it_sharing.specs.Truth.{IsTrueOfSharing}
-use Rattle.it_certificate.specs.Reports.{Answered, ReadsReport}
+use Rattle.it_spans.specs.declared.types.HullVerdict.TheVariants.{Valid as HullIsValid}
+use Rattle.it_spans.specs.Spans.{rays_of}
+use Rattle.it_rates.specs.Asked.{gone_rates}
+use Rattle.it_rates.specs.Bounds.{AreExactBounds}
+use Rattle.it_certificate.specs.Bounds.{BoundsView}
+use Rattle.it_certificate.specs.Reports.{Answered, Bounded, ReadsReport}
 use Rattle.it_certificate.specs.Sources.{Source, Copies, Sharing, asked}
 use Rattle.it_check.specs.declared.verdicts.Verdict.TheVariants.{Valid}
 use Rattle.it_report.specs.RowVerdicts.{place_named}
-use Rattle.it_report.specs.LineVerdicts.{LineVerdict, Judged}
+use Rattle.it_report.specs.LineVerdicts.{LineVerdict, Judged, Hulled}
 use Rattle.it_report.specs.Judging.{IsVerdict, IsJudgedLine}
 
 -- Each line of a report has a verdict, and so a line about it.
@@ -58,3 +63,9 @@ ValidIsTrueByCopies = (line : List ℕ) (names : NamesView) (q : QuestionView) (
 abbrev pub ValidIsTrueOfSharing : Type 0
 ValidIsTrueOfSharing = (line : List ℕ) (names : NamesView) (x : SharingView) (answer : AnswerView)
     → IsVerdict line (Judged names Valid) → ReadsReport line (Ok (Answered (Sharing x) answer)) → IsTrueOfSharing x answer
+
+-- Valid bounds are exact: their rows, over the rates that stay, hold exactly where some whole multiple of these rates is that of a
+-- polymatroid with rates at which all lines of the question are true; and their rays are such, and span what the rows allow.
+abbrev pub ValidIsTrueOfBounds : Type 0
+ValidIsTrueOfBounds = (line : List ℕ) (source : Source) (b : BoundsView) → IsVerdict line (Hulled HullIsValid) → ReadsReport line (Ok (Bounded source b))
+    → AreExactBounds (asked source).body (gone_rates (asked source).body.verb) b.rows (rays_of b.steps)

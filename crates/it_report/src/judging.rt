@@ -10,6 +10,7 @@ ghost use Rattle.it_report.specs.Judging.{IsJudgedLine};
 ghost use Rattle.it_certificate.specs.Reports.{KeepsLimits};
 ghost use Rattle.it_report.specs.Steps.{IsAboutRelation, IsFaultLine, IsJudgedAnswer, IsJudgedReport};
 
+use crate::bounds::bounds_line;
 use crate::lines::{JudgedLine, not_json_line, shape_line, skipped_line, verdict_line};
 use crate::rows::{point_verdict, proofs_verdict};
 use it_canon::{problem, problem_names, target_rows};
@@ -22,7 +23,7 @@ use std::alloc::{AllocError, Global};
 
 /// The line about line k of a report; lines are counted from 1, and `line` comes without its end. A yes and a containment
 /// have the verdict of the first of their certificates that isn't valid, a no that of its point against the target on its
-/// side. Answers that claim nothing of polymatroids, or whose claim isn't judged, are skipped: undecided, regions, open
+/// side, and an outer bound that of its rows, its rays and their hull. Answers that claim nothing of polymatroids, or whose claim isn't judged, are skipped: undecided, regions, open
 /// questions and misfits.
 pub fn judge(alloc: Global, k: usize, line: &[u8]) -> Result<JudgedLine, AllocError>
     ensures { IfOk result (λ j. IsJudgedLine k line.now j.text.items j.invalid) }
@@ -51,6 +52,7 @@ fn report_line(alloc: Global, k: usize, reported: &Reported) -> Result<JudgedLin
 {
     match reported {
         Reported::Answered { question, answer } => answer_line(alloc, k, question, answer),
+        Reported::Bounded { question, bounds } => bounds_line(alloc, k, question, bounds),
         Reported::Misfit => skipped_line(alloc, k),
     }
 }

@@ -1,5 +1,5 @@
 //! What the verdicts mean, each theorem as the contract of a function.
-ghost use Rattle.it_report.specs.Meaning.{EachLineIsJudged, OneVerdict, ValidIsTrue, ValidIsTrueByCopies, ValidIsTrueOfSharing};
+ghost use Rattle.it_report.specs.Meaning.{EachLineIsJudged, OneVerdict, ValidIsTrue, ValidIsTrueByCopies, ValidIsTrueOfBounds, ValidIsTrueOfSharing};
 
 /// Each line of a report, whatever its bytes, has a verdict and so a line about it.
 pub fn each_line_is_judged()
@@ -14,9 +14,10 @@ pub fn verdict_is_one()
 
 /// The claim of a valid line is true of the question that is asked: a yes holds everywhere, the point of a no violates the target on its
 /// side, and of a containment the first region lies in the second. With a head, a yes holds of the question's own relation wherever there
-/// are such copies; of a sharing file, an answer is true wherever the secret is shared perfectly.
+/// are such copies; of a sharing file, an answer is true wherever the secret is shared perfectly. Bounds are exact.
 pub fn valid_is_true()
     ensures claim { ValidIsTrue }
     ensures copies { ValidIsTrueByCopies }
     ensures sharing { ValidIsTrueOfSharing }
+    ensures bounds { ValidIsTrueOfBounds }
 {}

@@ -1,6 +1,7 @@
 //! The verdict on each line of a report.
 #![tactic(auto)]
 
+mod bounds;
 mod judging;
 mod laws;
 mod lines;
