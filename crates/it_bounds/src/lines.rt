@@ -236,9 +236,9 @@ fn undecided_line(
     Ok(out)
 }
 
-/// Why a bound stays undecided.
+/// Writes why a bound stays undecided, after what stands.
 #[tactic(auto, unfolding(crate::specs::Lines::bounds_cause_text))]
-fn write_cause(
+pub fn write_cause(
     alloc: Global,
     out: &mut Vec<u8>,
     limits: Limits,

@@ -10,6 +10,7 @@ ghost use Rattle.it_demand.specs.QuestionSpaces.{space_of};
 ghost use Rattle.it_canon.specs.QuestionDemands.{IsProblemOf, question_demands, question_origins};
 ghost use Rattle.it_bounds.specs.Lines.{IsPrintable};
 ghost use Rattle.it_bounds.specs.Replies.{reply_view};
+ghost use Rattle.it_bounds.specs.Reports.{IsToldReply};
 ghost use Rattle.it_bounds.specs.RightReplies.{IsRightReply};
 ghost use Rattle.it_bounds.specs.RowReplies.{IsReplyByRows, TellsBounds};
 ghost use Rattle.it_rates.specs.Asked.{under_all_lines};
@@ -39,6 +40,7 @@ pub fn reply(
     ensures problem { IfOk result (λ a. AreStated a.problem.space (question_origins (under_all_lines (question_body question.now))) (question_demands (under_all_lines (question_body question.now))) a.problem.constraints.items) }
     ensures right { IfOk result (λ a. IsRightReply limits (question_body question.now) (reply_view a.reply)) }
     ensures printable { IfOk result (λ a. IsPrintable (question_body question.now) (length a.problem.constraints.items) a.reply) }
+    ensures told { IfOk result (λ a. IsToldReply (question_body question.now) a.reply) }
 {
     let problem = problem_of_lines(alloc, question)?;
     let reply = reply_under(alloc, question, &problem, limits)?;
@@ -57,6 +59,7 @@ fn reply_under(
     requires few_rows { limits.rows ≤ 65535 }
     ensures right { IfOk result (λ r. IsRightReply limits (question_body question.now) (reply_view r)) }
     ensures printable { IfOk result (IsPrintable (question_body question.now) (length problem.now.constraints.items)) }
+    ensures told { IfOk result (IsToldReply (question_body question.now)) }
 {
     match &question.verb {
         Verb::Eliminate(rates) => {

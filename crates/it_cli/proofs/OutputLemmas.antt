@@ -11,7 +11,7 @@ use Rattle.it_prove.specs.declared.types.Effort.{Effort}
 use Rattle.it_contain.specs.Proposals.{Plan, plan_after_all}
 use Rattle.it_answer.specs.Replies.{Reply}
 use Rattle.it_answer.specs.RightAnswers.{OneRightAnswer}
-use Rattle.it_bounds.specs.RightReplies as bounds
+use Rattle.it_bounds.specs.Reports.{OneRightTold}
 use Rattle.it_factor.specs.RightReplies.{OneRightReply}
 use Rattle.it_outer.specs.declared.types.Limits.{Limits}
 use Rattle.it_sharing.specs.SharingFiles.{SharingFaultIsOne, SharingIsOne, SharingOrFault}
@@ -89,8 +89,8 @@ heads_are_one one report effort = record {
 relations_are_one : FileIsOne → FileFaultIsOne → FileOrFault → (effort : Effort) → HasOneReading (best_mode effort)
 relations_are_one one_file one_fault apart effort = record { one_reading = one_file; one_fault = one_fault; apart = apart }
 
-bounded_are_one : FileIsOne → FileFaultIsOne → FileOrFault → (limits : Limits) → HasOneReading (outer_mode limits)
-bounded_are_one one_file one_fault apart limits = record { one_reading = one_file; one_fault = one_fault; apart = apart }
+bounded_are_one : FileIsOne → FileFaultIsOne → FileOrFault → (report : Bool) (limits : Limits) → HasOneReading (outer_mode report limits)
+bounded_are_one one_file one_fault apart report limits = record { one_reading = one_file; one_fault = one_fault; apart = apart }
 
 -- a sharing file has one reading or one fault
 pub record SharingsAreOne : Type 0 where
@@ -112,7 +112,7 @@ module _ (one_file : FileIsOne) (one_fault : FileFaultIsOne) (apart : FileOrFaul
   modes_have_one_reading plans (Bench seed count run pivots rows tries) = nothing_is_one (budgets_of run pivots rows tries) plans seed count
   modes_have_one_reading plans (Copy report run pivots) = heads_are_one copies report (effort_of run pivots)
   modes_have_one_reading plans (Best run pivots) = relations_are_one one_file one_fault apart (effort_of run pivots)
-  modes_have_one_reading plans (Outer run pivots rows tries) = bounded_are_one one_file one_fault apart (limits_of run pivots rows tries)
+  modes_have_one_reading plans (Outer report run pivots rows tries) = bounded_are_one one_file one_fault apart report (limits_of run pivots rows tries)
   modes_have_one_reading plans (Sharing report run pivots) = sharing_files_are_one sharings report (effort_of run pivots)
 
 -- ---- and one reply to an item, where no quick run comes first
@@ -160,7 +160,7 @@ module _ (one_answer : OneRightAnswer) (effort : Effort) (defined : effort.quick
   one_sharing one_factor report x Unreported (Factored b) (few, asked, told) (few', asked', told', right') = absurd (false≢true (sym told' ∙ told))
   one_sharing one_factor report x Unreported Unreported f g = refl
 
-module _ (reading : ModesHaveOneReading) (one_answer : OneRightAnswer) (one_file : FileIsOne) (one_verdict : reports.OneVerdict) (copies : CopiesAreOne) (one_factor : OneRightReply) (one_bound : bounds.OneRightReply) where
+module _ (reading : ModesHaveOneReading) (one_answer : OneRightAnswer) (one_file : FileIsOne) (one_verdict : reports.OneVerdict) (copies : CopiesAreOne) (one_factor : OneRightReply) (one_bound : OneRightTold) where
   pub modes_are_determined : ModesAreDetermined
   modes_are_determined plans (Answer format run pivots rows tries) bland = record {
     reading = reading plans (Answer format run pivots rows tries);
@@ -180,9 +180,9 @@ module _ (reading : ModesHaveOneReading) (one_answer : OneRightAnswer) (one_file
     reading = reading plans (Best run pivots);
     one_reply = λ s x a b f g. one_factor (effort_of run pivots) x.body a b (not_quick run pivots bland) f g;
   }
-  modes_are_determined plans (Outer run pivots rows tries) bland = record {
-    reading = reading plans (Outer run pivots rows tries);
-    one_reply = λ s x a b f g. one_bound (limits_of run pivots rows tries) x.body a b (not_quick run pivots bland) f g;
+  modes_are_determined plans (Outer report run pivots rows tries) bland = record {
+    reading = reading plans (Outer report run pivots rows tries);
+    one_reply = λ s x a b f g. one_bound report (limits_of run pivots rows tries) x.body a b (not_quick run pivots bland) f g;
   }
   modes_are_determined plans (Sharing report run pivots) bland = record {
     reading = reading plans (Sharing report run pivots);

@@ -20,6 +20,7 @@ use Rattle.it_bounds.specs.Lines.{reply_lines}
 use Rattle.it_bounds.specs.Replies as bounds
 use Rattle.it_bounds.specs.RightReplies as right_bounds
 use Rattle.it_bounds.specs.Truth as true_bounds
+use Rattle.it_bounds.specs.Reports.{ToldReply, told_lines}
 use Rattle.it_factor.specs.Lines.{reply_line}
 use Rattle.it_factor.specs.Replies.{ReplyView}
 use Rattle.it_factor.specs.RightReplies as factors
@@ -95,9 +96,9 @@ abbrev IsTrueWhereShown : QuestionView → Type 0
 IsTrueWhereShown q = (reply : bounds.ReplyView) → right_bounds.ShowsReply q.body reply → true_bounds.IsTrueReply q.body reply
 
 pub bounds_are_true : right_bounds.WhatIsShownIsTrue → BoundsAreTrue
-bounds_are_true shown_is_true run pivots rows tries = writes_such (Outer run pivots rows tries) 1048576 (TrueBounds (limits_of run pivots rows tries)) refl (λ plans bytes out o.
-    lines_for (outer_mode (limits_of run pivots rows tries)) (λ reply. reply) (λ k q reply. reply_lines (limits_of run pivots rows tries) k q.body (question_origins (true_bounds.under_all_lines q.body)) reply) (λ k q reply. refl)
-    IsTrueWhereShown (λ (q : QuestionView) (reply : bounds.ReplyView). true_bounds.IsTrueReply q.body reply) (λ earlier q reply within right. within reply right.shows) shown_is_true bytes out Done o)
+bounds_are_true shown_is_true report run pivots rows tries = writes_such (Outer report run pivots rows tries) 1048576 (TrueBounds report (limits_of run pivots rows tries)) refl (λ plans bytes out o.
+    lines_for (outer_mode report (limits_of run pivots rows tries)) (λ told. told) (told_lines report (limits_of run pivots rows tries)) (λ k q told. refl)
+    IsTrueWhereShown (λ (q : QuestionView) (told : ToldReply). true_bounds.IsTrueReply q.body told.reply) (λ earlier q told within right. within told.reply right.reply.shows) shown_is_true bytes out Done o)
 
 -- what the file says is within the limits
 abbrev IsWithinSharing : SharingFile → Type 0

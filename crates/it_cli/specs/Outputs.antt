@@ -17,9 +17,7 @@ use Rattle.it_report.specs.Judging.{IsVerdict}
 use Rattle.it_report.specs.LineVerdicts.{LineVerdict, is_invalid, verdict_line}
 use Rattle.it_outer.specs.declared.types.Limits.{Limits}
 use Rattle.it_prove.specs.declared.types.Effort.{Effort}
-use Rattle.it_bounds.specs.Lines.{reply_lines}
-use Rattle.it_bounds.specs.RightReplies as bounds
-use Rattle.it_rates.specs.Asked.{under_all_lines}
+use Rattle.it_bounds.specs.Reports.{IsRightTold, told_lines}
 use Rattle.it_factor.specs.Lines.{reply_line}
 use Rattle.it_factor.specs.RightReplies.{IsRightReply}
 use Rattle.it_cli.specs.Right.{IsRightAfter, answer_lines, budgets_of, effort_of, limits_of}
@@ -90,10 +88,9 @@ abbrev pub best_mode : Effort → Mode
 best_mode effort = done_mode IsFile FileFaultAt (λ earlier q reply. IsRightReply effort q.body reply)
     (λ k q reply. reply_line k q.body (question_origins q.body) reply)
 
--- one right reply to each question of a file that asks for outer bounds
-abbrev pub outer_mode : Limits → Mode
-outer_mode limits = done_mode IsFile FileFaultAt (λ earlier q reply. bounds.IsRightReply limits q.body reply)
-    (λ k q reply. reply_lines limits k q.body (question_origins (under_all_lines q.body)) reply)
+-- one right reply to each question of a file that asks for outer bounds, as a line of a report or not
+abbrev pub outer_mode : Bool → Limits → Mode
+outer_mode report limits = done_mode IsFile FileFaultAt (λ earlier q told. IsRightTold report limits q.body told) (told_lines report limits)
 
 -- one right reply to what a sharing file asks, as a line of a report or not
 abbrev pub sharing_mode : Bool → Effort → Mode
@@ -106,7 +103,7 @@ mode_of plans Check = check_mode
 mode_of plans (Bench seed count run pivots rows tries) = bench_mode (budgets_of run pivots rows tries) plans seed count
 mode_of plans (Copy report run pivots) = copy_mode report (effort_of run pivots)
 mode_of plans (Best run pivots) = best_mode (effort_of run pivots)
-mode_of plans (Outer run pivots rows tries) = outer_mode (limits_of run pivots rows tries)
+mode_of plans (Outer report run pivots rows tries) = outer_mode report (limits_of run pivots rows tries)
 mode_of plans (Sharing report run pivots) = sharing_mode report (effort_of run pivots)
 
 -- ---- its output

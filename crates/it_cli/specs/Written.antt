@@ -15,6 +15,7 @@ use Rattle.it_answer.specs.Truth.{IsTrueAnswer}
 use Rattle.it_bounds.specs.Lines.{reply_lines}
 use Rattle.it_bounds.specs.Replies as bounds
 use Rattle.it_bounds.specs.Truth as true_bounds
+use Rattle.it_bounds.specs.Reports.{ToldReply, told_lines}
 use Rattle.it_factor.specs.Lines.{reply_line}
 use Rattle.it_factor.specs.Replies.{ReplyView}
 use Rattle.it_factor.specs.Truth.{IsTrueReply}
@@ -61,10 +62,9 @@ TrueCopies report = AreLinesFor AsksWithCopies IsTrueCopy (copy_lines report)
 abbrev pub TrueFactors : List ℕ → List ℕ → Type 0
 TrueFactors = AreLinesFor IsFile (λ (q : QuestionView) (reply : ReplyView). IsTrueReply q.body reply) (λ k q reply. reply_line k q.body (question_origins q.body) reply)
 
--- those of a true reply to each question of a file that asks for outer bounds, made within these limits
-abbrev pub TrueBounds : Limits → List ℕ → List ℕ → Type 0
-TrueBounds limits = AreLinesFor IsFile (λ (q : QuestionView) (reply : bounds.ReplyView). true_bounds.IsTrueReply q.body reply)
-    (λ k q reply. reply_lines limits k q.body (question_origins (true_bounds.under_all_lines q.body)) reply)
+-- those of a true reply to each question of a file that asks for outer bounds, made within these limits, as lines of a report or not
+abbrev pub TrueBounds : Bool → Limits → List ℕ → List ℕ → Type 0
+TrueBounds report limits = AreLinesFor IsFile (λ (q : QuestionView) (told : ToldReply). true_bounds.IsTrueReply q.body told.reply) (told_lines report limits)
 
 -- those of a true reply to what a sharing file asks, as a line of a report or not
 abbrev pub TrueSharing : Bool → List ℕ → List ℕ → Type 0
@@ -90,7 +90,7 @@ FactorsAreTrue = (run : Run) (pivots : Option ℕ) → WritesSuch (Best run pivo
 
 -- in mode `outer`
 abbrev pub BoundsAreTrue : Type 0
-BoundsAreTrue = (run : Run) (pivots : Option ℕ) (rows tries : ℕ) → WritesSuch (Outer run pivots rows tries) (TrueBounds (limits_of run pivots rows tries))
+BoundsAreTrue = (report : Bool) (run : Run) (pivots : Option ℕ) (rows tries : ℕ) → WritesSuch (Outer report run pivots rows tries) (TrueBounds report (limits_of run pivots rows tries))
 
 -- and in mode `sharing`
 abbrev pub SharingIsTrue : Type 0

@@ -199,13 +199,14 @@ fn reply<K: Sink>(
             find_factors(alloc, effort_of(run, pivots), bytes, sink)
         }
         Settings::Outer {
+            report,
             run,
             pivots,
             rows,
             tries,
         } => {
             let limits = limits_of(run, pivots, rows, tries);
-            find_bounds(alloc, limits, bytes, sink)
+            find_bounds(alloc, report, limits, bytes, sink)
         }
         Settings::Sharing {
             report,

@@ -182,7 +182,9 @@ fn outer(values: Values) -> Option<Settings>
     let pivots = pivots_or(values.pivots)?;
     let rows = rows_or(values.rows)?;
     let tries = tries_or(values.tries)?;
+    let report = has_report(values);
     Some(Settings::Outer {
+        report,
         run,
         pivots,
         rows,
@@ -221,7 +223,7 @@ fn settings_by_mode(values: Values) -> Option<Settings>
         Some("bench") => without_report(values, bench(values)),
         Some("copy") => copy(values),
         Some("best") => without_report(values, best(values)),
-        Some("outer") => without_report(values, outer(values)),
+        Some("outer") => outer(values),
         Some("sharing") => sharing(values),
         _ => None,
     }

@@ -61,6 +61,8 @@ pub enum Settings {
     },
     /// Find the outer bounds in rates alone of a file's eliminations.
     Outer {
+        /// As in mode `copy`.
+        report: bool,
         /// As in mode `answer`.
         run: Run,
         pivots: Option<u32>,
