@@ -11,7 +11,7 @@ use Rattle.it_space.specs.Problems.{ProblemView}
 use Rattle.it_space.specs.Rows.{Terms, coefficient}
 use Rattle.it_elemental.specs.Generators.{Generator, generator_at, is_equation}
 use Rattle.it_check.specs.Sums.{product_within, sum_within}
-use Rattle.it_check.specs.Verdicts.{column, valid_unless, of_scale, of_weight, of_weights, of_numbers, of_coordinate, of_coordinates, yes_verdict, violates, violation, of_value, of_generators, of_target, no_verdict}
+use Rattle.it_check.specs.Verdicts.{column, valid_unless, of_scale, of_weight, of_weights, of_numbers, of_coordinate, of_coordinates, yes_verdict, violates, violation, of_value, of_generators, of_target, met_verdict, no_verdict}
 use Rattle.it_check.specs.declared.verdicts.Verdict.{Verdict}
 use Rattle.it_check.specs.declared.verdicts.Verdict.TheVariants.{Valid, BadScale, UnknownGenerator, NegativeWeight, Mismatch, BrokenElemental, UnmetConstraint, NotViolated}
 use Rattle.it_report.specs.RowVerdicts.{proof_verdict, proofs_verdict, is_valid}
@@ -87,6 +87,10 @@ target_over b place (Some x) = chosen_over b (int_lt x (pos 0)) None (Some (NotV
 pub no_over : (b count : ℕ) (gs : List Generator) (t : Terms) (p : ℕ → ℤ) → IsVerdictOver b (no_verdict count gs t p)
 unfolding no_verdict
 no_over b count gs t p = told_over b _ (either_over b (of_generators count 0 gs p) (of_target (length gs) (sum_within (pos 0) t p)) (generators_over b count 0 gs p) (target_over b (length gs) (sum_within (pos 0) t p)))
+
+pub met_over : (b count : ℕ) (gs : List Generator) (p : ℕ → ℤ) → IsVerdictOver b (met_verdict count gs p)
+unfolding met_verdict
+met_over b count gs p = told_over b _ (generators_over b count 0 gs p)
 
 -- the rows and the certificates that are left
 abbrev left_verdict : ProblemView → List Terms → List Certificate → ℕ → Verdict
