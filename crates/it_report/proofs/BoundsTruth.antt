@@ -133,7 +133,7 @@ module _ (q : BodyView) (b : BoundsView) (k : IsQuestion q) (fits : HasBoundsSha
       let over = every_of (IsOver (size_of p.space)) b.rows (to_problem (λ s. All (IsOver (size_of s)) b.rows) fits.rows) in
       let complete = every_of (λ (s : StepView). length s.ray ≡ size_of p.space) b.steps (to_problem (λ s. All (λ (x : StepView). length x.ray ≡ size_of s) b.steps) fits.rays) in
       let is_hull : IsHull (kept_rates q gone) b.rows (rays_of b.steps) =
-          valid_rows (judged_frame q gone) (kept_rates q gone) b.steps b.rows hull.end HullIsValid (is_frame q b k fits) (are_kept q b k fits) hull.ends hull.verdict_is refl in
+      valid_rows (judged_frame q gone) (kept_rates q gone) b.steps b.rows hull.end HullIsValid (is_frame q b k fits) (are_kept q b k fits) hull.ends hull.verdict_is refl in
       hull_is_exact q p gone b.rows (rays_of b.steps) posed is_hull
       (all_of (λ (row : Terms). (x : ℕ → ℤ) → MeetsProblem p x → pos 0 ≤ℤ value row x) b.rows (rows_hold p posed.limits b.rows b.proofs over fits.proofs rows))
       (all_of (IsTrueRay q) (rays_of b.steps) (rays_true (rays_of b.steps) (rays_met p posed.limits b.steps complete rays)))
