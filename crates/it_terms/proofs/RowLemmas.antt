@@ -1,5 +1,5 @@
 -- Rows that are told where functions hold.
-use Rattle.std.proofs.Common.{◌≡◌, ◌↔◌, ℕ, zero, suc, ◌+◌, ◌<◌, ℤ, pos, ◌≤ℤ◌, true, List, [], ◌∷◌, ◌++◌, length, map, flat_map, get_or, All, Option, None, Some, IfSome, refl, sym, ap, ◌∙◌, subst, arith}
+use Rattle.std.proofs.Common.{◌≡◌, ◌≢◌, ◌↔◌, ℕ, zero, suc, ◌+◌, ◌<◌, ℤ, pos, ◌≤ℤ◌, true, List, [], ◌∷◌, ◌++◌, length, map, flat_map, get_or, All, Option, None, Some, IfSome, refl, sym, ap, ◌∙◌, subst, arith}
 use Rattle.std.proofs.Math.Path.{fun_ext}
 use Rattle.std.proofs.lemmas.List.{get_or_append_left, length-map}
 use Rattle.std.proofs.lemmas.List.Elements.{All-cons, All-contains, All-head, All-nil, All-tail, All-weaker}
@@ -14,9 +14,11 @@ use Rattle.it_polymatroid.specs.Certificates.{Generators}
 use Rattle.it_elemental.specs.Generators.{Generator, forms_of, of_constraint, generator_at, is_equation}
 use Rattle.it_closure.specs.declared.dependences.Dependence.{Dependence}
 use Rattle.it_closure.specs.Collapse.{IsCollapseOf, spread_out}
-use Rattle.it_closure.proofs.Places.{is_spread_out}
-use Rattle.it_syntax.specs.Meaning.{Holds, RelationView}
+use Rattle.it_closure.proofs.Places.{is_spread_out, place-zero}
+use Rattle.it_syntax.specs.declared.types.Sign.TheVariants.{Equal}
+use Rattle.it_syntax.specs.Meaning.{Holds, RelationView, common_denominator, side_at}
 use Rattle.it_syntax.specs.NamesViews.{NamesView}
+use Rattle.it_demand.specs.Canonical.{IsRowOf, form_of}
 use Rattle.it_demand.specs.Demands.{Demand, demand_of, demands, equation}
 use Rattle.it_demand.specs.Origins.{AreStated, ComesFrom, States, given_origins, row_origins}
 use Rattle.it_demand.proofs.LimitLemmas.{given_origins-length}
@@ -31,6 +33,7 @@ use Rattle.it_terms.specs.Proofs.{constraints_of, demand_at}
 use Rattle.it_terms.specs.RowsUnder.{AreEquations, AreZeroAt, IsPrintedRow, PrintedRowsSay, SaysRowUnder, TellsRowUnder, given_demands}
 use Rattle.it_terms.specs.Signs.{AreGivenEquations, AreLeastSpreadOut, HasSignUnder, IsGiven, IsPrintedRowFrom, SaysSpreadOut, TellsRowBy}
 use Rattle.it_terms.specs.Tells.{IsRelationText}
+use Rattle.it_terms.proofs.JudgedTexts.{compares_by_difference}
 use Rattle.it_terms.proofs.SaidLemmas.{constraint_at}
 use Rattle.it_terms.proofs.SameProofs.{AreSameConstraints, placed_origins, stated_are_same}
 use Rattle.it_terms.proofs.ToldProofs.{demand_satisfied, met_zero}
@@ -47,6 +50,18 @@ same_closed n ds row other low other_low a b e p z = (
   λ h. (b p z).positive.1 (subst (λ (t : Terms). pos 0 ≤ℤ value t p) e ((a p z).positive.0 h)),
   λ h. (a p z).positive.1 (subst (λ (t : Terms). pos 0 ≤ℤ value t p) (sym e) ((b p z).positive.0 h)),
 )
+
+-- an inequality whose row has the sign of another one at each map that is spread out says what that one says there
+pub spread_says : (s : Space) (ds : List Dependence) (r : RelationView) (row own : Terms) → r.sign ≢ Equal → IsRowOf s (form_of s.variables r) own → AreLeastSpreadOut s.variables ds own row → SaysSpreadOut s.variables ds r row
+spread_says s ds r row own h is a p z =
+    let n : ℕ = s.variables in
+    let m : ℕ = common_denominator r in
+    let q : ℕ → ℤ = spread_out n ds p in
+    let empty : q 0 ≡ pos 0 = ap p (place-zero n ds) ∙ z in
+    let c = compares_by_difference r.sign (side_at n q m r.left) (side_at n q m r.right) h in (
+      λ holds. (a p z).0 (subst (λ (x : ℤ). pos 0 ≤ℤ x) (sym (is.same q empty)) (c.0 holds)),
+      λ least. c.1 (subst (λ (x : ℤ). pos 0 ≤ℤ x) (is.same q empty) ((a p z).1 least)),
+    )
 
 -- ---- at polymatroids
 

@@ -54,6 +54,7 @@ pub fn closed_row(
 }
 
 /// A row over closed sets in lowest terms.
+#[tactic(auto, using(crate::proofs::RowLemmas::low_sign))]
 fn low_row(alloc: Global, functions: &Dependences, row: &Row) -> Result<Option<Row>, AllocError>
     ensures { IfOk result (λ o. IfSome o (HasSignUnder functions.now.space.variables functions.now.list row.now)) }
 {
@@ -64,6 +65,7 @@ fn low_row(alloc: Global, functions: &Dependences, row: &Row) -> Result<Option<R
 }
 
 /// Whether two rows are the same over closed sets in lowest terms.
+#[tactic(auto, using(crate::proofs::RowLemmas::same_closed))]
 fn is_same_closed(
     alloc: Global,
     functions: &Dependences,
@@ -82,6 +84,7 @@ fn is_same_closed(
 }
 
 /// Whether an inequality says just what a row says, of the maps that have one value at sets of one closure.
+#[tactic(auto, using(crate::proofs::RowLemmas::spread_says))]
 fn says_under(
     alloc: Global,
     relation: &Relation,
