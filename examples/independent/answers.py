@@ -14,7 +14,7 @@ from contain import Containment
 from copies import Misfit, extended, read_with_head
 from generate import generated_file
 from questions import Fault, read
-from reports import answer_json, judge, misfit_json, report_json
+from reports import answer_json, best_json, judge, misfit_json, report_json
 
 # the most bytes of a question file
 BYTES = 1048576
@@ -55,8 +55,10 @@ class Answers:
         """The line of a report."""
         if isinstance(question, (Misfit, sharing.TooMany)):
             return misfit_json(question.about, str(question))
+        if self.asks_factor(question) and not best.asks_factor(question):
+            return misfit_json(question.about, "other")
         if self.asks_factor(question):
-            return misfit_json(question.about, "best")
+            return best_json(question.about, question, *best.Best(question, self.pivots).answer())
         return report_json(question.about, question, *self.answer(question))
 
     def lines(self, number, question):
@@ -92,14 +94,17 @@ class Answers:
 
 def asked(words, text):
     """The questions of a file that are answered in the mode of these words; in mode `copy` with the copies of the file's head, or the
-    reason against them; in mode `sharing` the one that is made of the file. Each of these two has the texts of what it is about, as a
-    report tells them. `Fault` where the file has no reading."""
+    reason against them; in mode `sharing` the one that is made of the file. Each has the texts of what it is about, as a report
+    tells them. `Fault` where the file has no reading."""
     if "sharing" in words:
         question = sharing.made(text)
         question.about = {"sharing": re.sub("[^\0-\x7f]", "?", text)}
         return [question]
     if "copy" not in words:
-        return read(text)
+        questions = read(text)
+        for question in questions:
+            question.about = {"question": question.text}
+        return questions
 
     def with_copies(question):
         try:

@@ -95,22 +95,23 @@ class Best:
     def never(self, point):
         values = self.values(point, -1)
         assert value(self.left, values) == 0 < value(self.right, values)
-        return "none", values_text(self.question, values)
+        return "none", values
 
     def unbounded(self, numbers, below):
         factor, *weights = numbers
         proof = self.factor_proof(factor, weights)
-        return "unbounded", f"{ratio(factor)} {sum_text(self.question, *proof)} and {sum_text(self.question, *self.proof(negated(self.left), below))}"
+        return "unbounded", (factor, proof, self.proof(negated(self.left), below))
 
     def least(self, numbers):
         factor, weights, values = numbers[0], numbers[1 : self.count + 1], numbers[self.count + 1 : self.count + 1 + self.size]
         proof, values = self.factor_proof(factor, weights), self.values(values)
         left, right = value(self.left, values), value(self.right, values)
         assert left > 0 and fit(factor[0] * left) == fit(factor[1] * right) and gcd(*factor) == 1
-        return "best", f"{ratio(factor)} {sum_text(self.question, *proof)} at {values_text(self.question, values)}"
+        return "best", (factor, proof, values)
 
     def answer(self):
-        """The word of the line, and what stands after it."""
+        """The word of the line, and what was found: ("best", (factor, proof, values)), ("none", values), ("unbounded", (factor, proof, proof
+        of the left side turned)), ("undecided", the cause)."""
         try:
             third = self.third()
             if third.entries() > ENTRIES:
@@ -136,8 +137,24 @@ def ratio(factor):
     return f"{factor[0]}/{factor[1]}"
 
 
+def asks_factor(question):
+    return question.verb == "prove" and question.sides[0] == ">="
+
+
+def text(question, end, found):
+    """What stands after the word."""
+    if end == "none":
+        return values_text(question, found)
+    if end == "undecided":
+        return found
+    factor, proof, other = found
+    shown = f"{ratio(factor)} {sum_text(question, *proof)}"
+    return f"{shown} at {values_text(question, other)}" if end == "best" else f"{shown} and {sum_text(question, *other)}"
+
+
 def line(number, question, budget=20000):
     """The line of mode `best`; of any other question but `prove E >= F` it is `other`."""
-    if question.verb != "prove" or question.sides[0] != ">=":
+    if not asks_factor(question):
         return f"{number} other"
-    return " ".join([str(number), *Best(question, budget).answer()])
+    end, found = Best(question, budget).answer()
+    return f"{number} {end} {text(question, end, found)}"

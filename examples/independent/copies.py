@@ -98,6 +98,8 @@ def extended(question, copies):
     own = [Generator(g.name, moved(g.row), g.equation, g.given) for g in question.constraints]
     made.constraints = [g for g in own if g.given] + added + [g for g in own if not g.given]
     made.targets = [moved(row) for row in question.targets]
+    sign, left, right = question.sides
+    made.sides = sign, moved(left), moved(right)
     if table_size(len(names), len(made.rates), made.constraints) > ENTRIES:
         raise Misfit("large")
     return made

@@ -15,6 +15,8 @@ from sharing import TooMany, made
 # every number of the product is at most this in absolute value
 LIMIT = 2**127 - 1
 ANSWERS = {"prove": ("yes", "no", "undecided"), "eliminate": ("region", "undecided"), "contain": ("contained", "open")}
+# those about the factors of `prove E >= F`; an `undecided` with a phase is one of them
+FACTORS = ("best", "none", "unbounded")
 
 
 class Written(str):
@@ -60,6 +62,21 @@ def report_json(about, question, end, found):
     else:
         at = question.coordinate_text(found) if isinstance(found, int) else found
         value |= {"answer": "undecided", "cause": end, "at": at}
+    return line_of(value)
+
+
+def best_json(about, question, end, found):
+    """The line of what was found of factors, as `Best` of best.py gives it."""
+    value = about | {"answer": end}
+    if end in ("best", "none"):
+        values = found[2] if end == "best" else found
+        value["point"] = [str(values[at]) for at in range(1, question.size() + 1)]
+    if end in ("best", "unbounded"):
+        value["factor"] = [str(number) for number in found[0]]
+        value["proofs"] = [proof_value(*proof) for proof in (found[1:2] if end == "best" else found[1:])]
+    if end == "undecided":
+        cause, at, phase = (re.fullmatch("(.*) (.*) in (.*)", found) or re.fullmatch("(.*)()()", found)).groups()
+        value |= {"cause": cause, "at": at or "0", "phase": int(phase or 0)}
     return line_of(value)
 
 
@@ -239,12 +256,83 @@ def first_fault(scope, targets, proofs):
     return "valid"
 
 
+def is_about_factors(value, answer):
+    return answer in FACTORS or answer == "undecided" and "phase" in value
+
+
+def factor_of(value):
+    return [decimal(number, "factor") for number in items(value.get("factor"), "factor", 2)]
+
+
+def point_of(value, question):
+    return dict(enumerate([decimal(v, "point") for v in items(value.get("point"), "point", question.size())], 1))
+
+
+def combined(question, num, den):
+    """The row of num times the left side less den times the right one, and the first coordinate at which a number is wide, or None."""
+    _, left, right = question.sides
+    row = {}
+    for at in range(1, question.size() + 1):
+        try:
+            row[at] = fit(fit(num * left.get(at, 0)) - fit(den * right.get(at, 0)))
+        except Wide:
+            return {}, at
+    return {at: number for at, number in row.items() if number}, None
+
+
+def tight_fault(question, below, zero, values):
+    """The first thing that is wrong with a point at which the problem is met, one row is -1 or less and another 0; or None."""
+    found = point_verdict(question, below, values)
+    if found:
+        return found
+    try:
+        rest = total((zero[at], values[at]) for at in sorted(zero))
+    except Wide:
+        return f"width {len(question.generators()) + 1}"
+    return f"zero {rest}" if rest else None
+
+
+def best_fault(question, answer, factor, proofs, values):
+    """The first thing that is wrong with what is said of factors, or None."""
+    if answer == "none":
+        turned, wide = combined(question, 0, 1)
+        return f"width {wide}" if wide else tight_fault(question, turned, question.sides[1], values)
+    if factor[1] < 1:
+        return f"factor {factor[1]}"
+    row, wide = combined(question, *factor)
+    if wide:
+        return f"width {wide}"
+    turned, _ = combined(question, -1, 0)
+    found = sum_verdict(question, row, *proofs[0])
+    if found:
+        return found
+    return tight_fault(question, turned, row, values) if answer == "best" else sum_verdict(question, turned, *proofs[1])
+
+
+def best_words(value, answer):
+    """The words about a line of factors."""
+    question = question_of(value)
+    rule(question.verb == "prove" and question.sides[0] == ">=", "answer")
+    if answer == "undecided":
+        rule(text_at(value, "cause") in ("pivots", "width", "scale", "size"), "cause")
+        rule(0 <= decimal(value.get("at"), "at") < 2**32, "at")
+        count(value.get("phase"), "phase", 255)
+        return "skipped"
+    factor = factor_of(value) if answer != "none" else None
+    proofs = proofs_of(value, 1 if answer == "best" else 2) if answer != "none" else []
+    values = point_of(value, question) if answer != "unbounded" else None
+    found = best_fault(question, answer, factor, proofs, values)
+    return f"invalid {found}" if found else "valid"
+
+
 def verdict(line):
     """The words of a verdict, without the line's number."""
     value = reading(line)
     answer = text_at(members(value, "answer"), "answer")
     if answer == "misfit":
         return "skipped"
+    if is_about_factors(value, answer):
+        return best_words(value, answer)
     rule(any(answer in answers for answers in ANSWERS.values()), "answer")
     question = question_of(value)
     rule(answer in ANSWERS[question.verb], "answer")
@@ -253,11 +341,11 @@ def verdict(line):
     if answer == "contained":
         return first_fault(*contained_of(value, question))
     if answer == "no":
-        point = [decimal(v, "point") for v in items(value.get("point"), "point", question.size())]
+        point = point_of(value, question)
         side = text_at(value, "side")
         rule(side == "forward" or side == "back" and len(question.targets) == 2, "side")
         target = question.targets[side == "back"]
-        found = point_verdict(question, target, dict(enumerate(point, 1)))
+        found = point_verdict(question, target, point)
         return f"invalid {found}" if found else "valid"
     if answer == "undecided":
         cause = text_at(value, "cause")

@@ -25,11 +25,11 @@ use Rattle.it_elemental.proofs.GeneratorLemmas.{rows_of_space}
 use Rattle.it_check.proofs.NoMeaning.{listed_met}
 use Rattle.it_columns.specs.Columns.{columns, numbers_from}
 use Rattle.it_columns.specs.Scaling.{scaled_point}
-use Rattle.it_best.specs.declared.types.BestCause.TheVariants as causes
-use Rattle.it_best.specs.declared.types.BestCause.TheVariants.{Scale, Size}
+use Rattle.it_ratio.specs.declared.types.BestCause.TheVariants as causes
+use Rattle.it_ratio.specs.declared.types.BestCause.TheVariants.{Scale, Size}
 use Rattle.it_best.specs.Numbers.{numbers, weights_certificate, column_weight}
 use Rattle.it_best.specs.Phases.{third_phase, third_target, right_equation}
-use Rattle.it_best.specs.BestViews.{BestView, Undecided, Never, Least, Unbounded}
+use Rattle.it_ratio.specs.BestViews.{BestView, Undecided, Never, Least, Unbounded}
 use Rattle.it_best.specs.Ends.{PhaseEnds, EndsWith, FirstFollows, SecondFollows, ThirdFollows, OrScale, LeastFits, UnboundedFits, NeverFits, least_view, unbounded_view, first, third}
 use Rattle.it_best.specs.Factors.{IsRightBest, ground_of}
 use Rattle.it_best.specs.PhaseSteps.{End}

@@ -23,9 +23,9 @@ use Rattle.it_elemental.specs.Generators.{Generator, generators}
 use Rattle.it_columns.specs.Columns.{columns}
 use Rattle.it_columns.specs.Scaling.{NumbersFit, scaled_point}
 use Rattle.it_columns.proofs.ColumnLemmas.{few_columns}
-use Rattle.it_best.specs.declared.types.Best.{Best}
+use Rattle.it_ratio.specs.declared.types.Best.{Best}
 use Rattle.it_best.specs.declared.unknowns.Unknown.{Unknown}
-use Rattle.it_best.specs.BestViews.{BestView, best_view}
+use Rattle.it_ratio.specs.BestViews.{BestView, best_view}
 use Rattle.it_best.specs.Ends.{EndsWith, FirstFollows, IsLarge, LeastPointFits, PhaseEnds, SidesFit, first, third}
 use Rattle.it_best.specs.PhaseSteps.{PhaseSums}
 use Rattle.it_best.specs.Factors.{IsRightBest, IsFactor, IsPoint, ground_of}

@@ -15,9 +15,9 @@ use Rattle.it_elemental.specs.Generators.{Generator, generators}
 use Rattle.it_check.specs.Meaning.{CertificateFits}
 use Rattle.it_columns.specs.Columns.{columns}
 use Rattle.it_columns.specs.Scaling.{NumbersFit, scaled_point}
-use Rattle.it_best.specs.declared.types.BestCause.TheVariants as causes
-use Rattle.it_best.specs.declared.types.BestCause.TheVariants.{Scale, Size}
-use Rattle.it_best.specs.BestViews.{BestView, Least, Never, Unbounded, Undecided}
+use Rattle.it_ratio.specs.declared.types.BestCause.TheVariants as causes
+use Rattle.it_ratio.specs.declared.types.BestCause.TheVariants.{Scale, Size}
+use Rattle.it_ratio.specs.BestViews.{BestView, Least, Never, Unbounded, Undecided}
 use Rattle.it_best.specs.Numbers.{DifferencesFit, WeightsFit, column_weight, numbers, weights_certificate}
 use Rattle.it_best.specs.Phases.{first_phase, third_phase, third_target, right_equation}
 

@@ -16,7 +16,7 @@ use Rattle.it_run.specs.declared.answering.Solved.{Solved}
 use Rattle.it_simplex.specs.Answers.{IsRightSolved}
 use Rattle.it_columns.specs.Columns.{columns, number_by}
 use Rattle.it_columns.specs.Scaling.{scaled_point}
-use Rattle.it_best.specs.BestViews.{BestView, Never}
+use Rattle.it_ratio.specs.BestViews.{BestView, Never}
 use Rattle.it_best.specs.Ends.{FirstFollows, NeverFits, OrScale, PhaseEnds, ThirdFollows, UnboundedFits, first, third, unbounded_view}
 use Rattle.it_best.specs.Factors.{IsFactor, ground_of}
 use Rattle.it_best.specs.Numbers.{column_weight, weights_certificate}

@@ -6,8 +6,8 @@ use Rattle.it_space.specs.Rows.{Terms, IsOver, value}
 use Rattle.it_space.specs.Spaces.{size_of}
 use Rattle.it_polymatroid.specs.Certificates.{Form}
 use Rattle.it_columns.specs.Columns.{columns}
-use Rattle.it_best.specs.declared.types.BestCause.TheVariants as causes
-use Rattle.it_best.specs.BestViews.{BestView, Undecided}
+use Rattle.it_ratio.specs.declared.types.BestCause.TheVariants as causes
+use Rattle.it_ratio.specs.BestViews.{BestView, Undecided}
 use Rattle.it_best.specs.Ends.{EndsWith, third, third_columns, third_rows}
 use Rattle.it_best.specs.Factors.{HasNoFactor, HoldsFactor, IsFactor, IsLeastFactor, IsRightBest, ground_of}
 

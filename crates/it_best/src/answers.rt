@@ -3,14 +3,14 @@ ghost use Rattle.std.specs.Prelude.{◌≡◌, IfErr, IfOk, OnOk};
 ghost use Rattle.it_space.specs.Problems.{problem_view};
 ghost use Rattle.it_space.specs.Spaces.{size_of};
 ghost use Rattle.it_run.specs.Runs.RunEndView.{Weights};
-ghost use Rattle.it_best.specs.BestViews.{best_view};
+ghost use Rattle.it_ratio.specs.BestViews.{best_view};
 ghost use Rattle.it_best.specs.Ends.{LeastFits, ThirdFollows, UnboundedFits, first, least_view, unbounded_view};
 ghost use Rattle.it_best.specs.Phases.{unknown_views};
 ghost use Rattle.it_best.specs.PhaseSteps.{AreSides, FirstSums, FollowsPoint, FollowsWeights, PhaseSeparates, SecondSums, ThirdSums};
 
 use crate::judging::{below_proof, factor_proof, least_point, never_point};
 use crate::numbers::{factor_of, numbers, values_of, weights_of};
-use crate::types::{Best, BestCause};
+use it_ratio::types::{Best, BestCause};
 use crate::unknowns::Unknown;
 use it_elemental::generator_count;
 use it_fraction::Fraction;

@@ -6,7 +6,7 @@ ghost use Rattle.it_space.specs.Spaces.{size_of};
 ghost use Rattle.it_run.specs.Answers.{end_of_answer};
 ghost use Rattle.it_run.specs.Runs.RunEndView.{Weights};
 ghost use Rattle.it_elemental.specs.Generators.{generators};
-ghost use Rattle.it_best.specs.BestViews.{best_view};
+ghost use Rattle.it_ratio.specs.BestViews.{best_view};
 ghost use Rattle.it_best.specs.Ends.{EndsWith, FirstFollows, PhaseEnds, SecondFollows, ThirdFollows, first, third};
 ghost use Rattle.it_best.specs.Factors.{IsRightBest, ground_of};
 ghost use Rattle.it_best.specs.Phases.{unknown_views};
@@ -17,7 +17,7 @@ use crate::sizes::is_large;
 use crate::systems::{
     first_phase, left_equation, right_equation, second_phase, third_phase, with_term,
 };
-use crate::types::{Best, BestCause};
+use it_ratio::types::{Best, BestCause};
 use crate::unknowns::{Unknown, columns, equations};
 use it_columns::opposite_row;
 use it_fraction::Fraction;

@@ -5,3 +5,4 @@ pub mod RightLemmas
 pub mod TruthLemmas
 pub mod PrintLemmas
 pub mod LineLemmas
+pub mod ToldLemmas

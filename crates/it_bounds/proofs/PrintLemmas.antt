@@ -35,8 +35,9 @@ use Rattle.it_bounds.specs.declared.types.Reply.TheVariants as replies
 use Rattle.it_bounds.specs.Lines.{IsCausePrintable, IsPrintable}
 use Rattle.it_bounds.specs.Replies.{reply_view}
 use Rattle.it_bounds.specs.RowReplies.{IsReplyByRows}
-use Rattle.it_bounds.specs.Truth.{under_all_lines}
-use Rattle.it_bounds.proofs.RightLemmas.{eliminated_rates, rates_within}
+use Rattle.it_rates.specs.Asked.{under_all_lines}
+use Rattle.it_rates.proofs.AskedLemmas.{eliminated_rates}
+use Rattle.it_bounds.proofs.RightLemmas.{rates_within}
 use Rattle.it_bounds.proofs.SearchLemmas.{bounds_over, cause_over}
 
 -- ---- certificates

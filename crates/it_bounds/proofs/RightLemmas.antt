@@ -9,25 +9,19 @@ use Rattle.it_space.specs.Problems.{ProblemView}
 use Rattle.it_space.specs.Rows.{Terms, IsOver, point_of, value}
 use Rattle.it_space.specs.Spaces.{size_of}
 use Rattle.it_space.proofs.EveryLemmas.{every_of}
-use Rattle.it_polymatroid.specs.Polymatroid.{IsPolymatroid}
 use Rattle.it_elemental.specs.Generators.{generators}
 use Rattle.it_check.specs.Meaning.{CertifiesRow}
-use Rattle.it_question.specs.Limits.{AreRatesOf, IsQuestion, IsVerbOver}
+use Rattle.it_question.specs.Limits.{IsQuestion}
 use Rattle.it_question.specs.Questions.{BodyView, VerbView, Eliminate}
-use Rattle.it_question.specs.LineDemands.{line_demands}
-use Rattle.it_question.specs.LineOrigins.{line_origins}
-use Rattle.it_demand.specs.Origins.{AreStated}
 use Rattle.it_demand.specs.QuestionSpaces.{space_of}
-use Rattle.it_canon.specs.QuestionDemands.{IsProblemOf, question_demands, question_origins}
-use Rattle.it_canon.specs.TrueLines.{AreTrueAt, AreTrueTogether}
+use Rattle.it_canon.specs.QuestionDemands.{IsProblemOf, question_demands}
 use Rattle.it_canon.proofs.PosesLemmas.{one_problem}
-use Rattle.it_canon.proofs.ProblemLemmas.{question_met, question_problem}
 use Rattle.it_canon.proofs.SmallProblems.{small_by_problem, small_problem}
 use Rattle.it_hull.specs.Hulls.{IsHull}
-use Rattle.it_hull.specs.Theorems.{MeetsProblem}
+use Rattle.it_hull.specs.KeptRates.{kept_coordinates}
 use Rattle.it_outer.specs.declared.types.Limits.{Limits}
 use Rattle.it_outer.specs.Bounds.{IsRay}
-use Rattle.it_outer.specs.Outer.{CauseView, OuterView, Run, kept_coordinates, search_without}
+use Rattle.it_outer.specs.Outer.{CauseView, OuterView, Run, search_without}
 use Rattle.it_outer.specs.Outer as outers
 use Rattle.it_outer.specs.Search.{SearchEnds}
 use Rattle.it_answer.specs.Forms.{Certifies, CertifiesForm, CertifyAll, all_demands}
@@ -36,52 +30,16 @@ use Rattle.it_answer.proofs.FormLemmas.{by_forms, generators_speak, rows_add_up}
 use Rattle.it_bounds.specs.Replies.{ReplyView, Bounded, Undecided, Size, Other}
 use Rattle.it_bounds.specs.RightReplies.{Ends, IsDue, IsRightReply, MarksEnd, ShowsBounds, ShowsReply}
 use Rattle.it_bounds.specs.RowReplies.{AreMarkedBounds, IsReplyByRows}
-use Rattle.it_bounds.specs.Truth.{IsTrueRay, eliminated_by, under_all_lines}
+use Rattle.it_rates.specs.Asked.{eliminated_by, under_all_lines}
+use Rattle.it_rates.specs.Bounds.{IsTrueRay}
+use Rattle.it_rates.proofs.AskedLemmas.{at_question, eliminated_rates, meets_true}
 use Rattle.it_bounds.proofs.SearchLemmas.{bounds_over}
 
--- the question with all its lines given is within the limits too
-pub all_lines_question : (q : BodyView) → IsQuestion q → IsQuestion (under_all_lines q)
-all_lines_question q k = record {
-  some = k.some;
-  few = k.few;
-  few_rates = k.few_rates;
-  lines = k.lines;
-  verb = record { few = omega arith; left = λ i d h. absurd (omega (arith, h)); right = λ i d h. absurd (omega (arith, h)); some_multiple = omega arith; small_multiple = omega arith };
-}
-
--- the rates that a question eliminates are among its own, and at least one
-pub eliminated_rates : (q : BodyView) (gone : List ℕ) → IsQuestion q → q.verb ≡ Eliminate gone → AreRatesOf (length q.names.rates) gone
-eliminated_rates q gone k e = subst (λ (v : VerbView). IsVerbOver q.names v) e k.verb
-
--- constraints that state what all lines demand are the problem that these pose
-pub posed_by_lines : (q : BodyView) (p : ProblemView) → IsQuestion q → p.space ≡ space_of q.names → AreStated p.space (line_origins p.space.variables q.lines) (line_demands p.space.variables q.lines) p.constraints → IsProblemOf (under_all_lines q) p
-posed_by_lines q p k same stated =
-    let own : AreStated p.space (question_origins (under_all_lines q)) (question_demands (under_all_lines q)) p.constraints =
-    subst (λ (s : Space). AreStated p.space (line_origins s.variables q.lines) (line_demands s.variables q.lines) p.constraints) same stated in
-    record { space = same; limits = question_problem (under_all_lines q) p (all_lines_question q k) same own; constraints = own }
-
 module _ (q : BodyView) (p : ProblemView) (posed : IsProblemOf (under_all_lines q) p) where
-  at_question : (P : Space → Type 0) → P p.space → P (space_of q.names)
-  at_question P x = subst P posed.space x
-
-  -- ---- where the lines are true
-
-  pub meets_true : (x : ℕ → ℤ) → MeetsProblem p x → AreTrueTogether (under_all_lines q) x
-  meets_true x m = (
-    at_question (λ s. IsPolymatroid s.variables x) m.0,
-    at_question (λ s. AreTrueAt s.variables x q.lines) ((question_met (under_all_lines q) p.space p.constraints posed.space posed.constraints x m.0.empty).0 m.1),
-  )
-
-  pub true_meets : (x : ℕ → ℤ) → AreTrueTogether (under_all_lines q) x → MeetsProblem p x
-  true_meets x t = (
-    subst (λ (s : Space). IsPolymatroid s.variables x) (sym posed.space) t.0,
-    (question_met (under_all_lines q) p.space p.constraints posed.space posed.constraints x t.0.empty).1 (subst (λ (s : Space). AreTrueAt s.variables x q.lines) (sym posed.space) t.1),
-  )
-
   -- ---- the evidence
 
   certified_by_text : (row : Terms) (w : CertificateView) → IsOver (size_of p.space) row → CertifiesRow p row w → CertifiesForm (under_all_lines q) (value row) w
-  certified_by_text row w over c = at_question (λ s. Certifies (all_demands s.variables (question_demands (under_all_lines q))) (value row) w)
+  certified_by_text row w over c = at_question q p posed (λ s. Certifies (all_demands s.variables (question_demands (under_all_lines q))) (value row) w)
       (by_forms (all_demands p.space.variables (question_demands (under_all_lines q))) (generators p) (generators_speak p.space (question_demands (under_all_lines q)) p.constraints posed.constraints.stated)
       (size_of p.space + 1) (value row) (value row) (λ x e. refl) w c (rows_add_up p row w posed.limits over c))
 
@@ -92,14 +50,14 @@ module _ (q : BodyView) (p : ProblemView) (posed : IsProblemOf (under_all_lines 
   all_by_text (row ∷ rows) (w ∷ ws) u z = (certified_by_text row w u.0 z.0, all_by_text rows ws u.1 z.1)
 
   ray_by_text : (values : List ℤ) → IsRay p values → IsTrueRay q values
-  ray_by_text values r = record { complete = at_question (λ s. length values ≡ size_of s) r.complete; lines_true = meets_true (point_of values) r.met }
+  ray_by_text values r = record { complete = at_question q p posed (λ s. length values ≡ size_of s) r.complete; lines_true = meets_true q p posed (point_of values) r.met }
 
   module _ (limits : Limits) (gone : List ℕ) where
     pub shows_bounds : (rows : List (Mark × Terms)) (ws : List CertificateView) (rays : List (List ℤ)) → All (IsOver (size_of p.space)) (region_rows rows) → AreMarkedBounds limits p gone rows ws rays → ShowsBounds q gone rows ws rays
     shows_bounds rows ws rays over b = record {
       certified = all_by_text (region_rows rows) ws (every_of (IsOver (size_of p.space)) (region_rows rows) over) b.bounds.certified;
       attained = All-weaker (IsRay p) (IsTrueRay q) (λ values r. ray_by_text values r) rays b.bounds.attained;
-      hull = at_question (λ s. IsHull (kept_coordinates s gone) (region_rows rows) rays) b.bounds.hull;
+      hull = at_question q p posed (λ s. IsHull (kept_coordinates s gone) (region_rows rows) rays) b.bounds.hull;
       needed = b.needed;
     }
 
@@ -117,7 +75,7 @@ module _ (q : BodyView) (p : ProblemView) (posed : IsProblemOf (under_all_lines 
       asks = ap eliminated_by asked
 
       due_by_text : (reply : ReplyView) → IsReplyByRows limits p gone reply → IsDue limits q (Some gone) reply
-      due_by_text (Bounded rows ws rays) b = (small_by_problem (under_all_lines q) p posed b.small, ends_by_text (outers.Bounds (region_rows rows) ws rays) b.ends, at_question (λ s. MarksEnd s limits.effort rows) b.marks)
+      due_by_text (Bounded rows ws rays) b = (small_by_problem (under_all_lines q) p posed b.small, ends_by_text (outers.Bounds (region_rows rows) ws rays) b.ends, at_question q p posed (λ s. MarksEnd s limits.effort rows) b.marks)
       due_by_text (Undecided cause) u = (small_by_problem (under_all_lines q) p posed u.0, ends_by_text (outers.Undecided cause) u.1)
       due_by_text Size large = λ h. large (small_problem (under_all_lines q) h p posed)
       due_by_text Other x = absurd x

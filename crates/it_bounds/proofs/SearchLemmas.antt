@@ -21,10 +21,11 @@ use Rattle.it_prove.proofs.ProofLemmas.{never_out_of_steps}
 use Rattle.it_redundant.specs.Reduction.{NeedView, Reduces, kept_by, kept_rows}
 use Rattle.it_redundant.proofs.ReductionLemmas.{all_kept}
 use Rattle.it_hull.specs.Hulls.{first_rows}
+use Rattle.it_hull.specs.KeptRates.{kept_coordinates, rates_left}
 use Rattle.it_hull.proofs.RateLemmas.{first_rows_over}
 use Rattle.it_hull.proofs.RayLemmas.{next_of_space}
 use Rattle.it_hull.specs.Constants.{constants}
-use Rattle.it_outer.specs.Outer.{Search, OuterView, Bounds, Undecided, Run, Rows, Width, Rays, kept_coordinates, rates_left, search_without}
+use Rattle.it_outer.specs.Outer.{Search, OuterView, Bounds, Undecided, Run, Rows, Width, Rays, search_without}
 use Rattle.it_outer.specs.declared.types.Limits.{Limits}
 use Rattle.it_outer.specs.Search.{Proved, Refuted, Left, IsFirstWith, Hull, TooMany, TooWide, NextHull, PassEnds, HullEnds, PassWithEnds, SecondEnds, SearchEnds}
 use Rattle.it_outer.specs.Theorems.{IsSearch}

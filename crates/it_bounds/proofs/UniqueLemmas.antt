@@ -18,7 +18,7 @@ use Rattle.it_outer.proofs.EndLemmas.{one_search_end}
 use Rattle.it_answer.specs.Truth.{region_rows}
 use Rattle.it_bounds.specs.Replies.{ReplyView, Bounded, Undecided, Size, Other}
 use Rattle.it_bounds.specs.RightReplies.{Ends, IsDue, MarkedAfter, MarksEnd, NeverOutOfSteps, OneRightReply}
-use Rattle.it_bounds.specs.Truth.{eliminated_by, under_all_lines}
+use Rattle.it_rates.specs.Asked.{eliminated_by, under_all_lines}
 use Rattle.it_bounds.proofs.MarkLemmas.{same_unsettled}
 use Rattle.it_bounds.proofs.SearchLemmas.{search_never_out_of_steps}
 

@@ -4,3 +4,7 @@ pub mod RightReplies
 pub mod RowReplies
 pub mod Lines
 pub mod LineSteps
+pub mod HullSteps
+pub mod Reports
+pub mod StepViews
+pub mod ReportViews

@@ -11,14 +11,16 @@ use Rattle.it_space.specs.Divisors.{lowest_terms}
 use Rattle.it_space.specs.Rows.{Terms, point_of}
 use Rattle.it_space.specs.Spaces.{size_of}
 use Rattle.it_syntax.specs.NamesViews.{NamesView}
-use Rattle.it_question.specs.Questions.{BodyView, VerbView, Eliminate}
+use Rattle.it_question.specs.Questions.{BodyView}
 use Rattle.it_question.specs.ProblemLines.{problem_names}
 use Rattle.it_demand.specs.QuestionSpaces.{space_of}
 use Rattle.it_print.specs.Lines.{AreListed, IsRowOver, cause_text, certificate_text, coordinate_text, joined_texts, row_text, values_text}
+use Rattle.it_hull.specs.KeptRates.{kept_coordinates}
+use Rattle.it_rates.specs.Asked.{gone_rates}
 use Rattle.it_outer.specs.declared.types.Limits.{Limits}
 use Rattle.it_outer.specs.declared.types.OuterCause.{OuterCause}
 use Rattle.it_outer.specs.declared.types.OuterCause.TheVariants as causes
-use Rattle.it_outer.specs.Outer.{CauseView, Run, Rows, Width, Rays, kept_coordinates}
+use Rattle.it_outer.specs.Outer.{CauseView, Run, Rows, Width, Rays}
 use Rattle.it_bounds.specs.declared.types.Reply.{Reply}
 use Rattle.it_bounds.specs.declared.types.Reply.TheVariants as replies
 use Rattle.it_bounds.specs.Replies.{ReplyView, Bounded, Undecided, Size, Other}
@@ -29,11 +31,6 @@ use Rattle.it_bounds.specs.Replies.{ReplyView, Bounded, Undecided, Size, Other}
 unfoldable pub proven_row_line : ℕ → NamesView → List Origin → (Mark × Terms) × CertificateView → List ℕ
 proven_row_line k v origins proven = decimal k ++ codes " row " ++ mark_word proven.0.0 ++ codes " " ++ row_text v Inequality proven.0.1
     ++ codes " by " ++ certificate_text v.variables origins proven.1 ++ codes "\n"
-
--- the rates that a verb eliminates, none where it asks for something else
-abbrev pub gone_rates : VerbView → List ℕ
-gone_rates (Eliminate rates) = rates
-gone_rates verb = []
 
 -- the coordinates of the rates that stay
 abbrev pub told_rates : BodyView → List ℕ

@@ -24,7 +24,9 @@ use Rattle.it_answer.specs.DueEliminations.{marked_rows}
 use Rattle.it_answer.specs.Forms.{CertifyAll}
 use Rattle.it_answer.specs.Truth.{region_rows}
 use Rattle.it_bounds.specs.Replies.{ReplyView, Bounded, Undecided, Size, Other}
-use Rattle.it_bounds.specs.Truth.{IsTrueRay, IsTrueReply, MarkedRowsAreNeeded, eliminated_by, kept_rates, under_all_lines}
+use Rattle.it_rates.specs.Asked.{eliminated_by, kept_rates, under_all_lines}
+use Rattle.it_rates.specs.Bounds.{IsTrueRay}
+use Rattle.it_bounds.specs.Truth.{IsTrueReply, MarkedRowsAreNeeded}
 
 -- ---- by the text
 

@@ -11,7 +11,8 @@ use Rattle.it_prove.specs.declared.types.Effort.{Effort}
 use Rattle.it_outer.specs.declared.types.Bounds.{Bounds}
 use Rattle.it_outer.specs.declared.types.Limits.{Limits}
 use Rattle.it_outer.specs.Bounds.{AreBounds}
-use Rattle.it_outer.specs.Outer.{kept_coordinates, search_without}
+use Rattle.it_hull.specs.KeptRates.{kept_coordinates}
+use Rattle.it_outer.specs.Outer.{search_without}
 use Rattle.it_outer.specs.Outer as outers
 use Rattle.it_outer.specs.Search.{SearchEnds}
 use Rattle.it_answer.specs.Truth.{region_rows}

@@ -4,23 +4,24 @@ ghost use Rattle.it_space.specs.Spaces.{size_of};
 ghost use Rattle.it_demand.specs.QuestionSpaces.{space_of};
 ghost use Rattle.it_syntax.specs.NamesViews.{NamesView};
 ghost use Rattle.it_question.specs.Limits.{IsQuestion};
-ghost use Rattle.it_question.specs.Questions.{question_body, verb_view};
+ghost use Rattle.it_question.specs.Questions.{question_body};
 ghost use Rattle.it_question.specs.ProblemLines.{problem_names};
 ghost use Rattle.it_canon.specs.TrueLines.{variable_count};
 ghost use Rattle.it_print.specs.Lines.{AreListed, IsRowOver, cause_text, origins_of};
 ghost use Rattle.it_outer.specs.Outer.{cause_view};
 ghost use Rattle.it_outer.specs.Rounds.{ArePlaces};
-ghost use Rattle.it_bounds.specs.Lines.{AreOfNames, IsCausePrintable, IsOfRun, IsPrintable, bounds_cause_text, gone_rates, told_rates, ray_line, reply_lines};
+ghost use Rattle.it_bounds.specs.Lines.{AreOfNames, IsCausePrintable, IsOfRun, IsPrintable, bounds_cause_text, told_rates, ray_line, reply_lines};
 ghost use Rattle.it_bounds.specs.LineSteps.{IsThere, count_line, proof_text, row_line, row_lines};
 ghost use Rattle.it_bounds.specs.Replies.{reply_view};
 
 use crate::rays::write_rates;
 use crate::types::Reply;
 use it_canon::problem_names;
-use it_outer::coordinates::kept_coordinates;
+use it_hull::kept_coordinates;
 use it_outer::{Limits, OuterCause};
 use it_print::{row_text, sum_text, values_text, write_number, write_signed};
-use it_question::types::{Question, Verb};
+use it_question::types::Question;
+use it_rates::gone_rates;
 use it_space::{Cause, Certificate, Constraint, Kind, Mark, Point, Row};
 use it_syntax::Names;
 use std::alloc::{AllocError, Global};
@@ -171,17 +172,6 @@ fn write_proof(
     out.extend_from_slice(sum.as_slice())
 }
 
-/// The rates that a verb eliminates, none where it asks for something else.
-fn gone_rates(verb: &Verb) -> &[u8]
-    ensures { result.now ≡ gone_rates (verb_view verb.now) }
-{
-    match verb {
-        Verb::Eliminate(rates) => rates.as_slice(),
-        Verb::Prove(_) => &[],
-        Verb::Contain { .. } => &[],
-    }
-}
-
 /// The lines of rays.
 fn write_rays(
     alloc: Global,
@@ -246,9 +236,9 @@ fn undecided_line(
     Ok(out)
 }
 
-/// Why a bound stays undecided.
+/// Writes why a bound stays undecided, after what stands.
 #[tactic(auto, unfolding(crate::specs::Lines::bounds_cause_text))]
-fn write_cause(
+pub fn write_cause(
     alloc: Global,
     out: &mut Vec<u8>,
     limits: Limits,

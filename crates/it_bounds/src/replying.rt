@@ -10,18 +10,19 @@ ghost use Rattle.it_demand.specs.QuestionSpaces.{space_of};
 ghost use Rattle.it_canon.specs.QuestionDemands.{IsProblemOf, question_demands, question_origins};
 ghost use Rattle.it_bounds.specs.Lines.{IsPrintable};
 ghost use Rattle.it_bounds.specs.Replies.{reply_view};
+ghost use Rattle.it_bounds.specs.Reports.{IsToldReply};
 ghost use Rattle.it_bounds.specs.RightReplies.{IsRightReply};
 ghost use Rattle.it_bounds.specs.RowReplies.{IsReplyByRows, TellsBounds};
-ghost use Rattle.it_bounds.specs.Truth.{under_all_lines};
+ghost use Rattle.it_rates.specs.Asked.{under_all_lines};
 
 use crate::marks::with_marks;
 use crate::types::{RepliedProblem, Reply};
 use it_closure::size;
 use it_outer::{Bounds, Limits, Outer, outer};
 use it_prove::Effort;
-use it_question::line_constraints;
 use it_question::readers::MOST_ENTRIES;
 use it_question::types::{Question, Verb};
+use it_rates::problem_of_lines;
 use it_space::{Problem, Space};
 use std::alloc::{AllocError, Global};
 
@@ -39,20 +40,11 @@ pub fn reply(
     ensures problem { IfOk result (λ a. AreStated a.problem.space (question_origins (under_all_lines (question_body question.now))) (question_demands (under_all_lines (question_body question.now))) a.problem.constraints.items) }
     ensures right { IfOk result (λ a. IsRightReply limits (question_body question.now) (reply_view a.reply)) }
     ensures printable { IfOk result (λ a. IsPrintable (question_body question.now) (length a.problem.constraints.items) a.reply) }
+    ensures told { IfOk result (λ a. IsToldReply (question_body question.now) a.reply) }
 {
     let problem = problem_of_lines(alloc, question)?;
     let reply = reply_under(alloc, question, &problem, limits)?;
     Ok(RepliedProblem { problem, reply })
-}
-
-/// The problem that all lines of a question pose.
-fn problem_of_lines(alloc: Global, question: &Question) -> Result<Problem, AllocError>
-    requires { IsQuestion (question_body question.now) }
-    ensures { IfOk result (λ p. IsProblemOf (under_all_lines (question_body question.now)) (problem_view p)) }
-{
-    let space = question.names.space();
-    let constraints = line_constraints(alloc, &question.lines, space)?;
-    Ok(Problem { space, constraints })
 }
 
 /// The reply to a question, with the problem that all its lines pose.
@@ -67,6 +59,7 @@ fn reply_under(
     requires few_rows { limits.rows ≤ 65535 }
     ensures right { IfOk result (λ r. IsRightReply limits (question_body question.now) (reply_view r)) }
     ensures printable { IfOk result (IsPrintable (question_body question.now) (length problem.now.constraints.items)) }
+    ensures told { IfOk result (IsToldReply (question_body question.now)) }
 {
     match &question.verb {
         Verb::Eliminate(rates) => {

@@ -22,6 +22,7 @@ use Rattle.it_question.specs.LineDemands.{line_demands}
 use Rattle.it_demand.specs.Targets.{negation, targets, inequalities_of}
 use Rattle.it_demand.proofs.ChainLemmas.{union_below}
 use Rattle.it_demand.proofs.LimitLemmas.{more_rates}
+use Rattle.it_canon.specs.Sides.{left_form, right_form}
 use Rattle.it_canon.proofs.SmallForms.{IsFormUpTo, form_zero, form-add, form-negation, form_same}
 
 -- ---- one atom
@@ -115,6 +116,16 @@ module _ (n m : ℕ) where
       (form-add last_coordinate (length r.left * 2 ^ 98) (length r.right * 2 ^ 98) (λ p. side_at n p both r.left) (negation (λ p. side_at n p both r.right))
       (side_up_to both h.small_multiple r.left (every_of (λ (t : Term). IsAtomOf n m t.atom) r.left h.left) k.0)
       (form-negation last_coordinate (length r.right * 2 ^ 98) (λ p. side_at n p both r.right) (side_up_to both h.small_multiple r.right (every_of (λ (t : Term). IsAtomOf n m t.atom) r.right h.right) k.1)))
+
+  -- each side alone
+  pub sides_up_to : (r : RelationView) → IsRelationOf n m r → HasSmallNumbers r → IsFormUpTo last_coordinate (2 ^ 106) (left_form n r) × IsFormUpTo last_coordinate (2 ^ 106) (right_form n r)
+  sides_up_to r h k =
+      let both = common_denominator r in (
+        form_same last_coordinate (length r.left * 2 ^ 98) (2 ^ 106) (left_form n r) (left_form n r) (omega (arith, h.few)) (λ p. refl)
+            (side_up_to both h.small_multiple r.left (every_of (λ (t : Term). IsAtomOf n m t.atom) r.left h.left) k.0),
+        form_same last_coordinate (length r.right * 2 ^ 98) (2 ^ 106) (right_form n r) (right_form n r) (omega (arith, h.few)) (λ p. refl)
+            (side_up_to both h.small_multiple r.right (every_of (λ (t : Term). IsAtomOf n m t.atom) r.right h.right) k.1),
+      )
 
   relation_up_to : (r : RelationView) → IsRelationOf n m r → HasSmallNumbers r → IsFormUpTo last_coordinate (2 ^ 106) (form_of n r)
   relation_up_to r h k = by_sign r.sign (difference_up_to r h k)

@@ -28,9 +28,11 @@ use Rattle.it_question.specs.LineOrigins.{line_origins}
 use Rattle.it_canon.specs.TrueLines.{variable_count}
 use Rattle.it_canon.specs.QuestionDemands.{question_demands, question_origins, problem_of, terms_in, IsProblemOf}
 use Rattle.it_demand.specs.Targets.{targets}
-use Rattle.it_demand.proofs.FormRows.{rows_are_terms_of_forms}
+use Rattle.it_demand.specs.Canonical.{IsRowOf}
+use Rattle.it_demand.proofs.FormRows.{row_is_terms_of_form, rows_are_terms_of_forms}
+use Rattle.it_canon.specs.Sides.{left_form, right_form}
 use Rattle.it_canon.specs.Theorems.{QuestionHasProblem, RelationHasRows}
-use Rattle.it_canon.proofs.DemandForms.{AreDemandsUpTo, lines_up_to, targets_up_to}
+use Rattle.it_canon.proofs.DemandForms.{AreDemandsUpTo, lines_up_to, sides_up_to, targets_up_to}
 use Rattle.it_canon.proofs.PosesLemmas.{one_problem}
 use Rattle.it_canon.proofs.ProblemLemmas.{question_problem}
 use Rattle.it_canon.proofs.QuestionLemmas.{space_is, shared_givens, shared_rows}
@@ -102,6 +104,18 @@ module _ (q : BodyView) (k : IsQuestion q) (small : QuestionHasSmallNumbers q) w
       let over : IsRelationOf own_space.variables own_space.rates r = subst (λ (v : NamesView). IsRelationOf (length v.variables) (length v.rates) r) (sym (ap (names_under q.names) about)) own in
       let rows = rows_there own_space (space_is q k) (targets (variable_count q) r) (targets_up_to own_space.variables own_space.rates r over (subst VerbHasSmallNumbers about small.1)) in
       subst (AreRowsOf own_space (targets (variable_count q) r)) (rows_are_terms_of_forms own_space (targets (variable_count q) r) rows.0 rows.1) rows.1
+
+  -- and those of its sides
+  pub side_rows : (r : RelationView) → q.verb ≡ Prove r
+      → IsRowOf own_space (left_form (variable_count q) r) (terms_in q (left_form (variable_count q) r)) × IsRowOf own_space (right_form (variable_count q) r) (terms_in q (right_form (variable_count q) r))
+  side_rows r about =
+      let own : IsRelationOf (length q.names.variables) (length q.names.rates) r = subst (IsVerbOver q.names) about k.verb in
+      let over : IsRelationOf own_space.variables own_space.rates r = subst (λ (v : NamesView). IsRelationOf (length v.variables) (length v.rates) r) (sym (ap (names_under q.names) about)) own in
+      let up = sides_up_to own_space.variables own_space.rates r over (subst VerbHasSmallNumbers about small.1) in
+      (row_of_form (left_form (variable_count q) r) up.0, row_of_form (right_form (variable_count q) r) up.1)
+    where
+      row_of_form : (f : Form) → IsFormUpTo (size_of own_space) (2 ^ 106) f → IsRowOf own_space f (terms_in q f)
+      row_of_form f up = let row = row_there own_space (space_is q k) f up in subst (IsRowOf own_space f) (row_is_terms_of_form own_space f row.0 row.1) row.1
 
   -- and those of its `row` lines
   system_up_to : (rs : List RelationView) → Every (IsRelationOf own_space.variables own_space.rates) rs → Every HasSmallNumbers rs → Every (IsFormUpTo (size_of own_space) (2 ^ 106)) (system_forms own_space.variables rs)

@@ -35,23 +35,26 @@ use Rattle.std.specs.Option.{option_or, option_zip}
 use Rattle.it_certificate.specs.Parts.{text_of, integer_at, count_at, two_of, pair_at, all_of, list_at, of_length, certificate_at, proofs_at, point_at, back_at, cause_kind_at, cause_of, cause_at, is_row_between, row_of, marked_row_at, rows_at, set_at, parts_at}
 use Rattle.it_certificate.specs.AnswerReading.{and_then, no_at, undecided_at, contained_at}
 use Rattle.it_certificate.specs.Obligations.{obligation_count}
+use Rattle.it_spans.specs.Spans.{StepView}
+use Rattle.it_rates.specs.Asked.{eliminated_by}
+use Rattle.it_certificate.specs.Bounds.{BoundsView, HasBoundsShape, bounds_at, drop_at, step_at, steps_at, unmarked_row_at, unmarked_rows_at, verb_bounds}
 use Rattle.it_certificate.specs.Reports.{verb_answer}
 use Rattle.it_certificate.specs.AnswerShapes.{IsNumberedAmount, IsNumbered, IsRowIn, IsFoundIn, IsCauseFor, HasVerbShape, HasQuestionShape}
 use Rattle.it_certificate.proofs.WithinLemmas.{and_then_some, map_some, cond_some, pair_some, all_of_holds, integer_at_within, point_within, point_length}
 use Rattle.it_certificate.proofs.RowLemmas.{row_is_canonical}
 
-key_ok : {A : Type 0} (k : Key) (o : Option A) (a : A) → ok_or o k ≡ Ok a → o ≡ Some a
+pub key_ok : {A : Type 0} (k : Key) (o : Option A) (a : A) → ok_or o k ≡ Ok a → o ≡ Some a
 key_ok k None a is = absurd (cc)
 key_ok k (Some b) a is = let e : b ≡ a = cc in ap Some e
 
-then_ok : {A B : Type 0} (r : Result A Key) (f : A → Result B Key) (b : B) → and_then r f ≡ Ok b → (a : A) × ((r ≡ Ok a) × (f a ≡ Ok b))
+pub then_ok : {A B : Type 0} (r : Result A Key) (f : A → Result B Key) (b : B) → and_then r f ≡ Ok b → (a : A) × ((r ≡ Ok a) × (f a ≡ Ok b))
 then_ok (Err k) f b is = absurd (cc)
 then_ok (Ok a) f b is = (a, (refl, is))
 
 abbrev ok_of : {A : Type 0} → A → Result A Key
 ok_of a = Ok a
 
-ok_same : {A : Type 0} (a b : A) → ok_of a ≡ ok_of b → a ≡ b
+pub ok_same : {A : Type 0} (a b : A) → ok_of a ≡ ok_of b → a ≡ b
 ok_same a b is = cc
 
 -- ---- numbers and terms
@@ -74,7 +77,7 @@ pair_numbers d t is =
     let k = pair_some (count_at h.0.0) (integer_at h.0.1) t h.1.1 in
     (count_at_below h.0.0 t.0 k.0, integer_at_within h.0.1 t.1 k.1)
 
-list_numbers : {A : Type 0} (P : A → Type 0) (f : Data → Option A) → ((d : Data) (a : A) → f d ≡ Some a → P a) → (o : Option Data) (xs : List A) → list_at f o ≡ Some xs → All P xs
+pub list_numbers : {A : Type 0} (P : A → Type 0) (f : Data → Option A) → ((d : Data) (a : A) → f d ≡ Some a → P a) → (o : Option Data) (xs : List A) → list_at f o ≡ Some xs → All P xs
 list_numbers P f each o xs is = let h = and_then_some (option_and_then as_array o) (all_of f) xs is in all_of_holds P f each h.0 xs h.1.1
 
 counted_numbers : {A : Type 0} (P : A → Type 0) (f : Data → Option A) → ((d : Data) (a : A) → f d ≡ Some a → P a) → (n : ℕ) (o : Option Data) (xs : List A)
@@ -86,7 +89,7 @@ counted_numbers P f each n o xs is =
     let l : length h.0 ≡ n = let t = m.0 in search (rules, t) in
     (sym (ap length e) ∙ l, subst (λ zs. All P zs) e (list_numbers P f each o h.0 h.1.0))
 
-certificate_numbers : (d : Data) (c : CertificateView) → certificate_at d ≡ Some c → IsNumbered c
+pub certificate_numbers : (d : Data) (c : CertificateView) → certificate_at d ≡ Some c → IsNumbered c
 unfolding certificate_at
 certificate_numbers d c is =
     let scale = option_and_then integer_at (get (codes "scale") d) in
@@ -136,7 +139,7 @@ integer_below : (z : ℤ) (n : ℕ) → count_of_integer z ≡ Some n → n < 2 
 integer_below (pos m) n is = count_below m n is
 integer_below (negsuc m) n is = absurd (cc)
 
-step_below : (text : List ℕ) (n : ℕ) → step_of text ≡ Some n → n < 2 ^ 32
+pub step_below : (text : List ℕ) (n : ℕ) → step_of text ≡ Some n → n < 2 ^ 32
 unfolding step_of
 step_below text n is = let h = and_then_some (integer_of text) count_of_integer n is in integer_below h.0 n h.1.1
 
@@ -211,6 +214,61 @@ region_fits v rates d a is =
     let h = map_some rows Region a (key_ok keys.Rows (option_map Region rows) a is) in
     subst (HasVerbShape v (Eliminate rates)) h.1.1
     (list_numbers (IsRowIn (size_of (space_of v))) (marked_row_at (size_of (space_of v))) (row_fits (size_of (space_of v))) (get (codes "rows") d) h.0 h.1.0)
+
+-- ---- outer bounds
+
+unmarked_row_fits : (size : ℕ) (d : Data) (r : Terms) → unmarked_row_at size d ≡ Some r → IsOver size r
+unfolding unmarked_row_at
+unmarked_row_fits size d r is =
+    let k = and_then_some (list_at pair_at (get (codes "row") d)) (row_of size) r is in
+    let m = cond_some (is_row_between 1 size k.0) (Some k.0) r k.1.1 in
+    let e : k.0 ≡ r = let s = m.1 in cc in
+    up_to 1 size r (omega arith) (subst (λ ts. is_row_between 1 size ts ≡ true) e m.0)
+
+step_fits : (size : ℕ) (d : Data) (s : StepView) → step_at size d ≡ Some s → length s.ray ≡ size
+unfolding step_at
+step_fits size d s is =
+    let drops = list_at drop_at (get (codes "drops") d) in
+    let h = map_some (option_zip (point_at size d) drops) (λ p. record { ray = p.0; drops = p.1 }) s is in
+    let k = pair_some (point_at size d) drops h.0 h.1.0 in
+    subst (λ (z : StepView). length z.ray ≡ size) h.1.1 (point_length size d h.0.0 k.0)
+
+rows_fit : (size : ℕ) (d : Data) (rows : List Terms) → unmarked_rows_at size d ≡ Some rows → All (IsOver size) rows
+unfolding unmarked_rows_at
+rows_fit size d rows is = list_numbers (IsOver size) (unmarked_row_at size) (unmarked_row_fits size) (get (codes "rows") d) rows is
+
+steps_fit : (size : ℕ) (d : Data) (steps : List StepView) → steps_at size d ≡ Some steps → All (λ s. length s.ray ≡ size) steps
+unfolding steps_at
+steps_fit size d steps is = list_numbers (λ s. length s.ray ≡ size) (step_at size) (step_fits size) (get (codes "rays") d) steps is
+
+-- rows, a certificate of each and rays
+abbrev AreSized : ℕ → BoundsView → Type 0
+AreSized size b = All (IsOver size) b.rows × (length b.proofs ≡ length b.rows) × All (λ s. length s.ray ≡ size) b.steps
+
+abbrev bounds_made : List Terms → List CertificateView → List StepView → BoundsView
+bounds_made rows proofs steps = record { rows = rows; proofs = proofs; steps = steps }
+
+bounds_sized : (size : ℕ) (d : Data) (b : BoundsView) → bounds_at size d ≡ Ok b → AreSized size b
+unfolding bounds_at
+bounds_sized size d b is =
+    let h = then_ok (ok_or (unmarked_rows_at size d) keys.Rows) (λ rows. and_then (ok_or (proofs_at (length rows) d) keys.Proofs) (λ proofs. and_then (ok_or (steps_at size d) keys.Rays) (λ steps. Ok (bounds_made rows proofs steps)))) b is in
+    let k = then_ok (ok_or (proofs_at (length h.0) d) keys.Proofs) (λ proofs. and_then (ok_or (steps_at size d) keys.Rays) (λ steps. Ok (bounds_made h.0 proofs steps))) b h.1.1 in
+    let m = then_ok (ok_or (steps_at size d) keys.Rays) (λ steps. Ok (bounds_made h.0 k.0 steps)) b k.1.1 in
+    subst (AreSized size) (ok_same (bounds_made h.0 k.0 m.0) b m.1.1) (
+      rows_fit size d h.0 (key_ok keys.Rows (unmarked_rows_at size d) h.0 h.1.0),
+      (proofs_fit (length h.0) d k.0 (key_ok keys.Proofs (proofs_at (length h.0) d) k.0 k.1.0)).0,
+      steps_fit size d m.0 (key_ok keys.Rays (steps_at size d) m.0 m.1.0),
+    )
+
+pub bounds_fit : (q : QuestionView) (d : Data) (b : BoundsView) → verb_bounds q.body.names q.body.verb d ≡ Ok b → HasBoundsShape q.body b
+bounds_fit q d b is = by_verb q.body.verb refl is
+  where
+    by_verb : (verb : VerbView) → q.body.verb ≡ verb → verb_bounds q.body.names verb d ≡ Ok b → HasBoundsShape q.body b
+    by_verb (Prove r) e f = absurd (cc)
+    by_verb (Eliminate rates) e f =
+        let h = bounds_sized (size_of (space_of q.body.names)) d b f in
+        record { gone = rates; asked = ap eliminated_by e; rows = h.0; proofs = h.1; rays = h.2 }
+    by_verb (Contain first second tries) e f = absurd (cc)
 
 -- ---- containments
 

@@ -12,5 +12,6 @@ pub mod SourceNumbers
 pub mod ReportLemmas
 pub mod OneLemmas
 pub mod FitLemmas
+pub mod FactorFits
 mod RoundLemmas
 mod RowsComputed

@@ -14,52 +14,120 @@ use Rattle.it_certificate.specs.declared.keys.Key.TheVariants as keys
 use Rattle.it_certificate.specs.declared.keys.ReportFault.{ReportFault}
 use Rattle.it_certificate.specs.declared.keys.ReportFault.TheVariants as faults
 use Rattle.it_certificate.specs.declared.types.Reported.TheVariants as reported
+use Rattle.it_certificate.specs.declared.types.ReportedBounds.{ReportedBounds}
 use Rattle.it_certificate.specs.Parts.{answer_kind_at}
-use Rattle.it_certificate.specs.Reports.{Answered, Misfit, Reading, ReadsAs, answer_to, report_of, tells_misfit, verb_answer}
+use Rattle.it_ratio.specs.BestViews.{BestView, best_view}
+use Rattle.it_ratio.specs.declared.types.Best.{Best}
+use Rattle.it_certificate.specs.declared.kinds.FactorKind.{FactorKind}
+use Rattle.it_certificate.specs.FactorReading.{factor_kind_at, verb_best}
+use Rattle.it_certificate.specs.Reports.{Answered, Factored, Misfit, Reading, ReadsAs, answer_to, best_to, reading_by, report_of, tells_misfit, verb_answer, Bounded, answered_of, bounded_of, bounds_to, tells_outer}
+use Rattle.it_certificate.specs.Bounds.{BoundsView, bounds_view, verb_bounds}
 use Rattle.it_certificate.specs.ReportSteps.{GivesSource, ReadsValue}
 use Rattle.it_certificate.specs.Sources.{IsSourceOf, Source, asked, source_key}
 use Rattle.it_certificate.specs.Steps.{GivesKeyed, fault_by}
 use Rattle.it_certificate.specs.AnswerReading.{and_then}
 use Rattle.it_certificate.proofs.SourceLemmas.{source_there}
 
--- of a line that isn't a misfit, by the kind of its answer
-abbrev reading_by : Option Source → Data → Option AnswerKind → Result Reading Key
-reading_by own d kind = and_then (ok_or kind keys.Answer) (λ kind. and_then (ok_or own (source_key d)) (λ source. and_then (answer_to source kind d) (λ a. Ok (Answered source a))))
+-- of a line that isn't a misfit, by whether it tells bounds
+abbrev reading_of : Option Source → Data → Bool → Result Reading Key
+reading_of own d outer = cond outer (bounded_of own d) (reading_by own (factor_kind_at d) d)
 
 pub told_misfit : (d : Data) → true ≡ tells_misfit d → ReadsValue d (Ok reported.Misfit)
 unfolding report_of
 told_misfit d told =
     let own = source_there d in
-    (Misfit, tt, record { own = own.0; source = own.1; is = ap (λ b. cond b (Ok Misfit) (reading_by own.0 d (answer_kind_at d))) (sym told) })
+    (Misfit, tt, record { own = own.0; source = own.1; is = ap (λ b. cond b (Ok Misfit) (reading_of own.0 d (tells_outer d))) (sym told) })
 
-module _ (d : Data) (told : false ≡ tells_misfit d) where
-  without_misfit : (o : Option Source) (kind : Option AnswerKind) → kind ≡ answer_kind_at d → report_of o d ≡ reading_by o d kind
-  unfolding report_of
-  without_misfit o kind is = ap (λ b. cond b (Ok Misfit) (reading_by o d (answer_kind_at d))) (sym told) ∙ ap (reading_by o d) (sym is)
+of_no_misfit : (d : Data) → false ≡ tells_misfit d → (o : Option Source) → report_of o d ≡ reading_of o d (tells_outer d)
+unfolding report_of
+of_no_misfit d told o = ap (λ b. cond b (Ok Misfit) (reading_of o d (tells_outer d))) (sym told)
 
-  pub no_kind : None ≡ answer_kind_at d → ReadsAs d (Err keys.Answer)
-  no_kind is =
-      let own = source_there d in
-      record { own = own.0; source = own.1; is = without_misfit own.0 None is }
+-- ---- a line that tells an outer bound
 
-  module _ (kind : AnswerKind) (is : Some kind ≡ answer_kind_at d) where
-    pub no_source : (refusal : Refusal) (key : Key) (f : ReportFault) → GivesSource d (Err refusal) → key ≡ source_key d → f ≡ fault_by refusal key → ReadsValue d (Err f)
-    no_source refusals.Shape key f none e made =
-        subst (λ g. ReadsValue d (Err g)) (sym (made ∙ ap faults.Shape e)) (record { own = None; source = none; is = without_misfit None (Some kind) is })
-    no_source refusals.Memory key f none e made = subst (λ g. ReadsValue d (Err g)) (sym made) tt
+module _ (d : Data) (told : false ≡ tells_misfit d) (outer : true ≡ tells_outer d) where
+  of_bounds : (o : Option Source) → report_of o d ≡ bounded_of o d
+  of_bounds o = of_no_misfit d told o ∙ ap (reading_of o d) (sym outer)
 
-    answer_as : (source : Source) (r : Result AnswerView Key) → IsSourceOf d source → answer_to source kind d ≡ r → ReadsAs d (and_then r (λ a. Ok (Answered source a)))
-    answer_as source r own by = record { own = Some source; source = own; is = without_misfit (Some source) (Some kind) is ∙ ap (λ z. and_then z (λ a. Ok (Answered source a))) by }
+  pub no_bounds_source : (refusal : Refusal) (key : Key) (f : ReportFault) → GivesSource d (Err refusal) → key ≡ source_key d → f ≡ fault_by refusal key → ReadsValue d (Err f)
+  no_bounds_source refusals.Shape key f none e made =
+      subst (λ g. ReadsValue d (Err g)) (sym (made ∙ ap faults.Shape e)) (record { own = None; source = none; is = of_bounds None })
+  no_bounds_source refusals.Memory key f none e made = subst (λ g. ReadsValue d (Err g)) (sym made) tt
 
-    -- the answer to the question that is asked
-    as_asked : (source : Source) (q : QuestionView) (r : Result AnswerView Key) → asked source ≡ q → verb_answer q.body.names q.body.verb kind d ≡ r → answer_to source kind d ≡ r
-    as_asked source q r e by = ap (λ (z : QuestionView). verb_answer z.body.names z.body.verb kind d) e ∙ by
+  bounds_as : (source : Source) (r : Result BoundsView Key) → IsSourceOf d source → bounds_to source d ≡ r → ReadsAs d (and_then r (λ b. Ok (Bounded source b)))
+  bounds_as source r own by = record { own = Some source; source = own; is = of_bounds (Some source) ∙ ap (λ z. and_then z (λ b. Ok (Bounded source b))) by }
 
-    pub answer_ok : (q : Question) (a : Answer) → GivesSource d (Ok q) → verb_answer (question_view q).body.names (question_view q).body.verb kind d ≡ Ok (answer_view a) → ReadsValue d (Ok (reported.Answered q a))
-    answer_ok q a gives by =
-        (Answered gives.0 (answer_view a), (gives.2, refl), answer_as gives.0 (Ok (answer_view a)) gives.1 (as_asked gives.0 (question_view q) (Ok (answer_view a)) gives.2 by))
+  -- the bounds of the question that is asked
+  as_bounded : (source : Source) (q : QuestionView) (r : Result BoundsView Key) → asked source ≡ q → verb_bounds q.body.names q.body.verb d ≡ r → bounds_to source d ≡ r
+  as_bounded source q r e by = ap (λ (z : QuestionView). verb_bounds z.body.names z.body.verb d) e ∙ by
 
-    pub answer_err : (q : Question) (f : ReportFault) → GivesSource d (Ok q) → GivesKeyed answer_view (Err f) (verb_answer (question_view q).body.names (question_view q).body.verb kind d) → ReadsValue d (Err f)
-    answer_err q (faults.Shape key) gives by = answer_as gives.0 (Err key) gives.1 (as_asked gives.0 (question_view q) (Err key) gives.2 by)
-    answer_err q faults.NotJson gives by = by
-    answer_err q faults.Memory gives by = tt
+  pub bounds_ok : (q : Question) (b : ReportedBounds) → GivesSource d (Ok q) → verb_bounds (question_view q).body.names (question_view q).body.verb d ≡ Ok (bounds_view b) → ReadsValue d (Ok (reported.Bounded q b))
+  bounds_ok q b gives by =
+      (Bounded gives.0 (bounds_view b), (gives.2, refl), bounds_as gives.0 (Ok (bounds_view b)) gives.1 (as_bounded gives.0 (question_view q) (Ok (bounds_view b)) gives.2 by))
+
+  pub bounds_err : (q : Question) (f : ReportFault) → GivesSource d (Ok q) → GivesKeyed bounds_view (Err f) (verb_bounds (question_view q).body.names (question_view q).body.verb d) → ReadsValue d (Err f)
+  bounds_err q (faults.Shape key) gives by = bounds_as gives.0 (Err key) gives.1 (as_bounded gives.0 (question_view q) (Err key) gives.2 by)
+  bounds_err q faults.NotJson gives by = by
+  bounds_err q faults.Memory gives by = tt
+
+module _ (d : Data) (told : false ≡ tells_misfit d) (outer : false ≡ tells_outer d) where
+  by_kind : (o : Option Source) (kind : Option FactorKind) → kind ≡ factor_kind_at d → report_of o d ≡ reading_by o kind d
+  by_kind o kind is = of_no_misfit d told o ∙ ap (reading_of o d) (sym outer) ∙ ap (λ k. reading_by o k d) (sym is)
+
+  -- ---- a line that isn't about factors
+
+  module _ (other : None ≡ factor_kind_at d) where
+    by_answer : (o : Option Source) (kind : Option AnswerKind) → kind ≡ answer_kind_at d
+        → report_of o d ≡ and_then (ok_or kind keys.Answer) (λ kind. and_then (ok_or o (source_key d)) (λ source. and_then (answer_to source kind d) (λ a. Ok (Answered source a))))
+    by_answer o kind is = by_kind o None other
+        ∙ ap (λ k. and_then (ok_or k keys.Answer) (λ kind. and_then (ok_or o (source_key d)) (λ source. and_then (answer_to source kind d) (λ a. Ok (Answered source a))))) (sym is)
+
+    pub no_kind : None ≡ answer_kind_at d → ReadsAs d (Err keys.Answer)
+    no_kind is =
+        let own = source_there d in
+        record { own = own.0; source = own.1; is = by_answer own.0 None is }
+
+    module _ (kind : AnswerKind) (is : Some kind ≡ answer_kind_at d) where
+      pub no_source : (refusal : Refusal) (key : Key) (f : ReportFault) → GivesSource d (Err refusal) → key ≡ source_key d → f ≡ fault_by refusal key → ReadsValue d (Err f)
+      no_source refusals.Shape key f none e made =
+          subst (λ g. ReadsValue d (Err g)) (sym (made ∙ ap faults.Shape e)) (record { own = None; source = none; is = by_answer None (Some kind) is })
+      no_source refusals.Memory key f none e made = subst (λ g. ReadsValue d (Err g)) (sym made) tt
+
+      answer_as : (source : Source) (r : Result AnswerView Key) → IsSourceOf d source → answer_to source kind d ≡ r → ReadsAs d (and_then r (λ a. Ok (Answered source a)))
+      answer_as source r own by = record { own = Some source; source = own; is = by_answer (Some source) (Some kind) is ∙ ap (λ z. and_then z (λ a. Ok (Answered source a))) by }
+
+      -- the answer to the question that is asked
+      as_asked : (source : Source) (q : QuestionView) (r : Result AnswerView Key) → asked source ≡ q → verb_answer q.body.names q.body.verb kind d ≡ r → answer_to source kind d ≡ r
+      as_asked source q r e by = ap (λ (z : QuestionView). verb_answer z.body.names z.body.verb kind d) e ∙ by
+
+      pub answer_ok : (q : Question) (a : Answer) → GivesSource d (Ok q) → verb_answer (question_view q).body.names (question_view q).body.verb kind d ≡ Ok (answer_view a) → ReadsValue d (Ok (reported.Answered q a))
+      answer_ok q a gives by =
+          (Answered gives.0 (answer_view a), (gives.2, refl), answer_as gives.0 (Ok (answer_view a)) gives.1 (as_asked gives.0 (question_view q) (Ok (answer_view a)) gives.2 by))
+
+      pub answer_err : (q : Question) (f : ReportFault) → GivesSource d (Ok q) → GivesKeyed answer_view (Err f) (verb_answer (question_view q).body.names (question_view q).body.verb kind d) → ReadsValue d (Err f)
+      answer_err q (faults.Shape key) gives by = answer_as gives.0 (Err key) gives.1 (as_asked gives.0 (question_view q) (Err key) gives.2 by)
+      answer_err q faults.NotJson gives by = by
+      answer_err q faults.Memory gives by = tt
+
+  -- ---- a line about factors
+
+  module _ (kind : FactorKind) (is : Some kind ≡ factor_kind_at d) where
+    pub no_factor_source : (refusal : Refusal) (key : Key) (f : ReportFault) → GivesSource d (Err refusal) → key ≡ source_key d → f ≡ fault_by refusal key → ReadsValue d (Err f)
+    no_factor_source refusals.Shape key f none e made =
+        subst (λ g. ReadsValue d (Err g)) (sym (made ∙ ap faults.Shape e)) (record { own = None; source = none; is = by_kind None (Some kind) is })
+    no_factor_source refusals.Memory key f none e made = subst (λ g. ReadsValue d (Err g)) (sym made) tt
+
+    best_as : (source : Source) (r : Result BestView Key) → IsSourceOf d source → best_to source kind d ≡ r → ReadsAs d (and_then r (λ b. Ok (Factored source b)))
+    best_as source r own by = record { own = Some source; source = own; is = by_kind (Some source) (Some kind) is ∙ ap (λ z. and_then z (λ b. Ok (Factored source b))) by }
+
+    -- what is found of the factors that the question asks for
+    best_as_asked : (source : Source) (q : QuestionView) (r : Result BestView Key) → asked source ≡ q → verb_best q.body.names q.body.verb kind d ≡ r → best_to source kind d ≡ r
+    best_as_asked source q r e by = ap (λ (z : QuestionView). verb_best z.body.names z.body.verb kind d) e ∙ by
+
+    pub best_ok : (q : Question) (b : Best) → GivesSource d (Ok q) → verb_best (question_view q).body.names (question_view q).body.verb kind d ≡ Ok (best_view b) → ReadsValue d (Ok (reported.Factored q b))
+    best_ok q b gives by =
+        (Factored gives.0 (best_view b), (gives.2, refl), best_as gives.0 (Ok (best_view b)) gives.1 (best_as_asked gives.0 (question_view q) (Ok (best_view b)) gives.2 by))
+
+    pub best_err : (q : Question) (f : ReportFault) → GivesSource d (Ok q) → GivesKeyed best_view (Err f) (verb_best (question_view q).body.names (question_view q).body.verb kind d) → ReadsValue d (Err f)
+    best_err q (faults.Shape key) gives by = best_as gives.0 (Err key) gives.1 (best_as_asked gives.0 (question_view q) (Err key) gives.2 by)
+    best_err q faults.NotJson gives by = by
+    best_err q faults.Memory gives by = tt

@@ -32,7 +32,8 @@ use Rattle.std.specs.Option.{option_or, option_zip}
 use Rattle.it_certificate.specs.Parts.{text_of, integer_at, count_at, pair_at, all_of, of_length, certificate_at, answer_kind_at, proofs_at, point_at, back_at, cause_kind_at, cause_of, cause_at, is_row_between, row_of, marked_row_at, rows_at, set_at, parts_at, list_at}
 use Rattle.it_certificate.specs.AnswerReading.{and_then, no_at, undecided_at, contained_at}
 use Rattle.it_certificate.specs.Obligations.{obligation_count}
-use Rattle.it_certificate.specs.Reports.{Answered, Misfit, report_of, tells_misfit, verb_answer}
+use Rattle.it_certificate.specs.FactorReading.{factor_kind_at}
+use Rattle.it_certificate.specs.Reports.{Answered, Misfit, bounded_of, reading_by, report_of, tells_misfit, tells_outer, verb_answer}
 use Rattle.it_certificate.specs.Sources.{Text}
 use Rattle.it_certificate.specs.AnswerShapes.{IsNumberedAmount, IsNumbered, IsRowIn, IsCauseFor, HasContainmentShape, HasVerbShape, HasQuestionShape}
 use Rattle.it_certificate.specs.Laws.{without_zeros, written_answer, ReadsBack}
@@ -277,6 +278,25 @@ no_misfit text v (Region rows) = refl
 no_misfit text v (Contained parts proofs) = refl
 no_misfit text v (Open tried) = refl
 
+-- the word is none about factors, and an answer doesn't write a phase
+no_factor : (text : List ℕ) (v : NamesView) (a : AnswerView) → factor_kind_at (answer_value text v a) ≡ None
+unfolding factor_kind_at answer_value answer_members
+no_factor text v (Yes proofs) = refl
+no_factor text v (No back values) = refl
+no_factor text v (Undecided cause) = refl
+no_factor text v (Region rows) = refl
+no_factor text v (Contained parts proofs) = refl
+no_factor text v (Open tried) = refl
+
+no_bounds : (text : List ℕ) (v : NamesView) (a : AnswerView) → tells_outer (answer_value text v a) ≡ false
+unfolding tells_outer answer_value answer_members
+no_bounds text v (Yes proofs) = refl
+no_bounds text v (No back values) = refl
+no_bounds text v (Undecided cause) = refl
+no_bounds text v (Region rows) = refl
+no_bounds text v (Contained parts proofs) = refl
+no_bounds text v (Open tried) = refl
+
 -- the object has a key alone that an answer doesn't write
 other_key : (text : List ℕ) (v : NamesView) (a : AnswerView) → (get (codes "sharing") (answer_value text v a) ≡ None) × (get (codes "copies") (answer_value text v a) ≡ None)
 unfolding answer_value answer_members
@@ -295,7 +315,9 @@ reads_back q a short file fits =
     record {
       own = Some (Text q);
       source = record { no_sharing = others.0; no_copies = others.1; text = q.text; there = text_back q.text q.body.names a; short = short; reads = file };
-      is = ap (λ b. cond b (Ok Misfit) (and_then (ok_or (answer_kind_at d) keys.Answer) (λ kind. and_then (verb_answer q.body.names q.body.verb kind d) (λ b. Ok (Answered (Text q) b))))) (no_misfit q.text q.body.names a)
+      is = ap (λ b. cond b (Ok Misfit) (cond (tells_outer d) (bounded_of (Some (Text q)) d) (reading_by (Some (Text q)) (factor_kind_at d) d))) (no_misfit q.text q.body.names a)
+          ∙ ap (λ b. cond b (bounded_of (Some (Text q)) d) (reading_by (Some (Text q)) (factor_kind_at d) d)) (no_bounds q.text q.body.names a)
+          ∙ ap (λ k. reading_by (Some (Text q)) k d) (no_factor q.text q.body.names a)
           ∙ ap (λ k. and_then (ok_or k keys.Answer) (λ kind. and_then (verb_answer q.body.names q.body.verb kind d) (λ b. Ok (Answered (Text q) b)))) (answer_kind_back q.text q.body.names a)
           ∙ ap (λ r. and_then r (λ b. Ok (Answered (Text q) b))) (answer_back q a fits);
     }

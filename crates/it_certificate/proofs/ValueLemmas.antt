@@ -14,7 +14,12 @@ use Rattle.it_space.specs.Answers.{CertificateView, AnswerView, is_nonzero_weigh
 use Rattle.it_space.specs.Answers.AnswerView.{Yes, No, Undecided, Region, Contained, Open}
 use Rattle.it_space.specs.declared.answers.Mark.{Mark}
 use Rattle.it_syntax.specs.NamesViews.{NamesView}
-use Rattle.it_certificate.specs.Values.{SourceTexts, OfCopies, OfSharing, ascii_byte, ascii_string, integer_value, count_value, pair_value, proof_value, row_value, answer_members, answer_value, answer_text, report_text, with_source}
+use Rattle.it_ratio.specs.BestViews.{BestView, Least, Never, Unbounded, BestView as bests}
+use Rattle.it_certificate.specs.FactorValues.{best_members, ratio_value}
+use Rattle.it_certificate.specs.Values.{SourceTexts, OfQuestion, OfCopies, OfSharing, ascii_byte, ascii_string, integer_value, count_value, pair_value, proof_value, row_value, answer_members, answer_value, answer_text, report_text, with_source, bounds_members, drop_value, step_value, unmarked_row_value}
+use Rattle.it_spans.specs.Drops.{DropView}
+use Rattle.it_spans.specs.Spans.{StepView}
+use Rattle.it_certificate.specs.Bounds.{BoundsView}
 
 items_no_float : {A : Type 0} (f : A → Data) → ((a : A) → has_float (f a) ≡ false) → (xs : List A) → items_have_float (items_of (map f xs)) ≡ false
 items_no_float f none [] = refl
@@ -35,6 +40,23 @@ row_no_float : (r : Mark × Terms) → has_float (row_value r) ≡ false
 unfolding row_value
 row_no_float r = or_none _ false (items_no_float pair_value pair_no_float r.1) refl
 
+unmarked_no_float : (r : Terms) → has_float (unmarked_row_value r) ≡ false
+unfolding unmarked_row_value
+unmarked_no_float r = or_none _ false (items_no_float pair_value pair_no_float r) refl
+
+drop_no_float : (d : DropView) → has_float (drop_value d) ≡ false
+unfolding drop_value
+drop_no_float d = or_none _ false (items_no_float pair_value pair_no_float (filter is_nonzero_weight d.proof.weights)) refl
+
+step_no_float : (s : StepView) → has_float (step_value s) ≡ false
+unfolding step_value
+step_no_float s = or_none _ _ (items_no_float drop_value drop_no_float s.drops) (or_none _ false (items_no_float integer_value (λ z. refl) s.ray) refl)
+
+pub bounds_no_float : (b : BoundsView) → members_have_float (bounds_members b) ≡ false
+unfolding bounds_members
+bounds_no_float b = or_none _ _ (items_no_float proof_value proof_no_float b.proofs)
+    (or_none _ _ (items_no_float step_value step_no_float b.steps) (or_none _ false (items_no_float unmarked_row_value unmarked_no_float b.rows) refl))
+
 pub answer_no_float : (v : NamesView) (a : AnswerView) → members_have_float (answer_members v a) ≡ false
 unfolding answer_members
 answer_no_float v (Yes proofs) = or_none _ false (items_no_float proof_value proof_no_float proofs) refl
@@ -43,6 +65,13 @@ answer_no_float v (Undecided cause) = refl
 answer_no_float v (Region rows) = or_none _ false (items_no_float row_value row_no_float rows) refl
 answer_no_float v (Contained parts proofs) = or_none _ _ (items_no_float count_value (λ n. refl) parts) (or_none _ false (items_no_float proof_value proof_no_float proofs) refl)
 answer_no_float v (Open tried) = refl
+
+pub best_no_float : (best : BestView) → members_have_float (best_members best) ≡ false
+unfolding best_members ratio_value
+best_no_float (Least num den proof values) = or_none _ _ (items_no_float integer_value (λ z. refl) values) (or_none _ false (items_no_float proof_value proof_no_float (proof ∷ [])) refl)
+best_no_float (Never values) = or_none _ false (items_no_float integer_value (λ z. refl) values) refl
+best_no_float (Unbounded num den proof below) = or_none _ false (items_no_float proof_value proof_no_float (proof ∷ below ∷ [])) refl
+best_no_float (bests.Undecided cause) = refl
 
 -- a text that is put among members is no float
 first_none : (a b : Bool) → (a || b) ≡ false → a ≡ false
@@ -68,6 +97,7 @@ unfolding answer_value
 no_float text v a = text_no_float (codes "question") text (answer_members v a) (answer_no_float v a)
 
 source_no_float : (source : SourceTexts) (ms : Members) → members_have_float ms ≡ false → has_float (object (with_source source ms)) ≡ false
+source_no_float (OfQuestion text) ms none = text_no_float (codes "question") (map ascii_byte text) ms none
 source_no_float (OfCopies head text) ms none =
     let with_head = put (codes "copies") (ascii_string head) ms in
     text_no_float (codes "question") (map ascii_byte text) with_head (text_no_float (codes "copies") (map ascii_byte head) ms none)

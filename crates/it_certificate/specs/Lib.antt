@@ -1,12 +1,16 @@
 pub mod Numerals
 pub mod Kinds
 pub mod Values
+pub mod FactorValues
 pub mod Parts
 pub mod Obligations
 pub mod AnswerReading
+pub mod FactorReading
 pub mod Sources
+pub mod Bounds
 pub mod Reports
 pub mod AnswerShapes
+pub mod FactorShapes
 pub mod Laws
 pub mod Rows
 pub mod Steps

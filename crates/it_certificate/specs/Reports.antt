@@ -17,6 +17,8 @@ use Rattle.it_certificate.specs.declared.keys.Key.{Key}
 use Rattle.it_certificate.specs.declared.keys.Key.TheVariants as keys
 use Rattle.it_certificate.specs.declared.keys.ReportFault.{ReportFault}
 use Rattle.it_certificate.specs.declared.keys.ReportFault.TheVariants as faults
+use Rattle.it_ratio.specs.BestViews.{BestView, best_view}
+use Rattle.it_certificate.specs.declared.kinds.FactorKind.{FactorKind}
 use Rattle.it_certificate.specs.declared.kinds.AnswerKind.{AnswerKind}
 use Rattle.it_certificate.specs.declared.kinds.AnswerKind.TheVariants.{Yes, No, Undecided, Region, Contained, Open}
 use Rattle.it_certificate.specs.declared.types.Reported.{Reported}
@@ -24,6 +26,9 @@ use Rattle.it_certificate.specs.declared.types.Reported.TheVariants as reported
 use Rattle.it_certificate.specs.Parts.{text_of, answer_kind_at, count_at, proofs_at, rows_at}
 use Rattle.it_certificate.specs.AnswerReading.{and_then, no_at, undecided_at, contained_at}
 use Rattle.it_certificate.specs.AnswerShapes.{HasQuestionShape}
+use Rattle.it_certificate.specs.FactorReading.{factor_kind_at, verb_best}
+use Rattle.it_certificate.specs.FactorShapes.{HasFactorShape}
+use Rattle.it_certificate.specs.Bounds.{BoundsView, HasBoundsShape, bounds_view, verb_bounds}
 use Rattle.it_certificate.specs.Obligations.{obligation_count}
 use Rattle.it_certificate.specs.Sources.{Source, IsSourceAt, asked, source_key}
 
@@ -43,27 +48,62 @@ verb_answer v verb kind d = Err keys.Answer
 
 -- ---- the report
 
--- what a line says: an answer to what it is about, or that a question can't have what is asked for, which claims nothing
+-- what a line says: an answer to what it is about; what is found of the factors of its relation; an outer bound; or that a question can't
+-- have what is asked for, which claims nothing
 pub data Reading : Type 0 where
   Answered : (source : Source) (answer : AnswerView) → Reading
+  Factored : (source : Source) (best : BestView) → Reading
+  Bounded : (source : Source) (bounds : BoundsView) → Reading
   Misfit : Reading
 
 -- whether the word of the answer is `misfit`
 unfoldable pub tells_misfit : Data → Bool
 tells_misfit d = option_map_or (λ text. bytes_eq text (codes "misfit")) (text_of (get (codes "answer") d)) false
 
+-- whether it is `outer`
+unfoldable pub tells_outer : Data → Bool
+tells_outer d = option_map_or (λ text. bytes_eq text (codes "outer")) (text_of (get (codes "answer") d)) false
+
 -- the answer of this kind to the question that is asked
 abbrev pub answer_to : Source → AnswerKind → Data → Result AnswerView Key
 answer_to source kind d = verb_answer (asked source).body.names (asked source).body.verb kind d
 
--- with what it is about, if that is so: `answer`, what it is about, `answer` again by the verb, and what the answer needs; of a misfit
--- nothing but its word is read
-unfoldable pub report_of : Option Source → Data → Result Reading Key
-report_of own d =
-    if tells_misfit d then Ok Misfit else
+-- what is found of this kind of the factors that the question asks for
+abbrev pub best_to : Source → FactorKind → Data → Result BestView Key
+best_to source kind d = verb_best (asked source).body.names (asked source).body.verb kind d
+
+-- the bounds of that question
+abbrev pub bounds_to : Source → Data → Result BoundsView Key
+bounds_to source d = verb_bounds (asked source).body.names (asked source).body.verb d
+
+-- of a line that tells neither, with what it is about, if that is so: `answer`, what it is about, `answer` again by the verb, and what the
+-- answer needs
+abbrev pub answer_of : Option Source → Data → Result Reading Key
+answer_of own d =
     and_then (ok_or (answer_kind_at d) keys.Answer) (λ kind.
     and_then (ok_or own (source_key d)) (λ source.
     and_then (answer_to source kind d) (λ answer. Ok (Answered source answer))))
+
+-- of a line of this kind about factors, in the same order
+abbrev pub best_of : Option Source → FactorKind → Data → Result Reading Key
+best_of own kind d =
+    and_then (ok_or own (source_key d)) (λ source.
+    and_then (best_to source kind d) (λ best. Ok (Factored source best)))
+
+-- of an outer bound in the same order
+abbrev pub bounded_of : Option Source → Data → Result Reading Key
+bounded_of own d =
+    and_then (ok_or own (source_key d)) (λ source.
+    and_then (bounds_to source d) (λ bounds. Ok (Bounded source bounds)))
+
+-- by the kind, if the line is about factors
+abbrev pub reading_by : Option Source → Option FactorKind → Data → Result Reading Key
+reading_by own (Some kind) d = best_of own kind d
+reading_by own None d = answer_of own d
+
+-- by the word of the answer; of a misfit nothing else is read
+unfoldable pub report_of : Option Source → Data → Result Reading Key
+report_of own d = if tells_misfit d then Ok Misfit else if tells_outer d then bounded_of own d else reading_by own (factor_kind_at d) d
 
 -- the reading of a JSON value
 pub record ReadsAs (value : Data) (r : Result Reading Key) : Type 0 where
@@ -81,6 +121,8 @@ pub record ReadsReport (line : List ℕ) (r : Result Reading Key) : Type 0 where
 -- what was read of a line, by the question that is asked
 abbrev pub IsReported : Reading → Reported → Type 0
 IsReported (Answered source a) (reported.Answered question answer) = (asked source ≡ question_view question) × (a ≡ answer_view answer)
+IsReported (Factored source b) (reported.Factored question best) = (asked source ≡ question_view question) × (b ≡ best_view best)
+IsReported (Bounded source b) (reported.Bounded question bounds) = (asked source ≡ question_view question) × (b ≡ bounds_view bounds)
 IsReported Misfit reported.Misfit = Unit {0}
 IsReported reading r = ⊥
 
@@ -91,7 +133,9 @@ Reports line (Err (faults.Shape key)) = ReadsReport line (Err key)
 Reports line (Err faults.NotJson) = IsUtf8 line → read line ≡ None
 Reports line (Err faults.Memory) = Unit {0}
 
--- the question that was read with its answer is within the limits, and the answer fits it
+-- the question that was read is within the limits, and its answer, what is found of its factors, or its bounds fit it
 abbrev pub KeepsLimits : Reported → Type 0
 KeepsLimits (reported.Answered q a) = IsQuestion (question_body q) × HasQuestionShape (question_body q) (answer_view a)
+KeepsLimits (reported.Factored q b) = IsQuestion (question_body q) × HasFactorShape (question_body q) (best_view b)
+KeepsLimits (reported.Bounded q b) = IsQuestion (question_body q) × HasBoundsShape (question_body q) (bounds_view b)
 KeepsLimits reported.Misfit = Unit {0}

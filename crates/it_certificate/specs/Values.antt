@@ -10,7 +10,10 @@ use Rattle.it_space.specs.Answers.AnswerView.{Yes, No, Undecided, Region, Contai
 use Rattle.it_space.specs.declared.answers.Cause.{Cause}
 use Rattle.it_space.specs.declared.answers.Cause.TheVariants.{Pivots, Width, Scale, Rows, WideRate}
 use Rattle.it_space.specs.declared.answers.Mark.{Mark}
+use Rattle.it_spans.specs.Drops.{DropView}
+use Rattle.it_spans.specs.Spans.{StepView}
 use Rattle.it_syntax.specs.NamesViews.{NamesView}
+use Rattle.it_certificate.specs.Bounds.{BoundsView}
 use Rattle.it_certificate.specs.declared.types.SourceText.{SourceText}
 use Rattle.it_certificate.specs.declared.types.SourceText.TheVariants as texts
 
@@ -91,7 +94,7 @@ answer_value text v answer = object (put (codes "question") (string text) (answe
 unfoldable pub answer_text : List ℕ → NamesView → AnswerView → List ℕ
 answer_text text v answer = compact_text (answer_value text v answer)
 
--- ---- lines about a question with copies, or about a sharing file
+-- ---- lines about a question with copies or an outer bound, or about a sharing file
 
 -- a byte of ASCII, or a question mark in its place
 abbrev pub ascii_byte : ℕ → ℕ
@@ -105,18 +108,46 @@ ascii_string bytes = string (map ascii_byte bytes)
 abbrev pub misfit_members : List ℕ → Members
 misfit_members words = member (codes "answer") (string (codes "misfit")) (member (codes "cause") (ascii_string words) no_members)
 
--- the texts of what a line is about: of a head and a question, or of a sharing file
+-- a row without a mark
+unfoldable pub unmarked_row_value : Terms → Data
+unmarked_row_value r = object (member (codes "row") (list_value pair_value r) no_members)
+
+-- a row that goes; weights of 0 are left out
+unfoldable pub drop_value : DropView → Data
+drop_value d = object
+    (member (codes "row") (count_value d.row)
+    (member (codes "scale") (integer_value d.proof.scale)
+    (member (codes "weights") (list_value pair_value (filter is_nonzero_weight d.proof.weights)) no_members)))
+
+-- a ray, and the rows that go after it
+unfoldable pub step_value : StepView → Data
+step_value s = object
+    (member (codes "drops") (list_value drop_value s.drops)
+    (member (codes "point") (list_value integer_value s.ray) no_members))
+
+-- the members of an outer bound but for what it is about
+unfoldable pub bounds_members : BoundsView → Members
+bounds_members b =
+    member (codes "answer") (string (codes "outer"))
+    (member (codes "proofs") (list_value proof_value b.proofs)
+    (member (codes "rays") (list_value step_value b.steps)
+    (member (codes "rows") (list_value unmarked_row_value b.rows) no_members)))
+
+-- the texts of what a line is about: of a question, of a head and a question, or of a sharing file
 pub data SourceTexts : Type 0 where
+  OfQuestion : (text : List ℕ) → SourceTexts
   OfCopies : (head text : List ℕ) → SourceTexts
   OfSharing : (text : List ℕ) → SourceTexts
 
 -- texts as contracts see them
 abbrev pub source_texts : SourceText → SourceTexts
+source_texts (texts.Question text) = OfQuestion text.now
 source_texts (texts.Copies head text) = OfCopies head.now text.now
 source_texts (texts.Sharing text) = OfSharing text.now
 
 -- with the members of what the line is about
 abbrev pub with_source : SourceTexts → Members → Members
+with_source (OfQuestion text) ms = put (codes "question") (ascii_string text) ms
 with_source (OfCopies head text) ms = put (codes "question") (ascii_string text) (put (codes "copies") (ascii_string head) ms)
 with_source (OfSharing text) ms = put (codes "sharing") (ascii_string text) ms
 

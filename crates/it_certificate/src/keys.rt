@@ -2,22 +2,25 @@
 use std::alloc::{AllocError, AllocFailed};
 use thiserror::Error;
 
-/// The keys of a report in the order in which they are judged, but that `parts` comes before `proofs` and `answer` once more
-/// after `question`.
+/// The keys of a report in the order in which they are judged, but that `parts` comes before `proofs`, of bounds `rows` too, and `answer`
+/// once more after `question`.
 #[derive(Clone, Copy, Debug)]
 pub enum Key {
     Answer,
     Sharing,
     Copies,
     Question,
+    Factor,
     Proofs,
     Point,
     Side,
     Cause,
     At,
+    Phase,
     Rows,
     Parts,
     Tried,
+    Rays,
 }
 
 /// Why a line isn't read: memory ran out, it has no JSON reading, or the first key that is missing or of another shape.

@@ -1,5 +1,6 @@
 //! The words of reports.
 ghost use Rattle.std.specs.Prelude.{◌≡◌};
+ghost use Rattle.it_certificate.specs.FactorReading.{factor_cause_of, factor_kind_of};
 ghost use Rattle.it_certificate.specs.Kinds.{answer_kind_of, back_of, cause_kind_of, mark_of};
 
 use it_space::Mark;
@@ -22,6 +23,24 @@ pub enum CauseKind {
     Width,
     Scale,
     Rows,
+}
+
+/// Kinds of what is found of factors, by the words `best`, `none`, `unbounded` and `undecided` of the key `answer`.
+#[derive(Clone, Copy)]
+pub enum FactorKind {
+    Least,
+    Never,
+    Unbounded,
+    Undecided,
+}
+
+/// The words of the key `cause` where factors are undecided.
+#[derive(Clone, Copy)]
+pub enum FactorCause {
+    Pivots,
+    Width,
+    Scale,
+    Size,
 }
 
 /// The kind of this word.
@@ -71,6 +90,32 @@ pub fn back_of(text: &str, equality: bool) -> Option<bool>
     match text {
         "forward" => Some(false),
         "back" => { if equality { Some(true) } else { None } }
+        _ => None,
+    }
+}
+
+/// The kind of this word, where it is one about factors; `has_phase` tells of `undecided` whether it is.
+pub fn factor_kind_of(text: &str, has_phase: bool) -> Option<FactorKind>
+    ensures { result ≡ factor_kind_of has_phase text.now }
+{
+    match text {
+        "best" => Some(FactorKind::Least),
+        "none" => Some(FactorKind::Never),
+        "unbounded" => Some(FactorKind::Unbounded),
+        "undecided" => { if has_phase { Some(FactorKind::Undecided) } else { None } }
+        _ => None,
+    }
+}
+
+/// Why factors are undecided, by this word.
+pub fn factor_cause_of(text: &str) -> Option<FactorCause>
+    ensures { result ≡ factor_cause_of text.now }
+{
+    match text {
+        "pivots" => Some(FactorCause::Pivots),
+        "width" => Some(FactorCause::Width),
+        "scale" => Some(FactorCause::Scale),
+        "size" => Some(FactorCause::Size),
         _ => None,
     }
 }

@@ -2,6 +2,9 @@
 #![tactic(auto)]
 
 mod answers;
+mod bounds;
+mod factor_values;
+mod factors;
 pub mod keys;
 pub mod kinds;
 mod laws;
@@ -27,5 +30,5 @@ pub use laws::{
     texts_read_as_said,
 };
 pub use reports::answer_from_json;
-pub use types::{Reported, SourceText};
-pub use writing::{answer_json, misfit_json, report_json};
+pub use types::{Reported, ReportedBounds, SourceText};
+pub use writing::{answer_json, best_json, bounds_json, misfit_json, report_json};

@@ -13,7 +13,7 @@ use serde_json::Value;
 use std::alloc::Global;
 
 /// The two values of a pair.
-fn two_values(values: &[Value]) -> Option<(&Value, &Value)>
+pub fn two_values(values: &[Value]) -> Option<(&Value, &Value)>
     ensures { option_map (λ p. (view p.0.now, view p.1.now)) result ≡ two_of (items_view values.now) }
 {
     match values {
@@ -98,7 +98,7 @@ fn integer_of_member(value: Option<&Value>) -> Option<i128>
 
 /// A certificate.
 #[tactic(auto, unfolding(crate::specs::Parts::certificate_at))]
-fn certificate_at(alloc: Global, value: &Value) -> Result<Certificate, Refusal>
+pub fn certificate_at(alloc: Global, value: &Value) -> Result<Certificate, Refusal>
     ensures { Yields certificate_view result (certificate_at (view value.now)) }
 {
     let Some(scale) = integer_of_member(value.get("scale")) else {

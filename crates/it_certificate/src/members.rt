@@ -6,7 +6,7 @@ ghost use Rattle.std.specs.Option.{option_or};
 ghost use Rattle.it_space.specs.Answers.{certificate_view};
 ghost use Rattle.it_space.specs.declared.answers.Cause.TheVariants.{WideRate, Width};
 ghost use Rattle.it_certificate.specs.Parts.{answer_kind_at, back_at, cause_at, cause_kind_at, cause_of, count_at, point_at, proofs_at, text_of};
-ghost use Rattle.it_certificate.specs.Reports.{tells_misfit};
+ghost use Rattle.it_certificate.specs.Reports.{tells_misfit, tells_outer};
 ghost use Rattle.it_certificate.specs.Steps.{Yields};
 
 use crate::keys::Refusal;
@@ -40,6 +40,17 @@ pub fn tells_misfit(value: &Value) -> bool
 {
     match text_of_member(value.get("answer")) {
         Some(text) => text == "misfit",
+        None => false,
+    }
+}
+
+/// Whether the word of the answer is `outer`.
+#[tactic(auto, unfolding(crate::specs::Reports::tells_outer))]
+pub fn tells_outer(value: &Value) -> bool
+    ensures { result ≡ tells_outer (view value.now) }
+{
+    match text_of_member(value.get("answer")) {
+        Some(text) => text == "outer",
         None => false,
     }
 }

@@ -1,27 +1,50 @@
 //! The reading of a report line.
-ghost use Rattle.std.specs.Prelude.{IfOk};
+ghost use Rattle.std.specs.Prelude.{◌≡◌, false, true, IfOk, None, Some};
 ghost use Rattle.serde_json.specs.View.{view};
-ghost use Rattle.it_certificate.specs.Reports.{KeepsLimits, Reports};
+ghost use Rattle.it_certificate.specs.FactorReading.{factor_kind_at};
+ghost use Rattle.it_certificate.specs.Reports.{KeepsLimits, Reports, tells_misfit, tells_outer};
 ghost use Rattle.it_certificate.specs.ReportSteps.{ReadsValue};
 
 use crate::answers::fault;
+use crate::bounds::question_bounds;
+use crate::factors::{factor_kind_at, question_best};
 use crate::keys::{Key, ReportFault};
-use crate::members::{answer_kind_at, tells_misfit};
+use crate::kinds::FactorKind;
+use crate::members::{answer_kind_at, tells_misfit, tells_outer};
 use crate::sources::{source_at, source_key};
 use crate::types::Reported;
 use crate::verbs::question_answer;
 use serde_json::Value;
 use std::alloc::Global;
 
-/// The reading of a JSON value.
-#[tactic(auto, using(crate::proofs::ReportLemmas::told_misfit, crate::proofs::ReportLemmas::no_kind, crate::proofs::ReportLemmas::no_source, crate::proofs::ReportLemmas::answer_ok, crate::proofs::ReportLemmas::answer_err))]
-fn report_of(alloc: Global, value: &Value) -> Result<Reported, ReportFault>
+/// The reading of a line that tells an outer bound.
+#[tactic(auto, using(crate::proofs::ReportLemmas::no_bounds_source, crate::proofs::ReportLemmas::bounds_ok, crate::proofs::ReportLemmas::bounds_err))]
+fn bounded(alloc: Global, value: &Value) -> Result<Reported, ReportFault>
+    requires told { false ≡ tells_misfit (view value.now) }
+    requires outer { true ≡ tells_outer (view value.now) }
     ensures reading { ReadsValue (view value.now) result }
     ensures limits { IfOk result KeepsLimits }
 {
-    if tells_misfit(value) {
-        return Ok(Reported::Misfit);
+    let question = match source_at(alloc, value) {
+        Ok(question) => question,
+        Err(refusal) => return Err(fault(refusal, source_key(value))),
+    };
+    // `?` would do; with the match each case is a goal of its own, with the reading's equation at hand
+    match question_bounds(alloc, value, &question) {
+        Ok(bounds) => Ok(Reported::Bounded { question, bounds }),
+        Err(fault) => Err(fault),
     }
+}
+
+/// The reading of a line that tells an answer.
+#[tactic(auto, using(crate::proofs::ReportLemmas::no_kind, crate::proofs::ReportLemmas::no_source, crate::proofs::ReportLemmas::answer_ok, crate::proofs::ReportLemmas::answer_err))]
+fn answered(alloc: Global, value: &Value) -> Result<Reported, ReportFault>
+    requires told { false ≡ tells_misfit (view value.now) }
+    requires outer { false ≡ tells_outer (view value.now) }
+    requires factors { None ≡ factor_kind_at (view value.now) }
+    ensures reading { ReadsValue (view value.now) result }
+    ensures limits { IfOk result KeepsLimits }
+{
     let Some(kind) = answer_kind_at(value) else {
         return Err(ReportFault::Shape { key: Key::Answer });
     };
@@ -29,10 +52,48 @@ fn report_of(alloc: Global, value: &Value) -> Result<Reported, ReportFault>
         Ok(question) => question,
         Err(refusal) => return Err(fault(refusal, source_key(value))),
     };
-    // `?` would do; with the match each case is a goal of its own, with the reading's equation at hand
+    // as above
     match question_answer(alloc, value, &question, kind) {
         Ok(answer) => Ok(Reported::Answered { question, answer }),
         Err(fault) => Err(fault),
+    }
+}
+
+/// The reading of a line of this kind about factors.
+#[tactic(auto, using(crate::proofs::ReportLemmas::no_factor_source, crate::proofs::ReportLemmas::best_ok, crate::proofs::ReportLemmas::best_err))]
+fn factored(alloc: Global, value: &Value, kind: FactorKind) -> Result<Reported, ReportFault>
+    requires told { false ≡ tells_misfit (view value.now) }
+    requires outer { false ≡ tells_outer (view value.now) }
+    requires factors { Some kind ≡ factor_kind_at (view value.now) }
+    ensures reading { ReadsValue (view value.now) result }
+    ensures limits { IfOk result KeepsLimits }
+{
+    let question = match source_at(alloc, value) {
+        Ok(question) => question,
+        Err(refusal) => return Err(fault(refusal, source_key(value))),
+    };
+    // as above
+    match question_best(alloc, value, &question, kind) {
+        Ok(best) => Ok(Reported::Factored { question, best }),
+        Err(fault) => Err(fault),
+    }
+}
+
+/// The reading of a JSON value.
+#[tactic(auto, using(crate::proofs::ReportLemmas::told_misfit))]
+fn report_of(alloc: Global, value: &Value) -> Result<Reported, ReportFault>
+    ensures reading { ReadsValue (view value.now) result }
+    ensures limits { IfOk result KeepsLimits }
+{
+    if tells_misfit(value) {
+        return Ok(Reported::Misfit);
+    }
+    if tells_outer(value) {
+        return bounded(alloc, value);
+    }
+    match factor_kind_at(value) {
+        Some(kind) => factored(alloc, value, kind),
+        None => answered(alloc, value),
     }
 }
 
@@ -42,8 +103,10 @@ fn report_of(alloc: Global, value: &Value) -> Result<Reported, ReportFault>
 /// `Shape` names the first key that is missing or of another shape, in this order: `answer`; of `sharing`, `copies` and `question` the
 /// first that is there, where no question is asked, or `question` where none is there; `answer` again where the question's verb gives no
 /// such answer; and then for `yes` `proofs`, for `no` `point` and `side`, for `undecided` `cause` and `at`, for `region` `rows`, for
-/// `contained` `parts` and `proofs`, for `open` `tried`. Of `misfit` no other key is read. Of doubled keys the last counts; other keys
-/// count for nothing. Nothing is said of whether the answer is right.
+/// `contained` `parts` and `proofs`, for `open` `tried`, for `outer` `rows`, `proofs` and `rays`. What is said of factors is read for a
+/// question `prove E >= F`: for `best` `factor`, `proofs` and `point`, for `none` `point`, for `unbounded` `factor` and `proofs`, and for
+/// an `undecided` that has the key `phase` `cause`, `at` and `phase`. Of `misfit` no other key is read. Of doubled keys the last counts;
+/// other keys count for nothing. Nothing is said of whether the answer is right.
 pub fn answer_from_json(alloc: Global, line: &[u8]) -> Result<Reported, ReportFault>
     ensures reading { Reports line.now result }
     ensures limits { IfOk result KeepsLimits }

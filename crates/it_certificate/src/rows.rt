@@ -1,9 +1,10 @@
-//! The rows of a region in a report.
+//! The rows of a region, or of an outer bound, in a report.
 ghost use Rattle.std.specs.Prelude.{◌≡◌, ◌==◌, ◌&&◌, nat_le, not, unsigned_abs, codes, option_and_then, All, IfOk};
 ghost use Rattle.serde_json.specs.View.{view, items_view};
 ghost use Rattle.serde_json.specs.Find.{get};
 ghost use Rattle.it_number.specs.Limit.{IsWithin};
 ghost use Rattle.it_certificate.specs.Parts.{all_of, is_row_between, list_at, marked_row_at, pair_at, row_of, rows_at, text_of};
+ghost use Rattle.it_certificate.specs.Bounds.{unmarked_row_at, unmarked_rows_at};
 ghost use Rattle.it_certificate.specs.Steps.{Yields};
 ghost use Rattle.it_certificate.specs.Kinds.{mark_of};
 
@@ -100,6 +101,41 @@ pub fn rows_at(alloc: Global, value: &Value, size: u32) -> Result<Vec<(Mark, Row
 {
     match array_of(value.get("rows")) {
         Some(values) => rows(alloc, values, size),
+        None => Err(Refusal::Shape),
+    }
+}
+
+/// A row without a mark.
+#[tactic(auto, unfolding(crate::specs::Bounds::unmarked_row_at))]
+fn unmarked_row_at(alloc: Global, value: &Value, size: u32) -> Result<Row, Refusal>
+    ensures { Yields (λ r. r) result (unmarked_row_at size (view value.now)) }
+{
+    let terms = terms_at(alloc, value)?;
+    match row_of(terms, size) {
+        Some(row) => Ok(row),
+        None => Err(Refusal::Shape),
+    }
+}
+
+/// Rows without marks, in order.
+fn unmarked_rows(alloc: Global, values: &[Value], size: u32) -> Result<Vec<Row>, Refusal>
+    ensures { Yields (λ v. v.items) result (all_of (unmarked_row_at size) (items_view values.now)) }
+{
+    let mut out = Vec::new(alloc);
+    for value in values {
+        let row = unmarked_row_at(alloc, value, size)?;
+        out.push(row)?;
+    }
+    Ok(out)
+}
+
+/// The rows of an outer bound over a space with so many coordinates.
+#[tactic(auto, unfolding(crate::specs::Bounds::unmarked_rows_at))]
+pub fn unmarked_rows_at(alloc: Global, value: &Value, size: u32) -> Result<Vec<Row>, Refusal>
+    ensures { Yields (λ v. v.items) result (unmarked_rows_at size (view value.now)) }
+{
+    match array_of(value.get("rows")) {
+        Some(values) => unmarked_rows(alloc, values, size),
         None => Err(Refusal::Shape),
     }
 }

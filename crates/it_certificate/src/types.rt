@@ -1,19 +1,51 @@
 //! What a report says.
 use it_question::types::Question;
-use it_space::Answer;
+use it_ratio::types::Best;
+use it_space::{Answer, Certificate, Row};
+use it_spans::Step;
 
-/// The texts of what a report line is about, where it isn't a question alone: a question with copies, by the head that asks for them, or
-/// a sharing file.
+/// The texts of what a report line is about: a question, a question with copies, by the head that asks for them, or a sharing file.
 #[derive(Clone, Copy)]
 pub enum SourceText<'a> {
+    Question(&'a [u8]),
     Copies { head: &'a [u8], question: &'a [u8] },
     Sharing(&'a [u8]),
 }
 
-/// The question that is asked with an answer of the shape that it wants, of which nothing says that it is right; or that a question
-/// can't have what is asked for.
+/// What a report says of an outer bound, of which nothing says that it is right: rows at the rates that stay, a certificate of each, in
+/// order, and the steps by which the hull of its rays is made.
+pub struct ReportedBounds {
+    pub rows: Vec<Row>,
+    pub proofs: Vec<Certificate>,
+    pub steps: Vec<Step>,
+}
+
+// Written by hand, so that dropping bounds takes one call and not a step for each field.
+impl Drop for ReportedBounds {
+    fn drop(self) {
+        let ReportedBounds {
+            rows: _,
+            proofs: _,
+            steps: _,
+        } = self;
+    }
+}
+
+/// The question that is asked with an answer of the shape that it wants, with what is said of its factors, or with an outer bound, of
+/// which nothing says that it is right; or that a question can't have what is asked for.
 pub enum Reported {
-    Answered { question: Question, answer: Answer },
+    Answered {
+        question: Question,
+        answer: Answer,
+    },
+    Factored {
+        question: Question,
+        best: Best,
+    },
+    Bounded {
+        question: Question,
+        bounds: ReportedBounds,
+    },
     Misfit,
 }
 
@@ -24,6 +56,14 @@ impl Drop for Reported {
             Reported::Answered {
                 question: _,
                 answer: _,
+            } => {}
+            Reported::Factored {
+                question: _,
+                best: _,
+            } => {}
+            Reported::Bounded {
+                question: _,
+                bounds: _,
             } => {}
             Reported::Misfit => {}
         }

@@ -3,17 +3,20 @@ ghost use Rattle.std.specs.Prelude.{◌≡◌, [], codes, if◌then◌else◌, I
 ghost use Rattle.serde_json.specs.Data.{string};
 ghost use Rattle.serde_json.specs.View.{view};
 ghost use Rattle.it_space.specs.Answers.{IfRate, certificate_view, is_nonzero_weight};
-ghost use Rattle.it_certificate.specs.Values.{IsAsciiRate, cause_word, count_value, integer_value, list_value, pair_value, step_or_rate_word, proof_value, row_value};
+ghost use Rattle.it_certificate.specs.Values.{IsAsciiRate, cause_word, count_value, integer_value, list_value, pair_value, drop_value, step_or_rate_word, step_value, proof_value, row_value, unmarked_row_value};
+ghost use Rattle.it_spans.specs.Drops.{drop_view};
+ghost use Rattle.it_spans.specs.Spans.{step_view, step_views};
 
 use crate::objects::Members;
 use it_space::{Cause, Certificate, Mark, Row, VarSet, is_nonzero_weight};
+use it_spans::{RowDrop, Step};
 use it_syntax::Names;
 use itoa::Buffer;
 use serde_json::{Value, json};
 use std::alloc::{AllocError, Global};
 
 /// An integer as decimal text.
-fn integer(alloc: Global, number: &i128) -> Result<Value, AllocError>
+pub fn integer(alloc: Global, number: &i128) -> Result<Value, AllocError>
     ensures { IfOk result (λ v. view v ≡ integer_value number.now) }
 {
     let mut buffer = Buffer::new();
@@ -22,7 +25,7 @@ fn integer(alloc: Global, number: &i128) -> Result<Value, AllocError>
 }
 
 /// The number of steps, or of one step, as decimal text.
-fn step_number(alloc: Global, number: u32) -> Result<Value, AllocError>
+pub fn step_number(alloc: Global, number: u32) -> Result<Value, AllocError>
     ensures { IfOk result (λ v. view v ≡ string (decimal number)) }
 {
     let mut buffer = Buffer::new();
@@ -54,7 +57,7 @@ fn weights(alloc: Global, weights: &[(u32, i128)]) -> Result<Value, AllocError>
 
 /// A certificate.
 #[tactic(auto, unfolding(crate::specs::Values::proof_value))]
-fn proof(alloc: Global, certificate: &Certificate) -> Result<Value, AllocError>
+pub fn proof(alloc: Global, certificate: &Certificate) -> Result<Value, AllocError>
     ensures { IfOk result (λ v. view v ≡ proof_value (certificate_view certificate.now)) }
 {
     let scale = integer(alloc, &certificate.scale)?;
@@ -122,6 +125,83 @@ pub fn rows(alloc: Global, rows: &[(Mark, Row)]) -> Result<Value, AllocError>
     let mut values = Vec::new(alloc);
     for marked in rows {
         values.push(row(alloc, marked)?)?;
+    }
+    Ok(Value::Array(values))
+}
+
+/// A row without a mark.
+#[tactic(auto, unfolding(crate::specs::Values::unmarked_row_value))]
+fn unmarked_row(alloc: Global, row: &Row) -> Result<Value, AllocError>
+    ensures { IfOk result (λ v. view v ≡ unmarked_row_value row.now) }
+{
+    let terms = terms(alloc, row.terms())?;
+    let members = Members::new(alloc).with(alloc, "row", terms)?;
+    Ok(members.into_value())
+}
+
+/// The rows of an outer bound.
+pub fn unmarked_rows(alloc: Global, rows: &[Row]) -> Result<Value, AllocError>
+    ensures { IfOk result (λ v. view v ≡ list_value unmarked_row_value rows.now) }
+{
+    let mut values = Vec::new(alloc);
+    for row in rows {
+        values.push(unmarked_row(alloc, row)?)?;
+    }
+    Ok(Value::Array(values))
+}
+
+/// The number of a row.
+fn row_number(alloc: Global, row: usize) -> Result<Value, AllocError>
+    ensures { IfOk result (λ v. view v ≡ count_value row) }
+{
+    let number = row as u64;
+    json!(in alloc; number)
+}
+
+/// A row that goes.
+#[tactic(auto, unfolding(crate::specs::Values::drop_value))]
+fn drop_value(alloc: Global, drop: &RowDrop) -> Result<Value, AllocError>
+    ensures { IfOk result (λ v. view v ≡ drop_value (drop_view drop.now)) }
+{
+    let row = row_number(alloc, drop.row)?;
+    let members = Members::new(alloc).with(alloc, "row", row)?;
+    let scale = integer(alloc, &drop.proof.scale)?;
+    let members = members.with(alloc, "scale", scale)?;
+    let weights = weights(alloc, drop.proof.weights.as_slice())?;
+    let members = members.with(alloc, "weights", weights)?;
+    Ok(members.into_value())
+}
+
+/// Rows that go, in order.
+fn drops(alloc: Global, drops: &[RowDrop]) -> Result<Value, AllocError>
+    ensures { IfOk result (λ v. view v ≡ list_value drop_value (map drop_view drops.now)) }
+{
+    let mut values = Vec::new(alloc);
+    for row in drops {
+        values.push(drop_value(alloc, row)?)?;
+    }
+    Ok(Value::Array(values))
+}
+
+/// A ray, and the rows that go after it.
+#[tactic(auto, unfolding(crate::specs::Values::step_value))]
+fn step(alloc: Global, step: &Step) -> Result<Value, AllocError>
+    ensures { IfOk result (λ v. view v ≡ step_value (step_view step.now)) }
+{
+    let drops = drops(alloc, step.drops.as_slice())?;
+    let members = Members::new(alloc).with(alloc, "drops", drops)?;
+    let point = integers(alloc, step.ray.values())?;
+    let members = members.with(alloc, "point", point)?;
+    Ok(members.into_value())
+}
+
+/// Rays in order, each with the rows that go after it.
+pub fn steps(alloc: Global, steps: &[Step]) -> Result<Value, AllocError>
+    ensures { IfOk result (λ v. view v ≡ list_value step_value (step_views steps.now)) }
+{
+    let mut values = Vec::new(alloc);
+    for one in steps {
+        values.push(step(alloc, one)?)?;
     }
     Ok(Value::Array(values))
 }

@@ -6,13 +6,19 @@ ghost use Rattle.serde_json.specs.View.{members_view, view};
 ghost use Rattle.serde_json.specs.Written.{members_have_float};
 ghost use Rattle.it_space.specs.Answers.{IfRate, answer_view, certificate_view};
 ghost use Rattle.it_space.specs.Answers.AnswerView.{Yes, No, Undecided, Region, Contained, Open};
-ghost use Rattle.it_certificate.specs.Values.{IsAsciiRate, IsWritable, answer_members, answer_text, answer_value, ascii_byte, ascii_string, misfit_members, report_text, source_texts, with_source};
+ghost use Rattle.it_ratio.specs.BestViews.{best_view};
+ghost use Rattle.it_certificate.specs.Bounds.{bounds_view};
+ghost use Rattle.it_certificate.specs.FactorValues.{best_members};
+ghost use Rattle.it_certificate.specs.Values.{IsAsciiRate, IsWritable, answer_members, answer_text, answer_value, ascii_byte, ascii_string, bounds_members, misfit_members, report_text, source_texts, with_source};
 
+use crate::factor_values::best_members;
 use crate::objects::Members;
-use crate::types::SourceText;
+use crate::types::{ReportedBounds, SourceText};
 use crate::values::{
-    ascii_text, cause_word, integers, proofs, rows, sets, side_word, step_or_rate_value,
+    ascii_text, cause_word, integers, proofs, rows, sets, side_word, step_or_rate_value, steps,
+    unmarked_rows,
 };
+use it_ratio::types::Best;
 use it_space::{Answer, Cause, Certificate, Mark, Point, Row, VarSet};
 use it_syntax::Names;
 use serde_json::{Value, json};
@@ -211,6 +217,7 @@ fn with_source(
     ensures { IfOk result (λ m. members_view m.map.entries ≡ with_source (source_texts source.entry) (members_view members.map.entries)) }
 {
     match source {
+        SourceText::Question(text) => with_bytes(alloc, members, "question", text),
         SourceText::Copies { head, question } => {
             let members = with_bytes(alloc, members, "copies", head)?;
             with_bytes(alloc, members, "question", question)
@@ -258,6 +265,18 @@ pub fn report_json(
     line_about(alloc, members, source)
 }
 
+/// The line of what is found of the factors of the relation that these texts ask about, without its end, as `report_json` writes it.
+pub fn best_json(
+    alloc: Global,
+    source: SourceText<'_>,
+    best: &Best,
+) -> Result<Vec<u8>, AllocError>
+    ensures { IfOk result (λ out. out.items ≡ report_text (source_texts source.entry) (best_members (best_view best.now))) }
+{
+    let members = best_members(alloc, best)?;
+    line_about(alloc, members, source)
+}
+
 /// The line of a question that can't have what these texts ask for, without its end, with the words of the reason.
 pub fn misfit_json(
     alloc: Global,
@@ -267,5 +286,32 @@ pub fn misfit_json(
     ensures { IfOk result (λ out. out.items ≡ report_text (source_texts source.entry) (misfit_members cause.now)) }
 {
     let members = misfit_members(alloc, cause)?;
+    line_about(alloc, members, source)
+}
+
+/// The members of an outer bound.
+#[tactic(auto, unfolding(crate::specs::Values::bounds_members))]
+fn bounds_members(alloc: Global, bounds: &ReportedBounds) -> Result<Members, AllocError>
+    ensures { IfOk result (λ m. members_view m.map.entries ≡ bounds_members (bounds_view bounds.now)) }
+{
+    let proofs = proofs(alloc, bounds.proofs.as_slice())?;
+    let members = Members::new(alloc).with(alloc, "proofs", proofs)?;
+    let rays = steps(alloc, bounds.steps.as_slice())?;
+    let members = members.with(alloc, "rays", rays)?;
+    let rows = unmarked_rows(alloc, bounds.rows.as_slice())?;
+    let members = members.with(alloc, "rows", rows)?;
+    members.with_text(alloc, "answer", "outer")
+}
+
+/// The line of an outer bound of what these texts ask, without its end: compact JSON with its keys in alphabetical order. Weights of 0 are
+/// left out; the others stand in their order, as do rows and rays. Of the texts each byte outside of ASCII is written as `?`.
+pub fn bounds_json(
+    alloc: Global,
+    source: SourceText<'_>,
+    bounds: &ReportedBounds,
+) -> Result<Vec<u8>, AllocError>
+    ensures { IfOk result (λ out. out.items ≡ report_text (source_texts source.entry) (bounds_members (bounds_view bounds.now))) }
+{
+    let members = bounds_members(alloc, bounds)?;
     line_about(alloc, members, source)
 }

@@ -21,7 +21,7 @@ use Rattle.it_elemental.specs.Rows.{elemental_row}
 use Rattle.it_elemental.proofs.RowLemmas.{value-row}
 use Rattle.it_elemental.specs.Generators.{Generator, of_elemental, of_constraint, generator_list}
 use Rattle.it_check.specs.Sums.{sum_within}
-use Rattle.it_check.specs.Verdicts.{valid_unless, violates, violation, of_value, of_generators, of_target, no_verdict}
+use Rattle.it_check.specs.Verdicts.{valid_unless, violates, violation, of_value, of_generators, of_target, met_verdict, no_verdict}
 use Rattle.it_check.specs.declared.verdicts.Verdict.{Verdict}
 use Rattle.it_check.specs.declared.verdicts.Verdict.TheVariants.{Valid, BrokenElemental, UnmetConstraint, NotViolated}
 use Rattle.it_check.proofs.SumLemmas.{sum_told, sum_fits}
@@ -141,6 +141,16 @@ module _ (count : ℕ) (gs : List Generator) (target : Terms) (p : ℕ → ℤ) 
   no_valid h f v =
       ap (λ o. valid_unless (option_or o (of_target (length gs) (sum_within (pos 0) target p)))) (none_generators count 0 gs p h)
       ∙ ap valid_unless (none_target (length gs) target p f v)
+
+-- without a target
+module _ (count : ℕ) (gs : List Generator) (p : ℕ → ℤ) where
+  pub valid_met : met_verdict count gs p ≡ Valid → Every (IsRight p) gs
+  unfolding met_verdict
+  valid_met e = generators_none count 0 gs p (last_part (of_generators count 0 gs p) (generators_clean count 0 gs p) e)
+
+  pub met_valid : Every (IsRight p) gs → met_verdict count gs p ≡ Valid
+  unfolding met_verdict
+  met_valid h = ap valid_unless (none_generators count 0 gs p h)
 
 -- ---- what is met: the axioms and the constraints
 

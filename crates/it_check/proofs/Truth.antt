@@ -1,5 +1,5 @@
 -- What valid certificates and counterexamples say of the problem.
-use Rattle.std.proofs.Common.{◌≡◌, ◌+◌, ℤ, pos, ◌≤ℤ◌, List, [], ◌∷◌, length, true, All, refl, arith}
+use Rattle.std.proofs.Common.{◌≡◌, ℕ, ◌+◌, ℤ, pos, ◌≤ℤ◌, List, [], ◌∷◌, length, true, All, refl, arith}
 use Rattle.std.proofs.lemmas.Int.{ints}
 use Rattle.it_space.specs.declared.problems.Kind.{Kind}
 use Rattle.it_space.specs.declared.problems.Kind.TheVariants.{Inequality, Equation}
@@ -13,14 +13,30 @@ use Rattle.it_space.proofs.EveryLemmas.{every_of, all_of, every-same}
 use Rattle.it_polymatroid.proofs.Forms.{value_linear}
 use Rattle.it_elemental.proofs.GeneratorLemmas.{rows_of_space}
 use Rattle.it_elemental.specs.Generators.{Generator, generators, generator_at, forms_of, is_equation}
-use Rattle.it_check.specs.Meaning.{ValidYes, ValidNo, YesIsTrue}
+use Rattle.it_check.specs.Meaning.{ValidMet, ValidYes, ValidNo, YesIsTrue}
 use Rattle.it_check.proofs.YesMeaning.{valid_yes, yes_valid}
-use Rattle.it_check.proofs.NoMeaning.{IsRight, valid_no, no_valid, met_listed, listed_met}
+use Rattle.it_check.proofs.NoMeaning.{IsRight, valid_met, met_valid, valid_no, no_valid, met_listed, listed_met}
 
 pub valid_yes_is : ValidYes
 valid_yes_is q target w k u = (
   λ e. valid_yes (generators q) (size_of q.space) target w e,
   λ h. yes_valid (generators q) (size_of q.space) target w h.0 h.1,
+)
+
+each_is_right : (p : ℕ → ℤ) (gs : List Generator) → Every (λ g. ValueFits g.row p) gs → Every (λ g. Meets g.kind (value g.row p)) gs → Every (IsRight p) gs
+each_is_right p [] a b = tt
+each_is_right p (g ∷ gs) a b = ((a.0, b.0), each_is_right p gs a.1 b.1)
+
+pub valid_met_is : ValidMet
+valid_met_is q values k e = (
+  λ v.
+      let told = valid_met (length (elementals q.space.variables)) (generators q) (point_of values) v in
+      let both = listed_met q.space.variables q.constraints (point_of values) refl (every-same (IsRight (point_of values)) (λ g. Meets g.kind (value g.row (point_of values))) (generators q) (λ g h. h.1) told) in (
+        record { complete = e; polymatroid = both.0; met = both.1 },
+        all_of (λ g. ValueFits g.row (point_of values)) (generators q) (every-same (IsRight (point_of values)) (λ g. ValueFits g.row (point_of values)) (generators q) (λ g h. h.0) told),
+      ),
+  λ h. met_valid (length (elementals q.space.variables)) (generators q) (point_of values)
+      (each_is_right (point_of values) (generators q) (every_of (λ g. ValueFits g.row (point_of values)) (generators q) h.1) (met_listed q.space.variables q.constraints (point_of values) refl h.0.polymatroid h.0.met)),
 )
 
 pub valid_no_is : ValidNo
@@ -32,12 +48,8 @@ valid_no_is q target values k u e = (
         record { each = all_of (λ g. ValueFits g.row (point_of values)) (generators q) (every-same (IsRight (point_of values)) (λ g. ValueFits g.row (point_of values)) (generators q) (λ g h. h.0) told.0); own = told.1.0 },
       ),
   λ h. no_valid (length (elementals q.space.variables)) (generators q) target (point_of values)
-      (each_is_right (generators q) (every_of (λ g. ValueFits g.row (point_of values)) (generators q) h.1.each) (met_listed q.space.variables q.constraints (point_of values) refl h.0.polymatroid h.0.met)) h.1.own h.0.violated,
+      (each_is_right (point_of values) (generators q) (every_of (λ g. ValueFits g.row (point_of values)) (generators q) h.1.each) (met_listed q.space.variables q.constraints (point_of values) refl h.0.polymatroid h.0.met)) h.1.own h.0.violated,
 )
-  where
-    each_is_right : (gs : List Generator) → Every (λ g. ValueFits g.row (point_of values)) gs → Every (λ g. Meets g.kind (value g.row (point_of values))) gs → Every (IsRight (point_of values)) gs
-    each_is_right [] a b = tt
-    each_is_right (g ∷ gs) a b = ((a.0, b.0), each_is_right gs a.1 b.1)
 
 -- ---- a certified target is at least 0
 

@@ -9,7 +9,7 @@ use Rattle.it_polymatroid.specs.Certificates.{IsCertificate}
 use Rattle.it_polymatroid.specs.Elementals.{elementals}
 use Rattle.it_polymatroid.specs.Polymatroid.{IsPolymatroid}
 use Rattle.it_elemental.specs.Generators.{generators, forms_of}
-use Rattle.it_check.specs.Verdicts.{column, yes_verdict, no_verdict}
+use Rattle.it_check.specs.Verdicts.{column, yes_verdict, met_verdict, no_verdict}
 use Rattle.it_check.specs.declared.verdicts.Verdict.TheVariants.{Valid}
 
 -- a certificate of the target under the problem, at the coordinates of its space
@@ -20,6 +20,12 @@ CertifiesRow q target w = IsCertificate (size_of q.space + 1) (forms_of (generat
 abbrev pub CertificateFits : ProblemView → Terms → CertificateView → Type 0
 CertificateFits q target w = (c : ℕ) → 1 ≤ c → c ≤ size_of q.space
     → IsWithin (w.scale *ℤ coefficient target c) × ValueFits w.weights (column (generators q) c)
+
+-- a polymatroid and rates of the problem's space that meet it
+pub record MeetsAt (q : ProblemView) (values : List ℤ) : Type 0 where
+  pub complete : length values ≡ size_of q.space
+  pub polymatroid : IsPolymatroid q.space.variables (point_of values)
+  pub met : AreMet (point_of values) q.constraints
 
 -- a point at which a polymatroid and rates meet the constraints and the target is -1 or less
 pub record RefutesRow (q : ProblemView) (target : Terms) (values : List ℤ) : Type 0 where
@@ -37,6 +43,11 @@ pub record PointFits (q : ProblemView) (target : Terms) (values : List ℤ) : Ty
 abbrev pub ValidYes : Type 0
 ValidYes = (q : ProblemView) (target : Terms) (w : CertificateView) → IsProblem q → IsOver (size_of q.space) target
     → (yes_verdict (generators q) (size_of q.space) target w ≡ Valid) ↔ (CertifiesRow q target w × CertificateFits q target w)
+
+-- `Valid` exactly where the point meets the problem and the value of each generator is formed within the limit
+abbrev pub ValidMet : Type 0
+ValidMet = (q : ProblemView) (values : List ℤ) → IsProblem q → length values ≡ size_of q.space
+    → (met_verdict (length (elementals q.space.variables)) (generators q) (point_of values) ≡ Valid) ↔ (MeetsAt q values × All (λ g. ValueFits g.row (point_of values)) (generators q))
 
 -- `Valid` exactly where the point refutes the target and fits
 abbrev pub ValidNo : Type 0

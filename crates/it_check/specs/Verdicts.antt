@@ -56,7 +56,7 @@ of_coordinates gs target w c (suc left) = option_or (of_coordinate gs target w c
 unfoldable pub yes_verdict : List Generator → ℕ → Terms → CertificateView → Verdict
 yes_verdict gs size target w = valid_unless (option_or (of_scale w.scale) (option_or (of_weights gs w.weights) (of_coordinates gs target w 1 size)))
 
--- ---- counterexamples
+-- ---- points that meet a problem, and counterexamples
 
 -- a value that violates what is to be at least 0, or to be 0
 abbrev pub violates : Kind → ℤ → Bool
@@ -76,6 +76,10 @@ of_value count i kind (Some x) = if violates kind x then Some (violation count i
 unfoldable pub of_generators : ℕ → ℕ → List Generator → (ℕ → ℤ) → Option Verdict
 of_generators count i [] p = None
 of_generators count i (g ∷ gs) p = option_or (of_value count i g.kind (sum_within (pos 0) g.row p)) (of_generators count (i + 1) gs p)
+
+-- each generator in order
+unfoldable pub met_verdict : ℕ → List Generator → (ℕ → ℤ) → Verdict
+met_verdict count gs p = valid_unless (of_generators count 0 gs p)
 
 -- the target's value: wide, or above -1
 abbrev pub of_target : ℕ → Option ℤ → Option Verdict

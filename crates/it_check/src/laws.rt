@@ -1,10 +1,16 @@
 //! What the verdicts mean, each theorem as the contract of a function.
-ghost use Rattle.it_check.specs.Meaning.{ValidYes, ValidNo, YesIsTrue};
+ghost use Rattle.it_check.specs.Meaning.{ValidMet, ValidYes, ValidNo, YesIsTrue};
 
 /// A certificate is found valid exactly where it is one and its numbers fit.
 #[tactic(auto, using(crate::proofs::Truth::valid_yes_is))]
 pub fn valid_yes()
     ensures { ValidYes }
+{}
+
+/// A point is found valid exactly where it meets the problem and the numbers fit.
+#[tactic(auto, using(crate::proofs::Truth::valid_met_is))]
+pub fn valid_met()
+    ensures { ValidMet }
 {}
 
 /// A counterexample is found valid exactly where it is one and its numbers fit.

@@ -1,4 +1,4 @@
-//! The verdict on a counterexample.
+//! The verdicts on a point that is to meet a problem, and on a counterexample.
 ghost use Rattle.std.specs.Prelude.{◌≡◌, ◌<◌, length, pos};
 ghost use Rattle.it_space.specs.Problems.{IsProblem, problem_view};
 ghost use Rattle.it_space.specs.Rows.{IsOver, point_of};
@@ -7,7 +7,7 @@ ghost use Rattle.it_polymatroid.specs.Elementals.{elementals};
 ghost use Rattle.it_elemental.specs.Generators.{generators};
 ghost use Rattle.it_check.specs.Findings.{of_generator};
 ghost use Rattle.it_check.specs.Sums.{sum_within};
-ghost use Rattle.it_check.specs.Verdicts.{violates, violation, of_generators, of_target, no_verdict};
+ghost use Rattle.it_check.specs.Verdicts.{violates, violation, of_generators, of_target, met_verdict, no_verdict};
 
 use crate::values::generator_value;
 use crate::verdicts::Verdict;
@@ -65,6 +65,19 @@ fn of_generators(problem: &Problem, point: &Point) -> Option<Verdict>
         }
     }
     None
+}
+
+/// Whether the point meets the problem: the first thing that is wrong with it, in order of the generators.
+#[tactic(auto, unfolding(crate::specs::Verdicts::met_verdict))]
+pub fn check_met(problem: &Problem, point: &Point) -> Verdict
+    requires problem { IsProblem (problem_view problem.now) }
+    requires complete { length point.now ≡ size_of problem.now.space }
+    ensures { result ≡ met_verdict (length (elementals problem.now.space.variables)) (generators (problem_view problem.now)) (point_of point.now) }
+{
+    match of_generators(problem, point) {
+        Some(verdict) => verdict,
+        None => Verdict::Valid,
+    }
 }
 
 /// A target that isn't violated, or whose value is wide.

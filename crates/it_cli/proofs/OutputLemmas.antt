@@ -11,7 +11,7 @@ use Rattle.it_prove.specs.declared.types.Effort.{Effort}
 use Rattle.it_contain.specs.Proposals.{Plan, plan_after_all}
 use Rattle.it_answer.specs.Replies.{Reply}
 use Rattle.it_answer.specs.RightAnswers.{OneRightAnswer}
-use Rattle.it_bounds.specs.RightReplies as bounds
+use Rattle.it_bounds.specs.Reports.{OneRightTold}
 use Rattle.it_factor.specs.RightReplies.{OneRightReply}
 use Rattle.it_outer.specs.declared.types.Limits.{Limits}
 use Rattle.it_sharing.specs.SharingFiles.{SharingFaultIsOne, SharingIsOne, SharingOrFault}
@@ -29,7 +29,7 @@ use Rattle.it_cli.specs.Laws.{ModesAreDetermined, ModesHaveOneReading, OneOutput
 use Rattle.it_cli.specs.Modes.{HasOneReading, IsDetermined, Mode, Replies, WholeOutput}
 use Rattle.it_cli.specs.Outputs.{answer_mode, bench_mode, best_mode, check_mode, copy_mode, mode_of, outer_mode, sharing_mode}
 use Rattle.it_cli.specs.Right.{budgets_of, effort_of, limits_of}
-use Rattle.it_cli.specs.SharingReplies.{Answered, Factored, IsRightSharing, Many, SharingReply, Unreported, said_by}
+use Rattle.it_cli.specs.SharingReplies.{Answered, Factored, IsRightSharing, Many, SharingReply, said_by}
 use Rattle.it_cli.specs.declared.status.Status.{Status}
 use Rattle.it_cli.proofs.CountLemmas.{one_count}
 use Rattle.it_cli.proofs.ReplyLemmas.{RepliesFrom}
@@ -86,11 +86,11 @@ heads_are_one one report effort = record {
   apart = λ bytes xs line column c a f. one.apart bytes a.copies a.questions line column c a.read f;
 }
 
-relations_are_one : FileIsOne → FileFaultIsOne → FileOrFault → (effort : Effort) → HasOneReading (best_mode effort)
-relations_are_one one_file one_fault apart effort = record { one_reading = one_file; one_fault = one_fault; apart = apart }
+relations_are_one : FileIsOne → FileFaultIsOne → FileOrFault → (report : Bool) (effort : Effort) → HasOneReading (best_mode report effort)
+relations_are_one one_file one_fault apart report effort = record { one_reading = one_file; one_fault = one_fault; apart = apart }
 
-bounded_are_one : FileIsOne → FileFaultIsOne → FileOrFault → (limits : Limits) → HasOneReading (outer_mode limits)
-bounded_are_one one_file one_fault apart limits = record { one_reading = one_file; one_fault = one_fault; apart = apart }
+bounded_are_one : FileIsOne → FileFaultIsOne → FileOrFault → (report : Bool) (limits : Limits) → HasOneReading (outer_mode report limits)
+bounded_are_one one_file one_fault apart report limits = record { one_reading = one_file; one_fault = one_fault; apart = apart }
 
 -- a sharing file has one reading or one fault
 pub record SharingsAreOne : Type 0 where
@@ -111,8 +111,8 @@ module _ (one_file : FileIsOne) (one_fault : FileFaultIsOne) (apart : FileOrFaul
   modes_have_one_reading plans Check = lines_are_one
   modes_have_one_reading plans (Bench seed count run pivots rows tries) = nothing_is_one (budgets_of run pivots rows tries) plans seed count
   modes_have_one_reading plans (Copy report run pivots) = heads_are_one copies report (effort_of run pivots)
-  modes_have_one_reading plans (Best run pivots) = relations_are_one one_file one_fault apart (effort_of run pivots)
-  modes_have_one_reading plans (Outer run pivots rows tries) = bounded_are_one one_file one_fault apart (limits_of run pivots rows tries)
+  modes_have_one_reading plans (Best report run pivots) = relations_are_one one_file one_fault apart report (effort_of run pivots)
+  modes_have_one_reading plans (Outer report run pivots rows tries) = bounded_are_one one_file one_fault apart report (limits_of run pivots rows tries)
   modes_have_one_reading plans (Sharing report run pivots) = sharing_files_are_one sharings report (effort_of run pivots)
 
 -- ---- and one reply to an item, where no quick run comes first
@@ -142,25 +142,18 @@ module _ (one_answer : OneRightAnswer) (effort : Effort) (defined : effort.quick
       let same : e ≡ d = one.extension x.question.body e d x.copies other extension in
       ap₂ Extended (sym same) (same_proof d a b right (subst (λ (q : BodyView). IsRightProof effort q b) same is_right))
 
-  one_sharing : OneRightReply → (report : Bool) (x : SharingView) (a b : SharingReply) → IsRightSharing report effort x a → IsRightSharing report effort x b → a ≡ b
-  one_sharing one_factor report x Many Many f g = refl
-  one_sharing one_factor report x Many (Answered b) f (few, asked, right) = absurd (omega (arith, f, few))
-  one_sharing one_factor report x Many (Factored b) f (few, asked, told, right) = absurd (omega (arith, f, few))
-  one_sharing one_factor report x Many Unreported f (few, asked, told) = absurd (omega (arith, f, few))
-  one_sharing one_factor report x (Answered a) Many (few, asked, right) g = absurd (omega (arith, g, few))
-  one_sharing one_factor report x (Answered a) (Answered b) (few, asked, right) (few', asked', right') = ap Answered (same_proof (made_question x).body a b right right')
-  one_sharing one_factor report x (Answered a) (Factored b) (few, asked, right) (few', asked', told', right') = absurd (false≢true (sym asked ∙ asked'))
-  one_sharing one_factor report x (Answered a) Unreported (few, asked, right) (few', asked', told) = absurd (false≢true (sym asked ∙ asked'))
-  one_sharing one_factor report x (Factored a) Many (few, asked, told, right) g = absurd (omega (arith, g, few))
-  one_sharing one_factor report x (Factored a) (Answered b) (few, asked, told, right) (few', asked', right') = absurd (false≢true (sym asked' ∙ asked))
-  one_sharing one_factor report x (Factored a) (Factored b) (few, asked, told, right) (few', asked', told', right') = ap Factored (one_factor effort (made_question x).body a b defined right right')
-  one_sharing one_factor report x (Factored a) Unreported (few, asked, told, right) (few', asked', told') = absurd (false≢true (sym told ∙ told'))
-  one_sharing one_factor report x Unreported Many (few, asked, told) g = absurd (omega (arith, g, few))
-  one_sharing one_factor report x Unreported (Answered b) (few, asked, told) (few', asked', right') = absurd (false≢true (sym asked' ∙ asked))
-  one_sharing one_factor report x Unreported (Factored b) (few, asked, told) (few', asked', told', right') = absurd (false≢true (sym told' ∙ told))
-  one_sharing one_factor report x Unreported Unreported f g = refl
+  one_sharing : OneRightReply → (x : SharingView) (a b : SharingReply) → IsRightSharing effort x a → IsRightSharing effort x b → a ≡ b
+  one_sharing one_factor x Many Many f g = refl
+  one_sharing one_factor x Many (Answered b) f (few, asked, right) = absurd (omega (arith, f, few))
+  one_sharing one_factor x Many (Factored b) f (few, asked, right) = absurd (omega (arith, f, few))
+  one_sharing one_factor x (Answered a) Many (few, asked, right) g = absurd (omega (arith, g, few))
+  one_sharing one_factor x (Answered a) (Answered b) (few, asked, right) (few', asked', right') = ap Answered (same_proof (made_question x).body a b right right')
+  one_sharing one_factor x (Answered a) (Factored b) (few, asked, right) (few', asked', right') = absurd (false≢true (sym asked ∙ asked'))
+  one_sharing one_factor x (Factored a) Many (few, asked, right) g = absurd (omega (arith, g, few))
+  one_sharing one_factor x (Factored a) (Answered b) (few, asked, right) (few', asked', right') = absurd (false≢true (sym asked' ∙ asked))
+  one_sharing one_factor x (Factored a) (Factored b) (few, asked, right) (few', asked', right') = ap Factored (one_factor effort (made_question x).body a b defined right right')
 
-module _ (reading : ModesHaveOneReading) (one_answer : OneRightAnswer) (one_file : FileIsOne) (one_verdict : reports.OneVerdict) (copies : CopiesAreOne) (one_factor : OneRightReply) (one_bound : bounds.OneRightReply) where
+module _ (reading : ModesHaveOneReading) (one_answer : OneRightAnswer) (one_file : FileIsOne) (one_verdict : reports.OneVerdict) (copies : CopiesAreOne) (one_factor : OneRightReply) (one_bound : OneRightTold) where
   pub modes_are_determined : ModesAreDetermined
   modes_are_determined plans (Answer format run pivots rows tries) bland = record {
     reading = reading plans (Answer format run pivots rows tries);
@@ -176,17 +169,17 @@ module _ (reading : ModesHaveOneReading) (one_answer : OneRightAnswer) (one_file
     reading = reading plans (Copy report run pivots);
     one_reply = λ s x a b f g. one_copy one_answer (effort_of run pivots) (not_quick run pivots bland) copies x a b f g;
   }
-  modes_are_determined plans (Best run pivots) bland = record {
-    reading = reading plans (Best run pivots);
+  modes_are_determined plans (Best report run pivots) bland = record {
+    reading = reading plans (Best report run pivots);
     one_reply = λ s x a b f g. one_factor (effort_of run pivots) x.body a b (not_quick run pivots bland) f g;
   }
-  modes_are_determined plans (Outer run pivots rows tries) bland = record {
-    reading = reading plans (Outer run pivots rows tries);
-    one_reply = λ s x a b f g. one_bound (limits_of run pivots rows tries) x.body a b (not_quick run pivots bland) f g;
+  modes_are_determined plans (Outer report run pivots rows tries) bland = record {
+    reading = reading plans (Outer report run pivots rows tries);
+    one_reply = λ s x a b f g. one_bound report (limits_of run pivots rows tries) x.body a b (not_quick run pivots bland) f g;
   }
   modes_are_determined plans (Sharing report run pivots) bland = record {
     reading = reading plans (Sharing report run pivots);
-    one_reply = λ s x a b f g. one_sharing one_answer (effort_of run pivots) (not_quick run pivots bland) one_factor report x.says a b f g;
+    one_reply = λ s x a b f g. one_sharing one_answer (effort_of run pivots) (not_quick run pivots bland) one_factor x.says a b f g;
   }
 
 pub one_output : ModesAreDetermined → OneOutput

@@ -9,11 +9,11 @@ use Rattle.it_factor.specs.RightReplies.{IsRightReply}
 use Rattle.it_sharing.specs.Sharings.{SharingView, made_question, maximal_count, minimal_count}
 use Rattle.it_cli.specs.Copies.{IsRightProof}
 use Rattle.it_syntax.specs.NamesViews.{NamesView}
-use Rattle.it_certificate.specs.Values.{OfSharing, answer_members, misfit_members, report_text}
-use Rattle.it_cli.specs.InnerEnds.{IsProofText, IsReportOf, IsTextOf}
+use Rattle.it_certificate.specs.Values.{OfSharing, answer_members, report_text}
+use Rattle.it_cli.specs.InnerEnds.{IsFactorReportOf, IsProofText, IsReportOf, IsTextOf}
 use Rattle.it_cli.specs.Outputs.{best_mode, sharing_mode}
 use Rattle.it_canon.specs.QuestionDemands.{question_origins}
-use Rattle.it_cli.specs.SharingReplies.{Answered, Factored, Unreported, said_by, sharing_heading}
+use Rattle.it_cli.specs.SharingReplies.{Answered, Factored, said_by, sharing_heading}
 
 -- a made question is about a relation
 pub made_is_proof : (x : SharingView) (q : QuestionView) → q ≡ made_question x → IsProof q.body.verb
@@ -32,10 +32,10 @@ module _ (effort : Effort) (bytes : List ℕ) (x : SharingView) (minimal maximal
   headed : (line text : List ℕ) → text ≡ sharing_heading minimal maximal ++ line → text ≡ sharing_heading (minimal_count x) (maximal_count x) ++ line
   headed line text is = is ∙ ap₂ (λ m n. sharing_heading m n ++ line) is_minimal is_maximal
 
-  pub factored_text : (line text : List ℕ) → x.best ≡ true → IsTextOf (best_mode effort) [] 1 q line → text ≡ sharing_heading minimal maximal ++ line → IsTextOf (sharing_mode false effort) [] 1 (said_by bytes x) text
+  pub factored_text : (line text : List ℕ) → x.best ≡ true → IsTextOf (best_mode false effort) [] 1 q line → text ≡ sharing_heading minimal maximal ++ line → IsTextOf (sharing_mode false effort) [] 1 (said_by bytes x) text
   factored_text line text asked t is = record {
     reply = Factored t.reply;
-    right = (few_sets, asked, refl, subst (λ (y : QuestionView). IsRightReply effort y.body t.reply) made t.right);
+    right = (few_sets, asked, subst (λ (y : QuestionView). IsRightReply effort y.body t.reply) made t.right);
     is = headed line text is ∙ ap (λ ys. sharing_heading (minimal_count x) (maximal_count x) ++ ys) (t.is ∙ ap (λ (y : QuestionView). reply_line 1 y.body (question_origins y.body) t.reply) made);
   }
 
@@ -54,5 +54,5 @@ module _ (effort : Effort) (bytes : List ℕ) (x : SharingView) (minimal maximal
     is = t.is ∙ ap (λ (v : NamesView). report_text (OfSharing bytes) (answer_members v t.answer) ++ codes "\n") (names_of_made x q made);
   }
 
-  pub unreported : (text : List ℕ) → x.best ≡ true → text ≡ report_text (OfSharing bytes) (misfit_members (codes "best")) ++ codes "\n" → IsTextOf (sharing_mode true effort) [] 1 (said_by bytes x) text
-  unreported text asked is = record { reply = Unreported; right = (few_sets, asked, refl); is = is }
+  pub factored_report : (text : List ℕ) → x.best ≡ true → IsFactorReportOf effort (OfSharing bytes) q.body text → IsTextOf (sharing_mode true effort) [] 1 (said_by bytes x) text
+  factored_report text asked t = record { reply = Factored t.reply; right = (few_sets, asked, subst (λ (y : QuestionView). IsRightReply effort y.body t.reply) made t.right); is = t.is }

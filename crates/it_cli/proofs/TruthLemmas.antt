@@ -19,11 +19,12 @@ use Rattle.it_answer.specs.Truth.{IsTrueAnswer, IsTrueBy}
 use Rattle.it_factor.specs.Replies.{ReplyView, Found, Other}
 use Rattle.it_factor.specs.RightReplies as factors
 use Rattle.it_factor.specs.RightReplies.{IsRightReply}
-use Rattle.it_factor.specs.Truth.{HoldsFor, IsTrueBest, IsTrueReply, asked_by, at_least}
+use Rattle.it_ratio.specs.Truth.{HoldsFor, IsTrueBest, asked_by, at_least}
+use Rattle.it_factor.specs.Truth.{IsTrueReply}
 use Rattle.it_factor.proofs.TruthLemmas.{true_of_same}
 use Rattle.it_report.proofs.SourceTruth.{own_lines}
 use Rattle.it_cli.specs.Copies.{CopyQuestion, CopyReply, IsRightCopy, Misfit, Extended}
-use Rattle.it_cli.specs.SharingReplies.{IsRightSharing, SharingReply, Many, Answered, Factored, Unreported}
+use Rattle.it_cli.specs.SharingReplies.{IsRightSharing, SharingReply, Many, Answered, Factored}
 use Rattle.it_cli.specs.Truth.{IsTrueCopy, IsTrueSharing, IsTrueWithCopies}
 
 -- ---- of a question with copies
@@ -85,10 +86,9 @@ module _ (is_perfect : MadeQuestionIsOfPerfectSharing) (x : SharingView) (within
         true_of_same (HoldsFor (made_question x).body x.relation) (HoldsWherePerfect x) best same_factors (subst (λ (r : RelationView). IsTrueBest (HoldsFor (made_question x).body r) best) same t.2)
     true_factors Other t = absurd (none_is_not_some x.relation (sym t ∙ asks_for))
 
-pub right_sharing_is_true : answers.WhatIsShownIsTrue → factors.WhatIsShownIsTrue → MadeQuestionIsOfPerfectSharing → (report : Bool) (effort : Effort) (x : SharingView) (reply : SharingReply) → IsSharing x × IsBoundWhereBest x
-    → IsRightSharing report effort x reply → IsTrueSharing x reply
-right_sharing_is_true shown_is_true shown_factors is_perfect report effort x Many within right = right
-right_sharing_is_true shown_is_true shown_factors is_perfect report effort x (Answered a) within right = true_of_sharing is_perfect x within.0 a (shown_is_true (made_question x).body a right.2.shows)
-right_sharing_is_true shown_is_true shown_factors is_perfect report effort x (Factored reply) within right =
-    true_factors is_perfect x within.0 within.1 right.1 reply (right_reply_is_true shown_factors effort (made_question x).body reply right.3)
-right_sharing_is_true shown_is_true shown_factors is_perfect report effort x Unreported within right = right.1
+pub right_sharing_is_true : answers.WhatIsShownIsTrue → factors.WhatIsShownIsTrue → MadeQuestionIsOfPerfectSharing → (effort : Effort) (x : SharingView) (reply : SharingReply) → IsSharing x × IsBoundWhereBest x
+    → IsRightSharing effort x reply → IsTrueSharing x reply
+right_sharing_is_true shown_is_true shown_factors is_perfect effort x Many within right = right
+right_sharing_is_true shown_is_true shown_factors is_perfect effort x (Answered a) within right = true_of_sharing is_perfect x within.0 a (shown_is_true (made_question x).body a right.2.shows)
+right_sharing_is_true shown_is_true shown_factors is_perfect effort x (Factored reply) within right =
+    true_factors is_perfect x within.0 within.1 right.1 reply (right_reply_is_true shown_factors effort (made_question x).body reply right.2)

@@ -20,10 +20,11 @@ use Rattle.it_bounds.specs.Lines.{reply_lines}
 use Rattle.it_bounds.specs.Replies as bounds
 use Rattle.it_bounds.specs.RightReplies as right_bounds
 use Rattle.it_bounds.specs.Truth as true_bounds
-use Rattle.it_factor.specs.Lines.{reply_line}
+use Rattle.it_bounds.specs.Reports.{ToldReply, told_lines}
 use Rattle.it_factor.specs.Replies.{ReplyView}
 use Rattle.it_factor.specs.RightReplies as factors
 use Rattle.it_factor.specs.Truth.{IsTrueReply}
+use Rattle.it_cli.specs.FactorReports.{best_lines}
 use Rattle.it_cli.specs.Copies.{AsksWithCopies, CopyQuestion, copy_lines, with_copies}
 use Rattle.it_cli.specs.Modes.{Mode, WholeOutput}
 use Rattle.it_cli.specs.Outputs.{IsOutput, answer_mode, best_mode, copy_mode, most_bytes, outer_mode, sharing_mode}
@@ -86,8 +87,8 @@ copies_are_true shown_is_true by_copies are_within report run pivots = writes_su
     lines_for (copy_mode report (effort_of run pivots)) (λ reply. reply) (copy_lines report) (λ k x reply. refl) IsWithinLimits IsTrueCopy (λ earlier. right_copy_is_true shown_is_true by_copies (effort_of run pivots)) (copied_within are_within) bytes out Done o)
 
 pub factors_are_true : factors.WhatIsShownIsTrue → FactorsAreTrue
-factors_are_true shown_is_true run pivots = writes_such (Best run pivots) 1048576 TrueFactors refl (λ plans bytes out o.
-    lines_for (best_mode (effort_of run pivots)) (λ reply. reply) (λ k q reply. reply_line k q.body (question_origins q.body) reply) (λ k q reply. refl) Any (λ (q : QuestionView) (reply : ReplyView). IsTrueReply q.body reply)
+factors_are_true shown_is_true report run pivots = writes_such (Best report run pivots) 1048576 (TrueFactors report) refl (λ plans bytes out o.
+    lines_for (best_mode report (effort_of run pivots)) (λ reply. reply) (best_lines report) (λ k q reply. refl) Any (λ (q : QuestionView) (reply : ReplyView). IsTrueReply q.body reply)
     (λ earlier q reply any. right_reply_is_true shown_is_true (effort_of run pivots) q.body reply) (λ bytes qs asked i d l. tt) bytes out Done o)
 
 -- what a reply to the question shows is true
@@ -95,9 +96,9 @@ abbrev IsTrueWhereShown : QuestionView → Type 0
 IsTrueWhereShown q = (reply : bounds.ReplyView) → right_bounds.ShowsReply q.body reply → true_bounds.IsTrueReply q.body reply
 
 pub bounds_are_true : right_bounds.WhatIsShownIsTrue → BoundsAreTrue
-bounds_are_true shown_is_true run pivots rows tries = writes_such (Outer run pivots rows tries) 1048576 (TrueBounds (limits_of run pivots rows tries)) refl (λ plans bytes out o.
-    lines_for (outer_mode (limits_of run pivots rows tries)) (λ reply. reply) (λ k q reply. reply_lines (limits_of run pivots rows tries) k q.body (question_origins (true_bounds.under_all_lines q.body)) reply) (λ k q reply. refl)
-    IsTrueWhereShown (λ (q : QuestionView) (reply : bounds.ReplyView). true_bounds.IsTrueReply q.body reply) (λ earlier q reply within right. within reply right.shows) shown_is_true bytes out Done o)
+bounds_are_true shown_is_true report run pivots rows tries = writes_such (Outer report run pivots rows tries) 1048576 (TrueBounds report (limits_of run pivots rows tries)) refl (λ plans bytes out o.
+    lines_for (outer_mode report (limits_of run pivots rows tries)) (λ told. told) (told_lines report (limits_of run pivots rows tries)) (λ k q told. refl)
+    IsTrueWhereShown (λ (q : QuestionView) (told : ToldReply). true_bounds.IsTrueReply q.body told.reply) (λ earlier q told within right. within told.reply right.reply.shows) shown_is_true bytes out Done o)
 
 -- what the file says is within the limits
 abbrev IsWithinSharing : SharingFile → Type 0
@@ -109,4 +110,4 @@ sharing_within is_within bytes items asked = subst (All IsWithinSharing) (sym as
 pub sharing_is_true : answers.WhatIsShownIsTrue → factors.WhatIsShownIsTrue → MadeQuestionIsOfPerfectSharing → SharingIsWithin → SharingIsTrue
 sharing_is_true shown_is_true shown_factors is_perfect is_within report run pivots = writes_such (Sharing report run pivots) 1048576 (TrueSharing report) refl (λ plans bytes out o.
     lines_for (sharing_mode report (effort_of run pivots)) (λ reply. reply) (λ k. sharing_lines report) (λ k x reply. refl) IsWithinSharing (λ (x : SharingFile) (reply : SharingReply). IsTrueSharing x.says reply)
-    (λ earlier x. right_sharing_is_true shown_is_true shown_factors is_perfect report (effort_of run pivots) x.says) (sharing_within is_within) bytes out Done o)
+    (λ earlier x. right_sharing_is_true shown_is_true shown_factors is_perfect (effort_of run pivots) x.says) (sharing_within is_within) bytes out Done o)

@@ -23,7 +23,10 @@ use Rattle.it_answer.specs.declared.types.AnsweredProblem.{AnsweredProblem}
 use Rattle.it_answer.specs.declared.types.Budgets.{Budgets}
 use Rattle.it_answer.specs.Replies.{Reply}
 use Rattle.it_answer.specs.RightAnswers.{IsRightAnswer}
+use Rattle.it_factor.specs.Replies.{ReplyView}
+use Rattle.it_factor.specs.RightReplies.{IsRightReply}
 use Rattle.it_cli.specs.Right.{answer_lines}
+use Rattle.it_cli.specs.FactorReports.{reply_members}
 use Rattle.it_cli.specs.Copies.{CopyQuestion, IsRightProof, with_copies}
 use Rattle.it_cli.specs.Ends.{Ends, call_of}
 use Rattle.it_cli.specs.Modes.{FirstOutput, Mode, OutputInPart, WholeOutput}
@@ -67,6 +70,12 @@ pub record IsReportOf (effort : Effort) (texts : SourceTexts) (q : BodyView) (by
   pub answer : AnswerView
   pub right : IsRightProof effort q answer
   pub is : bytes ≡ report_text texts (answer_members q.names answer) ++ codes "\n"
+
+-- the line of a report of a right reply about factors, about what these texts ask
+pub record IsFactorReportOf (effort : Effort) (texts : SourceTexts) (q : BodyView) (bytes : List ℕ) : Type 0 where
+  pub reply : ReplyView
+  pub right : IsRightReply effort q reply
+  pub is : bytes ≡ report_text texts (reply_members reply) ++ codes "\n"
 
 -- the lines of a right reply to item k of a mode, after earlier replies
 pub record IsTextOf (m : Mode) (earlier : List m.Reply) (k : ℕ) (x : m.Item) (bytes : List ℕ) : Type 0 where

@@ -105,8 +105,8 @@ AreByBland (Answer format run pivots rows tries) = run ≡ Bland
 AreByBland Check = Unit {0}
 AreByBland (Bench seed count run pivots rows tries) = run ≡ Bland
 AreByBland (Copy report run pivots) = run ≡ Bland
-AreByBland (Best run pivots) = run ≡ Bland
-AreByBland (Outer run pivots rows tries) = run ≡ Bland
+AreByBland (Best report run pivots) = run ≡ Bland
+AreByBland (Outer report run pivots rows tries) = run ≡ Bland
 AreByBland (Sharing report run pivots) = run ≡ Bland
 
 -- in each mode bytes ask for one list of items, or have one first fault, and not both

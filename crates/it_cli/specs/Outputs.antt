@@ -17,14 +17,12 @@ use Rattle.it_report.specs.Judging.{IsVerdict}
 use Rattle.it_report.specs.LineVerdicts.{LineVerdict, is_invalid, verdict_line}
 use Rattle.it_outer.specs.declared.types.Limits.{Limits}
 use Rattle.it_prove.specs.declared.types.Effort.{Effort}
-use Rattle.it_bounds.specs.Lines.{reply_lines}
-use Rattle.it_bounds.specs.RightReplies as bounds
-use Rattle.it_bounds.specs.Truth.{under_all_lines}
-use Rattle.it_factor.specs.Lines.{reply_line}
+use Rattle.it_bounds.specs.Reports.{IsRightTold, told_lines}
 use Rattle.it_factor.specs.RightReplies.{IsRightReply}
 use Rattle.it_cli.specs.Right.{IsRightAfter, answer_lines, budgets_of, effort_of, limits_of}
 use Rattle.it_canon.specs.QuestionDemands.{question_origins}
 use Rattle.it_cli.specs.Counts.{IsBenchLine}
+use Rattle.it_cli.specs.FactorReports.{best_lines}
 use Rattle.it_cli.specs.Copies.{AsksWithCopies, IsRightCopy, copy_lines}
 use Rattle.it_sharing.specs.SharingFiles.{SharingFaultAt}
 use Rattle.it_cli.specs.SharingReplies.{AsksOfSharing, IsRightSharing, sharing_lines}
@@ -85,19 +83,17 @@ bench_mode budgets plans seed count = done_mode (λ bytes items. items ≡ tt {0
 abbrev pub copy_mode : Bool → Effort → Mode
 copy_mode report effort = done_mode AsksWithCopies CopyFileFaultAt (λ earlier. IsRightCopy effort) (copy_lines report)
 
--- one right reply to each question of a file that asks for factors
-abbrev pub best_mode : Effort → Mode
-best_mode effort = done_mode IsFile FileFaultAt (λ earlier q reply. IsRightReply effort q.body reply)
-    (λ k q reply. reply_line k q.body (question_origins q.body) reply)
+-- one right reply to each question of a file that asks for factors, as a line of a report or not
+abbrev pub best_mode : Bool → Effort → Mode
+best_mode report effort = done_mode IsFile FileFaultAt (λ earlier (q : QuestionView) reply. IsRightReply effort q.body reply) (best_lines report)
 
--- one right reply to each question of a file that asks for outer bounds
-abbrev pub outer_mode : Limits → Mode
-outer_mode limits = done_mode IsFile FileFaultAt (λ earlier q reply. bounds.IsRightReply limits q.body reply)
-    (λ k q reply. reply_lines limits k q.body (question_origins (under_all_lines q.body)) reply)
+-- one right reply to each question of a file that asks for outer bounds, as a line of a report or not
+abbrev pub outer_mode : Bool → Limits → Mode
+outer_mode report limits = done_mode IsFile FileFaultAt (λ earlier q told. IsRightTold report limits q.body told) (told_lines report limits)
 
 -- one right reply to what a sharing file asks, as a line of a report or not
 abbrev pub sharing_mode : Bool → Effort → Mode
-sharing_mode report effort = done_mode AsksOfSharing SharingFaultAt (λ earlier x. IsRightSharing report effort x.says) (λ k. sharing_lines report)
+sharing_mode report effort = done_mode AsksOfSharing SharingFaultAt (λ earlier x. IsRightSharing effort x.says) (λ k. sharing_lines report)
 
 -- the mode that the words ask for; the boxes had these plans
 abbrev pub mode_of : List Plan → Settings → Mode
@@ -105,8 +101,8 @@ mode_of plans (Answer format run pivots rows tries) = answer_mode (budgets_of ru
 mode_of plans Check = check_mode
 mode_of plans (Bench seed count run pivots rows tries) = bench_mode (budgets_of run pivots rows tries) plans seed count
 mode_of plans (Copy report run pivots) = copy_mode report (effort_of run pivots)
-mode_of plans (Best run pivots) = best_mode (effort_of run pivots)
-mode_of plans (Outer run pivots rows tries) = outer_mode (limits_of run pivots rows tries)
+mode_of plans (Best report run pivots) = best_mode report (effort_of run pivots)
+mode_of plans (Outer report run pivots rows tries) = outer_mode report (limits_of run pivots rows tries)
 mode_of plans (Sharing report run pivots) = sharing_mode report (effort_of run pivots)
 
 -- ---- its output

@@ -12,6 +12,7 @@ use Rattle.it_sharing.specs.SharingFiles.{IsSharingFile}
 use Rattle.it_sharing.specs.Sharings.{SharingView, made_question, maximal_count, minimal_count}
 use Rattle.it_certificate.specs.Values.{OfSharing, answer_members, misfit_members, report_text}
 use Rattle.it_cli.specs.Copies.{IsRightProof}
+use Rattle.it_cli.specs.FactorReports.{reply_members}
 use Rattle.it_canon.specs.QuestionDemands.{question_origins}
 
 -- a sharing file: its bytes and what it says
@@ -29,21 +30,17 @@ pub record AsksOfSharing (bytes : List ℕ) (items : List SharingFile) : Type 0 
   pub read : IsSharingFile bytes file
   pub is : items ≡ said_by bytes file ∷ []
 
--- that the minimal and the maximal sets are too many, or an answer to the question that is made, or what is found of its factors, or that a
--- report doesn't tell these
+-- that the minimal and the maximal sets are too many, or an answer to the question that is made, or what is found of its factors
 pub data SharingReply : Type 0 where
   Many : SharingReply
   Answered : (answer : AnswerView) → SharingReply
   Factored : (reply : ReplyView) → SharingReply
-  Unreported : SharingReply
 
--- a right reply: many where these are more than 64 together, else a right one to the made question, by what the file asks for; no factors
--- where a report is asked for
-abbrev pub IsRightSharing : Bool → Effort → SharingView → SharingReply → Type 0
-IsRightSharing report effort x Many = most_lines < minimal_count x + maximal_count x
-IsRightSharing report effort x (Answered answer) = (minimal_count x + maximal_count x ≤ most_lines) × (x.best ≡ false) × IsRightProof effort (made_question x).body answer
-IsRightSharing report effort x (Factored reply) = (minimal_count x + maximal_count x ≤ most_lines) × (x.best ≡ true) × (report ≡ false) × IsRightReply effort (made_question x).body reply
-IsRightSharing report effort x Unreported = (minimal_count x + maximal_count x ≤ most_lines) × (x.best ≡ true) × (report ≡ true)
+-- a right reply: many where these are more than 64 together, else a right one to the made question, by what the file asks for
+abbrev pub IsRightSharing : Effort → SharingView → SharingReply → Type 0
+IsRightSharing effort x Many = most_lines < minimal_count x + maximal_count x
+IsRightSharing effort x (Answered answer) = (minimal_count x + maximal_count x ≤ most_lines) × (x.best ≡ false) × IsRightProof effort (made_question x).body answer
+IsRightSharing effort x (Factored reply) = (minimal_count x + maximal_count x ≤ most_lines) × (x.best ≡ true) × IsRightReply effort (made_question x).body reply
 
 -- the line with both numbers
 unfoldable pub sharing_heading : ℕ → ℕ → List ℕ
@@ -63,5 +60,6 @@ sharing_lines report x Many = if report then sharing_report x (misfit_members (c
 sharing_lines report x (Answered answer) =
     if report then sharing_report x (answer_members x.says.names answer) else
     sharing_text x.says (answer_line 1 (made_question x.says).body (question_origins (made_question x.says).body) answer)
-sharing_lines report x (Factored reply) = sharing_text x.says (reply_line 1 (made_question x.says).body (question_origins (made_question x.says).body) reply)
-sharing_lines report x Unreported = sharing_report x (misfit_members (codes "best"))
+sharing_lines report x (Factored reply) =
+    if report then sharing_report x (reply_members reply) else
+    sharing_text x.says (reply_line 1 (made_question x.says).body (question_origins (made_question x.says).body) reply)

@@ -1,6 +1,6 @@
 -- What it means that a reply in mode `copy` or `sharing` is true, by the meaning of the file. Nothing here speaks of certificates, of
 -- runs or of which reply is due.
-use Rattle.std.specs.Prelude.{ℕ, ◌+◌, ◌<◌, ℤ, ◌≡◌, true, length}
+use Rattle.std.specs.Prelude.{ℕ, ◌+◌, ◌<◌, ℤ, ◌≡◌, length}
 use Rattle.it_space.specs.Answers.{AnswerView}
 use Rattle.it_space.specs.Answers.AnswerView.{Yes}
 use Rattle.it_syntax.specs.Meaning.{Holds}
@@ -13,9 +13,9 @@ use Rattle.it_sharing.specs.Sharings.{SharingView, maximal_count, minimal_count}
 use Rattle.it_sharing.specs.Truth.{HoldsWherePerfect, IsTrueOfSharing}
 use Rattle.it_answer.specs.Truth.{IsTrueAnswer}
 use Rattle.it_factor.specs.Replies.{Found, Other}
-use Rattle.it_factor.specs.Truth.{IsTrueBest}
+use Rattle.it_ratio.specs.Truth.{IsTrueBest}
 use Rattle.it_cli.specs.Copies.{CopyQuestion, CopyReply, Misfit, Extended}
-use Rattle.it_cli.specs.SharingReplies.{SharingReply, Many, Answered, Factored, Unreported}
+use Rattle.it_cli.specs.SharingReplies.{SharingReply, Many, Answered, Factored}
 
 -- ---- of a question with copies
 
@@ -32,10 +32,9 @@ IsTrueCopy x (Extended e answer) = IsExtension x.question.body x.copies e × IsT
 
 -- ---- of a sharing file
 
--- the sets are too many; or the answer is true; or what is found is true of the factors; or the file asks for these
+-- the sets are too many; or the answer is true; or what is found is true of the factors
 abbrev pub IsTrueSharing : SharingView → SharingReply → Type 0
 IsTrueSharing x Many = most_lines < minimal_count x + maximal_count x
 IsTrueSharing x (Answered answer) = IsTrueOfSharing x answer
 IsTrueSharing x (Factored (Found best)) = IsTrueBest (HoldsWherePerfect x) best
 IsTrueSharing x (Factored Other) = ⊥
-IsTrueSharing x Unreported = x.best ≡ true

@@ -15,12 +15,13 @@ use Rattle.it_answer.specs.Truth.{IsTrueAnswer}
 use Rattle.it_bounds.specs.Lines.{reply_lines}
 use Rattle.it_bounds.specs.Replies as bounds
 use Rattle.it_bounds.specs.Truth as true_bounds
-use Rattle.it_factor.specs.Lines.{reply_line}
+use Rattle.it_bounds.specs.Reports.{ToldReply, told_lines}
 use Rattle.it_factor.specs.Replies.{ReplyView}
 use Rattle.it_factor.specs.Truth.{IsTrueReply}
 use Rattle.it_cli.specs.Right.{answer_lines, limits_of}
 use Rattle.it_canon.specs.QuestionDemands.{question_origins}
 use Rattle.it_cli.specs.Copies.{AsksWithCopies, copy_lines}
+use Rattle.it_cli.specs.FactorReports.{best_lines}
 use Rattle.it_cli.specs.SharingReplies.{AsksOfSharing, SharingFile, SharingReply, sharing_lines}
 use Rattle.it_cli.specs.Truth.{IsTrueCopy, IsTrueSharing}
 use Rattle.it_cli.specs.Ends.{Call, Ends}
@@ -57,14 +58,13 @@ TrueAnswers format = AreLinesFor IsFile (λ (q : QuestionView) (answer : AnswerV
 abbrev pub TrueCopies : Bool → List ℕ → List ℕ → Type 0
 TrueCopies report = AreLinesFor AsksWithCopies IsTrueCopy (copy_lines report)
 
--- those of a true reply to each question of a file that asks for factors
-abbrev pub TrueFactors : List ℕ → List ℕ → Type 0
-TrueFactors = AreLinesFor IsFile (λ (q : QuestionView) (reply : ReplyView). IsTrueReply q.body reply) (λ k q reply. reply_line k q.body (question_origins q.body) reply)
+-- those of a true reply to each question of a file that asks for factors, as lines of a report or not
+abbrev pub TrueFactors : Bool → List ℕ → List ℕ → Type 0
+TrueFactors report = AreLinesFor IsFile (λ (q : QuestionView) (reply : ReplyView). IsTrueReply q.body reply) (best_lines report)
 
--- those of a true reply to each question of a file that asks for outer bounds, made within these limits
-abbrev pub TrueBounds : Limits → List ℕ → List ℕ → Type 0
-TrueBounds limits = AreLinesFor IsFile (λ (q : QuestionView) (reply : bounds.ReplyView). true_bounds.IsTrueReply q.body reply)
-    (λ k q reply. reply_lines limits k q.body (question_origins (true_bounds.under_all_lines q.body)) reply)
+-- those of a true reply to each question of a file that asks for outer bounds, made within these limits, as lines of a report or not
+abbrev pub TrueBounds : Bool → Limits → List ℕ → List ℕ → Type 0
+TrueBounds report limits = AreLinesFor IsFile (λ (q : QuestionView) (told : ToldReply). true_bounds.IsTrueReply q.body told.reply) (told_lines report limits)
 
 -- those of a true reply to what a sharing file asks, as a line of a report or not
 abbrev pub TrueSharing : Bool → List ℕ → List ℕ → Type 0
@@ -86,11 +86,11 @@ CopiesAreTrue = (report : Bool) (run : Run) (pivots : Option ℕ) → WritesSuch
 
 -- in mode `best`
 abbrev pub FactorsAreTrue : Type 0
-FactorsAreTrue = (run : Run) (pivots : Option ℕ) → WritesSuch (Best run pivots) TrueFactors
+FactorsAreTrue = (report : Bool) (run : Run) (pivots : Option ℕ) → WritesSuch (Best report run pivots) (TrueFactors report)
 
 -- in mode `outer`
 abbrev pub BoundsAreTrue : Type 0
-BoundsAreTrue = (run : Run) (pivots : Option ℕ) (rows tries : ℕ) → WritesSuch (Outer run pivots rows tries) (TrueBounds (limits_of run pivots rows tries))
+BoundsAreTrue = (report : Bool) (run : Run) (pivots : Option ℕ) (rows tries : ℕ) → WritesSuch (Outer report run pivots rows tries) (TrueBounds report (limits_of run pivots rows tries))
 
 -- and in mode `sharing`
 abbrev pub SharingIsTrue : Type 0

@@ -7,7 +7,7 @@ ghost use Rattle.it_cli.specs.Outputs.{outer_mode};
 
 use crate::answering::tell_fault;
 use crate::status::Status;
-use it_bounds::{reply, reply_lines};
+use it_bounds::{reply, reply_lines, reply_report};
 use it_outer::Limits;
 use it_outside::{Sink, write_all};
 use it_question::questions;
@@ -15,26 +15,38 @@ use it_question::types::{FileFault, Question};
 use std::alloc::{AllocError, Global};
 
 /// What is done for the bytes of a question file.
-pub fn find_bounds<K: Sink>(alloc: Global, limits: Limits, bytes: &[u8], sink: &mut K) -> Status
+pub fn find_bounds<K: Sink>(
+    alloc: Global,
+    report: bool,
+    limits: Limits,
+    bytes: &[u8],
+    sink: &mut K,
+) -> Status
     requires bytes { length bytes.now ≤ 1048576 }
     requires few_rows { limits.rows ≤ 65535 }
-    ensures { EndsForBytes K.taken K.faults (outer_mode limits) sink.old sink.new bytes.now result }
+    ensures { EndsForBytes K.taken K.faults (outer_mode report limits) sink.old sink.new bytes.now result }
 {
     match questions(alloc, bytes) {
-        Ok(questions) => reply_all(alloc, limits, questions.as_slice(), sink),
+        Ok(questions) => reply_all(alloc, report, limits, questions.as_slice(), sink),
         Err(FileFault::Fault { line, column, code }) => tell_fault(alloc, line, column, code, sink),
         Err(FileFault::Memory) => Status::Memory,
     }
 }
 
 /// Writes the lines of each question, as soon as they are there.
-fn reply_all<K: Sink>(alloc: Global, limits: Limits, questions: &[Question], sink: &mut K) -> Status
+fn reply_all<K: Sink>(
+    alloc: Global,
+    report: bool,
+    limits: Limits,
+    questions: &[Question],
+    sink: &mut K,
+) -> Status
     requires questions { All (λ q. IsQuestion (question_body q)) questions.now }
     requires few_rows { limits.rows ≤ 65535 }
-    ensures { EndsForItems K.taken K.faults (outer_mode limits) sink.old sink.new (map question_view questions.now) result }
+    ensures { EndsForItems K.taken K.faults (outer_mode report limits) sink.old sink.new (map question_view questions.now) result }
 {
     for (i, question) in questions.iter().enumerate() {
-        let Ok(text) = bound_lines(alloc, limits, i + 1, question) else {
+        let Ok(text) = bound_lines(alloc, report, limits, i + 1, question) else {
             return Status::Memory;
         };
         let Ok(()) = write_all(sink, text.as_slice()) else {
@@ -44,18 +56,22 @@ fn reply_all<K: Sink>(alloc: Global, limits: Limits, questions: &[Question], sin
     Status::Done
 }
 
-/// The lines of the right reply to question k, counted from 1.
+/// The lines of the right reply to question k, counted from 1, or the line of a report.
 fn bound_lines(
     alloc: Global,
+    report: bool,
     limits: Limits,
     k: usize,
     question: &Question,
 ) -> Result<Vec<u8>, AllocError>
     requires question { IsQuestion (question_body question.now) }
     requires few_rows { limits.rows ≤ 65535 }
-    ensures { IfOk result (λ text. IsTextOf (outer_mode limits) [] k (question_view question.now) text.items) }
+    ensures { IfOk result (λ text. IsTextOf (outer_mode report limits) [] k (question_view question.now) text.items) }
 {
     let replied = reply(alloc, question, limits)?;
+    if report {
+        return reply_report(alloc, limits, question, &replied.reply);
+    }
     reply_lines(
         alloc,
         limits,

@@ -1,17 +1,20 @@
-//! The lines of reports in modes `copy` and `sharing`.
+//! The lines of reports in modes `copy`, `best` and `sharing`.
 ghost use Rattle.std.specs.Prelude.{◌≡◌, ◌++◌, IfOk, OnOk, codes, map, true, false};
 ghost use Rattle.it_question.specs.Limits.{IsQuestion};
 ghost use Rattle.it_question.specs.Questions.{question_body};
-ghost use Rattle.it_certificate.specs.Values.{source_texts};
+ghost use Rattle.it_certificate.specs.Values.{report_text, source_texts};
 ghost use Rattle.it_copy.specs.CopyLines.{copy_view};
 ghost use Rattle.it_copy.specs.Extensions.{IsProof};
 ghost use Rattle.it_print.specs.Lines.{joined_texts, or_zero};
 ghost use Rattle.it_cli.specs.Copies.{copy_line, head_text};
-ghost use Rattle.it_cli.specs.InnerEnds.{IsReportOf};
+ghost use Rattle.it_factor.specs.Replies.{reply_view};
+ghost use Rattle.it_cli.specs.FactorReports.{reply_members};
+ghost use Rattle.it_cli.specs.InnerEnds.{IsFactorReportOf, IsReportOf};
 
 use it_answer::{Budgets, answer};
-use it_certificate::{SourceText, report_json};
+use it_certificate::{SourceText, best_json, misfit_json, report_json};
 use it_copy::types::CopyLine;
+use it_factor::{Reply, reply};
 use it_prove::Effort;
 use it_question::types::Question;
 use std::alloc::{AllocError, Global};
@@ -84,6 +87,36 @@ pub fn proof_report(
     let mut boxes = Vec::new(alloc);
     let answered = answer(alloc, question, budgets, &mut boxes)?;
     let mut line = report_json(alloc, source, &question.names, &answered.answer)?;
+    line.extend_from_slice(b"\n")?;
+    Ok(line)
+}
+
+/// The line of a report of a reply, without its end, about what these texts ask.
+fn reply_json(
+    alloc: Global,
+    source: SourceText<'_>,
+    reply: &Reply,
+) -> Result<Vec<u8>, AllocError>
+    ensures { IfOk result (λ out. out.items ≡ report_text (source_texts source.entry) (reply_members (reply_view reply.now))) }
+{
+    match reply {
+        Reply::Found(best) => best_json(alloc, source, best),
+        Reply::Other => misfit_json(alloc, source, b"other"),
+    }
+}
+
+/// The line of a report of the right reply about the factors that a question asks for, about what these texts ask.
+pub fn factor_report(
+    alloc: Global,
+    effort: Effort,
+    source: SourceText<'_>,
+    question: &Question,
+) -> Result<Vec<u8>, AllocError>
+    requires { IsQuestion (question_body question.now) }
+    ensures { IfOk result (λ text. IsFactorReportOf effort (source_texts source.entry) (question_body question.now) text.items) }
+{
+    let replied = reply(alloc, question, effort)?;
+    let mut line = reply_json(alloc, source, &replied.reply)?;
     line.extend_from_slice(b"\n")?;
     Ok(line)
 }

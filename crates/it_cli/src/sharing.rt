@@ -12,7 +12,7 @@ ghost use Rattle.it_certificate.specs.Values.{OfSharing, misfit_members, report_
 use crate::answering::tell_fault;
 use crate::copying::proof_lines;
 use crate::factoring::factor_line;
-use crate::reporting::proof_report;
+use crate::reporting::{factor_report, proof_report};
 use crate::status::Status;
 use crate::telling::tell;
 use it_certificate::{SourceText, misfit_json};
@@ -110,21 +110,21 @@ fn report_line(
 {
     match made(alloc, sharing) {
         Ok(made) => made_report(alloc, effort, bytes, sharing, &made),
-        Err(MadeFault::Many) => cause_report(alloc, bytes, b"many"),
+        Err(MadeFault::Many) => many_report(alloc, bytes),
         Err(MadeFault::Memory) => Err(AllocError),
     }
 }
 
-/// The line of a report where there is no question, or one that has no report, with the word of the reason.
-fn cause_report(alloc: Global, bytes: &[u8], cause: &[u8]) -> Result<Vec<u8>, AllocError>
-    ensures { IfOk result (λ text. text.items ≡ report_text (OfSharing bytes.now) (misfit_members cause.now) ++ codes "\n") }
+/// The line of a report where the sets are too many.
+fn many_report(alloc: Global, bytes: &[u8]) -> Result<Vec<u8>, AllocError>
+    ensures { IfOk result (λ text. text.items ≡ report_text (OfSharing bytes.now) (misfit_members (codes "many")) ++ codes "\n") }
 {
-    let mut line = misfit_json(alloc, SourceText::Sharing(bytes), cause)?;
+    let mut line = misfit_json(alloc, SourceText::Sharing(bytes), b"many")?;
     line.extend_from_slice(b"\n")?;
     Ok(line)
 }
 
-/// The line of a report of the right reply to the question that a sharing file makes, or that factors have no report.
+/// The line of a report of the right reply to the question that a sharing file makes.
 fn made_report(
     alloc: Global,
     effort: Effort,
@@ -140,7 +140,7 @@ fn made_report(
     ensures { IfOk result (λ text. IsTextOf (sharing_mode true effort) [] 1 (said_by bytes.now (sharing_view sharing.now)) text.items) }
 {
     if sharing.best {
-        let text = cause_report(alloc, bytes, b"best")?;
+        let text = factor_report(alloc, effort, SourceText::Sharing(bytes), &made.question)?;
         Ok(text)
     } else {
         let line = proof_report(alloc, effort, SourceText::Sharing(bytes), &made.question)?;

@@ -195,17 +195,20 @@ fn reply<K: Sink>(
             run,
             pivots,
         } => answer_with_copies(alloc, report, effort_of(run, pivots), bytes, sink),
-        Settings::Best { run, pivots } => {
-            find_factors(alloc, effort_of(run, pivots), bytes, sink)
-        }
+        Settings::Best {
+            report,
+            run,
+            pivots,
+        } => find_factors(alloc, report, effort_of(run, pivots), bytes, sink),
         Settings::Outer {
+            report,
             run,
             pivots,
             rows,
             tries,
         } => {
             let limits = limits_of(run, pivots, rows, tries);
-            find_bounds(alloc, limits, bytes, sink)
+            find_bounds(alloc, report, limits, bytes, sink)
         }
         Settings::Sharing {
             report,

@@ -6,17 +6,6 @@ ghost use Rattle.it_eliminate.specs.RowLines.{row_constraints, with_rows};
 use it_space::{Constraint, Kind, Origin, Problem, Row};
 use std::alloc::{AllocError, Global};
 
-/// The same constraint once more.
-fn copy_constraint(alloc: Global, constraint: &Constraint) -> Result<Constraint, AllocError>
-    ensures { IfOk result (λ c. c ≡ constraint.now) }
-{
-    Ok(Constraint {
-        row: constraint.row.copy(alloc)?,
-        kind: constraint.kind,
-        origin: constraint.origin,
-    })
-}
-
 /// The constraint of a `row` line, counted from 1.
 pub fn row_constraint(alloc: Global, line: usize, row: &Row) -> Result<Constraint, AllocError>
     requires { line ≤ 65535 }
@@ -35,7 +24,7 @@ fn copies(alloc: Global, constraints: &[Constraint]) -> Result<Vec<Constraint>, 
 {
     let mut copies = Vec::new(alloc);
     for constraint in constraints {
-        copies.push(copy_constraint(alloc, constraint)?)?;
+        copies.push(constraint.copy(alloc)?)?;
     }
     Ok(copies)
 }

@@ -21,9 +21,9 @@ use Rattle.it_canon.specs.QuestionDemands.{IsProblemOf, question_demands}
 use Rattle.it_canon.specs.TrueLines.{variable_count}
 use Rattle.it_answer.specs.Forms.{CertifiesForm, IsAllowedWeight, all_demands}
 use Rattle.it_prove.specs.declared.types.Effort.{Effort}
-use Rattle.it_best.specs.declared.types.Best.{Best}
-use Rattle.it_best.specs.declared.types.Best.TheVariants as answers
-use Rattle.it_best.specs.BestViews.{best_view}
+use Rattle.it_ratio.specs.declared.types.Best.{Best}
+use Rattle.it_ratio.specs.declared.types.Best.TheVariants as answers
+use Rattle.it_ratio.specs.BestViews.{best_view}
 use Rattle.it_best.specs.Factors.{IsPoint}
 use Rattle.it_factor.specs.declared.types.Reply.{Reply}
 use Rattle.it_factor.specs.declared.types.Reply.TheVariants as replies

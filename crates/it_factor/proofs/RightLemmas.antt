@@ -25,13 +25,13 @@ use Rattle.it_canon.proofs.ProblemLemmas.{question_met}
 use Rattle.it_answer.specs.Forms.{Certifies, CertifiesForm, all_demands}
 use Rattle.it_answer.proofs.FormLemmas.{by_forms, generators_speak}
 use Rattle.it_prove.specs.declared.types.Effort.{Effort}
-use Rattle.it_best.specs.BestViews.{BestView, Least, Never, Unbounded, Undecided}
+use Rattle.it_ratio.specs.BestViews.{BestView, Least, Never, Unbounded, Undecided}
 use Rattle.it_best.specs.Factors.{IsRightBest, IsFactor, IsPoint, ground_of}
 use Rattle.it_best.proofs.CertificateLemmas.{linear-factor, linear-neg}
 use Rattle.it_factor.specs.Replies.{ReplyView, Found, Other}
 use Rattle.it_factor.specs.RightReplies.{FindsFactor, IsRightFactor, IsRightReply, question_ground}
 use Rattle.it_factor.specs.RowReplies.{IsFoundByRows, IsReplyByRows}
-use Rattle.it_factor.specs.Truth.{asked_by, at_least}
+use Rattle.it_ratio.specs.Truth.{asked_by, at_least}
 use Rattle.it_demand.specs.RowsOfForms.{terms_of_form}
 use Rattle.it_demand.proofs.FormRows.{row_is_terms_of_form}
 use Rattle.it_canon.proofs.PosesLemmas.{one_problem}

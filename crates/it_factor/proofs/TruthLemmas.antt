@@ -7,11 +7,11 @@ use Rattle.it_question.specs.Questions.{BodyView}
 use Rattle.it_canon.specs.TrueLines.{variable_count}
 use Rattle.it_canon.specs.Sides.{left_form, right_form}
 use Rattle.it_answer.proofs.TruthLemmas.{form_at_least_zero}
-use Rattle.it_best.specs.BestViews.{BestView, Least, Never, Unbounded, Undecided}
+use Rattle.it_ratio.specs.BestViews.{BestView, Least, Never, Unbounded, Undecided}
 use Rattle.it_best.specs.Factors.{HoldsFactor, IsFactor}
-use Rattle.it_best.proofs.TheoremLemmas.{all_smaller, no_smaller, none_at_zero}
+use Rattle.it_ratio.proofs.Orders.{all_smaller, no_smaller, none_at_zero}
 use Rattle.it_factor.specs.RightReplies.{WhatIsShownIsTrue, question_ground}
-use Rattle.it_factor.specs.Truth.{IsTrueBest}
+use Rattle.it_ratio.specs.Truth.{IsTrueBest}
 
 -- a certified factor holds
 certified_holds : (q : BodyView) (left right : Form) (num den : ℤ) (w : CertificateView) → IsFactor (question_ground q) left right num den w → HoldsFactor (question_ground q) left right num den

@@ -7,8 +7,8 @@ use Rattle.it_canon.specs.QuestionDemands.{problem_of, terms_in}
 use Rattle.it_canon.specs.TrueLines.{variable_count}
 use Rattle.it_canon.specs.Sides.{left_form, right_form}
 use Rattle.it_prove.specs.declared.types.Effort.{Effort}
-use Rattle.it_best.specs.declared.types.BestCause.TheVariants.{Pivots}
-use Rattle.it_best.specs.BestViews.{BestView, Undecided}
+use Rattle.it_ratio.specs.declared.types.BestCause.TheVariants.{Pivots}
+use Rattle.it_ratio.specs.BestViews.{BestView, Undecided}
 use Rattle.it_best.specs.Ends.{EndsWith}
 use Rattle.it_best.proofs.EndLemmas.{best_never_out_of_steps, one_best}
 use Rattle.it_factor.specs.Replies.{Found, Other}

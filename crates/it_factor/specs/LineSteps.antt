@@ -6,7 +6,7 @@ use Rattle.it_space.specs.declared.problems.Constraint.{Constraint}
 use Rattle.it_question.specs.Questions.{BodyView}
 use Rattle.it_question.specs.ProblemLines.{problem_names}
 use Rattle.it_print.specs.Lines.{certificate_text, origins_of}
-use Rattle.it_best.specs.BestViews.{Least, Unbounded}
+use Rattle.it_ratio.specs.BestViews.{Least, Unbounded}
 use Rattle.it_factor.specs.Lines.{best_line, factor_text}
 
 module _ (q : BodyView) (constraints : List Constraint) where

@@ -9,11 +9,11 @@ use Rattle.it_syntax.specs.NamesViews.{NamesView}
 use Rattle.it_question.specs.Questions.{BodyView}
 use Rattle.it_question.specs.ProblemLines.{problem_names}
 use Rattle.it_print.specs.Lines.{certificate_text, values_text}
-use Rattle.it_best.specs.declared.types.Best.{Best}
-use Rattle.it_best.specs.declared.types.Best.TheVariants as answers
-use Rattle.it_best.specs.declared.types.BestCause.{BestCause}
-use Rattle.it_best.specs.declared.types.BestCause.TheVariants as causes
-use Rattle.it_best.specs.BestViews.{BestView, Least, Never, Unbounded, Undecided}
+use Rattle.it_ratio.specs.declared.types.Best.{Best}
+use Rattle.it_ratio.specs.declared.types.Best.TheVariants as answers
+use Rattle.it_ratio.specs.declared.types.BestCause.{BestCause}
+use Rattle.it_ratio.specs.declared.types.BestCause.TheVariants as causes
+use Rattle.it_ratio.specs.BestViews.{BestView, Least, Never, Unbounded, Undecided}
 use Rattle.it_factor.specs.declared.types.Reply.{Reply}
 use Rattle.it_factor.specs.declared.types.Reply.TheVariants as replies
 use Rattle.it_factor.specs.Replies.{ReplyView, Found, Other}

@@ -5,7 +5,7 @@ use Rattle.it_space.specs.declared.answers.Certificate.{Certificate}
 use Rattle.it_space.specs.Answers.{CertificateView, certificate_view}
 use Rattle.it_space.specs.Problems.{ProblemView}
 use Rattle.it_space.specs.Rows.{Terms, point_of, value}
-use Rattle.it_best.specs.BestViews.{BestView, Least, Unbounded, best_view}
+use Rattle.it_ratio.specs.BestViews.{BestView, Least, Unbounded, best_view}
 use Rattle.it_best.specs.Factors.{IsPoint, IsRightBest, ground_of}
 use Rattle.it_factor.specs.declared.quick.Reason.{Reason}
 use Rattle.it_factor.specs.declared.quick.Reason.TheVariants as reasons

@@ -1,5 +1,5 @@
 -- Replies to questions in mode `best`, as contracts see them.
-use Rattle.it_best.specs.BestViews.{BestView, best_view}
+use Rattle.it_ratio.specs.BestViews.{BestView, best_view}
 use Rattle.it_factor.specs.declared.types.Reply.{Reply}
 use Rattle.it_factor.specs.declared.types.Reply.TheVariants as replies
 

@@ -13,12 +13,12 @@ use Rattle.it_canon.specs.QuestionDemands.{problem_of, terms_in}
 use Rattle.it_canon.specs.Sides.{left_form, right_form}
 use Rattle.it_answer.specs.Forms.{CertifiesForm}
 use Rattle.it_prove.specs.declared.types.Effort.{Effort}
-use Rattle.it_best.specs.declared.types.BestCause.TheVariants.{Pivots}
-use Rattle.it_best.specs.BestViews.{BestView, Undecided}
+use Rattle.it_ratio.specs.declared.types.BestCause.TheVariants.{Pivots}
+use Rattle.it_ratio.specs.BestViews.{BestView, Undecided}
 use Rattle.it_best.specs.Ends.{EndsWith}
 use Rattle.it_best.specs.Factors.{IsRightBest, Ground}
 use Rattle.it_factor.specs.Replies.{ReplyView, Found, Other}
-use Rattle.it_factor.specs.Truth.{HoldsFor, IsTrueBest, asked_by}
+use Rattle.it_ratio.specs.Truth.{HoldsFor, IsTrueBest, asked_by}
 
 -- ---- by the text
 

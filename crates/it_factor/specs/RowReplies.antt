@@ -6,11 +6,11 @@ use Rattle.it_syntax.specs.Meaning.{RelationView}
 use Rattle.it_demand.specs.Canonical.{IsRowOf}
 use Rattle.it_canon.specs.Sides.{left_form, right_form}
 use Rattle.it_prove.specs.declared.types.Effort.{Effort}
-use Rattle.it_best.specs.BestViews.{BestView}
+use Rattle.it_ratio.specs.BestViews.{BestView}
 use Rattle.it_best.specs.Factors.{IsRightBest, ground_of}
 use Rattle.it_factor.specs.Replies.{ReplyView, Found, Other}
 use Rattle.it_factor.specs.RightReplies.{FindsFactor}
-use Rattle.it_factor.specs.Truth.{at_least}
+use Rattle.it_ratio.specs.Truth.{at_least}
 
 -- it is found about rows of both sides under a problem, and it is right of the rows
 pub record IsFoundByRows (p : ProblemView) (effort : Effort) (r : RelationView) (best : BestView) : Type 0 where

@@ -5,13 +5,13 @@ ghost use Rattle.it_question.specs.Questions.{question_body};
 ghost use Rattle.it_question.specs.ProblemLines.{problem_names};
 ghost use Rattle.it_canon.specs.TrueLines.{variable_count};
 ghost use Rattle.it_print.specs.Lines.{origins_of, values_text};
-ghost use Rattle.it_best.specs.BestViews.{best_view};
+ghost use Rattle.it_ratio.specs.BestViews.{best_view};
 ghost use Rattle.it_factor.specs.Lines.{AreValuesOf, IsBestPrintable, IsPrintable, IsThere, best_cause_text, best_line, reply_line};
 ghost use Rattle.it_factor.specs.LineSteps.{least_line, proof_text, proven_factor_text, unbounded_line};
 ghost use Rattle.it_factor.specs.Replies.{reply_view};
 
 use crate::types::Reply;
-use it_best::types::{Best, BestCause};
+use it_ratio::types::{Best, BestCause};
 use it_canon::problem_names;
 use it_print::{sum_text, values_text, write_number, write_signed};
 use it_question::types::Question;

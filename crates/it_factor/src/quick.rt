@@ -9,7 +9,7 @@ ghost use Rattle.std.specs.Option.{IfSome};
 ghost use Rattle.it_space.specs.Answers.{certificate_view};
 ghost use Rattle.it_space.specs.Problems.{problem_view};
 ghost use Rattle.it_space.specs.Spaces.{size_of};
-ghost use Rattle.it_best.specs.BestViews.{best_view};
+ghost use Rattle.it_ratio.specs.BestViews.{best_view};
 ghost use Rattle.it_best.specs.Ends.{factor_row};
 ghost use Rattle.it_best.specs.Factors.{IsPoint, ground_of};
 ghost use Rattle.it_best.specs.PhaseSteps.{AreSides};
@@ -17,7 +17,7 @@ ghost use Rattle.it_factor.specs.QuickSteps.{IsQuickBest, IsStep, IsTrial, answe
 
 use crate::joining::joined;
 use it_best::factor_row;
-use it_best::types::Best;
+use it_ratio::types::Best;
 use it_columns::opposite_row;
 use it_fraction::Fraction;
 use it_prove::{Proof, QUICK_STEPS, settle};

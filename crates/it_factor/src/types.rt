@@ -1,5 +1,5 @@
 //! Replies with their problems.
-use it_best::types::Best;
+use it_ratio::types::Best;
 use it_space::Problem;
 
 /// What is replied to a question in mode `best`.

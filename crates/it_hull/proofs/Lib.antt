@@ -6,3 +6,4 @@ pub mod ConeLemmas
 pub mod RateLemmas
 pub mod RayLemmas
 pub mod ConstantLemmas
+pub mod KeptLemmas

@@ -3,3 +3,4 @@ pub mod Rays
 pub mod Constants
 pub mod Theorems
 pub mod Places
+pub mod KeptRates

@@ -17,7 +17,7 @@ use it_space::{Point, Row, RowFault, Space, System, value};
 use std::alloc::{AllocError, Global};
 
 /// The coordinate of a rate.
-fn coordinate(space: Space, rate: u8) -> u32
+pub fn coordinate(space: Space, rate: u8) -> u32
     requires { IsSpace space }
     ensures { result ≡ 2 ^ space.variables + rate }
 {

@@ -4,9 +4,11 @@
 mod constant_problems;
 mod first;
 mod hulls;
+mod kept;
 pub mod laws;
 mod terms;
 
 pub use constant_problems::constants;
 pub use first::first_rows;
 pub use hulls::with_ray;
+pub use kept::kept_coordinates;

@@ -1,7 +1,6 @@
 pub mod ExtremeLemmas
 pub mod BoundLemmas
 pub mod EndLemmas
-pub mod LoopLemmas
 pub mod OutcomeLemmas
 pub mod HullLemmas
 pub mod RoundLemmas

@@ -1,11 +1,10 @@
 -- What a search for outer bounds in rates is about, and what it ends with.
-use Rattle.std.specs.Prelude.{ℕ, zero, suc, ◌+◌, ◌^◌, ℤ, List, [], ◌∷◌, map, slice_index_or, nat_eq, if◌then◌else◌}
-use Rattle.std.specs.List.{list_any}
+use Rattle.std.specs.Prelude.{ℕ, ℤ, List, map, slice_index_or}
 use Rattle.it_space.specs.declared.answers.Cause.{Cause}
-use Rattle.it_space.specs.declared.spaces.Space.{Space}
 use Rattle.it_space.specs.Answers.{CertificateView, certificate_view}
 use Rattle.it_space.specs.Problems.{ProblemView}
 use Rattle.it_space.specs.Rows.{Terms}
+use Rattle.it_hull.specs.KeptRates.{kept_coordinates}
 use Rattle.it_outer.specs.declared.types.Limits.{Limits}
 use Rattle.it_outer.specs.declared.types.Outer.{Outer}
 use Rattle.it_outer.specs.declared.types.Outer.TheVariants as ends
@@ -18,15 +17,6 @@ pub record Search : Type 0 where
   pub spare : ℕ
   pub kept : List ℕ
   pub limits : Limits
-
--- the rates from a number on, so many, without those that go
-abbrev pub rates_left : List ℕ → ℕ → ℕ → List ℕ
-rates_left gone rate zero = []
-rates_left gone rate (suc count) = if list_any (λ r. nat_eq r rate) gone then rates_left gone (rate + 1) count else rate ∷ rates_left gone (rate + 1) count
-
--- the coordinates of the rates that don't go
-abbrev pub kept_coordinates : Space → List ℕ → List ℕ
-kept_coordinates s gone = map (λ r. 2 ^ s.variables + r) (rates_left gone 0 s.rates)
 
 -- the search for the bounds of a problem without some rates, the first of which has the multipliers
 abbrev pub search_without : ProblemView → List ℕ → Limits → Search

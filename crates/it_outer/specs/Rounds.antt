@@ -25,10 +25,6 @@ use Rattle.it_outer.specs.Outer.{Search, OuterView, outer_view}
 use Rattle.it_outer.specs.Search.{VisitView, Proved, Refuted, Left, HullView, Hull, TooMany, TooWide, AfterHull, HullEnds, NextHull, PassEnds}
 use Rattle.it_outer.specs.Theorems.{IsSearch}
 
--- a rate's coordinate, unless the rate goes
-abbrev pub own_coordinate : Space → List ℕ → ℕ → List ℕ
-own_coordinate s gone rate = if list_any (λ r. nat_eq r rate) gone then [] else (2 ^ s.variables + rate) ∷ []
-
 -- the search that a frame is of
 abbrev pub search_of : Frame → Search
 search_of f = record { problem = problem_view f.problem.now; spare = f.spare; kept = f.kept.items; limits = f.limits }

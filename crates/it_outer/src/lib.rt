@@ -1,7 +1,6 @@
 //! Outer bounds in rates alone: rows with certificates that are the hull of rays, each of which meets the problem.
 #![tactic(auto)]
 
-pub mod coordinates;
 mod extremes;
 mod hulls;
 pub mod laws;

@@ -4,17 +4,17 @@ ghost use Rattle.it_space.specs.Rows.{IsOver};
 ghost use Rattle.it_space.specs.Spaces.{size_of};
 ghost use Rattle.it_space.specs.Problems.{IsProblem, problem_view};
 ghost use Rattle.it_outer.specs.Bounds.{IsRightOuter};
-ghost use Rattle.it_outer.specs.Outer.{kept_coordinates, outer_view, search_without};
+ghost use Rattle.it_hull.specs.KeptRates.{kept_coordinates};
+ghost use Rattle.it_outer.specs.Outer.{outer_view, search_without};
 ghost use Rattle.it_outer.specs.Rounds.{AreOfSpace, AreOutcomes, IsFrame, search_of};
 ghost use Rattle.it_outer.specs.Search.{PassWithEnds, SearchEnds, SecondEnds};
 ghost use Rattle.it_outer.specs.declared.types.Outer.TheVariants as OuterEnds;
 
-use crate::coordinates::kept_coordinates;
 use crate::extremes::extreme_rays;
 use crate::outcomes::Outcomes;
 use crate::passes::pass;
 use crate::types::{Bounds, Frame, Limits, Outer, OuterCause};
-use it_hull::constants;
+use it_hull::{constants, kept_coordinates};
 use it_space::{Problem, RowFault};
 use std::alloc::{AllocError, Global};
 

@@ -9,12 +9,27 @@ use Rattle.it_space.specs.Answers.{AnswerView}
 use Rattle.it_question.specs.Questions.{BodyView}
 use Rattle.it_question.specs.ProblemLines.{problem_names}
 use Rattle.it_certificate.specs.declared.keys.Key.{Key}
-use Rattle.it_certificate.specs.Reports.{Answered, Misfit, ReadsReport, Reading, report_of}
+<<<<<<< HEAD
+use Rattle.it_certificate.specs.Reports.{Answered, Factored, Misfit, ReadsReport, Reading, report_of}
 use Rattle.it_certificate.specs.Sources.{asked}
 use Rattle.it_certificate.proofs.SourceLemmas.{source_there}
 use Rattle.it_check.specs.declared.verdicts.Verdict.{Verdict}
 use Rattle.it_report.specs.LineVerdicts.{LineVerdict, NotJson, Shape, Skipped, Judged, verdict_line, is_invalid}
-use Rattle.it_report.specs.Judging.{verdict_of, IsAnswerVerdict, IsVerdict}
+use Rattle.it_report.specs.Judging.{factor_line_verdict, verdict_of, IsAnswerVerdict, IsVerdict}
+=======
+use Rattle.it_certificate.specs.Bounds.{BoundsView}
+use Rattle.it_certificate.specs.Reports.{Answered, Bounded, Misfit, ReadsReport, Reading, report_of}
+use Rattle.it_certificate.specs.Sources.{asked}
+use Rattle.it_certificate.proofs.SourceLemmas.{source_there}
+use Rattle.it_check.specs.declared.verdicts.Verdict.{Verdict}
+use Rattle.it_check.specs.declared.verdicts.Verdict.TheVariants.{Valid, BadScale, UnknownGenerator, NegativeWeight, Width, Mismatch, BrokenElemental, UnmetConstraint, NotViolated}
+use Rattle.it_rates.specs.Asked.{gone_rates, kept_rates}
+use Rattle.it_spans.proofs.ExistenceLemmas.{hull_verdict_there}
+use Rattle.it_report.specs.BoundsVerdicts.{bounds_verdict, judged_frame}
+use Rattle.it_report.specs.RowVerdicts.{is_valid}
+use Rattle.it_report.specs.LineVerdicts.{LineVerdict, NotJson, Shape, Skipped, Judged, Hulled, verdict_line, is_invalid}
+use Rattle.it_report.specs.Judging.{verdict_of, IsAnswerVerdict, IsBoundsVerdict, IsVerdict}
+>>>>>>> outer
 use Rattle.it_report.specs.Meaning.{EachLineIsJudged}
 use Rattle.it_report.proofs.JudgingLemmas.{read_verdict}
 
@@ -27,6 +42,31 @@ answer_verdict_there q a = by_option (verdict_of q a) refl
     by_option (Some v) e = (Judged (problem_names q) v, (refl, e))
     by_option None e = (Skipped, e)
 
+only_valid : (v : Verdict) → is_valid v ≡ true → v ≡ Valid
+only_valid Valid e = refl
+only_valid (BadScale s) e = absurd (cc)
+only_valid (UnknownGenerator i) e = absurd (cc)
+only_valid (NegativeWeight i) e = absurd (cc)
+only_valid (Width i) e = absurd (cc)
+only_valid (Mismatch i x y) e = absurd (cc)
+only_valid (BrokenElemental i x) e = absurd (cc)
+only_valid (UnmetConstraint i x) e = absurd (cc)
+only_valid (NotViolated x) e = absurd (cc)
+
+-- ---- the verdict on an outer bound
+
+bounds_verdict_there : (q : BodyView) (b : BoundsView) → (v : LineVerdict) × IsBoundsVerdict q b v
+bounds_verdict_there q b = by_parts (bounds_verdict q b) refl
+  where
+    by_valid : (v : Verdict) (is : Bool) → is_valid v ≡ is → bounds_verdict q b ≡ v → (v : LineVerdict) × IsBoundsVerdict q b v
+    by_valid v true valid e =
+        let hull = hull_verdict_there (judged_frame q (gone_rates q.verb)) (kept_rates q (gone_rates q.verb)) b.steps b.rows in
+        (Hulled hull.0, (e ∙ only_valid v valid, hull.1))
+    by_valid v false invalid e = (Judged q.names v, (refl, e, invalid))
+
+    by_parts : (v : Verdict) → bounds_verdict q b ≡ v → (v : LineVerdict) × IsBoundsVerdict q b v
+    by_parts v e = by_valid v (is_valid v) refl e
+
 -- ---- the verdict on a line
 
 abbrev VerdictThere : List ℕ → Type 0
@@ -37,6 +77,13 @@ verdict_read line (Err key) h = (Shape key, h)
 verdict_read line (Ok (Answered source a)) h =
     let v = answer_verdict_there (asked source).body a in
     (v.0, read_verdict line (Answered source a) v.0 h v.1)
+<<<<<<< HEAD
+verdict_read line (Ok (Factored source b)) h = let v = factor_line_verdict (asked source).body b in (v, read_verdict line (Factored source b) v h refl)
+=======
+verdict_read line (Ok (Bounded source b)) h =
+    let v = bounds_verdict_there (asked source).body b in
+    (v.0, read_verdict line (Bounded source b) v.0 h v.1)
+>>>>>>> outer
 verdict_read line (Ok Misfit) h = (Skipped, read_verdict line Misfit Skipped h refl)
 
 verdict_there : (line : List ℕ) → VerdictThere line

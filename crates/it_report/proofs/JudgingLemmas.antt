@@ -1,5 +1,5 @@
 -- The line about a report's line, step by step as the code forms it.
-use Rattle.std.proofs.Common.{◌≡◌, ℕ, ℤ, lit<, ◌^◌, ◌<◌, ◌≤◌, List, length, take, Bool, true, false, Some, Result, Ok, Err, IfOk, refl, sym, ap, ◌∙◌, subst, arith, map}
+use Rattle.std.proofs.Common.{◌≡◌, ℕ, ℤ, lit<, ◌^◌, ◌<◌, ◌≤◌, List, length, take, Bool, true, false, Option, Some, None, option_and_then, Result, Ok, Err, IfOk, refl, sym, ap, ap₂, ◌∙◌, subst, arith, map}
 use Rattle.std.proofs.lemmas.List.Elements.{All-weaker}
 use Rattle.it_space.specs.declared.spaces.Space.{Space}
 use Rattle.it_space.specs.Answers.{AnswerView, CertificateView, answer_view}
@@ -28,16 +28,20 @@ use Rattle.it_region.specs.Obligations.{obligations, IsSubstitution, ArePulledRo
 use Rattle.it_region.specs.Pairs.{IsPair, IsPairOf, Pairs, IsContainment, FitsPair, pair_obligations}
 use Rattle.it_region.proofs.TextLemmas.{text_rows, parts_fit, rows_as_pulled, pulled_rows_are}
 use Rattle.it_certificate.specs.AnswerShapes.{HasQuestionShape, HasVerbShape, HasContainmentShape}
+use Rattle.it_certificate.specs.declared.keys.Key.{Key}
 use Rattle.it_certificate.specs.declared.keys.ReportFault.{ReportFault}
-use Rattle.it_certificate.specs.Reports.{Answered, IsReported, Misfit, ReadsReport, Reading, Reports}
+use Rattle.it_certificate.specs.Reports.{Answered, Factored, IsReported, Misfit, ReadsReport, Reading, Reports}
 use Rattle.it_certificate.specs.Sources.{asked}
 use Rattle.it_certificate.specs.declared.types.Reported.{Reported}
 use Rattle.it_certificate.specs.declared.types.Reported.TheVariants as variants
 use Rattle.it_check.specs.declared.verdicts.Verdict.{Verdict}
 use Rattle.it_region.proofs.PairLemmas.{pair_of_verb}
 use Rattle.it_report.specs.RowVerdicts.{place_named}
-use Rattle.it_report.specs.LineVerdicts.{LineVerdict, NotJson, Shape, Skipped, Judged, IsLineOf}
-use Rattle.it_report.specs.Judging.{answer_verdict, IsAnswerVerdict, IsReadingVerdict, IsVerdict, IsJudgedLine}
+use Rattle.it_report.specs.LineVerdicts.{LineVerdict, NotJson, Shape, Skipped, Judged, Weighed, IsLineOf}
+use Rattle.it_ratio.specs.BestViews.{BestView, best_view}
+use Rattle.it_ratio.specs.Truth.{asked_by}
+use Rattle.it_report.specs.declared.factors.FactorVerdict.{FactorVerdict}
+use Rattle.it_report.specs.Judging.{answer_verdict, factor_line_verdict, factor_verdict_of, weighed_by, IsAnswerVerdict, IsReadingVerdict, IsVerdict, IsJudgedLine}
 use Rattle.it_report.specs.Steps.{IsAboutRelation, IsFaultLine, IsJudgedAnswer, IsJudgedReport}
 use Rattle.it_demand.specs.RowsOfForms.{terms_of_form}
 use Rattle.it_canon.proofs.PosesLemmas.{one_problem}
@@ -46,13 +50,24 @@ use Rattle.it_certificate.specs.declared.keys.ReportFault.TheVariants as faults
 
 -- ---- lines
 
+not_json : (q : BodyView) (o : Option FactorVerdict) → NotJson ≡ weighed_by q o → ⊥
+not_json q None e = cc
+not_json q (Some v) e = cc
+
+no_shape : (key : Key) (q : BodyView) (o : Option FactorVerdict) → Shape key ≡ weighed_by q o → ⊥
+no_shape key q None e = cc
+no_shape key q (Some v) e = cc
+
 pub read_verdict : (line : List ℕ) (reading : Reading) (v : LineVerdict) → ReadsReport line (Ok reading) → IsReadingVerdict reading v → IsVerdict line v
 read_verdict line (Answered source a) NotJson h is = absurd is
 read_verdict line (Answered source a) (Shape key) h is = absurd is
+read_verdict line (Factored source b) NotJson h is = absurd (not_json (asked source).body (option_and_then (λ r. factor_verdict_of (asked source).body r b) (asked_by (asked source).body.verb)) is)
+read_verdict line (Factored source b) (Shape key) h is = absurd (no_shape key (asked source).body (option_and_then (λ r. factor_verdict_of (asked source).body r b) (asked_by (asked source).body.verb)) is)
 read_verdict line Misfit NotJson h is = absurd cc
 read_verdict line Misfit (Shape key) h is = absurd cc
 read_verdict line reading Skipped h is = record { reading = reading; reads = h; verdict = is }
 read_verdict line reading (Judged names v) h is = record { reading = reading; reads = h; verdict = is }
+read_verdict line reading (Weighed names v) h is = record { reading = reading; reads = h; verdict = is }
 
 module _ {L E : Type 0} (text : L → List ℕ) (invalid : L → Bool) (k : ℕ) where
   pub fault_is_judged : (line : List ℕ) (fault : ReportFault) (r : Result L E) → Reports line (Err fault) → IfOk r (λ j. IsFaultLine k fault (text j) (invalid j)) → IfOk r (λ j. IsJudgedLine k line (text j) (invalid j))
@@ -69,8 +84,16 @@ module _ {L E : Type 0} (text : L → List ℕ) (invalid : L → Bool) (k : ℕ)
           let verdict : IsAnswerVerdict (asked source).body a judged.verdict =
           subst (λ b. IsAnswerVerdict (asked source).body b judged.verdict) (sym same.1) (subst (λ (q : QuestionView). IsAnswerVerdict q.body (answer_view answer) judged.verdict) (sym same.0) judged.is) in
           record { verdict = judged.verdict; is = read_verdict line (Answered source a) judged.verdict h verdict; told = judged.told }
+      by_reading (Answered source a) (variants.Factored question best) same h judged = absurd same
       by_reading (Answered source a) variants.Misfit same h judged = absurd same
+      by_reading (Factored source b) (variants.Answered question answer) same h judged = absurd same
+      by_reading (Factored source b) (variants.Factored question best) same h judged =
+          let v = factor_line_verdict (question_body question) (best_view best) in
+          let told : v ≡ factor_line_verdict (asked source).body b = ap₂ (λ (q : QuestionView) (x : BestView). factor_line_verdict q.body x) (sym same.0) (sym same.1) in
+          record { verdict = factor_line_verdict (question_body question) (best_view best); is = read_verdict line (Factored source b) v h told; told = judged }
+      by_reading (Factored source b) variants.Misfit same h judged = absurd same
       by_reading Misfit (variants.Answered question answer) same h judged = absurd same
+      by_reading Misfit (variants.Factored question best) same h judged = absurd same
       by_reading Misfit variants.Misfit same h judged = record { verdict = Skipped; is = read_verdict line Misfit Skipped h refl; told = judged }
   report_is_judged line reported (Err e) h judged = tt
 

@@ -5,3 +5,6 @@ pub mod OneLemmas
 pub mod TruthLemmas
 pub mod SourceTruth
 pub mod ExistenceLemmas
+mod FactorTruth
+pub mod FrameLemmas
+pub mod BoundsTruth

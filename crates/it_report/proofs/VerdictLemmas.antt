@@ -11,10 +11,12 @@ use Rattle.it_space.specs.Problems.{ProblemView}
 use Rattle.it_space.specs.Rows.{Terms, coefficient}
 use Rattle.it_elemental.specs.Generators.{Generator, generator_at, is_equation}
 use Rattle.it_check.specs.Sums.{product_within, sum_within}
-use Rattle.it_check.specs.Verdicts.{column, valid_unless, of_scale, of_weight, of_weights, of_numbers, of_coordinate, of_coordinates, yes_verdict, violates, violation, of_value, of_generators, of_target, no_verdict}
+use Rattle.it_check.specs.Verdicts.{column, valid_unless, of_scale, of_weight, of_weights, of_numbers, of_coordinate, of_coordinates, yes_verdict, violates, violation, of_value, of_generators, of_target, met_verdict, no_verdict}
 use Rattle.it_check.specs.declared.verdicts.Verdict.{Verdict}
 use Rattle.it_check.specs.declared.verdicts.Verdict.TheVariants.{Valid, BadScale, UnknownGenerator, NegativeWeight, Mismatch, BrokenElemental, UnmetConstraint, NotViolated}
-use Rattle.it_report.specs.RowVerdicts.{proof_verdict, proofs_verdict, is_valid}
+use Rattle.it_spans.specs.declared.types.Step.{Step}
+use Rattle.it_spans.specs.Spans.{step_views}
+use Rattle.it_report.specs.RowVerdicts.{proof_verdict, proofs_verdict, ray_verdict, rays_verdict, is_valid}
 use Rattle.it_report.specs.Steps.{IsVerdictOver}
 
 abbrev IsFindingOver : ℕ → Option Verdict → Type 0
@@ -88,6 +90,10 @@ pub no_over : (b count : ℕ) (gs : List Generator) (t : Terms) (p : ℕ → ℤ
 unfolding no_verdict
 no_over b count gs t p = told_over b _ (either_over b (of_generators count 0 gs p) (of_target (length gs) (sum_within (pos 0) t p)) (generators_over b count 0 gs p) (target_over b (length gs) (sum_within (pos 0) t p)))
 
+pub met_over : (b count : ℕ) (gs : List Generator) (p : ℕ → ℤ) → IsVerdictOver b (met_verdict count gs p)
+unfolding met_verdict
+met_over b count gs p = told_over b _ (generators_over b count 0 gs p)
+
 -- the rows and the certificates that are left
 abbrev left_verdict : ProblemView → List Terms → List Certificate → ℕ → Verdict
 left_verdict p ts cs i = proofs_verdict p (drop i ts) (map certificate_view (drop i cs))
@@ -125,3 +131,26 @@ module _ (p : ProblemView) (ts : List Terms) (cs : List Certificate) (i : ℕ) (
 
   pub proofs_done : length ts ≤ i → Valid ≡ proofs_verdict p ts (map certificate_view cs)
   proofs_done h = sym (none_left p (map certificate_view (drop i cs))) ∙ sym (at_drop_all (λ (x : List Terms). proofs_verdict p x (map certificate_view (drop i cs))) ts i h) ∙ inv
+
+-- ---- rays, one after the other
+
+abbrev left_rays : ProblemView → List Step → ℕ → Verdict
+left_rays p steps i = rays_verdict p (step_views (drop i steps))
+
+module _ (p : ProblemView) (steps : List Step) (i : ℕ) (s : Step) (there : i < length steps) (at : s ≡ get_or steps i s) where
+  abbrev by_ray : Bool → Verdict
+  by_ray b = if b then left_rays p steps (i + 1) else ray_verdict p s.ray
+
+  ray_step : left_rays p steps i ≡ by_ray (is_valid (ray_verdict p s.ray))
+  unfolding rays_verdict
+  ray_step = ap (λ xs. rays_verdict p (step_views xs)) (drop_item steps i s there at)
+
+  pub rays_found : is_valid (ray_verdict p s.ray) ≡ false → left_rays p steps i ≡ rays_verdict p (step_views steps) → ray_verdict p s.ray ≡ rays_verdict p (step_views steps)
+  rays_found e inv = sym (ap by_ray e) ∙ sym ray_step ∙ inv
+
+  pub rays_more : is_valid (ray_verdict p s.ray) ≡ true → left_rays p steps i ≡ rays_verdict p (step_views steps) → left_rays p steps (i + 1) ≡ rays_verdict p (step_views steps)
+  rays_more e inv = sym (ap by_ray e) ∙ sym ray_step ∙ inv
+
+pub rays_done : (p : ProblemView) (steps : List Step) (i : ℕ) → length steps ≤ i → left_rays p steps i ≡ rays_verdict p (step_views steps) → Valid ≡ rays_verdict p (step_views steps)
+unfolding rays_verdict
+rays_done p steps i h inv = sym (at_drop_all (λ (xs : List Step). rays_verdict p (step_views xs)) steps i h) ∙ inv

@@ -1,6 +1,6 @@
 -- The verdict on each line of a report: what its answer says of its question, against the problem that the question poses and the
 -- rows of the forms that the answer speaks of.
-use Rattle.std.specs.Prelude.{◌≡◌, ℕ, List, map, Bool, Option, Some, None, Ok, Err, IsUtf8}
+use Rattle.std.specs.Prelude.{◌≡◌, ℕ, List, map, Bool, false, Option, Some, None, option_and_then, Ok, Err, IsUtf8}
 use Rattle.serde_json.specs.Read.{read}
 use Rattle.it_space.specs.Answers.{AnswerView}
 use Rattle.it_space.specs.Answers.AnswerView.{Yes, No, Contained}
@@ -8,13 +8,23 @@ use Rattle.it_space.specs.Problems.{ProblemView}
 use Rattle.it_space.specs.Rows.{Terms}
 use Rattle.it_question.specs.Questions.{BodyView}
 use Rattle.it_question.specs.ProblemLines.{problem_names}
+use Rattle.it_syntax.specs.Meaning.{RelationView}
 use Rattle.it_canon.specs.QuestionDemands.{problem_of, terms_in}
+use Rattle.it_canon.specs.Sides.{left_form, right_form}
+use Rattle.it_canon.specs.TrueLines.{variable_count}
+use Rattle.it_ratio.specs.BestViews.{BestView}
+use Rattle.it_ratio.specs.Truth.{asked_by}
 use Rattle.it_region.specs.AnswerForms.{answer_forms}
-use Rattle.it_certificate.specs.Reports.{Answered, Misfit, ReadsReport, Reading}
+use Rattle.it_certificate.specs.Reports.{Answered, Factored, Bounded, Misfit, ReadsReport, Reading}
+use Rattle.it_certificate.specs.Bounds.{BoundsView}
 use Rattle.it_certificate.specs.Sources.{asked}
 use Rattle.it_check.specs.declared.verdicts.Verdict.{Verdict}
-use Rattle.it_report.specs.RowVerdicts.{proofs_verdict, point_verdict}
-use Rattle.it_report.specs.LineVerdicts.{LineVerdict, NotJson, Shape, Skipped, Judged, IsLineOf}
+use Rattle.it_check.specs.declared.verdicts.Verdict.TheVariants.{Valid}
+use Rattle.it_report.specs.BoundsVerdicts.{HullVerdictIs, bounds_verdict}
+use Rattle.it_report.specs.RowVerdicts.{is_valid, proofs_verdict, point_verdict}
+use Rattle.it_report.specs.declared.factors.FactorVerdict.{FactorVerdict}
+use Rattle.it_report.specs.FactorVerdicts.{best_verdict}
+use Rattle.it_report.specs.LineVerdicts.{LineVerdict, NotJson, Shape, Skipped, Judged, Weighed, Hulled, IsLineOf}
 
 -- the verdict on an answer, by the problem and the rows of these forms; where it claims something of all polymatroids, or of one
 abbrev pub answer_verdict : ProblemView → List Terms → AnswerView → Option Verdict
@@ -33,9 +43,38 @@ IsAnswerVerdict q answer Skipped = verdict_of q answer ≡ None
 IsAnswerVerdict q answer (Judged names v) = (names ≡ problem_names q) × (verdict_of q answer ≡ Some v)
 IsAnswerVerdict q answer verdict = ⊥
 
--- what is told of what a line says: the verdict on an answer to the question that is asked; and that a misfit isn't judged
+-- ---- of factors
+
+-- the verdict on what is found of a relation's factors, by the rows of its sides under the problem that the question poses
+abbrev pub factor_verdict_of : BodyView → RelationView → BestView → Option FactorVerdict
+factor_verdict_of q r best = best_verdict (problem_of q) (terms_in q (left_form (variable_count q) r)) (terms_in q (right_form (variable_count q) r)) best
+
+-- what is told by a verdict, with the names of the problem, or where there is none
+abbrev pub weighed_by : BodyView → Option FactorVerdict → LineVerdict
+weighed_by q None = Skipped
+weighed_by q (Some v) = Weighed (problem_names q) v
+
+-- what is told of the factors of the relation that a question asks about
+abbrev pub factor_line_verdict : BodyView → BestView → LineVerdict
+factor_line_verdict q best = weighed_by q (option_and_then (λ r. factor_verdict_of q r best) (asked_by q.verb))
+
+-- ---- of bounds
+
+-- what is told of an outer bound: what is wrong with a certificate or a point, with the names of the question; where nothing is, the
+-- verdict on its rows as the hull of its rays
+abbrev pub IsBoundsVerdict : BodyView → BoundsView → LineVerdict → Type 0
+IsBoundsVerdict q b (Judged names v) = (names ≡ q.names) × (bounds_verdict q b ≡ v) × (is_valid v ≡ false)
+IsBoundsVerdict q b (Hulled v) = (bounds_verdict q b ≡ Valid) × HullVerdictIs q b v
+IsBoundsVerdict q b verdict = ⊥
+
+-- ---- of lines
+
+-- what is told of what a line says: the verdict on an answer to the question that is asked, on what is found of its factors, or on its
+-- bounds; and that a misfit isn't judged
 abbrev pub IsReadingVerdict : Reading → LineVerdict → Type 0
 IsReadingVerdict (Answered source answer) v = IsAnswerVerdict (asked source).body answer v
+IsReadingVerdict (Factored source best) v = v ≡ factor_line_verdict (asked source).body best
+IsReadingVerdict (Bounded source b) v = IsBoundsVerdict (asked source).body b v
 IsReadingVerdict Misfit v = v ≡ Skipped
 
 -- the line says something, and this is told of it

@@ -7,20 +7,37 @@ use Rattle.it_certificate.specs.declared.keys.Key.TheVariants as keys
 use Rattle.it_check.specs.declared.verdicts.Verdict.{Verdict}
 use Rattle.it_check.specs.declared.verdicts.Verdict.TheVariants.{Valid, BadScale, UnknownGenerator, NegativeWeight, Width, Mismatch, BrokenElemental, UnmetConstraint, NotViolated}
 use Rattle.it_print.specs.Lines.{coordinate_text}
+use Rattle.it_spans.specs.declared.types.Fault.{Fault}
+use Rattle.it_spans.specs.declared.types.Fault.TheVariants.{NoRow, Refused, TooMany, TooWide}
+use Rattle.it_spans.specs.declared.types.HullVerdict.{HullVerdict}
+use Rattle.it_spans.specs.declared.types.HullVerdict.TheVariants as hulls
+use Rattle.it_report.specs.BoundsVerdicts.{is_hull}
 use Rattle.it_report.specs.RowVerdicts.{is_valid}
+use Rattle.it_report.specs.declared.factors.FactorVerdict.{FactorVerdict}
+use Rattle.it_report.specs.declared.factors.FactorVerdict.TheVariants.{BelowOne, Checked, NotZero}
 
--- The line has no reading as JSON; a key of it is missing or of another shape; its answer isn't judged; or it is, with this verdict,
--- and these are the names of its question.
+-- The line has no reading as JSON; a key of it is missing or of another shape; its answer isn't judged; or it is, or what it says of
+-- factors is, with this verdict, and these are the names of its question; or it has an outer bound, of which rows and rays are right by
+-- themselves, with this verdict on the rows as the hull of the rays.
 pub data LineVerdict : Type 0 where
   NotJson : LineVerdict
   Shape : (key : Key) → LineVerdict
   Skipped : LineVerdict
   Judged : (names : NamesView) (verdict : Verdict) → LineVerdict
+  Weighed : (names : NamesView) (verdict : FactorVerdict) → LineVerdict
+  Hulled : (verdict : HullVerdict) → LineVerdict
+
+-- nothing is wrong with what is said of factors
+abbrev pub is_right : FactorVerdict → Bool
+is_right (Checked verdict) = is_valid verdict
+is_right verdict = false
 
 -- all but the valid and the skipped ones
 abbrev pub is_invalid : LineVerdict → Bool
 is_invalid Skipped = false
 is_invalid (Judged names verdict) = not (is_valid verdict)
+is_invalid (Weighed names verdict) = not (is_right verdict)
+is_invalid (Hulled verdict) = not (is_hull verdict)
 is_invalid verdict = true
 
 -- a key as it stands in reports
@@ -29,14 +46,17 @@ key_text keys.Answer = codes "answer"
 key_text keys.Sharing = codes "sharing"
 key_text keys.Copies = codes "copies"
 key_text keys.Question = codes "question"
+key_text keys.Factor = codes "factor"
 key_text keys.Proofs = codes "proofs"
 key_text keys.Point = codes "point"
 key_text keys.Side = codes "side"
 key_text keys.Cause = codes "cause"
 key_text keys.At = codes "at"
+key_text keys.Phase = codes "phase"
 key_text keys.Rows = codes "rows"
 key_text keys.Parts = codes "parts"
 key_text keys.Tried = codes "tried"
+key_text keys.Rays = codes "rays"
 
 -- a coordinate by the name of its set or rate, and the two numbers that differ there
 abbrev pub mismatch_text : NamesView → ℕ → ℤ → ℤ → List ℕ
@@ -54,12 +74,33 @@ verdict_text names (BrokenElemental i x) = codes "invalid elemental " ++ decimal
 verdict_text names (UnmetConstraint i x) = codes "invalid constraint " ++ decimal i ++ codes " " ++ signed_decimal x
 verdict_text names (NotViolated x) = codes "invalid target " ++ signed_decimal x
 
+-- those of a verdict on what is said of factors
+unfoldable pub factor_verdict_text : NamesView → FactorVerdict → List ℕ
+factor_verdict_text names (BelowOne den) = codes "invalid factor " ++ signed_decimal den
+factor_verdict_text names (Checked verdict) = verdict_text names verdict
+factor_verdict_text names (NotZero x) = codes "invalid zero " ++ signed_decimal x
+
+-- what is wrong with the steps of a hull: with a ray, or with a row that goes after it, both by number from 0
+abbrev pub fault_text : Fault → List ℕ
+fault_text (TooMany ray) = codes "many " ++ decimal ray
+fault_text (TooWide ray) = codes "wide " ++ decimal ray
+fault_text (NoRow ray number) = codes "drop " ++ decimal ray ++ codes " " ++ decimal number
+fault_text (Refused ray number verdict) = codes "drop " ++ decimal ray ++ codes " " ++ decimal number
+
+-- the words of a verdict on rows as the hull of rays; a place is that of a row, counted from 0
+unfoldable pub hull_text : HullVerdict → List ℕ
+hull_text hulls.Valid = codes "valid"
+hull_text (hulls.Faulty fault) = codes "invalid " ++ fault_text fault
+hull_text (hulls.OtherRow place) = codes "invalid hull " ++ decimal place
+
 -- the words about a line
 abbrev pub words_of : LineVerdict → List ℕ
 words_of NotJson = codes "invalid json"
 words_of (Shape key) = codes "invalid shape " ++ key_text key
 words_of Skipped = codes "skipped"
 words_of (Judged names verdict) = verdict_text names verdict
+words_of (Weighed names verdict) = factor_verdict_text names verdict
+words_of (Hulled verdict) = hull_text verdict
 
 -- a line of words about line k, which are counted from 1
 unfoldable pub numbered_line : ℕ → List ℕ → List ℕ

@@ -1,5 +1,5 @@
 -- What the verdicts mean: each line has one and no other, and the claim of a valid one is true.
-use Rattle.std.specs.Prelude.{◌≡◌, ℕ, ℤ, pos, neg_ℤ, ◌≤ℤ◌, List, length, Bool, get_or, Ok}
+use Rattle.std.specs.Prelude.{◌≡◌, ℕ, ℤ, pos, neg_ℤ, ◌≤ℤ◌, List, length, Bool, get_or, Some, Ok}
 use Rattle.it_space.specs.Answers.{AnswerView, CertificateView}
 use Rattle.it_space.specs.Answers.AnswerView.{Yes, No, Contained}
 use Rattle.it_space.specs.Rows.{point_of}
@@ -13,12 +13,20 @@ use Rattle.it_copy.specs.CopyLines.{CopyView}
 use Rattle.it_copy.specs.Extensions.{extended}
 use Rattle.it_copy.specs.Points.{HasCopies}
 use Rattle.it_sharing.specs.Sharings.{SharingView}
-use Rattle.it_sharing.specs.Truth.{IsTrueOfSharing}
-use Rattle.it_certificate.specs.Reports.{Answered, ReadsReport}
+use Rattle.it_sharing.specs.Truth.{HoldsWherePerfect, IsTrueOfSharing}
+use Rattle.it_ratio.specs.BestViews.{BestView}
+use Rattle.it_ratio.specs.Truth.{HoldsFor, IsTrueBest, asked_by}
+use Rattle.it_spans.specs.declared.types.HullVerdict.TheVariants.{Valid as HullIsValid}
+use Rattle.it_spans.specs.Spans.{rays_of}
+use Rattle.it_rates.specs.Asked.{gone_rates}
+use Rattle.it_rates.specs.Bounds.{AreExactBounds}
+use Rattle.it_certificate.specs.Bounds.{BoundsView}
+use Rattle.it_certificate.specs.Reports.{Answered, Bounded, Factored, ReadsReport}
 use Rattle.it_certificate.specs.Sources.{Source, Copies, Sharing, asked}
 use Rattle.it_check.specs.declared.verdicts.Verdict.TheVariants.{Valid}
+use Rattle.it_report.specs.declared.factors.FactorVerdict.TheVariants.{Checked}
 use Rattle.it_report.specs.RowVerdicts.{place_named}
-use Rattle.it_report.specs.LineVerdicts.{LineVerdict, Judged}
+use Rattle.it_report.specs.LineVerdicts.{LineVerdict, Judged, Weighed, Hulled}
 use Rattle.it_report.specs.Judging.{IsVerdict, IsJudgedLine}
 
 -- Each line of a report has a verdict, and so a line about it.
@@ -48,6 +56,19 @@ abbrev pub ValidIsTrue : Type 0
 ValidIsTrue = (line : List ℕ) (names : NamesView) (source : Source) (answer : AnswerView)
     → IsVerdict line (Judged names Valid) → ReadsReport line (Ok (Answered source answer)) → IsClaimTrue (asked source).body answer
 
+-- What a valid line says of factors is true of those of the relation that the question asks about: the least one holds wherever a
+-- polymatroid and rates make the question's lines true, and no smaller one does; where there is none, none holds; where there is no least
+-- one, the one that is told and all smaller ones hold.
+abbrev pub ValidFactorIsTrue : Type 0
+ValidFactorIsTrue = (line : List ℕ) (names : NamesView) (source : Source) (best : BestView)
+    → IsVerdict line (Weighed names (Checked Valid)) → ReadsReport line (Ok (Factored source best))
+    → (r : RelationView) × (asked_by (asked source).body.verb ≡ Some r) × IsTrueBest (HoldsFor (asked source).body r) best
+
+-- Of a sharing file, it is true of the factors that hold wherever the secret is shared perfectly.
+abbrev pub ValidFactorIsTrueOfSharing : Type 0
+ValidFactorIsTrueOfSharing = (line : List ℕ) (names : NamesView) (x : SharingView) (best : BestView)
+    → IsVerdict line (Weighed names (Checked Valid)) → ReadsReport line (Ok (Factored (Sharing x) best)) → IsTrueBest (HoldsWherePerfect x) best
+
 -- With a head, a valid yes says that the relation of the text's own question holds at every polymatroid and rates that have such copies.
 abbrev pub ValidIsTrueByCopies : Type 0
 ValidIsTrueByCopies = (line : List ℕ) (names : NamesView) (q : QuestionView) (copies : List CopyView) (r : RelationView) (ws : List CertificateView)
@@ -58,3 +79,9 @@ ValidIsTrueByCopies = (line : List ℕ) (names : NamesView) (q : QuestionView) (
 abbrev pub ValidIsTrueOfSharing : Type 0
 ValidIsTrueOfSharing = (line : List ℕ) (names : NamesView) (x : SharingView) (answer : AnswerView)
     → IsVerdict line (Judged names Valid) → ReadsReport line (Ok (Answered (Sharing x) answer)) → IsTrueOfSharing x answer
+
+-- Valid bounds are exact: their rows, over the rates that stay, hold exactly where some whole multiple of these rates is that of a
+-- polymatroid with rates at which all lines of the question are true; and their rays are such, and span what the rows allow.
+abbrev pub ValidIsTrueOfBounds : Type 0
+ValidIsTrueOfBounds = (line : List ℕ) (source : Source) (b : BoundsView) → IsVerdict line (Hulled HullIsValid) → ReadsReport line (Ok (Bounded source b))
+    → AreExactBounds (asked source).body (gone_rates (asked source).body.verb) b.rows (rays_of b.steps)

@@ -6,15 +6,23 @@ ghost use Rattle.it_syntax.specs.Meaning.{relation_view};
 ghost use Rattle.it_question.specs.Limits.{IsQuestion};
 ghost use Rattle.it_question.specs.Questions.{Prove, question_body};
 ghost use Rattle.it_certificate.specs.AnswerShapes.{HasQuestionShape};
-ghost use Rattle.it_report.specs.Judging.{IsJudgedLine};
+ghost use Rattle.it_ratio.specs.BestViews.{best_view};
+ghost use Rattle.it_certificate.specs.FactorShapes.{HasFactorShape};
+ghost use Rattle.it_report.specs.Judging.{IsJudgedLine, factor_line_verdict};
+ghost use Rattle.it_report.specs.LineVerdicts.{IsLineOf};
 ghost use Rattle.it_certificate.specs.Reports.{KeepsLimits};
 ghost use Rattle.it_report.specs.Steps.{IsAboutRelation, IsFaultLine, IsJudgedAnswer, IsJudgedReport};
 
-use crate::lines::{JudgedLine, not_json_line, shape_line, skipped_line, verdict_line};
+use crate::bounds::bounds_line;
+use crate::factors::best_verdict;
+use crate::lines::{
+    JudgedLine, factor_line, not_json_line, shape_line, skipped_line, verdict_line,
+};
 use crate::rows::{point_verdict, proofs_verdict};
-use it_canon::{problem, problem_names, target_rows};
+use it_canon::{problem, problem_names, sides, target_rows};
 use it_certificate::{ReportFault, Reported, answer_from_json};
 use it_question::types::{Question, Verb};
+use it_ratio::types::Best;
 use it_region::{candidate, obligations, pair};
 use it_space::{Answer, Certificate, Point, VarSet};
 use it_syntax::types::Relation;
@@ -22,8 +30,10 @@ use std::alloc::{AllocError, Global};
 
 /// The line about line k of a report; lines are counted from 1, and `line` comes without its end. A yes and a containment
 /// have the verdict of the first of their certificates that isn't valid, a no that of its point against the target on its
-/// side. Answers that claim nothing of polymatroids, or whose claim isn't judged, are skipped: undecided, regions, open
-/// questions and misfits.
+/// side. A least factor has the verdict of its certificate and then of its point, at which the left side is at least 1 and the factor holds
+/// with equality; no factor that of its point, at which the left side is 0; no least one that of its two certificates. An outer bound has
+/// that of its rows, its rays and their hull. Answers that claim nothing of polymatroids, or whose claim isn't judged, are skipped:
+/// undecided, regions, open questions and misfits.
 pub fn judge(alloc: Global, k: usize, line: &[u8]) -> Result<JudgedLine, AllocError>
     ensures { IfOk result (λ j. IsJudgedLine k line.now j.text.items j.invalid) }
 {
@@ -51,6 +61,8 @@ fn report_line(alloc: Global, k: usize, reported: &Reported) -> Result<JudgedLin
 {
     match reported {
         Reported::Answered { question, answer } => answer_line(alloc, k, question, answer),
+        Reported::Factored { question, best } => best_line(alloc, k, question, best),
+        Reported::Bounded { question, bounds } => bounds_line(alloc, k, question, bounds),
         Reported::Misfit => skipped_line(alloc, k),
     }
 }
@@ -140,4 +152,23 @@ fn contained_line(
     let rows = obligations(alloc, &pair, &candidate(parts))?;
     let verdict = proofs_verdict(&pair.first, rows.as_slice(), proofs);
     verdict_line(alloc, k, problem_names(question), &verdict)
+}
+
+/// The line about what is found of the factors of the relation that a question asks about.
+fn best_line(
+    alloc: Global,
+    k: usize,
+    question: &Question,
+    best: &Best,
+) -> Result<JudgedLine, AllocError>
+    requires limits { IsQuestion (question_body question.now) }
+    requires fits { HasFactorShape (question_body question.now) (best_view best.now) }
+    ensures { IfOk result (λ j. IsLineOf k (factor_line_verdict (question_body question.now) (best_view best.now)) j.text.items j.invalid) }
+{
+    let problem = problem(alloc, question)?;
+    let (left, right) = sides(alloc, relation_of(question), problem.space)?;
+    match best_verdict(alloc, &problem, &left, &right, best)? {
+        Some(verdict) => factor_line(alloc, k, problem_names(question), &verdict),
+        None => skipped_line(alloc, k),
+    }
 }

@@ -1,5 +1,5 @@
 //! What the verdicts mean, each theorem as the contract of a function.
-ghost use Rattle.it_report.specs.Meaning.{EachLineIsJudged, OneVerdict, ValidIsTrue, ValidIsTrueByCopies, ValidIsTrueOfSharing};
+ghost use Rattle.it_report.specs.Meaning.{EachLineIsJudged, OneVerdict, ValidFactorIsTrue, ValidFactorIsTrueOfSharing, ValidIsTrue, ValidIsTrueByCopies, ValidIsTrueOfBounds, ValidIsTrueOfSharing};
 
 /// Each line of a report, whatever its bytes, has a verdict and so a line about it.
 pub fn each_line_is_judged()
@@ -14,9 +14,18 @@ pub fn verdict_is_one()
 
 /// The claim of a valid line is true of the question that is asked: a yes holds everywhere, the point of a no violates the target on its
 /// side, and of a containment the first region lies in the second. With a head, a yes holds of the question's own relation wherever there
-/// are such copies; of a sharing file, an answer is true wherever the secret is shared perfectly.
+/// are such copies; of a sharing file, an answer is true wherever the secret is shared perfectly. Bounds are exact.
 pub fn valid_is_true()
     ensures claim { ValidIsTrue }
     ensures copies { ValidIsTrueByCopies }
     ensures sharing { ValidIsTrueOfSharing }
+    ensures bounds { ValidIsTrueOfBounds }
+{}
+
+/// What a valid line says of factors is true of the question that is asked: the least one holds wherever the question's lines are true, and
+/// no smaller one does; or none holds; or the one that is told and each smaller one. Of a sharing file, it is true of the factors that hold
+/// wherever the secret is shared perfectly.
+pub fn valid_factor_is_true()
+    ensures claim { ValidFactorIsTrue }
+    ensures sharing { ValidFactorIsTrueOfSharing }
 {}

@@ -1,6 +1,8 @@
 //! The verdict on each line of a report.
 #![tactic(auto)]
 
+mod bounds;
+mod factors;
 mod judging;
 mod laws;
 mod lines;
@@ -8,5 +10,5 @@ mod rows;
 mod words;
 
 pub use judging::judge;
-pub use laws::{each_line_is_judged, valid_is_true, verdict_is_one};
+pub use laws::{each_line_is_judged, valid_factor_is_true, valid_is_true, verdict_is_one};
 pub use lines::JudgedLine;

@@ -1,13 +1,16 @@
 //! The lines of verdicts.
 ghost use Rattle.std.specs.Prelude.{◌≡◌, ◌<◌, ◌+◌, ◌^◌, length, true, false, IfOk};
-ghost use Rattle.it_report.specs.LineVerdicts.{numbered_line, IsLineOf, NotJson, Shape, Skipped, Judged};
+ghost use Rattle.it_report.specs.LineVerdicts.{is_right, numbered_line, IsLineOf, NotJson, Shape, Skipped, Judged, Weighed, Hulled};
+ghost use Rattle.it_report.specs.FactorSteps.{IsFactorVerdictOver};
 ghost use Rattle.it_report.specs.Steps.{IsVerdictOver};
 
+use crate::factors::FactorVerdict;
 use crate::rows::is_valid;
-use crate::words::{key_name, write_verdict};
+use crate::words::{is_hull, key_name, write_factor_verdict, write_hull_verdict, write_verdict};
 use it_certificate::Key;
 use it_check::Verdict;
 use it_print::write_number;
+use it_spans::HullVerdict;
 use it_syntax::Names;
 use std::alloc::{AllocError, Global};
 
@@ -83,5 +86,47 @@ pub fn verdict_line(
     Ok(JudgedLine {
         text,
         invalid: !is_valid(verdict),
+    })
+}
+
+/// Whether nothing is wrong with what is said of factors.
+fn is_right(verdict: &FactorVerdict) -> bool
+    ensures { result ≡ is_right verdict.now }
+{
+    match verdict {
+        FactorVerdict::Checked(verdict) => is_valid(verdict),
+        FactorVerdict::BelowOne { .. } | FactorVerdict::NotZero { .. } => false,
+    }
+}
+
+/// The line about a line with this verdict on what it says of factors.
+pub fn factor_line(
+    alloc: Global,
+    k: usize,
+    names: &Names,
+    verdict: &FactorVerdict,
+) -> Result<JudgedLine, AllocError>
+    requires { IsFactorVerdictOver (2 ^ length names.now.variables + length names.now.rates) verdict.now }
+    ensures { IfOk result (λ j. IsLineOf k (Weighed names.now verdict.now) j.text.items j.invalid) }
+{
+    let mut words = Vec::new(alloc);
+    write_factor_verdict(&mut words, names, verdict)?;
+    let text = numbered_line(alloc, k, words.as_slice())?;
+    Ok(JudgedLine {
+        text,
+        invalid: !is_right(verdict),
+    })
+}
+
+/// The line about a line with this verdict on its rows as the hull of its rays.
+pub fn hull_line(alloc: Global, k: usize, verdict: &HullVerdict) -> Result<JudgedLine, AllocError>
+    ensures { IfOk result (λ j. IsLineOf k (Hulled verdict.now) j.text.items j.invalid) }
+{
+    let mut words = Vec::new(alloc);
+    write_hull_verdict(&mut words, verdict)?;
+    let text = numbered_line(alloc, k, words.as_slice())?;
+    Ok(JudgedLine {
+        text,
+        invalid: !is_hull(verdict),
     })
 }

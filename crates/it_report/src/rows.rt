@@ -4,15 +4,17 @@ ghost use Rattle.it_space.specs.Answers.{certificate_view};
 ghost use Rattle.it_space.specs.Problems.{IsProblem, problem_view};
 ghost use Rattle.it_space.specs.Rows.{IsOver};
 ghost use Rattle.it_space.specs.Spaces.{size_of};
-ghost use Rattle.it_report.specs.RowVerdicts.{proofs_verdict, point_verdict, proof_verdict, place_named, is_valid};
+ghost use Rattle.it_report.specs.RowVerdicts.{proofs_verdict, point_verdict, proof_verdict, place_named, is_valid, ray_verdict, rays_verdict};
+ghost use Rattle.it_spans.specs.Spans.{step_views};
 ghost use Rattle.it_report.specs.Steps.{IsVerdictOver};
 
-use it_check::{Verdict, check_no, check_yes};
+use it_check::{Verdict, check_met, check_no, check_yes};
 use it_space::{Certificate, Point, Problem, Row};
+use it_spans::Step;
 
 /// The verdict on a certificate.
 #[tactic(auto, using(crate::proofs::VerdictLemmas::yes_over))]
-fn proof_verdict(problem: &Problem, row: &Row, certificate: &Certificate) -> Verdict
+pub fn proof_verdict(problem: &Problem, row: &Row, certificate: &Certificate) -> Verdict
     requires problem { IsProblem (problem_view problem.now) }
     requires row { IsOver (size_of problem.now.space) row.now }
     ensures verdict { result ≡ proof_verdict (problem_view problem.now) row.now (certificate_view certificate.now) }
@@ -66,4 +68,31 @@ pub fn point_verdict(problem: &Problem, rows: &[Row], back: bool, point: &Point)
     ensures over { IsVerdictOver (size_of problem.now.space + 1) result }
 {
     check_no(problem, &rows[place_named(back)], point)
+}
+
+/// The verdict on a ray's point, which is to meet the problem.
+#[tactic(auto, using(crate::proofs::VerdictLemmas::met_over))]
+fn ray_verdict(problem: &Problem, ray: &Point) -> Verdict
+    requires problem { IsProblem (problem_view problem.now) }
+    requires complete { length ray.now ≡ size_of problem.now.space }
+    ensures verdict { result ≡ ray_verdict (problem_view problem.now) ray.now }
+    ensures over { IsVerdictOver (size_of problem.now.space + 1) result }
+{
+    check_met(problem, ray)
+}
+
+/// The first verdict that isn't `Valid`, of each ray's point in order, or `Valid`.
+pub fn rays_verdict(problem: &Problem, steps: &[Step]) -> Verdict
+    requires problem { IsProblem (problem_view problem.now) }
+    requires complete { All (λ s. length s.ray ≡ size_of problem.now.space) steps.now }
+    ensures verdict { result ≡ rays_verdict (problem_view problem.now) (step_views steps.now) }
+    ensures over { IsVerdictOver (size_of problem.now.space + 1) result }
+{
+    for step in steps {
+        let verdict = ray_verdict(problem, &step.ray);
+        if !is_valid(&verdict) {
+            return verdict;
+        }
+    }
+    Verdict::Valid
 }

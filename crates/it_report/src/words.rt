@@ -1,12 +1,16 @@
-//! What the checker's verdicts are called.
+//! What the verdicts of the checker and of the judge of hulls are called.
 ghost use Rattle.std.specs.Prelude.{◌≡◌, ◌<◌, ◌+◌, ◌^◌, ◌++◌, length, OnOk, codes, decimal};
 ghost use Rattle.std.specs.Fmt.{signed_decimal};
-ghost use Rattle.it_report.specs.LineVerdicts.{key_text, verdict_text, mismatch_text};
+ghost use Rattle.it_report.specs.BoundsVerdicts.{is_hull};
+ghost use Rattle.it_report.specs.LineVerdicts.{factor_verdict_text, fault_text, hull_text, key_text, verdict_text, mismatch_text};
+ghost use Rattle.it_report.specs.FactorSteps.{IsFactorVerdictOver};
 ghost use Rattle.it_report.specs.Steps.{IsVerdictOver};
 
+use crate::factors::FactorVerdict;
 use it_certificate::Key;
 use it_check::Verdict;
 use it_print::{write_coordinate, write_number, write_signed};
+use it_spans::{Fault, HullVerdict};
 use it_syntax::Names;
 use std::alloc::AllocError;
 
@@ -19,14 +23,17 @@ pub fn key_name(key: Key) -> &'static str
         Key::Sharing => "sharing",
         Key::Copies => "copies",
         Key::Question => "question",
+        Key::Factor => "factor",
         Key::Proofs => "proofs",
         Key::Point => "point",
         Key::Side => "side",
         Key::Cause => "cause",
         Key::At => "at",
+        Key::Phase => "phase",
         Key::Rows => "rows",
         Key::Parts => "parts",
         Key::Tried => "tried",
+        Key::Rays => "rays",
     }
 }
 
@@ -102,4 +109,70 @@ pub fn write_verdict(out: &mut Vec<u8>, names: &Names, verdict: &Verdict) -> Res
         }
         Verdict::NotViolated { value } => write_value(out, b"invalid target ", value),
     }
+}
+
+/// Appends the words of a verdict on what is said of factors.
+#[tactic(auto, unfolding(crate::specs::LineVerdicts::factor_verdict_text))]
+pub fn write_factor_verdict(
+    out: &mut Vec<u8>,
+    names: &Names,
+    verdict: &FactorVerdict,
+) -> Result<(), AllocError>
+    requires { IsFactorVerdictOver (2 ^ length names.now.variables + length names.now.rates) verdict.now }
+    ensures { OnOk result (out.new.items ≡ out.old.items ++ factor_verdict_text names.now verdict.now) }
+{
+    match verdict {
+        FactorVerdict::BelowOne { den } => write_value(out, b"invalid factor ", den),
+        FactorVerdict::Checked(verdict) => write_verdict(out, names, verdict),
+        FactorVerdict::NotZero { value } => write_value(out, b"invalid zero ", value),
+    }
+}
+
+/// Appends words, and the number of a ray with that of a row that goes after it.
+fn write_drop(out: &mut Vec<u8>, words: &[u8], ray: usize, number: usize) -> Result<(), AllocError>
+    ensures { OnOk result (out.new.items ≡ out.old.items ++ (words.now ++ decimal ray ++ codes " " ++ decimal number)) }
+{
+    out.extend_from_slice(words)?;
+    write_number(out, ray)?;
+    out.extend_from_slice(b" ")?;
+    write_number(out, number)
+}
+
+/// Appends words and the number of a ray or of a row.
+fn write_at(out: &mut Vec<u8>, words: &[u8], place: usize) -> Result<(), AllocError>
+    ensures { OnOk result (out.new.items ≡ out.old.items ++ (words.now ++ decimal place)) }
+{
+    out.extend_from_slice(words)?;
+    write_number(out, place)
+}
+
+/// Appends the words of what is wrong with the steps of a hull.
+fn write_fault(out: &mut Vec<u8>, fault: &Fault) -> Result<(), AllocError>
+    ensures { OnOk result (out.new.items ≡ out.old.items ++ (codes "invalid " ++ fault_text fault.now)) }
+{
+    match fault {
+        Fault::TooMany { ray } => write_at(out, b"invalid many ", *ray),
+        Fault::TooWide { ray } => write_at(out, b"invalid wide ", *ray),
+        Fault::NoRow { ray, drop } => write_drop(out, b"invalid drop ", *ray, *drop),
+        Fault::Refused { ray, drop, .. } => write_drop(out, b"invalid drop ", *ray, *drop),
+    }
+}
+
+/// Appends the words of a verdict on rows as the hull of rays.
+#[tactic(auto, unfolding(crate::specs::LineVerdicts::hull_text))]
+pub fn write_hull_verdict(out: &mut Vec<u8>, verdict: &HullVerdict) -> Result<(), AllocError>
+    ensures { OnOk result (out.new.items ≡ out.old.items ++ hull_text verdict.now) }
+{
+    match verdict {
+        HullVerdict::Valid => out.extend_from_slice(b"valid"),
+        HullVerdict::Faulty(fault) => write_fault(out, fault),
+        HullVerdict::OtherRow { place } => write_at(out, b"invalid hull ", *place),
+    }
+}
+
+/// Whether rows are the hull of rays.
+pub fn is_hull(verdict: &HullVerdict) -> bool
+    ensures { result ≡ is_hull verdict.now }
+{
+    matches!(verdict, HullVerdict::Valid)
 }

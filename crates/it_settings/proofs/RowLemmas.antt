@@ -205,6 +205,7 @@ pub reports_are_read : ReportsAreRead
 unfolding clap_on_literals settings_of settings_by answer_of bench_of runs_of outer_of number_of pivots_of format_of run_of itip_app bare_app mode_rule option_rule flag_rule
 reports_are_read = record {
   copy = refl;
+  best = refl;
   sharing = refl;
   with_all = refl;
   twice = refl;
@@ -213,6 +214,5 @@ reports_are_read = record {
   answer = refl;
   check = refl;
   bench = refl;
-  best = refl;
   outer = refl;
 }

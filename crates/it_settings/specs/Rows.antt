@@ -153,7 +153,7 @@ CopyIsRead = IsReadWithRuns (codes "copy") (settings.Copy false)
 
 -- mode `best`
 abbrev pub BestIsRead : Type 0
-BestIsRead = IsReadWithRuns (codes "best") settings.Best
+BestIsRead = IsReadWithRuns (codes "best") (settings.Best false)
 
 -- mode `sharing`
 abbrev pub SharingIsRead : Type 0
@@ -161,9 +161,9 @@ SharingIsRead = IsReadWithRuns (codes "sharing") (settings.Sharing false)
 
 -- the options of mode `outer`
 pub record OuterIsRead : Type 0 where
-  pub alone : AreReadAs (codes "outer" ∷ []) (settings.Outer runs.Bland (Some 20000) 512 256)
-  pub all_options : AreReadAs (codes "outer" ∷ codes "--tries=7" ∷ codes "--rows" ∷ codes "6" ∷ codes "--run" ∷ codes "quick" ∷ codes "--pivots=none" ∷ []) (settings.Outer runs.Quick None 6 7)
-  pub rows_most : AreReadAs (codes "outer" ∷ codes "--rows" ∷ codes "4096" ∷ []) (settings.Outer runs.Bland (Some 20000) 4096 256)
+  pub alone : AreReadAs (codes "outer" ∷ []) (settings.Outer false runs.Bland (Some 20000) 512 256)
+  pub all_options : AreReadAs (codes "outer" ∷ codes "--tries=7" ∷ codes "--rows" ∷ codes "6" ∷ codes "--run" ∷ codes "quick" ∷ codes "--pivots=none" ∷ []) (settings.Outer false runs.Quick None 6 7)
+  pub rows_most : AreReadAs (codes "outer" ∷ codes "--rows" ∷ codes "4096" ∷ []) (settings.Outer false runs.Bland (Some 20000) 4096 256)
   pub rows_more : HaveNoReading (codes "outer" ∷ codes "--rows" ∷ codes "4097" ∷ [])
   pub tries_zero : HaveNoReading (codes "outer" ∷ codes "--tries" ∷ codes "0" ∷ [])
   pub format : HaveNoReading (codes "outer" ∷ codes "--format" ∷ codes "text" ∷ [])
@@ -174,6 +174,7 @@ pub record OuterIsRead : Type 0 where
 -- which modes write reports, and how they are asked for one
 pub record ReportsAreRead : Type 0 where
   pub copy : AreReadAs (codes "copy" ∷ codes "--report" ∷ []) (settings.Copy true runs.Bland (Some 20000))
+  pub best : AreReadAs (codes "best" ∷ codes "--report" ∷ []) (settings.Best true runs.Bland (Some 20000))
   pub sharing : AreReadAs (codes "--report" ∷ codes "sharing" ∷ []) (settings.Sharing true runs.Bland (Some 20000))
   pub with_all : AreReadAs (codes "copy" ∷ codes "--pivots=none" ∷ codes "--report" ∷ codes "--run=quick" ∷ []) (settings.Copy true runs.Quick None)
   pub twice : HaveNoReading (codes "copy" ∷ codes "--report" ∷ codes "--report" ∷ [])
@@ -182,5 +183,4 @@ pub record ReportsAreRead : Type 0 where
   pub answer : HaveNoReading (codes "answer" ∷ codes "--report" ∷ [])
   pub check : HaveNoReading (codes "check" ∷ codes "--report" ∷ [])
   pub bench : HaveNoReading (codes "bench" ∷ codes "--report" ∷ [])
-  pub best : HaveNoReading (codes "best" ∷ codes "--report" ∷ [])
-  pub outer : HaveNoReading (codes "outer" ∷ codes "--report" ∷ [])
+  pub outer : AreReadAs (codes "outer" ∷ codes "--rows=6" ∷ codes "--report" ∷ []) (settings.Outer true runs.Bland (Some 20000) 6 256)

@@ -101,7 +101,7 @@ outer_of given = without given (codes "format" ∷ codes "seed" ∷ codes "count
   pivots ← pivots_in given
   rows ← number_in given (codes "rows") 1 4096 512
   tries ← number_in given (codes "tries") 1 4096 256
-  Some (settings.Outer run pivots rows tries)
+  Some (settings.Outer (report_in given) run pivots rows tries)
 
 -- by the mode's word, without the options of other modes; the modes not named have no reading
 abbrev pub settings_in : (Text → Option Text) → Text → Option Settings
@@ -110,8 +110,8 @@ settings_in given mode =
     if bytes_eq mode (codes "check") then without_report given (without given option_names (Some settings.Check)) else
     if bytes_eq mode (codes "bench") then without_report given (without given (codes "format" ∷ []) (bench_of given)) else
     if bytes_eq mode (codes "copy") then runs_of given (settings.Copy (report_in given)) else
-    if bytes_eq mode (codes "best") then without_report given (runs_of given settings.Best) else
-    if bytes_eq mode (codes "outer") then without_report given (outer_of given) else
+    if bytes_eq mode (codes "best") then runs_of given (settings.Best (report_in given)) else
+    if bytes_eq mode (codes "outer") then outer_of given else
     if bytes_eq mode (codes "sharing") then runs_of given (settings.Sharing (report_in given)) else None
 
 -- without a mode there are none
@@ -140,6 +140,6 @@ AreInRange (settings.Answer format run pivots rows tries) = AreFew rows tries
 AreInRange settings.Check = Unit {0}
 AreInRange (settings.Bench seed count run pivots rows tries) = (seed < 2 ^ 31) × ((1 ≤ count) × (count ≤ 1000)) × AreFew rows tries
 AreInRange (settings.Copy report run pivots) = Unit {0}
-AreInRange (settings.Best run pivots) = Unit {0}
-AreInRange (settings.Outer run pivots rows tries) = AreFew rows tries
+AreInRange (settings.Best report run pivots) = Unit {0}
+AreInRange (settings.Outer report run pivots rows tries) = AreFew rows tries
 AreInRange (settings.Sharing report run pivots) = Unit {0}

@@ -158,7 +158,7 @@ fn copy(values: Values) -> Option<Settings>
 /// The settings of mode `best`.
 #[tactic(auto, unfolding(crate::specs::Settings::runs_of))]
 fn best(values: Values) -> Option<Settings>
-    ensures reads { result ≡ runs_of (texts_of values.entry) settings.Best }
+    ensures reads { result ≡ runs_of (texts_of values.entry) (settings.Best (report_in (texts_of values.entry))) }
     ensures ranges { IfSome result AreInRange }
 {
     if !has_runs_alone(values) {
@@ -166,7 +166,12 @@ fn best(values: Values) -> Option<Settings>
     }
     let run = run_or(values.run)?;
     let pivots = pivots_or(values.pivots)?;
-    Some(Settings::Best { run, pivots })
+    let report = has_report(values);
+    Some(Settings::Best {
+        report,
+        run,
+        pivots,
+    })
 }
 
 /// The settings of mode `outer`.
@@ -182,7 +187,9 @@ fn outer(values: Values) -> Option<Settings>
     let pivots = pivots_or(values.pivots)?;
     let rows = rows_or(values.rows)?;
     let tries = tries_or(values.tries)?;
+    let report = has_report(values);
     Some(Settings::Outer {
+        report,
         run,
         pivots,
         rows,
@@ -220,8 +227,8 @@ fn settings_by_mode(values: Values) -> Option<Settings>
         Some("check") => without_report(values, check(values)),
         Some("bench") => without_report(values, bench(values)),
         Some("copy") => copy(values),
-        Some("best") => without_report(values, best(values)),
-        Some("outer") => without_report(values, outer(values)),
+        Some("best") => best(values),
+        Some("outer") => outer(values),
         Some("sharing") => sharing(values),
         _ => None,
     }

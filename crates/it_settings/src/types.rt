@@ -55,12 +55,16 @@ pub enum Settings {
     },
     /// Find the best factors between the sides of a file's relations.
     Best {
+        /// As in mode `copy`.
+        report: bool,
         run: Run,
         /// The most steps of each of the three defined runs about a relation.
         pivots: Option<u32>,
     },
     /// Find the outer bounds in rates alone of a file's eliminations.
     Outer {
+        /// As in mode `copy`.
+        report: bool,
         /// As in mode `answer`.
         run: Run,
         pivots: Option<u32>,

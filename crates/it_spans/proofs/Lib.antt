@@ -1,3 +1,4 @@
 pub mod DropLemmas
 pub mod SpanLemmas
 pub mod VerdictLemmas
+pub mod ExistenceLemmas

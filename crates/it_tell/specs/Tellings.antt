@@ -1,6 +1,7 @@
 -- What is told of a line of a report: the verdict's own line where that is invalid, else the first line of its answer and below it, line by
 -- line, the answer's rows, its proofs, with their steps where these are asked for, or its point.
 use Rattle.std.specs.Prelude.{◌≡◌, ℕ, ℤ, List, [], ◌++◌, length, Bool, true, false, ◌⊎◌, Ok, codes, decimal}
+use Rattle.std.specs.Fmt.{signed_decimal}
 use Rattle.std.specs.List.{flat_map, zip}
 use Rattle.it_outside.specs.Groups.{Groups}
 use Rattle.it_space.specs.declared.answers.Mark.{Mark}
@@ -14,10 +15,13 @@ use Rattle.it_polymatroid.specs.Certificates.{Form}
 use Rattle.it_syntax.specs.NamesViews.{NamesView}
 use Rattle.it_question.specs.Questions.{BodyView}
 use Rattle.it_question.specs.ProblemLines.{problem_names}
+use Rattle.it_certificate.specs.Bounds.{BoundsView}
 use Rattle.it_certificate.specs.Reports as reports
 use Rattle.it_certificate.specs.Reports.{ReadsReport}
 use Rattle.it_certificate.specs.Sources.{Source, asked}
 use Rattle.it_print.specs.Lines.{certificate_text, contained_line, open_line, row_text, undecided_line, values_text, variable_names}
+use Rattle.it_ratio.specs.BestViews.{BestView, Least, Never, Unbounded}
+use Rattle.it_ratio.specs.BestViews.{BestView as bests}
 use Rattle.it_terms.specs.Tells.{TellsRow}
 use Rattle.it_terms.specs.Proofs.{TellsForm}
 use Rattle.it_terms.specs.FunctionProofs.{TellsFormUnder, by_comment}
@@ -125,11 +129,13 @@ head_line k q (Open tried) = open_line k tried
 
 -- ---- a line of a report
 
--- that it is invalid, with this verdict; its answer to the question that is asked, with these lines below the first one; or that a
--- question can't have what is asked for
+-- that it is invalid, with this verdict; its answer to the question that is asked, with these lines below the first one; its outer bound;
+-- or that a question can't have what is asked for
 pub data Telling : Type 0 where
   Invalid : (verdict : LineVerdict) → Telling
   Answered : (source : Source) (answer : AnswerView) (details : List ℕ) → Telling
+  Factored : (source : Source) (best : BestView) → Telling
+  Bounded : (source : Source) (bounds : BoundsView) → Telling
   Misfit : Telling
 
 -- the line reads as this answer to this, and its verdict isn't an invalid one
@@ -139,20 +145,55 @@ pub record IsAccepted (line : List ℕ) (source : Source) (answer : AnswerView) 
   pub accepted : is_invalid verdict ≡ false
   pub reads : ReadsReport line (Ok (reports.Answered source answer))
 
+-- the line reads as this of the factors that this asks for, and its verdict isn't an invalid one
+pub record IsAcceptedBest (line : List ℕ) (source : Source) (best : BestView) : Type 0 where
+  pub verdict : LineVerdict
+  pub is : IsVerdict line verdict
+  pub accepted : is_invalid verdict ≡ false
+  pub reads : ReadsReport line (Ok (reports.Factored source best))
+
+-- a factor after a word
+abbrev pub factor_words : List ℕ → ℤ → ℤ → List ℕ
+factor_words word num den = word ++ codes " " ++ signed_decimal num ++ codes "/" ++ signed_decimal den
+
+-- the words about what is found of factors
+abbrev pub best_words : BestView → List ℕ
+best_words (Least num den proof values) = factor_words (codes "best") num den
+best_words (Never values) = codes "none"
+best_words (Unbounded num den proof below) = factor_words (codes "unbounded") num den
+best_words (bests.Undecided cause) = codes "undecided"
+
+-- the line reads as this outer bound of that, and its verdict isn't an invalid one
+pub record IsAcceptedBound (line : List ℕ) (source : Source) (bounds : BoundsView) : Type 0 where
+  pub verdict : LineVerdict
+  pub is : IsVerdict line verdict
+  pub accepted : is_invalid verdict ≡ false
+  pub reads : ReadsReport line (Ok (reports.Bounded source bounds))
+
+-- how many rows and rays an outer bound has
+unfoldable pub bounds_words : BoundsView → List ℕ
+bounds_words b = codes "outer " ++ decimal (length b.rows) ++ codes " " ++ decimal (length b.steps)
+
 -- this may be told of the line, where steps of proofs are asked for or not
 abbrev pub IsTelling : Options → List ℕ → Telling → Type 0
 IsTelling options line (Invalid v) = IsVerdict line v × (is_invalid v ≡ true)
 IsTelling options line (Answered source answer details) = IsAccepted line source answer × AreDetails (asked source).body options answer details
+IsTelling options line (Factored source best) = IsAcceptedBest line source best
+IsTelling options line (Bounded source bounds) = IsAcceptedBound line source bounds
 IsTelling options line Misfit = ReadsReport line (Ok reports.Misfit)
 
 -- whether it is told to be invalid
 abbrev pub tells_invalid : Telling → Bool
 tells_invalid (Invalid v) = true
 tells_invalid (Answered source answer details) = false
+tells_invalid (Factored source best) = false
+tells_invalid (Bounded source bounds) = false
 tells_invalid Misfit = false
 
 -- the lines about line k
 abbrev pub telling_text : ℕ → Telling → List ℕ
 telling_text k (Invalid v) = verdict_line k v
 telling_text k (Answered source answer details) = head_line k (asked source).body answer ++ details
+telling_text k (Factored source best) = numbered_line k (best_words best)
+telling_text k (Bounded source bounds) = numbered_line k (bounds_words bounds)
 telling_text k Misfit = numbered_line k (codes "misfit")

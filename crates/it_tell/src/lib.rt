@@ -2,6 +2,7 @@
 #![tactic(auto)]
 
 mod details;
+mod factors;
 mod heads;
 pub mod laws;
 mod lines;

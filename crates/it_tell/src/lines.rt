@@ -6,14 +6,19 @@ ghost use Rattle.it_question.specs.Questions.{question_body};
 ghost use Rattle.it_canon.specs.QuestionDemands.{question_demands};
 ghost use Rattle.it_certificate.specs.AnswerShapes.{HasQuestionShape};
 ghost use Rattle.it_print.specs.Lines.{IsPrintable};
+ghost use Rattle.it_certificate.specs.Bounds.{bounds_view};
 ghost use Rattle.it_certificate.specs.Reports.{KeepsLimits};
+ghost use Rattle.it_report.specs.LineVerdicts.{numbered_line};
+ghost use Rattle.it_tell.specs.Tellings.{bounds_words};
 ghost use Rattle.it_tell.specs.Steps.{CanBePrinted, IsAnsweredText, IsReportedText, IsToldLine};
 
 use crate::details::write_details;
+use crate::factors::best_line;
 use crate::heads::{head_line, numbered_line};
 use crate::settings::Options;
 use it_canon::problem;
-use it_certificate::{ReportFault, Reported, answer_from_json};
+use it_certificate::{ReportFault, Reported, ReportedBounds, answer_from_json};
+use it_print::write_number;
 use it_question::types::Question;
 use it_report::judge;
 use it_space::Answer;
@@ -47,6 +52,19 @@ fn answered_text(
     Ok(text)
 }
 
+/// The line about an outer bound: how many rows and rays it has.
+#[tactic(auto, unfolding(crate::specs::Tellings::bounds_words))]
+fn bounds_line(alloc: Global, k: usize, bounds: &ReportedBounds) -> Result<Vec<u8>, AllocError>
+    ensures { IfOk result (λ t. t.items ≡ numbered_line k (bounds_words (bounds_view bounds.now))) }
+{
+    let mut words = Vec::new(alloc);
+    words.extend_from_slice(b"outer ")?;
+    write_number(&mut words, bounds.rows.len())?;
+    words.extend_from_slice(b" ")?;
+    write_number(&mut words, bounds.steps.len())?;
+    numbered_line(alloc, k, words.as_slice())
+}
+
 /// The lines about what was read of line k.
 fn reported_text(
     alloc: Global,
@@ -62,6 +80,11 @@ fn reported_text(
         Reported::Answered { question, answer } => {
             answered_text(alloc, options, k, question, answer)
         }
+        Reported::Factored { question: _, best } => best_line(alloc, k, best),
+        Reported::Bounded {
+            question: _,
+            bounds,
+        } => bounds_line(alloc, k, bounds),
         Reported::Misfit => numbered_line(alloc, k, b"misfit"),
     }
 }

@@ -74,17 +74,6 @@ pub fn is_nothing_under(
     }
 }
 
-/// A copy of a constraint.
-fn copy(alloc: Global, constraint: &Constraint) -> Result<Constraint, AllocError>
-    ensures { IfOk result (λ c. c ≡ constraint.now) }
-{
-    Ok(Constraint {
-        row: constraint.row.copy(alloc)?,
-        kind: constraint.kind,
-        origin: constraint.origin,
-    })
-}
-
 /// The constraints of these numbers, None where one isn't there or they are more than all.
 fn chosen(
     alloc: Global,
@@ -99,7 +88,7 @@ fn chosen(
         if index >= constraints.len() {
             return Ok(None);
         }
-        chosen.push(copy(alloc, &constraints[index])?)?;
+        chosen.push(constraints[index].copy(alloc)?)?;
     }
     Ok(Some(chosen))
 }

@@ -67,6 +67,29 @@ def shown(line: str, question: Question) -> tuple[str, list[Shown]]:
     return f"{number} unbounded {factor}", [yes_by(holds, proof), yes_by(asking(question, Prove(0 * greater >= greater)), other)]
 
 
+def of_report(line: str) -> tuple[str, list[str]]:
+    """What the line of a report says of factors, and the lines of a yes and a no that show it; for a sharing file by the question that it
+    makes. Of `undecided` and `misfit` nothing is shown."""
+    value = json.loads(line)
+    word = value["answer"]
+    if word not in ("best", "none", "unbounded"):
+        return " ".join([word, *([value["cause"]] if "cause" in value else [])]), []
+    file, mode = (value["sharing"], "sharing") if "sharing" in value else (value["question"], "best")
+    question = asked(mode, file, 1).made
+    assert isinstance(question.goal, Prove)
+    point = {"point": value.get("point"), "side": "forward"}
+    if word == "none":
+        return word, [report_line("no", question, **point)]
+    above, below = map(int, value["factor"])
+    greater, less = question.goal.relation.left, question.goal.relation.right
+    first, *others = value["proofs"]
+    shown_by = [report_line("yes", asking(question, Prove(above * greater >= below * less)), proofs=[first])]
+    if word == "best":
+        shown_by.append(report_line("no", asking(question, Prove((above - 1) * greater >= below * less)), **point))
+    shown_by += [report_line("yes", asking(question, Prove(0 * greater >= greater)), proofs=[other]) for other in others]
+    return f"{word} {above}/{below}", shown_by
+
+
 def asking(question: Question, goal: Prove) -> Question:
     return replace(question, goal=goal, source=None)
 

@@ -4,7 +4,7 @@ use Rattle.it_space.specs.Spaces.{size_of}
 use Rattle.it_demand.specs.QuestionSpaces.{space_of}
 use Rattle.it_question.specs.ProblemLines.{problem_names}
 use Rattle.it_question.specs.Questions.{question_body}
-use Rattle.it_outer.specs.Outer.{kept_coordinates}
+use Rattle.it_hull.specs.KeptRates.{kept_coordinates}
 use Rattle.it_outer.specs.Rounds.{ArePlaces}
 use Rattle.it_outer.proofs.FrameLemmas.{kept_places}
 use Rattle.it_bounds.specs.Lines.{told_rates}

@@ -4,6 +4,7 @@ use Rattle.it_question.specs.Questions.{question_body, verb_view}
 use Rattle.it_bounds.specs.Replies.{reply_view}
 use Rattle.it_bounds.specs.RowReplies.{IsReplyByRows}
 use Rattle.it_bounds.proofs.PrintLemmas.{reply_printable}
+use Rattle.it_bounds.proofs.ToldLemmas.{told_reply}
 use Rattle.it_bounds.proofs.RightLemmas.{right_bound}
 use Rattle.it_bounds.proofs.replying.reply_under.Goals as goal
 
@@ -20,3 +21,10 @@ returns-in_ok-bound-in-Eliminate-clause-printable c =
     let reply = c.in_ok-bound-in-Eliminate.bound in
     reply_printable (question_body c.args.question.now) p c.requires.problem c.args.limits c.in-Eliminate.rates.items c.requires.question c.requires.few_rows (ap verb_view c.in-Eliminate.is) reply
     (subst (λ (gone : List ℕ). IsReplyByRows c.args.limits p gone (reply_view reply)) c.as_slice.ensures.value c.in_ok-bound-in-Eliminate.ensures)
+
+pub returns-in_ok-bound-in-Eliminate-clause-told : goal.returns-in_ok-bound-in-Eliminate-clause-told
+returns-in_ok-bound-in-Eliminate-clause-told c =
+    let reply = c.in_ok-bound-in-Eliminate.bound in
+    told_reply (question_body c.args.question.now) _ c.in-Eliminate.rates.items c.requires.question (ap verb_view c.in-Eliminate.is) reply
+    (reply_printable (question_body c.args.question.now) (problem_view c.args.problem.now) c.requires.problem c.args.limits c.in-Eliminate.rates.items c.requires.question c.requires.few_rows (ap verb_view c.in-Eliminate.is) reply
+    (subst (λ (gone : List ℕ). IsReplyByRows c.args.limits (problem_view c.args.problem.now) gone (reply_view reply)) c.as_slice.ensures.value c.in_ok-bound-in-Eliminate.ensures))

@@ -12,7 +12,7 @@ use Rattle.it_cli.proofs.factoring.factor_line.Goals as goal
 
 pub returns : goal.returns
 returns c = let q = question_body c.args.question.now in if_ok c.reply_line.result (λ t. t.items ≡ reply_line c.args.k q (origins_of c.as_slice.result.now) (reply_view c.in_ok-replied.replied.reply))
-    (λ t. IsTextOf (best_mode c.args.effort) [] c.args.k (question_view c.args.question.now) t.items) c.reply_line.ensures (λ t is. record {
+    (λ t. IsTextOf (best_mode false c.args.effort) [] c.args.k (question_view c.args.question.now) t.items) c.reply_line.ensures (λ t is. record {
       reply = reply_view c.in_ok-replied.replied.reply;
       right = c.in_ok-replied.ensures.right;
       is = is ∙ ap (λ cs. reply_line c.args.k q (origins_of cs) (reply_view c.in_ok-replied.replied.reply)) c.as_slice.ensures.value ∙ ap (λ xs. reply_line c.args.k q xs (reply_view c.in_ok-replied.replied.reply))

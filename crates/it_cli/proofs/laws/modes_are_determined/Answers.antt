@@ -9,4 +9,4 @@ returns c = proof.modes_are_determined c.modes_have_one_reading.ensures c.answer
   extension = c.copies_are_determined.ensures.extension;
   misfit = c.copies_are_determined.ensures.misfit;
   either = c.copies_are_determined.ensures.either;
-}) c.replies_are_determined.ensures.one c.replies_are_determined-2.ensures.one
+}) c.replies_are_determined.ensures.one c.replies_are_determined-2.ensures.told

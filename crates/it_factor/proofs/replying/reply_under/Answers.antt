@@ -7,7 +7,7 @@ use Rattle.it_factor.specs.Lines.{IsPrintable}
 use Rattle.it_factor.specs.Replies.{reply_view}
 use Rattle.it_factor.specs.RightReplies.{IsRightReply}
 use Rattle.it_factor.specs.RowReplies.{IsReplyByRows}
-use Rattle.it_factor.specs.Truth.{at_least}
+use Rattle.it_ratio.specs.Truth.{at_least}
 use Rattle.it_factor.proofs.PrintLemmas.{constraint_count, reply_printable}
 use Rattle.it_factor.proofs.RightLemmas.{other_is_right, right_reply}
 use Rattle.it_factor.proofs.replying.reply_under.Goals as goal

@@ -1,3 +1,4 @@
+use Rattle.it_report.proofs.BoundsTruth.{valid_is_true_of_bounds}
 use Rattle.it_report.proofs.SourceTruth.{valid_is_true_by_copies, valid_is_true_of_sharing}
 use Rattle.it_report.proofs.TruthLemmas.{valid_is_true}
 use Rattle.it_report.proofs.laws.valid_is_true.Goals as goal
@@ -10,3 +11,6 @@ returns-clause-copies c = valid_is_true_by_copies
 
 pub returns-clause-sharing : goal.returns-clause-sharing
 returns-clause-sharing c = valid_is_true_of_sharing
+
+pub returns-clause-bounds : goal.returns-clause-bounds
+returns-clause-bounds c = valid_is_true_of_bounds

@@ -1,6 +1,0 @@
-use Rattle.it_question.specs.Questions.{question_body}
-use Rattle.it_bounds.proofs.RightLemmas.{posed_by_lines}
-use Rattle.it_bounds.proofs.replying.problem_of_lines.Goals as goal
-
-pub returns : goal.returns
-returns c = posed_by_lines (question_body c.args.question.now) _ c.requires c.space-space.ensures.counts c.in_ok-constraints.ensures

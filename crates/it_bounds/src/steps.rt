@@ -1,0 +1,134 @@
+//! The steps by which the hull of rays is made again, for whoever judges it.
+ghost use Rattle.std.specs.Prelude.{◌≡◌, All, IfOk, drop, length, map, option_map, take};
+ghost use Rattle.std.specs.List.{list_any};
+ghost use Rattle.it_eliminate.specs.Elimination.{is_same};
+ghost use Rattle.it_space.specs.Answers.{certificate_view};
+ghost use Rattle.it_space.specs.Problems.{problem_view};
+ghost use Rattle.it_space.specs.Spaces.{size_of};
+ghost use Rattle.it_hull.specs.Constants.{constants};
+ghost use Rattle.it_hull.specs.Hulls.{first_rows};
+ghost use Rattle.it_spans.specs.Drops.{drop_view};
+ghost use Rattle.it_spans.specs.HullRows.{AreHullRows};
+ghost use Rattle.it_spans.specs.Spans.{step_views};
+ghost use Rattle.it_spans.specs.Theorems.{AreKept, IsFrame};
+ghost use Rattle.it_bounds.specs.HullSteps.{AreMade, numbered_drops};
+ghost use Rattle.it_bounds.specs.StepViews.{IsMadeStep, AreMadeRows};
+
+use it_eliminate::Eliminated;
+use it_hull::{constants, first_rows, with_ray};
+use it_prove::Effort;
+use it_redundant::{kept_system, reduce};
+use it_space::{Certificate, Point, Problem, Row, Space, System};
+use it_spans::{Frame, RowDrop, Step};
+use std::alloc::{AllocError, Global};
+
+/// A step, and the rows that stay after it.
+struct Made {
+    step: Step,
+    rows: Vec<Row>,
+}
+
+/// Whether a row is the next one that goes.
+fn goes_next(row: &Row, dropped: &[(Row, Certificate)], next: usize) -> bool
+    ensures { result ≡ list_any (λ d. is_same row.now d.0) (take 1 (drop next dropped.now)) }
+{
+    next < dropped.len() && row.terms() == dropped[next].0.terms()
+}
+
+/// The rows that go, by their numbers in the list as it stands: those before a row, without those that went.
+fn numbered_drops(
+    alloc: Global,
+    rows: &[Row],
+    dropped: &[(Row, Certificate)],
+) -> Result<Vec<RowDrop>, AllocError>
+    ensures { IfOk result (λ v. map drop_view v.items ≡ numbered_drops 0 rows.now (map (λ d. (d.0, certificate_view d.1)) dropped.now)) }
+{
+    let mut drops: Vec<RowDrop> = Vec::new(alloc);
+    for (i, row) in rows.iter().enumerate() {
+        let next = drops.len();
+        if goes_next(row, dropped, next) {
+            let proof = dropped[next].1.copy(alloc)?;
+            drops.push(RowDrop {
+                row: i - next,
+                proof,
+            })?;
+        }
+    }
+    Ok(drops)
+}
+
+/// The same point once more.
+fn copied_ray(alloc: Global, space: Space, ray: &Point) -> Result<Point, AllocError>
+    requires ray { length ray.now ≡ size_of space }
+    ensures { IfOk result (λ p. p ≡ ray.now) }
+{
+    let values = ray.values().iter().copied().collect(alloc)?;
+    Ok(Point::new(space, values))
+}
+
+/// A ray with the rows that go after it, if it leaves few enough, and those that stay.
+fn made_step(
+    alloc: Global,
+    frame: Frame,
+    givens: &Problem,
+    effort: Effort,
+    rows: Vec<Row>,
+    ray: &Point,
+) -> Result<Option<Made>, AllocError>
+    requires frame { IsFrame frame }
+    requires givens { problem_view givens.now ≡ constants frame.space }
+    requires rows { AreHullRows frame rows.items }
+    requires ray { length ray.now ≡ size_of frame.space }
+    ensures made { IfOk result (IsMadeStep frame effort rows.items ray.now) }
+    ensures rows { IfOk result (AreMadeRows frame) }
+{
+    let hull = System {
+        space: frame.space,
+        rows,
+    };
+    match with_ray(alloc, &hull, ray, frame.spare, frame.rows)? {
+        Eliminated::Region(next) => {
+            let reduced = reduce(alloc, &next, givens, effort)?;
+            let drops = numbered_drops(alloc, next.rows.as_slice(), reduced.dropped.as_slice())?;
+            let mut left = kept_system(alloc, frame.space, &reduced)?;
+            let rows = std::mem::replace(&mut left.rows, Vec::new(alloc));
+            let ray = copied_ray(alloc, frame.space, ray)?;
+            Ok(Some(Made {
+                step: Step { ray, drops },
+                rows,
+            }))
+        }
+        Eliminated::Rows { rate: _ } => Ok(None),
+        Eliminated::Wide { rate: _ } => Ok(None),
+    }
+}
+
+/// The steps by which the hull of these rays is made, each with the rows that a reduction drops after it; none where one more ray leaves
+/// more rows than the frame allows, or a number passes the limit.
+pub fn hull_steps(
+    alloc: Global,
+    frame: Frame,
+    kept: &[u32],
+    effort: Effort,
+    rays: &[Point],
+) -> Result<Option<Vec<Step>>, AllocError>
+    requires frame { IsFrame frame }
+    requires kept { AreKept frame kept.now }
+    requires rays { All (λ ray. length ray ≡ size_of frame.space) rays.now }
+    ensures { IfOk result (λ s. AreMade frame effort (first_rows kept.now) rays.now (option_map (λ v. step_views v.items) s)) }
+{
+    let givens = constants(alloc, frame.space)?;
+    let mut rows = first_rows(alloc, kept)?;
+    let mut steps = Vec::new(alloc);
+    for ray in rays {
+        match made_step(alloc, frame, &givens, effort, rows, ray)? {
+            Some(made) => {
+                let Made { step, rows: next } = made;
+                steps.push(step)?;
+                rows = next;
+            }
+            None => return Ok(None),
+        }
+    }
+    Ok(Some(steps))
+}

@@ -1,0 +1,9 @@
+use Rattle.serde_json.specs.View.{view}
+use Rattle.it_question.specs.Questions.{question_view}
+use Rattle.it_ratio.specs.BestViews.{best_view}
+use Rattle.it_certificate.proofs.FactorFits.{best_fits}
+use Rattle.it_certificate.proofs.reports.factored.Goals as goal
+
+pub returns-in-Ok-question_best-clause-limits : goal.returns-in-Ok-question_best-clause-limits
+returns-in-Ok-question_best-clause-limits c =
+    (c.in-Ok.ensures.limits, best_fits (question_view c.in-Ok.question) c.args.kind (view c.args.value.now) (best_view c.in-Ok-question_best.best) c.in-Ok-question_best.ensures)

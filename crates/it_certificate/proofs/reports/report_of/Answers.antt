@@ -1,9 +1,0 @@
-use Rattle.serde_json.specs.View.{view}
-use Rattle.it_space.specs.Answers.{answer_view}
-use Rattle.it_question.specs.Questions.{question_view}
-use Rattle.it_certificate.proofs.FitLemmas.{answer_fits}
-use Rattle.it_certificate.proofs.reports.report_of.Goals as goal
-
-pub returns-in-Ok-question_answer-clause-limits : goal.returns-in-Ok-question_answer-clause-limits
-returns-in-Ok-question_answer-clause-limits c =
-    (c.in-Ok.ensures.limits, answer_fits (question_view c.in-Ok.question) c.in-Some.kind (view c.args.value.now) (answer_view c.in-Ok-question_answer.answer) c.in-Ok-question_answer.ensures)

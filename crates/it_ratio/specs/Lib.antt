@@ -1,0 +1,2 @@
+pub mod BestViews
+pub mod Truth

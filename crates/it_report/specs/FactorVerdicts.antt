@@ -1,0 +1,95 @@
+-- The verdict on what is said of factors, by the rows of both sides of the relation under a problem.
+use Rattle.std.specs.Prelude.{ℕ, ◌+◌, ℤ, pos, neg_ℤ, ◌-ℤ◌, ◌*ℤ◌, List, map, length, Bool, not, ◌&&◌, int_lt, Option, Some, None, Result, Ok, Err, if◌then◌else◌}
+use Rattle.std.specs.List.{find}
+use Rattle.std.specs.Ordering.{int_eq}
+use Rattle.it_space.specs.Answers.{CertificateView}
+use Rattle.it_space.specs.Problems.{ProblemView}
+use Rattle.it_space.specs.Rows.{Terms, coefficient, point_of}
+use Rattle.it_space.specs.Spaces.{size_of}
+use Rattle.it_space.specs.Sums.{terms_from}
+use Rattle.it_polymatroid.specs.Elementals.{elementals, span}
+use Rattle.it_elemental.specs.Generators.{generators}
+use Rattle.it_check.specs.Sums.{is_within, sum_within}
+use Rattle.it_check.specs.Verdicts.{no_verdict}
+use Rattle.it_check.specs.declared.verdicts.Verdict.{Verdict}
+use Rattle.it_check.specs.declared.verdicts.Verdict.TheVariants.{Valid, Width}
+use Rattle.it_ratio.specs.BestViews.{BestView, Least, Never, Unbounded, Undecided}
+use Rattle.it_report.specs.RowVerdicts.{is_valid, proof_verdict}
+use Rattle.it_report.specs.declared.factors.FactorVerdict.{FactorVerdict}
+use Rattle.it_report.specs.declared.factors.FactorVerdict.TheVariants.{BelowOne, Checked, NotZero}
+
+-- ---- rows of both sides
+
+-- the coefficient at c of num times the left row less den times the right one
+abbrev pub side_number : ℤ → ℤ → Terms → Terms → ℕ → ℤ
+side_number num den left right c = num *ℤ coefficient left c -ℤ den *ℤ coefficient right c
+
+-- whether it and its two products are within the limit
+abbrev pub is_formed : ℤ → ℤ → Terms → Terms → ℕ → Bool
+is_formed num den left right c =
+    is_within (num *ℤ coefficient left c) && (is_within (den *ℤ coefficient right c) && is_within (side_number num den left right c))
+
+-- the row of these coefficients, over so many coordinates
+unfoldable pub side_row : ℕ → ℤ → ℤ → Terms → Terms → Terms
+side_row size num den left right = terms_from 1 (map (side_number num den left right) (span 1 size))
+
+-- the first coordinate at which one isn't formed within the limit
+unfoldable pub unformed : ℕ → ℤ → ℤ → Terms → Terms → Option ℕ
+unformed size num den left right = find (λ c. not (is_formed num den left right c)) (span 1 size)
+
+-- the row, or that coordinate
+abbrev pub row_unless : Option ℕ → Terms → Result Terms ℕ
+row_unless None row = Ok row
+row_unless (Some c) row = Err c
+
+-- what follows where there is a row; else that a number is wide at the coordinate
+abbrev pub with_row : Result Terms ℕ → (Terms → FactorVerdict) → FactorVerdict
+with_row (Ok row) judge = judge row
+with_row (Err c) judge = Checked (Width c)
+
+-- ---- verdicts
+
+-- what is to be 0 is wide, or isn't 0
+abbrev pub zero_verdict : ℕ → Option ℤ → FactorVerdict
+zero_verdict place None = Checked (Width place)
+zero_verdict place (Some x) = if int_eq x (pos 0) then Checked Valid else NotZero x
+
+-- the first verdict, or where nothing is wrong the other one
+abbrev pub first_wrong : Verdict → FactorVerdict → FactorVerdict
+first_wrong verdict other = if is_valid verdict then other else Checked verdict
+
+module _ (p : ProblemView) (left right : Terms) where
+  -- num times the left row less den times the right one
+  abbrev pub row_of : ℤ → ℤ → Result Terms ℕ
+  row_of num den = row_unless (unformed (size_of p.space) num den left right) (side_row (size_of p.space) num den left right)
+
+  -- values at which the problem is met and the first row is -1 or less, and then that the other row is 0 there
+  abbrev pub tight_verdict : Terms → Terms → List ℤ → FactorVerdict
+  tight_verdict below zero values =
+      first_wrong (no_verdict (length (elementals p.space.variables)) (generators p) below (point_of values))
+      (zero_verdict (length (generators p) + 1) (sum_within (pos 0) zero (point_of values)))
+
+  -- a factor from a denominator of 1 on
+  abbrev pub from_one : ℤ → FactorVerdict → FactorVerdict
+  from_one den verdict = if int_lt den (pos 1) then BelowOne den else verdict
+
+  -- the least factor: its certificate, and a point at which the left side is at least 1 and the factor just holds
+  abbrev pub least_verdict : ℤ → ℤ → CertificateView → List ℤ → FactorVerdict
+  least_verdict num den proof values = from_one den (with_row (row_of num den) (λ factor. with_row (row_of (neg_ℤ (pos 1)) (pos 0)) (λ turned.
+      first_wrong (proof_verdict p factor proof) (tight_verdict turned factor values))))
+
+  -- no factor: a point at which the right side is at least 1 and the left one 0
+  abbrev pub never_verdict : List ℤ → FactorVerdict
+  never_verdict values = with_row (row_of (pos 0) (pos 1)) (λ turned. tight_verdict turned left values)
+
+  -- no least factor: a factor's certificate, and one that the left side is at most 0
+  abbrev pub unbounded_verdict : ℤ → ℤ → CertificateView → CertificateView → FactorVerdict
+  unbounded_verdict num den proof below = from_one den (with_row (row_of num den) (λ factor. with_row (row_of (neg_ℤ (pos 1)) (pos 0)) (λ turned.
+      first_wrong (proof_verdict p factor proof) (Checked (proof_verdict p turned below)))))
+
+  -- the verdict, where something is claimed
+  abbrev pub best_verdict : BestView → Option FactorVerdict
+  best_verdict (Least num den proof values) = Some (least_verdict num den proof values)
+  best_verdict (Never values) = Some (never_verdict values)
+  best_verdict (Unbounded num den proof below) = Some (unbounded_verdict num den proof below)
+  best_verdict (Undecided cause) = None

@@ -1,0 +1,319 @@
+//! The verdict on what is said of factors, by the rows of both sides of the relation under a problem.
+ghost use Rattle.std.specs.Prelude.{◌≡◌, ◌≤◌, ◌<◌, ◌+◌, ◌++◌, length, pos, IfErr, IfOk, OkIff, OnOk, Some, None};
+ghost use Rattle.it_space.specs.Answers.{certificate_view};
+ghost use Rattle.it_space.specs.Problems.{IsProblem, problem_view};
+ghost use Rattle.it_space.specs.Rows.{IsOver, point_of, single_term};
+ghost use Rattle.it_space.specs.Spaces.{size_of};
+ghost use Rattle.it_elemental.specs.Generators.{generators};
+ghost use Rattle.it_check.specs.Sums.{sum_within};
+ghost use Rattle.it_ratio.specs.BestViews.{Least, Unbounded, best_view};
+ghost use Rattle.it_report.specs.FactorSteps.{AreSideRows, Gives, IsComplete, IsFactorVerdictOver, NumberFits, RowForms};
+ghost use Rattle.it_report.specs.FactorVerdicts.{best_verdict, first_wrong, least_verdict, never_verdict, side_number, tight_verdict, unbounded_verdict, zero_verdict};
+ghost use Rattle.it_report.specs.RowVerdicts.{proof_verdict};
+ghost use Rattle.it_report.specs.declared.factors.FactorVerdict.TheVariants.{Checked};
+
+use crate::rows::{is_valid, proof_verdict};
+use it_check::{Verdict, check_no};
+use it_elemental::generator_count;
+use it_fraction::{Wide, difference, signed_product};
+use it_ratio::types::Best;
+use it_space::{Certificate, Point, Problem, Row, value};
+use std::alloc::{AllocError, AllocFailed, Global};
+
+/// What is wrong with what is said of factors, or that nothing is.
+#[derive(Clone, Copy)]
+pub enum FactorVerdict {
+    /// The factor's denominator is below 1.
+    BelowOne { den: i128 },
+    /// What the checker finds of a certificate or of a point; `Valid` where nothing is wrong. `Width` comes too where a coefficient of a
+    /// row passes the limit, with its coordinate, and where the sum that is to be 0 does, with the place after that of a point's target.
+    Checked(Verdict),
+    /// What is to be 0 at the point has this value.
+    NotZero { value: i128 },
+}
+
+/// Why there is no verdict by rows: memory ran out, or a coefficient at this coordinate passes the limit.
+pub enum RowStop {
+    Memory,
+    Wide { coordinate: u32 },
+}
+
+impl From<AllocError> for RowStop {
+    ghost use Rattle.std.specs.Prelude.{◌≡◌};
+    ghost use Rattle.it_report.specs.declared.factors.RowStop.TheVariants.{Memory};
+
+    ghost from_gives = { λ _ e. e ≡ Memory };
+
+    fn from(_error: AllocError) -> RowStop {
+        RowStop::Memory
+    }
+}
+
+impl<T: Drop> From<AllocFailed<T>> for RowStop {
+    ghost use Rattle.std.specs.Prelude.{◌≡◌};
+    ghost use Rattle.it_report.specs.declared.factors.RowStop.TheVariants.{Memory};
+
+    ghost from_gives = { λ _ e. e ≡ Memory };
+
+    fn from(_error: AllocFailed<T>) -> RowStop {
+        RowStop::Memory
+    }
+}
+
+// ---- rows of both sides
+
+/// A coefficient of `num` times the left row less `den` times the right one.
+fn side_number(left: &Row, right: &Row, num: &i128, den: &i128, at: u32) -> Result<i128, Wide>
+    ensures { OkIff result (NumberFits num.now den.now left.now right.now at) (side_number num.now den.now left.now right.now at) }
+{
+    let above = signed_product(*num, left.coefficient(at))?;
+    let below = signed_product(*den, right.coefficient(at))?;
+    difference(above, below)
+}
+
+/// Puts a number with its place after the others, unless it is 0.
+fn push_some(terms: &mut Vec<(u32, i128)>, place: u32, number: i128) -> Result<(), AllocError>
+    ensures { OnOk result (terms.new.items ≡ terms.old.items ++ single_term place number) }
+{
+    if number != 0 {
+        terms.push((place, number))?;
+    }
+    Ok(())
+}
+
+/// Puts a coefficient of the row after the others.
+fn push_number(
+    terms: &mut Vec<(u32, i128)>,
+    left: &Row,
+    right: &Row,
+    num: &i128,
+    den: &i128,
+    at: u32,
+) -> Result<(), RowStop>
+    ensures value { OnOk result (terms.new.items ≡ terms.old.items ++ single_term at (side_number num.now den.now left.now right.now at)) }
+    ensures fits { OnOk result (NumberFits num.now den.now left.now right.now at) }
+    ensures wide { IfErr result (λ e. (c : ℕ) → e ≡ RowStop.Wide c → (c ≡ at) × ¬ (NumberFits num.now den.now left.now right.now at)) }
+{
+    match side_number(left, right, num, den, at) {
+        Ok(number) => match push_some(terms, at, number) {
+            Ok(()) => Ok(()),
+            Err(_) => Err(RowStop::Memory),
+        },
+        Err(_) => Err(RowStop::Wide { coordinate: at }),
+    }
+}
+
+/// `num` times the left row less `den` times the right one.
+fn side_row(
+    alloc: Global,
+    problem: &Problem,
+    left: &Row,
+    right: &Row,
+    num: &i128,
+    den: &i128,
+) -> Result<Row, RowStop>
+    requires { AreSideRows (problem_view problem.now) left.now right.now }
+    ensures { RowForms (size_of problem.now.space) num.now den.now left.now right.now result }
+{
+    let mut terms = Vec::new(alloc);
+    for at in 1..problem.space.size() + 1 {
+        push_number(&mut terms, left, right, num, den, at)?;
+    }
+    Ok(Row::new(terms))
+}
+
+// ---- verdicts
+
+/// Whether the row is 0 at the point.
+fn zero_verdict(problem: &Problem, row: &Row, point: &Point) -> FactorVerdict
+    requires problem { IsProblem (problem_view problem.now) }
+    requires row { IsOver (size_of problem.now.space) row.now }
+    requires complete { length point.now ≡ size_of problem.now.space }
+    ensures verdict { result ≡ zero_verdict (length (generators (problem_view problem.now)) + 1) (sum_within (pos 0) row.now (point_of point.now)) }
+    ensures over { IsFactorVerdictOver (size_of problem.now.space + 1) result }
+{
+    let Ok(value) = value(row, point) else {
+        let place = generator_count(problem) + 1;
+        return FactorVerdict::Checked(Verdict::Width { place });
+    };
+    if value == 0 {
+        FactorVerdict::Checked(Verdict::Valid)
+    } else {
+        FactorVerdict::NotZero { value }
+    }
+}
+
+/// Whether the point meets the problem with `below` at most -1 there, and `zero` 0.
+#[tactic(auto, using(crate::proofs::VerdictLemmas::no_over))]
+fn tight_verdict(problem: &Problem, below: &Row, zero: &Row, point: &Point) -> FactorVerdict
+    requires problem { IsProblem (problem_view problem.now) }
+    requires below { IsOver (size_of problem.now.space) below.now }
+    requires zero { IsOver (size_of problem.now.space) zero.now }
+    requires complete { length point.now ≡ size_of problem.now.space }
+    ensures verdict { result ≡ tight_verdict (problem_view problem.now) below.now zero.now point.now }
+    ensures over { IsFactorVerdictOver (size_of problem.now.space + 1) result }
+{
+    let verdict = check_no(problem, below, point);
+    if is_valid(&verdict) {
+        zero_verdict(problem, zero, point)
+    } else {
+        FactorVerdict::Checked(verdict)
+    }
+}
+
+/// The certificate of the factor's row, and then the point.
+fn factor_verdict(
+    problem: &Problem,
+    factor: &Row,
+    turned: &Row,
+    proof: &Certificate,
+    point: &Point,
+) -> FactorVerdict
+    requires problem { IsProblem (problem_view problem.now) }
+    requires factor { IsOver (size_of problem.now.space) factor.now }
+    requires turned { IsOver (size_of problem.now.space) turned.now }
+    requires complete { length point.now ≡ size_of problem.now.space }
+    ensures verdict { result ≡ first_wrong (proof_verdict (problem_view problem.now) factor.now (certificate_view proof.now)) (tight_verdict (problem_view problem.now) turned.now factor.now point.now) }
+    ensures over { IsFactorVerdictOver (size_of problem.now.space + 1) result }
+{
+    let verdict = proof_verdict(problem, factor, proof);
+    if is_valid(&verdict) {
+        tight_verdict(problem, turned, factor, point)
+    } else {
+        FactorVerdict::Checked(verdict)
+    }
+}
+
+/// The certificates of two rows.
+fn both_verdict(
+    problem: &Problem,
+    factor: &Row,
+    turned: &Row,
+    proof: &Certificate,
+    below: &Certificate,
+) -> FactorVerdict
+    requires problem { IsProblem (problem_view problem.now) }
+    requires factor { IsOver (size_of problem.now.space) factor.now }
+    requires turned { IsOver (size_of problem.now.space) turned.now }
+    ensures verdict { result ≡ first_wrong (proof_verdict (problem_view problem.now) factor.now (certificate_view proof.now)) (Checked (proof_verdict (problem_view problem.now) turned.now (certificate_view below.now))) }
+    ensures over { IsFactorVerdictOver (size_of problem.now.space + 1) result }
+{
+    let verdict = proof_verdict(problem, factor, proof);
+    if is_valid(&verdict) {
+        FactorVerdict::Checked(proof_verdict(problem, turned, below))
+    } else {
+        FactorVerdict::Checked(verdict)
+    }
+}
+
+/// What is wrong with a least factor.
+fn least_verdict(
+    alloc: Global,
+    problem: &Problem,
+    left: &Row,
+    right: &Row,
+    num: &i128,
+    den: &i128,
+    proof: &Certificate,
+    point: &Point,
+) -> Result<FactorVerdict, RowStop>
+    requires sides { AreSideRows (problem_view problem.now) left.now right.now }
+    requires complete { length point.now ≡ size_of problem.now.space }
+    ensures verdict { Gives result (least_verdict (problem_view problem.now) left.now right.now num.now den.now (certificate_view proof.now) point.now) }
+    ensures over { IfOk result (IsFactorVerdictOver (size_of problem.now.space + 1)) }
+{
+    if *den < 1 {
+        return Ok(FactorVerdict::BelowOne { den: *den });
+    }
+    let factor = side_row(alloc, problem, left, right, num, den)?;
+    let turned = side_row(alloc, problem, left, right, &-1, &0)?;
+    Ok(factor_verdict(problem, &factor, &turned, proof, point))
+}
+
+/// What is wrong with a point at which no factor holds.
+fn never_verdict(
+    alloc: Global,
+    problem: &Problem,
+    left: &Row,
+    right: &Row,
+    point: &Point,
+) -> Result<FactorVerdict, RowStop>
+    requires sides { AreSideRows (problem_view problem.now) left.now right.now }
+    requires complete { length point.now ≡ size_of problem.now.space }
+    ensures verdict { Gives result (never_verdict (problem_view problem.now) left.now right.now point.now) }
+    ensures over { IfOk result (IsFactorVerdictOver (size_of problem.now.space + 1)) }
+{
+    let turned = side_row(alloc, problem, left, right, &0, &1)?;
+    Ok(tight_verdict(problem, &turned, left, point))
+}
+
+/// What is wrong with a factor where there is no least one.
+fn unbounded_verdict(
+    alloc: Global,
+    problem: &Problem,
+    left: &Row,
+    right: &Row,
+    num: &i128,
+    den: &i128,
+    proof: &Certificate,
+    below: &Certificate,
+) -> Result<FactorVerdict, RowStop>
+    requires { AreSideRows (problem_view problem.now) left.now right.now }
+    ensures verdict { Gives result (unbounded_verdict (problem_view problem.now) left.now right.now num.now den.now (certificate_view proof.now) (certificate_view below.now)) }
+    ensures over { IfOk result (IsFactorVerdictOver (size_of problem.now.space + 1)) }
+{
+    if *den < 1 {
+        return Ok(FactorVerdict::BelowOne { den: *den });
+    }
+    let factor = side_row(alloc, problem, left, right, num, den)?;
+    let turned = side_row(alloc, problem, left, right, &-1, &0)?;
+    Ok(both_verdict(problem, &factor, &turned, proof, below))
+}
+
+/// A verdict by rows; where one isn't formed, that a number is wide at the coordinate.
+fn verdict_or_wide(given: Result<FactorVerdict, RowStop>) -> Result<FactorVerdict, AllocError>
+    ensures verdict { (v : FactorVerdict) → Gives given v → IfOk result (λ w. w ≡ v) }
+    ensures over { (bound : ℕ) → IfOk given (IsFactorVerdictOver bound) → IfOk result (IsFactorVerdictOver bound) }
+{
+    match given {
+        Ok(verdict) => Ok(verdict),
+        Err(RowStop::Wide { coordinate }) => Ok(FactorVerdict::Checked(Verdict::Width {
+            place: coordinate,
+        })),
+        Err(RowStop::Memory) => Err(AllocError),
+    }
+}
+
+/// The verdict on what is found of the factors between two rows; none where nothing is claimed. `Width` comes with the coordinate at
+/// which a row isn't formed within the limit, else with the place that the checker gives, or with the one after that of a point's target.
+pub fn best_verdict(
+    alloc: Global,
+    problem: &Problem,
+    left: &Row,
+    right: &Row,
+    best: &Best,
+) -> Result<Option<FactorVerdict>, AllocError>
+    requires sides { AreSideRows (problem_view problem.now) left.now right.now }
+    requires complete { IsComplete (size_of problem.now.space) (best_view best.now) }
+    ensures verdict { IfOk result (λ v. v ≡ best_verdict (problem_view problem.now) left.now right.now (best_view best.now)) }
+    ensures over { IfOk result (λ o. (v : FactorVerdict) → o ≡ Some v → IsFactorVerdictOver (size_of problem.now.space + 1) v) }
+{
+    let given = match best {
+        Best::Least {
+            num,
+            den,
+            proof,
+            point,
+        } => least_verdict(alloc, problem, left, right, num, den, proof, point),
+        Best::Never(point) => never_verdict(alloc, problem, left, right, point),
+        Best::Unbounded {
+            num,
+            den,
+            proof,
+            below,
+        } => unbounded_verdict(alloc, problem, left, right, num, den, proof, below),
+        Best::Undecided(_) => return Ok(None),
+    };
+    let verdict = verdict_or_wide(given)?;
+    Ok(Some(verdict))
+}
