@@ -97,9 +97,9 @@ fn variable_set(names: &Names, i: u8) -> VarSet
     VarSet::single(i)
 }
 
-/// The origin of a constraint: the line that it comes from.
+/// The line that a constraint comes from: `given J`, `given J.I` where the line gives several, or `row J`.
 #[tactic(auto, unfolding(crate::specs::Lines::origin_text))]
-fn write_origin(out: &mut Vec<u8>, origin: Origin) -> Result<(), AllocError>
+pub fn write_origin(out: &mut Vec<u8>, origin: Origin) -> Result<(), AllocError>
     ensures { OnOk result (out.new.items ≡ out.old.items ++ origin_text origin) }
 {
     match origin {

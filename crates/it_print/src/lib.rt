@@ -11,7 +11,7 @@ mod substitutions;
 mod sums;
 mod values;
 
-pub use generators::write_elemental;
+pub use generators::{write_elemental, write_origin};
 pub use lines::answer_line;
 pub use pieces::{write_number, write_signed};
 pub use proof_lines::proof_text;

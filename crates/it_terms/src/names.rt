@@ -1,10 +1,10 @@
 //! Constraints by the names of their lines.
-ghost use Rattle.std.specs.Prelude.{◌≡◌, ◌++◌, [], codes, decimal, int_lt, length, map, pos, slice_index_or, unsigned_abs, ◌==◌, if◌then◌else◌, nat_lt, IfOk, OnOk};
+ghost use Rattle.std.specs.Prelude.{◌≡◌, ◌++◌, [], codes, decimal, int_lt, length, map, pos, slice_index_or, unsigned_abs, ◌==◌, if◌then◌else◌, IfOk, OnOk};
 ghost use Rattle.it_space.specs.declared.problems.Origin.TheVariants.{Rate};
-ghost use Rattle.it_print.specs.Lines.{origin_text, origins_of};
+ghost use Rattle.it_print.specs.Lines.{origins_of};
 ghost use Rattle.it_terms.specs.FunctionProofs.{by_comment, line_name, named_weight, named_weights, weight_sign};
 
-use it_print::write_number;
+use it_print::write_origin;
 use it_space::{Constraint, Origin};
 use itoa::Buffer;
 use std::alloc::{AllocError, Global};
@@ -18,35 +18,6 @@ fn origin_at(constraints: &[Constraint], line: u32) -> Origin
         constraints[index].origin
     } else {
         Origin::Rate { line: 0 }
-    }
-}
-
-/// `.I` where a line gives several constraints.
-fn write_part(out: &mut Vec<u8>, part: u16, parts: u16) -> Result<(), AllocError>
-    ensures { OnOk result (out.new.items ≡ out.old.items ++ (if nat_lt 1 parts then codes "." ++ decimal part else [])) }
-{
-    if parts > 1 {
-        out.extend_from_slice(b".")?;
-        write_number(out, part as usize)?;
-    }
-    Ok(())
-}
-
-/// `given J`, `given J.I` or `row J`.
-#[tactic(auto, unfolding(it_print::specs::Lines::origin_text))]
-fn write_origin(out: &mut Vec<u8>, origin: Origin) -> Result<(), AllocError>
-    ensures { OnOk result (out.new.items ≡ out.old.items ++ origin_text origin) }
-{
-    match origin {
-        Origin::Given { line, part, parts } => {
-            out.extend_from_slice(b"given ")?;
-            write_number(out, line as usize)?;
-            write_part(out, part, parts)
-        }
-        Origin::Rate { line } => {
-            out.extend_from_slice(b"row ")?;
-            write_number(out, line as usize)
-        }
     }
 }
 
