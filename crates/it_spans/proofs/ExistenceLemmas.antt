@@ -121,7 +121,7 @@ module _ (at : ℕ) (up down : Terms) where
           → MixesAt c ⊎ ¬ (MixesAt c)
       by_both (inl e) mix = inl (λ n. absurd (n e))
       by_both (inr n) (inl f) = inl (λ k. f)
-      by_both (inr n) (inr no) = inr (λ all. no (all n))
+      by_both (inr n) (inr m) = inr (λ all. m (all n))
 
   mixes_everywhere : Every MixesAt (map (λ t. t.0) up) → Every MixesAt (map (λ t. t.0) down) → CancelFits at up down
   mixes_everywhere ups downs c other = by_both (in_or_out up c) (in_or_out down c)
@@ -161,7 +161,7 @@ module _ (at : ℕ) (up down : Terms) where
     where
       by_each : (pos 0 <ℤ coefficient up at) ⊎ ¬ (pos 0 <ℤ coefficient up at) → (coefficient down at <ℤ pos 0) ⊎ ¬ (coefficient down at <ℤ pos 0) → CancelFits at up down ⊎ ¬ (CancelFits at up down) → IsPairFit ⊎ ¬ IsPairFit
       by_each (inl p) (inl n) (inl f) = inl (λ a b. f)
-      by_each (inl p) (inl n) (inr no) = inr (λ all. no (all p n))
+      by_each (inl p) (inl n) (inr m) = inr (λ all. m (all p n))
       by_each (inl p) (inr none) f = inl (λ a b. absurd (none b))
       by_each (inr none) n f = inl (λ a b. absurd (none a))
 
@@ -202,11 +202,12 @@ steps_there : (f : Frame) (ray : ℕ) (rows : List Terms) (steps : List StepView
 steps_there f ray rows [] = (Ok rows, refl)
 steps_there f ray rows (s ∷ steps) =
     let left = ray_end_there (2 ^ f.space.variables) f.rows s.ray f.spare rows in
-    by_first (step_end f.space ray s.drops left.0) (left.0, left.1, refl)
+    by_first (step_end f.space ray s.drops left.0) (left.0, left.1, refl) (λ next. steps_there f (ray + 1) next steps)
   where
-    by_first : (first : Result (List Terms) Fault) → StepEnds f ray rows s first → (end : Result (List Terms) Fault) × StepsEnd f ray rows (s ∷ steps) end
-    by_first (Ok next) e = let rest = steps_there f (ray + 1) next steps in (rest.0, (Ok next, e, rest.1))
-    by_first (Err fault) e = (Err fault, (Err fault, e, refl))
+    by_first : (first : Result (List Terms) Fault) → StepEnds f ray rows s first → ((next : List Terms) → (end : Result (List Terms) Fault) × StepsEnd f (ray + 1) next steps end)
+        → (end : Result (List Terms) Fault) × StepsEnd f ray rows (s ∷ steps) end
+    by_first (Ok next) e later = let rest = later next in (rest.0, (Ok next, e, rest.1))
+    by_first (Err fault) e later = (Err fault, (Err fault, e, refl))
 
 pub hull_verdict_there : (f : Frame) (kept : List ℕ) (steps : List StepView) (rows : List Terms) → (verdict : HullVerdict) × VerdictIs f kept steps rows verdict
 hull_verdict_there f kept steps rows =

@@ -1,4 +1,4 @@
-use Rattle.std.proofs.Common.{rules, ◌≡◌, ◌+◌, ◌<◌, true, false, drop, length, arith}
+use Rattle.std.proofs.Common.{rules, ◌≡◌, ◌<◌, true, false, drop, length, arith}
 use Rattle.it_spans.specs.HullRows.{same_first}
 use Rattle.it_spans.specs.Verdicts.{first_difference}
 use Rattle.it_spans.proofs.VerdictLemmas.{difference_found, difference_goes, difference_last}
