@@ -55,6 +55,8 @@ class Answers:
         """The line of a report."""
         if isinstance(question, (Misfit, sharing.TooMany)):
             return misfit_json(question.about, str(question))
+        if self.mode == "outer":
+            return bounds.report(question, self.rows, self.tries, self.pivots)
         if self.asks_factor(question) and not best.asks_factor(question):
             return misfit_json(question.about, "other")
         if self.asks_factor(question):

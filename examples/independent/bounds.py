@@ -1,16 +1,18 @@
 """The search for outer bounds as it is defined, from inside: the hull of rays, whose rows are proved or refuted one after the other, and the
-lines that it gives. A point that refutes a row is one more ray. The search is made twice, the second time from the extreme rays that it found
-first. Runs are as they are defined; a row that is proved isn't asked again.
+lines, or the line of a report, that it gives. A point that refutes a row is one more ray. The search is made twice, the second time from the
+extreme rays that it found first. Runs are as they are defined; a row that is proved isn't asked again.
 """
 
 from math import gcd
 
+from certificates import Wide, value
 from closures import table_size
-from defined import Wide, check_values, outcome, sum_text, values_text
-from eliminate import list_after, ordered_rows, reduce, row_text
+from defined import outcome, sum_text, values_text
+from eliminate import reduce, row_text
+from hulls import constants, first_rows, rows_with
 from outer import kept_rates, with_all_lines
-from questions import ENTRIES, Generator, Scope
-from verify import value
+from questions import ENTRIES
+from reports import misfit_json, outer_json
 
 
 class Undecided(Exception):
@@ -23,31 +25,32 @@ class Search:
         self.most, self.tries, self.pivots = rows, tries, pivots
         self.proved, self.runs = {}, 0
 
-    def reduced(self, rows):
-        """Rows over rates with their marks, without those that follow. A run in which all variables are constant is over rates alone, so one
-        variable stands for all of them."""
-        constants, first = Scope(self.scope.names[:1], self.scope.rates), 2 ** len(self.scope.names)
-        constants.constraints = [Generator("given 1", {1: 1}, True, True)]
+    def reduced(self, rows, drops):
+        """Rows over rates with their marks, without those that follow, of which `drops` gets what a report tells. A run in which all variables
+        are constant is over rates alone, so one variable stands for all of them."""
+        first, gone = 2 ** len(self.scope.names), []
         moved = [{at - first + 2: c for at, c in row.items()} for row in rows]
-        return [(mark, {at - 2 + first: c for at, c in row.items()}) for mark, row in reduce(constants, moved, self.pivots, [])]
+        kept = reduce(constants(self.scope, 1), moved, self.pivots, [], gone)
+        # before the rows stand all elemental inequalities and one line a variable, where here one of each is
+        shift = len(self.scope.elementals()) + len(self.scope.names) - 2
+        drops += [(at, scale, {j + shift: weight for j, weight in weights.items() if weight}) for at, scale, weights in gone]
+        return [(mark, {at - 2 + first: c for at, c in row.items()}) for mark, row in kept]
 
     def value(self, row, ray):
         try:
-            check_values([row], ray)
+            return value(row, ray)
         except Wide:
             raise Undecided("width") from None
-        return value(row, ray)
 
-    def with_ray(self, hull, ray):
-        """The hull with one more ray, whose multiplier stands at the first rate that goes."""
-        at = self.question.eliminated[0]
-        lifted = [{of: c for of, c in sorted({**row, at: -self.value(row, ray)}.items()) if c} for row in hull]
-        rows, wide = list_after(ordered_rows([*lifted, {at: 1}]), at)
-        if wide:
-            raise Undecided("width")
+    def with_ray(self, hull, ray, drops):
+        """The hull with one more ray."""
+        try:
+            rows = rows_with(self.question, hull, ray)
+        except Wide:
+            raise Undecided("width") from None
         if len(rows) > self.most:
             raise Undecided("rows")
-        return [row for _, row in self.reduced(rows)]
+        return [row for _, row in self.reduced(rows, drops)]
 
     def refuted(self, hull):
         """The point that refutes the first row without a proof; None where all are proved."""
@@ -66,16 +69,16 @@ class Search:
 
     def hull_and_rays(self, rays):
         """The end of a pass that begins with rays."""
-        hull, rays = [{at: sign} for at in self.kept for sign in (1, -1)], list(rays)
+        hull, rays = first_rows(self.kept), list(rays)
         for ray in rays:
-            hull = self.with_ray(hull, ray)
+            hull = self.with_ray(hull, ray, [])
         while True:
             ray = self.refuted(hull)
             if ray is None:
                 return hull, rays
             if len(rays) >= self.tries:
                 raise Undecided(f"rays {self.tries}")
-            hull = self.with_ray(hull, ray)
+            hull = self.with_ray(hull, ray, [])
             rays.append(ray)
 
     def extreme(self, hull, rays):
@@ -94,9 +97,34 @@ class Search:
         if table_size(len(self.scope.names), len(self.scope.rates), self.scope.constraints) > ENTRIES:
             raise Undecided("size")
         hull, rays = self.hull_and_rays(self.extreme(*self.hull_and_rays([])))
-        marked = self.reduced(hull)
+        marked = self.reduced(hull, [])
         marks = [mark for mark, _ in marked] if len(marked) == len(hull) else ["unsettled"] * len(hull)
         return [(mark, row, self.proved[tuple(sorted(row.items()))]) for mark, row in zip(marks, hull)], rays
+
+    def steps(self, rays):
+        """Each ray with its drops, by which the hull is made; `Undecided` where it isn't."""
+        hull, steps = first_rows(self.kept), []
+        for ray in rays:
+            drops = []
+            hull = self.with_ray(hull, ray, drops)
+            steps.append((ray, drops))
+        return steps
+
+
+def report(question, rows=512, tries=256, pivots=20000):
+    """The line of a report of mode `outer`."""
+    if question.verb != "eliminate":
+        return misfit_json(question.about, "other")
+    search = Search(question, rows, tries, pivots)
+    try:
+        found, rays = search.bound()
+    except Undecided as cause:
+        return misfit_json(question.about, f"undecided {cause}")
+    try:
+        steps = search.steps(rays)
+    except Undecided:
+        return misfit_json(question.about, "undecided drops")
+    return outer_json(question.about, question, [(row, proof) for _, row, proof in found], steps)
 
 
 def lines(number, question, rows=512, tries=256, pivots=20000):

@@ -17,13 +17,13 @@ LIMIT = 2**127 - 1
 
 def ordered_rows(rows):
     """The rows in order: in lowest terms, without zero rows and doubles."""
-    kept = []
+    kept = {}
     for row in rows:
         divisor = gcd(*row.values())
-        row = {at: c // divisor for at, c in row.items()}
-        if row and row not in kept:
-            kept.append(row)
-    return kept
+        terms = tuple(sorted((at, c // divisor) for at, c in row.items()))
+        if terms:
+            kept[terms] = dict(terms)
+    return list(kept.values())
 
 
 def cancelled_row(up, down, rate):
@@ -63,14 +63,17 @@ def follows(question, rows, target):
     return end == "yes"
 
 
-def reduce(question, rows, pivots, steps):
-    """The rows that stay, each with its mark; the number of steps of each row's run goes to `steps`."""
+def reduce(question, rows, pivots, steps, drops):
+    """The rows that stay, each with its mark. The number of steps of each row's run goes to `steps`, and of each row that goes its number in
+    the list as it stands, the scale and the weights go to `drops`."""
     kept = []
     for number, row in enumerate(rows):
         others = [other for _, other in kept] + rows[number + 1 :]
-        end, _, made = outcome(with_rows(question, others), row, pivots)
+        end, found, made = outcome(with_rows(question, others), row, pivots)
         steps.append(made)
-        if end != "yes":
+        if end == "yes":
+            drops.append((len(kept), *found))
+        else:
             kept.append(("needed" if end == "no" else "unsettled", row))
     return kept
 
@@ -93,7 +96,7 @@ def eliminate(question, most=512, pivots=20000):
             return "width", rate, steps
         if len(rows) > most:
             return "rows", rate, steps
-        kept = reduce(question, rows, pivots, steps)
+        kept = reduce(question, rows, pivots, steps, [])
         rows = [row for _, row in kept]
     return "region", kept, steps
 

@@ -1,20 +1,24 @@
 """Reports: the line that an answer gets in JSON, and the verdict on any line, from the format's definition and `verify`'s meaning.
 
 A line is judged key by key; a certificate by its scale, its weights in order and its sums coordinate by coordinate; a point by the
-generators in order and then the target. Numbers are told as they are written, so `1.0` and `1e0` are no whole numbers.
+generators in order and then the target; an outer bound by its certificates, its points and the hull of its rays. Numbers are told as they
+are written, so `1.0` and `1e0` are no whole numbers.
 """
 
 import json
 import re
 
+from certificates import Wide, fit, met_verdict, point_verdict, sum_verdict
+from certificates import value as row_value
 from contain import Containment
 from copies import Misfit, extended, read_with_head
+from defined import LIMIT
+from hulls import hull_verdict
+from outer import kept_rates, with_all_lines
 from questions import Fault, read
 from sharing import TooMany, made
 
-# every number of the product is at most this in absolute value
-LIMIT = 2**127 - 1
-ANSWERS = {"prove": ("yes", "no", "undecided"), "eliminate": ("region", "undecided"), "contain": ("contained", "open")}
+ANSWERS = {"prove": ("yes", "no", "undecided"), "eliminate": ("region", "undecided", "outer"), "contain": ("contained", "open")}
 # those about the factors of `prove E >= F`; an `undecided` with a phase is one of them
 FACTORS = ("best", "none", "unbounded")
 
@@ -53,7 +57,7 @@ def report_json(about, question, end, found):
         side, values = found
         value |= {"answer": end, "point": [str(values[at]) for at in range(1, question.size() + 1)], "side": side}
     elif end == "region":
-        rows = [{"mark": mark, "row": [[at, str(row[at])] for at in sorted(row)]} for mark, row in found]
+        rows = [{"mark": mark, "row": row_pairs(row)} for mark, row in found]
         value |= {"answer": end, "rows": rows}
     elif end == "contained":
         value |= {"answer": end, "parts": list(found[0]), "proofs": [proof_value(*proof) for proof in found[1]]}
@@ -80,8 +84,27 @@ def best_json(about, question, end, found):
     return line_of(value)
 
 
+def outer_json(about, question, rows, steps):
+    """The line of an outer bound: rows with their certificates, and rays, each with its drops."""
+    size = question.size()
+    rays = [
+        {"drops": [{"row": at, **proof_value(*proof)} for at, *proof in drops], "point": [str(ray[at]) for at in range(1, size + 1)]}
+        for ray, drops in steps
+    ]
+    return line_of(about | {
+        "answer": "outer",
+        "rows": [{"row": row_pairs(row)} for row, _ in rows],
+        "proofs": [proof_value(*proof) for _, proof in rows],
+        "rays": rays,
+    })
+
+
 def line_of(value):
     return json.dumps(value, separators=(",", ":"), sort_keys=True, ensure_ascii=False)
+
+
+def row_pairs(row):
+    return [[at, str(row[at])] for at in sorted(row)]
 
 
 def proof_value(scale, weights):
@@ -206,27 +229,42 @@ def file_of(text, most, reader, key):
         raise Shape(key) from None
 
 
+def proof_of(value, key):
+    """The scale and the weights of a certificate."""
+    scale, weights = decimal(members(value, key).get("scale"), key), []
+    for pair in items(value.get("weights"), key):
+        index, weight = items(pair, key, 2)
+        weights.append((count(index, key), decimal(weight, key)))
+    return scale, weights
+
+
 def proofs_of(value, length):
-    proofs = []
-    for proof in items(value.get("proofs"), "proofs", length):
-        members(proof, "proofs")
-        scale, weights = decimal(proof.get("scale"), "proofs"), []
-        for pair in items(proof.get("weights"), "proofs"):
-            index, weight = items(pair, "proofs", 2)
-            weights.append((count(index, "proofs"), decimal(weight, "proofs")))
-        proofs.append((scale, weights))
-    return proofs
+    return [proof_of(proof, "proofs") for proof in items(value.get("proofs"), "proofs", length)]
 
 
-def rows_of(value, question):
+def row_of(value, question):
+    """A row: coordinates in order, no coefficient 0."""
+    found, last = {}, 0
+    for pair in items(members(value, "rows").get("row"), "rows"):
+        at, coefficient = items(pair, "rows", 2)
+        at, coefficient = count(at, "rows"), decimal(coefficient, "rows")
+        rule(last < at <= question.size() and coefficient, "rows")
+        found[at], last = coefficient, at
+    return found
+
+
+def marked_rows(value, question):
     for row in items(value.get("rows"), "rows"):
         rule(members(row, "rows").get("mark") in ("plain", "needed", "unsettled"), "rows")
-        last = 0
-        for pair in items(row.get("row"), "rows"):
-            at, coefficient = items(pair, "rows", 2)
-            at, coefficient = count(at, "rows"), decimal(coefficient, "rows")
-            rule(last < at <= question.size() and coefficient, "rows")
-            last = at
+        row_of(row, question)
+
+
+def step_of(value, question):
+    """A ray, and the rows that go after it: the number of each in the list as it stands, with its certificate."""
+    drops = []
+    for drop in items(members(value, "rays").get("drops"), "rays"):
+        drops.append((count(members(drop, "rays").get("row"), "rays"), *proof_of(drop, "rays")))
+    return point_of(value, question, "rays"), drops
 
 
 def at_of(value, question, cause):
@@ -264,8 +302,8 @@ def factor_of(value):
     return [decimal(number, "factor") for number in items(value.get("factor"), "factor", 2)]
 
 
-def point_of(value, question):
-    return dict(enumerate([decimal(v, "point") for v in items(value.get("point"), "point", question.size())], 1))
+def point_of(value, question, key="point"):
+    return dict(enumerate([decimal(v, key) for v in items(value.get("point"), key, question.size())], 1))
 
 
 def combined(question, num, den):
@@ -286,7 +324,7 @@ def tight_fault(question, below, zero, values):
     if found:
         return found
     try:
-        rest = total((zero[at], values[at]) for at in sorted(zero))
+        rest = row_value(zero, values)
     except Wide:
         return f"width {len(question.generators()) + 1}"
     return f"zero {rest}" if rest else None
@@ -325,6 +363,20 @@ def best_words(value, answer):
     return f"invalid {found}" if found else "valid"
 
 
+def outer_words(value, question):
+    """The words about an outer bound: on its certificates, then on the points of its rays, then on its rows as the hull of the rays."""
+    rows = [row_of(row, question) for row in items(value.get("rows"), "rows")]
+    proofs = proofs_of(value, len(rows))
+    steps = [step_of(ray, question) for ray in items(value.get("rays"), "rays")]
+    scope = with_all_lines(question)
+    words = first_fault(scope, rows, proofs)
+    if words != "valid":
+        return words
+    wrong = next(filter(None, (met_verdict(scope, ray) for ray, _ in steps)), None)
+    wrong = wrong or hull_verdict(question, kept_rates(question), steps, rows)
+    return f"invalid {wrong}" if wrong else "valid"
+
+
 def verdict(line):
     """The words of a verdict, without the line's number."""
     value = reading(line)
@@ -340,6 +392,8 @@ def verdict(line):
         return first_fault(question, question.targets, proofs_of(value, len(question.targets)))
     if answer == "contained":
         return first_fault(*contained_of(value, question))
+    if answer == "outer":
+        return outer_words(value, question)
     if answer == "no":
         point = point_of(value, question)
         side = text_at(value, "side")
@@ -352,72 +406,10 @@ def verdict(line):
         rule(cause in ("pivots", "width", "scale", "rows"), "cause")
         at_of(value, question, cause)
     elif answer == "region":
-        rows_of(value, question)
+        marked_rows(value, question)
     else:
         count(value.get("tried"), "tried")
     return "skipped"
-
-
-# Certificates and points
-
-class Wide(Exception):
-    """A number passes 2**127 - 1."""
-
-
-def fit(value):
-    if abs(value) > LIMIT:
-        raise Wide
-    return value
-
-
-def total(products):
-    partial = 0
-    for a, b in products:
-        partial = fit(partial + fit(a * b))
-    return partial
-
-
-def sum_verdict(question, target, scale, weights):
-    """The first thing that is wrong with a certificate, or None."""
-    generators = question.generators()
-    if scale < 1:
-        return f"scale {scale}"
-    for index, weight in weights:
-        if index >= len(generators):
-            return f"generator {index}"
-        if weight < 0 and not generators[index].equation:
-            return f"negative {index}"
-    for at in range(1, question.size() + 1):
-        try:
-            left = fit(scale * target.get(at, 0))
-            right = total((weight, generators[index].row.get(at, 0)) for index, weight in weights)
-        except Wide:
-            return f"width {at}"
-        if left != right:
-            return f"mismatch {question.coordinate_text(at)} {left} {right}"
-    return None
-
-
-def point_verdict(question, target, values):
-    """The first thing that is wrong with a counterexample, or None."""
-    generators = question.generators()
-    elementals = len(generators) - len(question.constraints)
-
-    def value(row):
-        return total((row[at], values[at]) for at in sorted(row))
-
-    for index, generator in enumerate(generators):
-        try:
-            found = value(generator.row)
-        except Wide:
-            return f"width {index}"
-        if found < 0 or generator.equation and found:
-            return f"{'elemental' if index < elementals else 'constraint'} {index} {found}"
-    try:
-        found = value(target)
-    except Wide:
-        return f"width {len(generators)}"
-    return f"target {found}" if found > -1 else None
 
 
 def judge(number, line):
