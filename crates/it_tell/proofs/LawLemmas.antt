@@ -18,11 +18,7 @@ use Rattle.it_check.specs.declared.verdicts.Verdict.{Verdict}
 use Rattle.it_print.specs.Lines.{certificate_text, row_text, values_text}
 use Rattle.it_report.specs.Judging.{IsReadingVerdict, IsVerdict, verdict_of}
 use Rattle.it_region.specs.AnswerForms.{answer_forms}
-<<<<<<< HEAD
-use Rattle.it_report.specs.LineVerdicts.{LineVerdict, NotJson, Shape, Skipped, Judged, Weighed, is_invalid}
-=======
-use Rattle.it_report.specs.LineVerdicts.{LineVerdict, NotJson, Shape, Skipped, Judged, Hulled, is_invalid}
->>>>>>> outer
+use Rattle.it_report.specs.LineVerdicts.{LineVerdict, NotJson, Shape, Skipped, Judged, Weighed, Hulled, is_invalid}
 use Rattle.it_report.specs.Meaning.{IsClaimTrueBy}
 use Rattle.it_report.proofs.ExistenceLemmas.{each_line_is_judged}
 use Rattle.it_report.proofs.OneLemmas.{same_read}
@@ -109,11 +105,8 @@ reading_there : (options : Options) (line : List ℕ) (v : LineVerdict) → IsVe
 reading_there options line v is accepted (reports.Answered source a) reads =
     let details = details_there (asked source).body options a in
     (Answered source a details.0, (record { verdict = v; is = is; accepted = accepted; reads = reads }, details.1))
-<<<<<<< HEAD
 reading_there options line v is accepted (reports.Factored source best) reads = (tellings.Factored source best, record { verdict = v; is = is; accepted = accepted; reads = reads })
-=======
 reading_there options line v is accepted (reports.Bounded source b) reads = (tellings.Bounded source b, record { verdict = v; is = is; accepted = accepted; reads = reads })
->>>>>>> outer
 reading_there options line v is accepted reports.Misfit reads = (tellings.Misfit, reads)
 
 pub each_line_is_told : EachLineIsTold
@@ -128,19 +121,16 @@ each_line_is_told options line = let judged = (each_line_is_judged 1 line).2 in 
         by_test : (b : Bool) → is_invalid (Judged names v) ≡ b → (telling : Telling) × IsTelling options line telling
         by_test true e = (tellings.Invalid (Judged names v), (is, e))
         by_test false e = reading_there options line (Judged names v) is e is.reading is.reads
-<<<<<<< HEAD
     by_verdict (Weighed names v) is = by_test (is_invalid (Weighed names v)) refl
       where
         by_test : (b : Bool) → is_invalid (Weighed names v) ≡ b → (telling : Telling) × IsTelling options line telling
         by_test true e = (tellings.Invalid (Weighed names v), (is, e))
         by_test false e = reading_there options line (Weighed names v) is e is.reading is.reads
-=======
     by_verdict (Hulled v) is = by_test (is_invalid (Hulled v)) refl
       where
         by_test : (b : Bool) → is_invalid (Hulled v) ≡ b → (telling : Telling) × IsTelling options line telling
         by_test true e = (tellings.Invalid (Hulled v), (is, e))
         by_test false e = reading_there options line (Hulled v) is e is.reading is.reads
->>>>>>> outer
 
 -- ---- what is told is true
 

@@ -13,21 +13,13 @@ use Rattle.it_certificate.specs.declared.types.Reported.{Reported}
 use Rattle.it_certificate.specs.declared.types.Reported.TheVariants as variants
 use Rattle.it_certificate.proofs.OneLemmas.{one_reading}
 use Rattle.it_report.specs.Judging.{HasReading, IsAnswerVerdict, IsJudgedLine, IsReadingVerdict, IsVerdict}
-<<<<<<< HEAD
-use Rattle.it_report.specs.LineVerdicts.{LineVerdict, NotJson, Shape, Skipped, Judged, Weighed, is_invalid, numbered_line}
-=======
-use Rattle.it_report.specs.LineVerdicts.{LineVerdict, NotJson, Shape, Skipped, Judged, Hulled, is_invalid, numbered_line}
->>>>>>> outer
+use Rattle.it_report.specs.LineVerdicts.{LineVerdict, NotJson, Shape, Skipped, Judged, Weighed, Hulled, is_invalid, numbered_line}
 use Rattle.it_report.proofs.OneLemmas.{as_read, same_read}
 use Rattle.it_canon.proofs.ExistenceLemmas.{question_poses}
 use Rattle.it_report.proofs.TruthLemmas.{small_numbers}
 use Rattle.it_tell.specs.Tellings as tellings
-<<<<<<< HEAD
 use Rattle.it_ratio.specs.BestViews.{BestView}
-use Rattle.it_tell.specs.Tellings.{Invalid, IsAccepted, IsAcceptedBest, best_words}
-=======
-use Rattle.it_tell.specs.Tellings.{Invalid, IsAccepted, bounds_words}
->>>>>>> outer
+use Rattle.it_tell.specs.Tellings.{Invalid, IsAccepted, IsAcceptedBest, best_words, bounds_words}
 use Rattle.it_tell.specs.Steps.{CanBePrinted, IsAnsweredText, IsReportedText, IsToldLine}
 use Rattle.it_tell.proofs.PrintableLemmas.{printable}
 use Rattle.it_tell.specs.declared.settings.Options.{Options}
@@ -59,11 +51,8 @@ has_verdict k line text invalid judged e = by_verdict judged.verdict judged.is (
     by_verdict (Shape key) is accepted = absurd (true≢false accepted)
     by_verdict Skipped is accepted = record { verdict = Skipped; is = is; accepted = accepted; said = is }
     by_verdict (Judged names v) is accepted = record { verdict = Judged names v; is = is; accepted = accepted; said = is }
-<<<<<<< HEAD
     by_verdict (Weighed names v) is accepted = record { verdict = Weighed names v; is = is; accepted = accepted; said = is }
-=======
     by_verdict (Hulled v) is accepted = record { verdict = Hulled v; is = is; accepted = accepted; said = is }
->>>>>>> outer
 
 -- so it is JSON
 pub is_json : (line : List ℕ) → HasVerdict line → (IsUtf8 line → read line ≡ None) → ⊥
@@ -101,23 +90,20 @@ can_be_printed line r read limits h = by_reading read.0 r read.1 read.2 limits
         let verdict : IsAnswerVerdict (question_body q) (answer_view answer) h.verdict =
         subst (λ b. IsAnswerVerdict (question_body q) b h.verdict) same.1 (subst (λ (x : QuestionView). IsAnswerVerdict x.body a h.verdict) same.0 (on_answer line source a reads h)) in
         printable (question_body q) limits.0 (question_poses (question_body q) limits.0 small) h.verdict h.accepted answer limits.1 verdict
-<<<<<<< HEAD
     by_reading (reports.Answered source a) (variants.Factored q best) same reads limits = absurd same
+    by_reading (reports.Answered source a) (variants.Bounded q bounds) same reads limits = absurd same
     by_reading (reports.Answered source a) variants.Misfit same reads limits = absurd same
     by_reading (reports.Factored source b) (variants.Answered q answer) same reads limits = absurd same
     by_reading (reports.Factored source b) (variants.Factored q best) same reads limits = tt
+    by_reading (reports.Factored source b) (variants.Bounded q bounds) same reads limits = absurd same
     by_reading (reports.Factored source b) variants.Misfit same reads limits = absurd same
-    by_reading reports.Misfit (variants.Answered q answer) same reads limits = absurd same
-    by_reading reports.Misfit (variants.Factored q best) same reads limits = absurd same
-=======
-    by_reading (reports.Answered source a) (variants.Bounded q bounds) same reads limits = absurd same
-    by_reading (reports.Answered source a) variants.Misfit same reads limits = absurd same
     by_reading (reports.Bounded source b) (variants.Answered q answer) same reads limits = absurd same
+    by_reading (reports.Bounded source b) (variants.Factored q best) same reads limits = absurd same
     by_reading (reports.Bounded source b) (variants.Bounded q bounds) same reads limits = tt
     by_reading (reports.Bounded source b) variants.Misfit same reads limits = absurd same
     by_reading reports.Misfit (variants.Answered q answer) same reads limits = absurd same
+    by_reading reports.Misfit (variants.Factored q best) same reads limits = absurd same
     by_reading reports.Misfit (variants.Bounded q bounds) same reads limits = absurd same
->>>>>>> outer
     by_reading reports.Misfit variants.Misfit same reads limits = tt
 
 pub reported_line : (options : Options) (k : ℕ) (line text : List ℕ) (r : Reported) → Reports line (Ok r) → HasVerdict line → IsReportedText options k r text → IsToldLine options k line text false
@@ -129,18 +115,15 @@ reported_line options k line text r read h told = by_reading read.0 r read.1 rea
         let back : IsAnsweredText options k (asked source).body a text =
         subst (λ b. IsAnsweredText options k (asked source).body b text) (sym same.1) (subst (λ (x : QuestionView). IsAnsweredText options k x.body (answer_view answer) text) (sym same.0) told) in
         record { telling = tellings.Answered source a back.0; is = (accepts line source a reads h, back.1.0); text_is = back.1.1; invalid_is = refl }
-<<<<<<< HEAD
     by_reading (reports.Answered source a) (variants.Factored q best) same reads told = absurd same
+    by_reading (reports.Answered source a) (variants.Bounded q bounds) same reads told = absurd same
     by_reading (reports.Answered source a) variants.Misfit same reads told = absurd same
     by_reading (reports.Factored source b) (variants.Answered q answer) same reads told = absurd same
     by_reading (reports.Factored source b) (variants.Factored q best) same reads told = record { telling = tellings.Factored source b; is = accepts_best line source b reads h; text_is = told ∙ ap (λ x. numbered_line k (best_words x)) (sym same.1); invalid_is = refl }
+    by_reading (reports.Factored source b) (variants.Bounded q bounds) same reads told = absurd same
     by_reading (reports.Factored source b) variants.Misfit same reads told = absurd same
-    by_reading reports.Misfit (variants.Answered q answer) same reads told = absurd same
-    by_reading reports.Misfit (variants.Factored q best) same reads told = absurd same
-=======
-    by_reading (reports.Answered source a) (variants.Bounded q bounds) same reads told = absurd same
-    by_reading (reports.Answered source a) variants.Misfit same reads told = absurd same
     by_reading (reports.Bounded source b) (variants.Answered q answer) same reads told = absurd same
+    by_reading (reports.Bounded source b) (variants.Factored q best) same reads told = absurd same
     by_reading (reports.Bounded source b) (variants.Bounded q bounds) same reads told = record {
       telling = tellings.Bounded source b;
       is = record { verdict = h.verdict; is = h.is; accepted = h.accepted; reads = reads };
@@ -149,6 +132,6 @@ reported_line options k line text r read h told = by_reading read.0 r read.1 rea
     }
     by_reading (reports.Bounded source b) variants.Misfit same reads told = absurd same
     by_reading reports.Misfit (variants.Answered q answer) same reads told = absurd same
+    by_reading reports.Misfit (variants.Factored q best) same reads told = absurd same
     by_reading reports.Misfit (variants.Bounded q bounds) same reads told = absurd same
->>>>>>> outer
     by_reading reports.Misfit variants.Misfit same reads told = record { telling = tellings.Misfit; is = reads; text_is = told; invalid_is = refl }
