@@ -1,10 +1,8 @@
 -- Valid bounds are exact.
-use Rattle.std.proofs.Common.{◌≡◌, ℕ, ℤ, pos, ◌≤ℤ◌, List, [], ◌∷◌, length, map, Bool, true, false, Option, Some, None, Result, Ok, Err, if◌then◌else◌, refl, sym, ap, subst, arith, All}
-use Rattle.std.specs.Prelude.{ok_or}
+use Rattle.std.proofs.Common.{◌≡◌, ℕ, ℤ, pos, ◌≤ℤ◌, List, [], ◌∷◌, length, Ok, refl, sym, subst, arith, All}
 use Rattle.std.specs.List.{AllByRecursion as Every}
-use Rattle.serde_json.specs.Data.{Data}
 use Rattle.it_space.specs.declared.spaces.Space.{Space}
-use Rattle.it_space.specs.Answers.{AnswerView, CertificateView}
+use Rattle.it_space.specs.Answers.{CertificateView}
 use Rattle.it_space.specs.Problems.{ProblemView, IsProblem}
 use Rattle.it_space.specs.Rows.{Terms, IsOver, point_of, value}
 use Rattle.it_space.specs.Spaces.{size_of}
@@ -26,15 +24,9 @@ use Rattle.it_rates.specs.Asked.{gone_rates, kept_rates, under_all_lines}
 use Rattle.it_rates.specs.Bounds.{AreExactBounds, IsTrueRay}
 use Rattle.it_rates.proofs.AskedLemmas.{all_lines_question, at_question, meets_true}
 use Rattle.it_rates.proofs.BoundLemmas.{hull_is_exact}
-use Rattle.it_certificate.specs.declared.keys.Key.{Key}
-use Rattle.it_certificate.specs.declared.keys.Key.TheVariants as keys
-use Rattle.it_certificate.specs.declared.kinds.AnswerKind.{AnswerKind}
-use Rattle.it_certificate.specs.AnswerReading.{and_then}
 use Rattle.it_certificate.specs.Bounds.{BoundsView, HasBoundsShape}
-use Rattle.it_certificate.specs.Parts.{answer_kind_at}
-use Rattle.it_certificate.specs.Reports.{Answered, Bounded, Misfit, ReadsReport, Reading, answer_to, answered_of, bounded_of, bounds_to, report_of, tells_misfit, tells_outer}
-use Rattle.it_certificate.specs.Sources.{IsSourceAt, IsSourceOf, Source, asked, source_key}
-use Rattle.it_certificate.proofs.FitLemmas.{bounds_fit}
+use Rattle.it_certificate.specs.Reports.{Bounded, ReadsReport, Reading}
+use Rattle.it_certificate.specs.Sources.{IsSourceAt, IsSourceOf, Source, asked}
 use Rattle.it_certificate.proofs.SourceNumbers.{source_limits, source_numbers}
 use Rattle.it_report.specs.BoundsVerdicts.{HullVerdictIs, bounds_verdict, judged_frame}
 use Rattle.it_report.specs.Judging.{IsReadingVerdict}
@@ -43,57 +35,9 @@ use Rattle.it_report.specs.Meaning.{ValidIsTrueOfBounds}
 use Rattle.it_report.specs.RowVerdicts.{proof_verdict, proofs_verdict, ray_verdict, rays_verdict}
 use Rattle.it_certificate.proofs.OneLemmas.{one_reading}
 use Rattle.it_report.proofs.FrameLemmas.{are_kept, is_frame}
-use Rattle.it_report.proofs.OneLemmas.{as_read, same_read}
-use Rattle.it_report.proofs.TruthLemmas.{both_valid, no_answer}
-
--- ---- what was read fits the question that is asked
-
-abbrev with_bounds : Source → BoundsView → Result Reading Key
-with_bounds source b = Ok (Bounded source b)
-
-same_bounds : (s t : Source) (a b : BoundsView) → Bounded s a ≡ Bounded t b → (s ≡ t) × (a ≡ b)
-same_bounds s t a b e = let f : s ≡ t = cc in let g : a ≡ b = cc in (f, g)
-
-misfit_or_bounds : (source : Source) (b : BoundsView) → Misfit ≡ Bounded source b → ⊥
-misfit_or_bounds source b e = cc
-
-answer_or_bounds : (s t : Source) (a : AnswerView) (b : BoundsView) → Answered s a ≡ Bounded t b → ⊥
-answer_or_bounds s t a b e = cc
-
-answered_is_other : (own : Option Source) (d : Data) (source : Source) (b : BoundsView) → answered_of own d ≡ as_read (Bounded source b) → ⊥
-answered_is_other own d source b e = by_kind (answer_kind_at d) own e
-  where
-    by_result : (s : Source) (r : Result AnswerView Key) → and_then r (λ a. as_read (Answered s a)) ≡ as_read (Bounded source b) → ⊥
-    by_result s (Err k) f = no_answer k (Bounded source b) f
-    by_result s (Ok a) f = answer_or_bounds s source a b (same_read (Answered s a) (Bounded source b) f)
-
-    by_kind : (o : Option AnswerKind) (own : Option Source)
-        → and_then (ok_or o keys.Answer) (λ kind. and_then (ok_or own (source_key d)) (λ s. and_then (answer_to s kind d) (λ a. as_read (Answered s a)))) ≡ as_read (Bounded source b) → ⊥
-    by_kind None own f = no_answer keys.Answer (Bounded source b) f
-    by_kind (Some kind) None f = no_answer (source_key d) (Bounded source b) f
-    by_kind (Some kind) (Some s) f = by_result s (answer_to s kind d) f
-
-bounds_read : (own : Option Source) (d : Data) (source : Source) (b : BoundsView) → report_of own d ≡ Ok (Bounded source b) → (own ≡ Some source) × HasBoundsShape (asked source).body b
-unfolding report_of
-bounds_read own d source b e = by_word (tells_misfit d) e
-  where
-    by_result : (s : Source) (r : Result BoundsView Key) → bounds_to s d ≡ r → and_then r (with_bounds s) ≡ as_read (Bounded source b) → (Some s ≡ Some source) × HasBoundsShape (asked source).body b
-    by_result s (Err k) is f = absurd (no_answer k (Bounded source b) f)
-    by_result s (Ok c) is f =
-        let same = same_bounds s source c b (same_read (Bounded s c) (Bounded source b) f) in
-        (ap Some same.0, subst (λ z. HasBoundsShape (asked source).body z) same.1 (subst (λ t. HasBoundsShape (asked t).body c) same.0 (bounds_fit (asked s) d c is)))
-
-    by_own : (own : Option Source) → and_then (ok_or own (source_key d)) (λ s. and_then (bounds_to s d) (with_bounds s)) ≡ as_read (Bounded source b) → (own ≡ Some source) × HasBoundsShape (asked source).body b
-    by_own None f = absurd (no_answer (source_key d) (Bounded source b) f)
-    by_own (Some s) f = by_result s (bounds_to s d) refl f
-
-    by_outer : (outer : Bool) → (if outer then bounded_of own d else answered_of own d) ≡ as_read (Bounded source b) → (own ≡ Some source) × HasBoundsShape (asked source).body b
-    by_outer true f = by_own own f
-    by_outer false f = absurd (answered_is_other own d source b f)
-
-    by_word : (told : Bool) → (if told then Ok Misfit else if tells_outer d then bounded_of own d else answered_of own d) ≡ as_read (Bounded source b) → (own ≡ Some source) × HasBoundsShape (asked source).body b
-    by_word true f = absurd (misfit_or_bounds source b (same_read Misfit (Bounded source b) f))
-    by_word false f = by_outer (tells_outer d) f
+use Rattle.it_report.proofs.OneLemmas.{same_read}
+use Rattle.it_report.proofs.ReadingLemmas.{bounds_are}
+use Rattle.it_report.proofs.TruthLemmas.{both_valid}
 
 -- ---- valid rows and rays
 
@@ -143,7 +87,7 @@ valid_is_true_of_bounds line source b v h =
     let q = (asked source).body in
     let same : v.reading ≡ Bounded source b = same_read v.reading (Bounded source b) (one_reading line (Ok v.reading) (Ok (Bounded source b)) v.reads h) in
     let told = subst (λ (r : Reading). IsReadingVerdict r (Hulled HullIsValid)) same v.verdict in
-    let read = bounds_read h.reads.own h.value source b h.reads.is in
+    let read = bounds_are h.reads.own h.value source b h.reads.is in
     let own : IsSourceOf h.value source = subst (IsSourceAt h.value) read.0 h.reads.source in
     let limits = source_limits h.value source own in
     let small = source_numbers h.value source own in

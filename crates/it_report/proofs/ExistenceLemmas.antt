@@ -9,16 +9,8 @@ use Rattle.it_space.specs.Answers.{AnswerView}
 use Rattle.it_question.specs.Questions.{BodyView}
 use Rattle.it_question.specs.ProblemLines.{problem_names}
 use Rattle.it_certificate.specs.declared.keys.Key.{Key}
-<<<<<<< HEAD
-use Rattle.it_certificate.specs.Reports.{Answered, Factored, Misfit, ReadsReport, Reading, report_of}
-use Rattle.it_certificate.specs.Sources.{asked}
-use Rattle.it_certificate.proofs.SourceLemmas.{source_there}
-use Rattle.it_check.specs.declared.verdicts.Verdict.{Verdict}
-use Rattle.it_report.specs.LineVerdicts.{LineVerdict, NotJson, Shape, Skipped, Judged, verdict_line, is_invalid}
-use Rattle.it_report.specs.Judging.{factor_line_verdict, verdict_of, IsAnswerVerdict, IsVerdict}
-=======
 use Rattle.it_certificate.specs.Bounds.{BoundsView}
-use Rattle.it_certificate.specs.Reports.{Answered, Bounded, Misfit, ReadsReport, Reading, report_of}
+use Rattle.it_certificate.specs.Reports.{Answered, Bounded, Factored, Misfit, ReadsReport, Reading, report_of}
 use Rattle.it_certificate.specs.Sources.{asked}
 use Rattle.it_certificate.proofs.SourceLemmas.{source_there}
 use Rattle.it_check.specs.declared.verdicts.Verdict.{Verdict}
@@ -28,8 +20,7 @@ use Rattle.it_spans.proofs.ExistenceLemmas.{hull_verdict_there}
 use Rattle.it_report.specs.BoundsVerdicts.{bounds_verdict, judged_frame}
 use Rattle.it_report.specs.RowVerdicts.{is_valid}
 use Rattle.it_report.specs.LineVerdicts.{LineVerdict, NotJson, Shape, Skipped, Judged, Hulled, verdict_line, is_invalid}
-use Rattle.it_report.specs.Judging.{verdict_of, IsAnswerVerdict, IsBoundsVerdict, IsVerdict}
->>>>>>> outer
+use Rattle.it_report.specs.Judging.{factor_line_verdict, verdict_of, IsAnswerVerdict, IsBoundsVerdict, IsVerdict}
 use Rattle.it_report.specs.Meaning.{EachLineIsJudged}
 use Rattle.it_report.proofs.JudgingLemmas.{read_verdict}
 
@@ -77,13 +68,10 @@ verdict_read line (Err key) h = (Shape key, h)
 verdict_read line (Ok (Answered source a)) h =
     let v = answer_verdict_there (asked source).body a in
     (v.0, read_verdict line (Answered source a) v.0 h v.1)
-<<<<<<< HEAD
 verdict_read line (Ok (Factored source b)) h = let v = factor_line_verdict (asked source).body b in (v, read_verdict line (Factored source b) v h refl)
-=======
 verdict_read line (Ok (Bounded source b)) h =
     let v = bounds_verdict_there (asked source).body b in
     (v.0, read_verdict line (Bounded source b) v.0 h v.1)
->>>>>>> outer
 verdict_read line (Ok Misfit) h = (Skipped, read_verdict line Misfit Skipped h refl)
 
 verdict_there : (line : List ℕ) → VerdictThere line

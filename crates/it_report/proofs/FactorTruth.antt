@@ -3,7 +3,6 @@ use Rattle.std.proofs.Common.{◌≡◌, ℕ, ◌+◌, ◌-◌, ◌<◌, ◌≤�
 use Rattle.std.specs.Ordering.{int_eq}
 use Rattle.std.proofs.lemmas.Int.{ints}
 use Rattle.std.proofs.lemmas.List.{length-map, get_or-map}
-use Rattle.it_number.proofs.Integers.{zring}
 use Rattle.it_space.specs.declared.spaces.Space.{Space}
 use Rattle.it_space.specs.Answers.{CertificateView}
 use Rattle.it_space.specs.Problems.{ProblemView, AreMet}
@@ -48,9 +47,9 @@ use Rattle.it_check.proofs.Truth.{valid_yes_is, valid_no_is, yes_is_true}
 use Rattle.it_ratio.specs.BestViews.{BestView, Least, Never, Unbounded, Undecided}
 use Rattle.it_ratio.specs.Truth.{HoldsFor, IsTrueBest, asked_by, at_least}
 use Rattle.it_ratio.proofs.Orders.{all_smaller, no_smaller, none_at_zero}
-use Rattle.it_certificate.specs.FactorShapes.{HasBestShape}
+use Rattle.it_certificate.specs.FactorShapes.{HasBestShape, HasFactorShape}
 use Rattle.it_certificate.specs.Reports.{Factored, ReadsReport}
-use Rattle.it_certificate.specs.Sources.{Sharing, Source, asked}
+use Rattle.it_certificate.specs.Sources.{IsSourceAt, IsSourceOf, Sharing, Source, asked}
 use Rattle.it_certificate.proofs.OneLemmas.{one_reading}
 use Rattle.it_certificate.proofs.SourceNumbers.{source_limits, source_numbers}
 use Rattle.it_report.specs.declared.factors.FactorVerdict.{FactorVerdict}
@@ -61,7 +60,7 @@ use Rattle.it_report.specs.LineVerdicts.{Weighed}
 use Rattle.it_report.specs.Meaning.{ValidFactorIsTrue, ValidFactorIsTrueOfSharing}
 use Rattle.it_report.specs.RowVerdicts.{is_valid, proof_verdict}
 use Rattle.it_report.proofs.OneLemmas.{same_read}
-use Rattle.it_report.proofs.TruthLemmas.{best_fits_question, best_source_read}
+use Rattle.it_report.proofs.ReadingLemmas.{best_is}
 
 -- ---- verdicts with nothing wrong
 
@@ -87,8 +86,8 @@ row_taken : (o : Option ℕ) (row : Terms) (judge : Terms → FactorVerdict) →
 row_taken None row judge e = e
 row_taken (Some c) row judge e = absurd (cc)
 
-denominator_is : (p : ProblemView) (left right : Terms) (den : ℤ) (v : FactorVerdict) → from_one p left right den v ≡ valid → (pos 1 ≤ℤ den) × (v ≡ valid)
-denominator_is p left right den v e = by_test (int_lt den (pos 1)) refl e
+denominator_is : (den : ℤ) (v : FactorVerdict) → from_one den v ≡ valid → (pos 1 ≤ℤ den) × (v ≡ valid)
+denominator_is den v e = by_test (int_lt den (pos 1)) refl e
   where
     by_test : (b : Bool) → int_lt den (pos 1) ≡ b → (if b then BelowOne den else v) ≡ valid → (pos 1 ≤ℤ den) × (v ≡ valid)
     by_test true t f = absurd (cc)
@@ -187,16 +186,16 @@ module _ (q : BodyView) (p : ProblemView) (is : IsProblemOf q p) where
       m = point_of values
 
       left_above : (x y : ℤ) → (neg_ℤ (pos 1) *ℤ x -ℤ pos 0 *ℤ y) ≤ℤ neg_ℤ (pos 1) → pos 1 ≤ℤ x
-      left_above x y h = omega (arith, zring, h)
+      left_above x y h = omega (arith, ints, h)
 
       right_above : (x y : ℤ) → (pos 0 *ℤ x -ℤ pos 1 *ℤ y) ≤ℤ neg_ℤ (pos 1) → pos 1 ≤ℤ y
-      right_above x y h = omega (arith, zring, h)
+      right_above x y h = omega (arith, ints, h)
 
       equal_by : (x y : ℤ) → x -ℤ y ≡ pos 0 → y ≡ x
       equal_by x y e = omega (arith, ints, e)
 
       -- the point is one of a least factor
-      tight : (num den : ℤ) → tight_verdict p left right (row_for (neg_ℤ (pos 1)) (pos 0)) (row_for num den) values ≡ valid → AreTrueTogether q m × (pos 1 ≤ℤ f m) × (den *ℤ g m ≡ num *ℤ f m)
+      tight : (num den : ℤ) → tight_verdict p (row_for (neg_ℤ (pos 1)) (pos 0)) (row_for num den) values ≡ valid → AreTrueTogether q m × (pos 1 ≤ℤ f m) × (den *ℤ g m ≡ num *ℤ f m)
       tight num den e =
           let both = both_valid (no_verdict (length (elementals p.space.variables)) (generators p) (row_for (neg_ℤ (pos 1)) (pos 0)) m) (zero_verdict (length (generators p) + 1) (sum_within (pos 0) (row_for num den) m)) e in
           let there = refuted (row_for (neg_ℤ (pos 1)) (pos 0)) values (over (neg_ℤ (pos 1)) (pos 0)) complete both.0 in (
@@ -206,7 +205,7 @@ module _ (q : BodyView) (p : ProblemView) (is : IsProblemOf q p) where
           )
 
       -- the point is one at which no factor holds
-      never : tight_verdict p left right (row_for (pos 0) (pos 1)) left values ≡ valid → AreTrueTogether q m × (f m ≡ pos 0) × (pos 1 ≤ℤ g m)
+      never : tight_verdict p (row_for (pos 0) (pos 1)) left values ≡ valid → AreTrueTogether q m × (f m ≡ pos 0) × (pos 1 ≤ℤ g m)
       never e =
           let both = both_valid (no_verdict (length (elementals p.space.variables)) (generators p) (row_for (pos 0) (pos 1)) m) (zero_verdict (length (generators p) + 1) (sum_within (pos 0) left m)) e in
           let there = refuted (row_for (pos 0) (pos 1)) values (over (pos 0) (pos 1)) complete both.0 in (
@@ -229,27 +228,27 @@ module _ (q : BodyView) (p : ProblemView) (is : IsProblemOf q p) where
         (row_taken (unformed size num den left right) (row_for num den) (λ factor. with_row (row_unless (unformed size (neg_ℤ (pos 1)) (pos 0) left right) (row_for (neg_ℤ (pos 1)) (pos 0))) (judge factor)) e)
 
     turned_at : (x y : ℤ) → pos 0 ≤ℤ (neg_ℤ (pos 1) *ℤ x -ℤ pos 0 *ℤ y) → pos 0 ≤ℤ neg_ℤ x
-    turned_at x y h = omega (arith, zring, h)
+    turned_at x y h = omega (arith, ints, h)
 
     true_by : (best : BestView) → HasBestShape size best → best_verdict p left right best ≡ Some valid → IsTrueBest HoldsBetween best
     true_by (Least num den w values) shape e =
-        let one = denominator_is p left right den (rest_of num den (λ factor turned. first_wrong (proof_verdict p factor w) (tight_verdict p left right turned factor values)))
-            (some_same (from_one p left right den (rest_of num den (λ factor turned. first_wrong (proof_verdict p factor w) (tight_verdict p left right turned factor values)))) valid e) in
-        let rest = rest_is num den (λ factor turned. first_wrong (proof_verdict p factor w) (tight_verdict p left right turned factor values)) one.1 in
-        let both = both_valid (proof_verdict p (row_for num den) w) (tight_verdict p left right (row_for (neg_ℤ (pos 1)) (pos 0)) (row_for num den) values) rest in
+        let one = denominator_is den (rest_of num den (λ factor turned. first_wrong (proof_verdict p factor w) (tight_verdict p turned factor values)))
+            (some_same (from_one den (rest_of num den (λ factor turned. first_wrong (proof_verdict p factor w) (tight_verdict p turned factor values)))) valid e) in
+        let rest = rest_is num den (λ factor turned. first_wrong (proof_verdict p factor w) (tight_verdict p turned factor values)) one.1 in
+        let both = both_valid (proof_verdict p (row_for num den) w) (tight_verdict p (row_for (neg_ℤ (pos 1)) (pos 0)) (row_for num den) values) rest in
         let at = tight values shape.2.each num den both.1 in (
           one.0,
           holds_by num den w both.0,
           λ a b from holds. no_smaller num den a b (f (point_of values)) (g (point_of values)) at.1 one.0 at.2 (holds (point_of values) at.0),
         )
     true_by (Never values) shape e =
-        let rest = row_taken (unformed size (pos 0) (pos 1) left right) (row_for (pos 0) (pos 1)) (λ turned. tight_verdict p left right turned left values)
-            (some_same (with_row (row_unless (unformed size (pos 0) (pos 1) left right) (row_for (pos 0) (pos 1))) (λ turned. tight_verdict p left right turned left values)) valid e) in
+        let rest = row_taken (unformed size (pos 0) (pos 1) left right) (row_for (pos 0) (pos 1)) (λ turned. tight_verdict p turned left values)
+            (some_same (with_row (row_unless (unformed size (pos 0) (pos 1) left right) (row_for (pos 0) (pos 1))) (λ turned. tight_verdict p turned left values)) valid e) in
         let at = never values shape.each rest in
         λ a b from holds. none_at_zero a b (f (point_of values)) (g (point_of values)) at.1 at.2 from (holds (point_of values) at.0)
     true_by (Unbounded num den w below) shape e =
-        let one = denominator_is p left right den (rest_of num den (λ factor turned. first_wrong (proof_verdict p factor w) (Checked (proof_verdict p turned below))))
-            (some_same (from_one p left right den (rest_of num den (λ factor turned. first_wrong (proof_verdict p factor w) (Checked (proof_verdict p turned below))))) valid e) in
+        let one = denominator_is den (rest_of num den (λ factor turned. first_wrong (proof_verdict p factor w) (Checked (proof_verdict p turned below))))
+            (some_same (from_one den (rest_of num den (λ factor turned. first_wrong (proof_verdict p factor w) (Checked (proof_verdict p turned below))))) valid e) in
         let rest = rest_is num den (λ factor turned. first_wrong (proof_verdict p factor w) (Checked (proof_verdict p turned below))) one.1 in
         let both = both_valid (proof_verdict p (row_for num den) w) (Checked (proof_verdict p (row_for (neg_ℤ (pos 1)) (pos 0)) below)) rest in
         let second = checked_valid (proof_verdict p (row_for (neg_ℤ (pos 1)) (pos 0)) below) both.1 in (
@@ -257,6 +256,14 @@ module _ (q : BodyView) (p : ProblemView) (is : IsProblemOf q p) where
           λ a b from smaller m h. all_smaller num den a b (f m) (g m) one.0 from smaller (holds_by num den w both.0 m h) (turned_at (f m) (g m) (holds_by (neg_ℤ (pos 1)) (pos 0) below second m h)),
         )
     true_by (Undecided cause) shape e = tt
+
+-- ---- the question that is asked
+
+best_fits_question : (line : List ℕ) (source : Source) (b : BestView) → ReadsReport line (Ok (Factored source b)) → HasFactorShape (asked source).body b
+best_fits_question line source b h = (best_is h.reads.own h.value source b h.reads.is).1
+
+best_source_read : (line : List ℕ) (source : Source) (b : BestView) (h : ReadsReport line (Ok (Factored source b))) → IsSourceOf h.value source
+best_source_read line source b h = subst (IsSourceAt h.value) (best_is h.reads.own h.value source b h.reads.is).0 h.reads.source
 
 -- ---- the claim
 

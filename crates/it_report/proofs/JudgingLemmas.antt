@@ -12,7 +12,7 @@ use Rattle.it_syntax.specs.Meaning.{RelationView}
 use Rattle.it_syntax.specs.NamesViews.{NamesView}
 use Rattle.it_syntax.specs.declared.types.Sign.{Sign}
 use Rattle.it_syntax.specs.declared.types.Sign.TheVariants.{AtLeast, AtMost, Equal}
-use Rattle.it_question.specs.Questions.{BodyView, QuestionView, RegionView, VerbView, Prove, Eliminate, Contain}
+use Rattle.it_question.specs.Questions.{BodyView, QuestionView, RegionView, VerbView, Prove, Eliminate, Contain, question_body}
 use Rattle.it_demand.specs.Canonical.{form_of}
 use Rattle.it_elemental.specs.Generators.{is_equation}
 use Rattle.it_demand.specs.Demands.{kind_of}
@@ -28,20 +28,21 @@ use Rattle.it_region.specs.Obligations.{obligations, IsSubstitution, ArePulledRo
 use Rattle.it_region.specs.Pairs.{IsPair, IsPairOf, Pairs, IsContainment, FitsPair, pair_obligations}
 use Rattle.it_region.proofs.TextLemmas.{text_rows, parts_fit, rows_as_pulled, pulled_rows_are}
 use Rattle.it_certificate.specs.AnswerShapes.{HasQuestionShape, HasVerbShape, HasContainmentShape}
+use Rattle.it_certificate.specs.Bounds.{bounds_view}
 use Rattle.it_certificate.specs.declared.keys.Key.{Key}
 use Rattle.it_certificate.specs.declared.keys.ReportFault.{ReportFault}
-use Rattle.it_certificate.specs.Reports.{Answered, Factored, IsReported, Misfit, ReadsReport, Reading, Reports}
+use Rattle.it_certificate.specs.Reports.{Answered, Bounded, Factored, IsReported, Misfit, ReadsReport, Reading, Reports}
 use Rattle.it_certificate.specs.Sources.{asked}
 use Rattle.it_certificate.specs.declared.types.Reported.{Reported}
 use Rattle.it_certificate.specs.declared.types.Reported.TheVariants as variants
 use Rattle.it_check.specs.declared.verdicts.Verdict.{Verdict}
 use Rattle.it_region.proofs.PairLemmas.{pair_of_verb}
 use Rattle.it_report.specs.RowVerdicts.{place_named}
-use Rattle.it_report.specs.LineVerdicts.{LineVerdict, NotJson, Shape, Skipped, Judged, Weighed, IsLineOf}
+use Rattle.it_report.specs.LineVerdicts.{LineVerdict, NotJson, Shape, Skipped, Judged, Weighed, Hulled, IsLineOf}
 use Rattle.it_ratio.specs.BestViews.{BestView, best_view}
 use Rattle.it_ratio.specs.Truth.{asked_by}
 use Rattle.it_report.specs.declared.factors.FactorVerdict.{FactorVerdict}
-use Rattle.it_report.specs.Judging.{answer_verdict, factor_line_verdict, factor_verdict_of, weighed_by, IsAnswerVerdict, IsReadingVerdict, IsVerdict, IsJudgedLine}
+use Rattle.it_report.specs.Judging.{answer_verdict, factor_line_verdict, factor_verdict_of, weighed_by, IsAnswerVerdict, IsBoundsVerdict, IsReadingVerdict, IsVerdict, IsJudgedLine}
 use Rattle.it_report.specs.Steps.{IsAboutRelation, IsFaultLine, IsJudgedAnswer, IsJudgedReport}
 use Rattle.it_demand.specs.RowsOfForms.{terms_of_form}
 use Rattle.it_canon.proofs.PosesLemmas.{one_problem}
@@ -63,11 +64,14 @@ read_verdict line (Answered source a) NotJson h is = absurd is
 read_verdict line (Answered source a) (Shape key) h is = absurd is
 read_verdict line (Factored source b) NotJson h is = absurd (not_json (asked source).body (option_and_then (λ r. factor_verdict_of (asked source).body r b) (asked_by (asked source).body.verb)) is)
 read_verdict line (Factored source b) (Shape key) h is = absurd (no_shape key (asked source).body (option_and_then (λ r. factor_verdict_of (asked source).body r b) (asked_by (asked source).body.verb)) is)
+read_verdict line (Bounded source b) NotJson h is = absurd is
+read_verdict line (Bounded source b) (Shape key) h is = absurd is
 read_verdict line Misfit NotJson h is = absurd cc
 read_verdict line Misfit (Shape key) h is = absurd cc
 read_verdict line reading Skipped h is = record { reading = reading; reads = h; verdict = is }
 read_verdict line reading (Judged names v) h is = record { reading = reading; reads = h; verdict = is }
 read_verdict line reading (Weighed names v) h is = record { reading = reading; reads = h; verdict = is }
+read_verdict line reading (Hulled v) h is = record { reading = reading; reads = h; verdict = is }
 
 module _ {L E : Type 0} (text : L → List ℕ) (invalid : L → Bool) (k : ℕ) where
   pub fault_is_judged : (line : List ℕ) (fault : ReportFault) (r : Result L E) → Reports line (Err fault) → IfOk r (λ j. IsFaultLine k fault (text j) (invalid j)) → IfOk r (λ j. IsJudgedLine k line (text j) (invalid j))
@@ -85,15 +89,25 @@ module _ {L E : Type 0} (text : L → List ℕ) (invalid : L → Bool) (k : ℕ)
           subst (λ b. IsAnswerVerdict (asked source).body b judged.verdict) (sym same.1) (subst (λ (q : QuestionView). IsAnswerVerdict q.body (answer_view answer) judged.verdict) (sym same.0) judged.is) in
           record { verdict = judged.verdict; is = read_verdict line (Answered source a) judged.verdict h verdict; told = judged.told }
       by_reading (Answered source a) (variants.Factored question best) same h judged = absurd same
+      by_reading (Answered source a) (variants.Bounded question bounds) same h judged = absurd same
       by_reading (Answered source a) variants.Misfit same h judged = absurd same
       by_reading (Factored source b) (variants.Answered question answer) same h judged = absurd same
       by_reading (Factored source b) (variants.Factored question best) same h judged =
           let v = factor_line_verdict (question_body question) (best_view best) in
           let told : v ≡ factor_line_verdict (asked source).body b = ap₂ (λ (q : QuestionView) (x : BestView). factor_line_verdict q.body x) (sym same.0) (sym same.1) in
           record { verdict = factor_line_verdict (question_body question) (best_view best); is = read_verdict line (Factored source b) v h told; told = judged }
+      by_reading (Factored source b) (variants.Bounded question bounds) same h judged = absurd same
       by_reading (Factored source b) variants.Misfit same h judged = absurd same
+      by_reading (Bounded source b) (variants.Answered question answer) same h judged = absurd same
+      by_reading (Bounded source b) (variants.Factored question best) same h judged = absurd same
+      by_reading (Bounded source b) (variants.Bounded question bounds) same h judged =
+          let verdict : IsBoundsVerdict (asked source).body b judged.verdict =
+          subst (λ c. IsBoundsVerdict (asked source).body c judged.verdict) (sym same.1) (subst (λ (q : QuestionView). IsBoundsVerdict q.body (bounds_view bounds) judged.verdict) (sym same.0) judged.is) in
+          record { verdict = judged.verdict; is = read_verdict line (Bounded source b) judged.verdict h verdict; told = judged.told }
+      by_reading (Bounded source b) variants.Misfit same h judged = absurd same
       by_reading Misfit (variants.Answered question answer) same h judged = absurd same
       by_reading Misfit (variants.Factored question best) same h judged = absurd same
+      by_reading Misfit (variants.Bounded question bounds) same h judged = absurd same
       by_reading Misfit variants.Misfit same h judged = record { verdict = Skipped; is = read_verdict line Misfit Skipped h refl; told = judged }
   report_is_judged line reported (Err e) h judged = tt
 

@@ -2,9 +2,10 @@ pub mod VerdictLemmas
 pub mod JudgingLemmas
 pub mod CountLemmas
 pub mod OneLemmas
+pub mod ReadingLemmas
 pub mod TruthLemmas
 pub mod SourceTruth
 pub mod ExistenceLemmas
-mod FactorTruth
+pub mod FactorTruth
 pub mod FrameLemmas
 pub mod BoundsTruth

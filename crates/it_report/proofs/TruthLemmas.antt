@@ -1,9 +1,7 @@
 -- The claim of a valid line is true.
 use Rattle.std.proofs.Common.{◌≡◌, ℕ, zero, suc, ◌<◌, ℤ, pos, neg_ℤ, ◌≤ℤ◌, List, [], ◌∷◌, map, length, get_or, Bool, true, false, Option, Some, None, Result, Ok, Err, All, if◌then◌else◌, refl, sym, ap, subst, ◌∙◌, arith}
-use Rattle.std.specs.Prelude.{ok_or}
 use Rattle.std.proofs.lemmas.List.Elements.{All-nil, All-cons}
 use Rattle.std.proofs.lemmas.List.{length-map}
-use Rattle.serde_json.specs.Data.{Data}
 use Rattle.it_space.specs.declared.spaces.Space.{Space}
 use Rattle.it_space.specs.Answers.{AnswerView, CertificateView}
 use Rattle.it_space.specs.Answers.AnswerView.{Yes, No, Undecided, Region, Contained, Open}
@@ -31,25 +29,9 @@ use Rattle.it_region.specs.Regions.{LiesIn}
 use Rattle.it_region.proofs.ExistenceLemmas.{obligation_rows_there}
 use Rattle.it_region.proofs.RegionLemmas.{obligations_contain}
 use Rattle.it_region.proofs.TextLemmas.{rows_as_pulled}
-use Rattle.it_certificate.specs.declared.keys.Key.{Key}
-use Rattle.it_certificate.specs.declared.keys.Key.TheVariants as keys
-use Rattle.it_certificate.specs.declared.kinds.AnswerKind.{AnswerKind}
-use Rattle.it_certificate.specs.AnswerReading.{and_then}
 use Rattle.it_certificate.specs.AnswerShapes.{HasQuestionShape, HasContainmentShape}
-use Rattle.it_certificate.specs.Parts.{answer_kind_at}
-<<<<<<< HEAD
-use Rattle.it_ratio.specs.BestViews.{BestView}
-use Rattle.it_certificate.specs.declared.kinds.FactorKind.{FactorKind}
-use Rattle.it_certificate.specs.FactorReading.{factor_kind_at}
-use Rattle.it_certificate.specs.FactorShapes.{HasFactorShape}
-use Rattle.it_certificate.specs.Reports.{Answered, Factored, Misfit, ReadsReport, Reading, answer_of, answer_to, best_of, best_to, reading_by, report_of, tells_misfit}
-=======
-use Rattle.it_certificate.specs.Bounds.{BoundsView}
-use Rattle.it_certificate.specs.Reports.{Answered, Bounded, Misfit, ReadsReport, Reading, answer_to, answered_of, bounded_of, bounds_to, report_of, tells_misfit, tells_outer}
->>>>>>> outer
-use Rattle.it_certificate.specs.Sources.{IsSourceAt, IsSourceOf, Source, asked, source_key}
-use Rattle.it_certificate.proofs.FactorFits.{best_fits}
-use Rattle.it_certificate.proofs.FitLemmas.{answer_fits}
+use Rattle.it_certificate.specs.Reports.{Answered, ReadsReport}
+use Rattle.it_certificate.specs.Sources.{IsSourceAt, IsSourceOf, Source, asked}
 use Rattle.it_certificate.proofs.OneLemmas.{one_reading}
 use Rattle.it_certificate.proofs.SourceNumbers.{source_limits, source_numbers}
 use Rattle.it_check.specs.Meaning.{CertifiesRow, RefutesRow}
@@ -63,140 +45,17 @@ use Rattle.it_region.specs.AnswerForms.{answer_forms_by}
 use Rattle.it_report.specs.Meaning.{IsClaimTrueBy, ValidIsTrue}
 use Rattle.it_report.proofs.JudgingLemmas.{verb_fits, target_is_there, point_is_complete, parts_as_named}
 use Rattle.it_report.proofs.CountLemmas.{obligations_counted, targets_counted}
-use Rattle.it_report.proofs.OneLemmas.{as_read, same_read}
+use Rattle.it_report.proofs.OneLemmas.{same_read}
+use Rattle.it_report.proofs.ReadingLemmas.{answer_is}
 
--- ---- what was read fits the question that is asked
-
-abbrev with_answer : Source → AnswerView → Result Reading Key
-with_answer source b = Ok (Answered source b)
-
-<<<<<<< HEAD
-abbrev with_best : Source → BestView → Result Reading Key
-with_best source b = Ok (Factored source b)
-
-no_answer : (k : Key) (x : Reading) → Err k ≡ as_read x → ⊥
-=======
-pub no_answer : (k : Key) (x : Reading) → Err k ≡ as_read x → ⊥
->>>>>>> outer
-no_answer k x e = cc
-
-misfit_or_answer : (source : Source) (a : AnswerView) → Misfit ≡ Answered source a → ⊥
-misfit_or_answer source a e = cc
-
-misfit_or_best : (source : Source) (b : BestView) → Misfit ≡ Factored source b → ⊥
-misfit_or_best source b e = cc
-
-answer_or_best : (s t : Source) (a : AnswerView) (b : BestView) → Answered s a ≡ Factored t b → ⊥
-answer_or_best s t a b e = cc
-
-same_source : (s t : Source) (a b : AnswerView) → Answered s a ≡ Answered t b → (s ≡ t) × (a ≡ b)
-same_source s t a b e = let f : s ≡ t = cc in let g : a ≡ b = cc in (f, g)
-
-<<<<<<< HEAD
-same_factors : (s t : Source) (a b : BestView) → Factored s a ≡ Factored t b → (s ≡ t) × (a ≡ b)
-same_factors s t a b e = let f : s ≡ t = cc in let g : a ≡ b = cc in (f, g)
-
--- a reading that isn't that of a misfit, by the kind
-module _ (own : Option Source) (d : Data) (x : Reading) (P : Type 0) (misfit : Misfit ≡ x → ⊥) (by_answer : answer_of own d ≡ as_read x → P) (by_best : (kind : FactorKind) → best_of own kind d ≡ as_read x → P) where
-  by_reading : report_of own d ≡ as_read x → P
-  unfolding report_of
-  by_reading e = by_word (tells_misfit d) e
-    where
-      by_kind : (k : Option FactorKind) → reading_by own k d ≡ as_read x → P
-      by_kind (Some kind) e = by_best kind e
-      by_kind None e = by_answer e
-
-      by_word : (told : Bool) → (if told then Ok Misfit else reading_by own (factor_kind_at d) d) ≡ as_read x → P
-      by_word true e = absurd (misfit (same_read Misfit x e))
-      by_word false e = by_kind (factor_kind_at d) e
-=======
-bounds_or_answer : (s t : Source) (b : BoundsView) (a : AnswerView) → Bounded s b ≡ Answered t a → ⊥
-bounds_or_answer s t b a e = cc
-
-bounds_are_other : (own : Option Source) (d : Data) (source : Source) (a : AnswerView) → bounded_of own d ≡ as_read (Answered source a) → ⊥
-bounds_are_other own d source a e = by_own own e
-  where
-    by_result : (s : Source) (r : Result BoundsView Key) → and_then r (λ b. as_read (Bounded s b)) ≡ as_read (Answered source a) → ⊥
-    by_result s (Err k) f = no_answer k (Answered source a) f
-    by_result s (Ok b) f = bounds_or_answer s source b a (same_read (Bounded s b) (Answered source a) f)
-
-    by_own : (own : Option Source) → and_then (ok_or own (source_key d)) (λ s. and_then (bounds_to s d) (λ b. as_read (Bounded s b))) ≡ as_read (Answered source a) → ⊥
-    by_own None f = no_answer (source_key d) (Answered source a) f
-    by_own (Some s) f = by_result s (bounds_to s d) f
->>>>>>> outer
-
-read_is : (own : Option Source) (d : Data) (source : Source) (a : AnswerView) → report_of own d ≡ Ok (Answered source a) → (own ≡ Some source) × HasQuestionShape (asked source).body a
-read_is own d source a e = by_reading own d (Answered source a) ((own ≡ Some source) × HasQuestionShape (asked source).body a) (misfit_or_answer source a) (by_kind (answer_kind_at d) own) (no_best own) e
-  where
-    by_result : (kind : AnswerKind) (s : Source) (r : Result AnswerView Key) → answer_to s kind d ≡ r → and_then r (with_answer s) ≡ as_read (Answered source a) → (Some s ≡ Some source) × HasQuestionShape (asked source).body a
-    by_result kind s (Err k) is f = absurd (no_answer k (Answered source a) f)
-    by_result kind s (Ok b) is f =
-        let same = same_source s source b a (same_read (Answered s b) (Answered source a) f) in
-        (ap Some same.0, subst (λ c. HasQuestionShape (asked source).body c) same.1 (subst (λ t. HasQuestionShape (asked t).body b) same.0 (answer_fits (asked s) kind d b is)))
-
-    by_kind : (o : Option AnswerKind) (own : Option Source)
-        → and_then (ok_or o keys.Answer) (λ kind. and_then (ok_or own (source_key d)) (λ s. and_then (answer_to s kind d) (with_answer s))) ≡ as_read (Answered source a) → (own ≡ Some source) × HasQuestionShape (asked source).body a
-    by_kind None own f = absurd (no_answer keys.Answer (Answered source a) f)
-    by_kind (Some kind) None f = absurd (no_answer (source_key d) (Answered source a) f)
-    by_kind (Some kind) (Some s) f = by_result kind s (answer_to s kind d) refl f
-
-<<<<<<< HEAD
-    no_result : (s : Source) (r : Result BestView Key) → and_then r (with_best s) ≡ as_read (Answered source a) → ⊥
-    no_result s (Err k) f = no_answer k (Answered source a) f
-    no_result s (Ok b) f = answer_or_best source s a b (sym (same_read (Factored s b) (Answered source a) f))
-
-    no_best : (own : Option Source) (kind : FactorKind) → best_of own kind d ≡ as_read (Answered source a) → (own ≡ Some source) × HasQuestionShape (asked source).body a
-    no_best None kind f = absurd (no_answer (source_key d) (Answered source a) f)
-    no_best (Some s) kind f = absurd (no_result s (best_to s kind d) f)
-
-best_is : (own : Option Source) (d : Data) (source : Source) (b : BestView) → report_of own d ≡ Ok (Factored source b) → (own ≡ Some source) × HasFactorShape (asked source).body b
-best_is own d source b e = by_reading own d (Factored source b) ((own ≡ Some source) × HasFactorShape (asked source).body b) (misfit_or_best source b) (no_answers (answer_kind_at d) own) (by_kind own) e
-  where
-    by_result : (kind : FactorKind) (s : Source) (r : Result BestView Key) → best_to s kind d ≡ r → and_then r (with_best s) ≡ as_read (Factored source b) → (Some s ≡ Some source) × HasFactorShape (asked source).body b
-    by_result kind s (Err k) is f = absurd (no_answer k (Factored source b) f)
-    by_result kind s (Ok c) is f =
-        let same = same_factors s source c b (same_read (Factored s c) (Factored source b) f) in
-        (ap Some same.0, subst (λ x. HasFactorShape (asked source).body x) same.1 (subst (λ t. HasFactorShape (asked t).body c) same.0 (best_fits (asked s) kind d c is)))
-
-    by_kind : (own : Option Source) (kind : FactorKind) → best_of own kind d ≡ as_read (Factored source b) → (own ≡ Some source) × HasFactorShape (asked source).body b
-    by_kind None kind f = absurd (no_answer (source_key d) (Factored source b) f)
-    by_kind (Some s) kind f = by_result kind s (best_to s kind d) refl f
-
-    no_result : (s : Source) (r : Result AnswerView Key) → and_then r (with_answer s) ≡ as_read (Factored source b) → ⊥
-    no_result s (Err k) f = no_answer k (Factored source b) f
-    no_result s (Ok a) f = answer_or_best s source a b (same_read (Answered s a) (Factored source b) f)
-
-    no_answers : (o : Option AnswerKind) (own : Option Source)
-        → and_then (ok_or o keys.Answer) (λ kind. and_then (ok_or own (source_key d)) (λ s. and_then (answer_to s kind d) (with_answer s))) ≡ as_read (Factored source b) → (own ≡ Some source) × HasFactorShape (asked source).body b
-    no_answers None own f = absurd (no_answer keys.Answer (Factored source b) f)
-    no_answers (Some kind) None f = absurd (no_answer (source_key d) (Factored source b) f)
-    no_answers (Some kind) (Some s) f = absurd (no_result s (answer_to s kind d) f)
-
--- ---- of factors
-
-pub best_fits_question : (line : List ℕ) (source : Source) (b : BestView) → ReadsReport line (Ok (Factored source b)) → HasFactorShape (asked source).body b
-best_fits_question line source b h = (best_is h.reads.own h.value source b h.reads.is).1
-
-pub best_source_read : (line : List ℕ) (source : Source) (b : BestView) (h : ReadsReport line (Ok (Factored source b))) → IsSourceOf h.value source
-best_source_read line source b h = subst (IsSourceAt h.value) (best_is h.reads.own h.value source b h.reads.is).0 h.reads.source
-
--- ---- of answers
-=======
-    by_outer : (outer : Bool) → (if outer then bounded_of own d else answered_of own d) ≡ as_read (Answered source a) → (own ≡ Some source) × HasQuestionShape (asked source).body a
-    by_outer true f = absurd (bounds_are_other own d source a f)
-    by_outer false f = by_kind (answer_kind_at d) own f
-
-    by_word : (told : Bool) → (if told then Ok Misfit else if tells_outer d then bounded_of own d else answered_of own d) ≡ as_read (Answered source a) → (own ≡ Some source) × HasQuestionShape (asked source).body a
-    by_word true f = absurd (misfit_or_answer source a (same_read Misfit (Answered source a) f))
-    by_word false f = by_outer (tells_outer d) f
->>>>>>> outer
+-- ---- the question that an answer is about
 
 pub fits_question : (line : List ℕ) (source : Source) (a : AnswerView) → ReadsReport line (Ok (Answered source a)) → HasQuestionShape (asked source).body a
-fits_question line source a h = (read_is h.reads.own h.value source a h.reads.is).1
+fits_question line source a h = (answer_is h.reads.own h.value source a h.reads.is).1
 
 -- the line's value is about that
 pub source_read : (line : List ℕ) (source : Source) (a : AnswerView) (h : ReadsReport line (Ok (Answered source a))) → IsSourceOf h.value source
-source_read line source a h = subst (IsSourceAt h.value) (read_is h.reads.own h.value source a h.reads.is).0 h.reads.source
+source_read line source a h = subst (IsSourceAt h.value) (answer_is h.reads.own h.value source a h.reads.is).0 h.reads.source
 
 -- so the question keeps the limits and has small numbers
 pub limits_question : (line : List ℕ) (source : Source) (a : AnswerView) → ReadsReport line (Ok (Answered source a)) → IsQuestion (asked source).body

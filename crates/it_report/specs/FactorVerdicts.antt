@@ -58,29 +58,29 @@ zero_verdict place (Some x) = if int_eq x (pos 0) then Checked Valid else NotZer
 abbrev pub first_wrong : Verdict → FactorVerdict → FactorVerdict
 first_wrong verdict other = if is_valid verdict then other else Checked verdict
 
+-- values at which the problem is met and the first row is -1 or less, and then that the other row is 0 there
+abbrev pub tight_verdict : ProblemView → Terms → Terms → List ℤ → FactorVerdict
+tight_verdict p below zero values =
+    first_wrong (no_verdict (length (elementals p.space.variables)) (generators p) below (point_of values))
+    (zero_verdict (length (generators p) + 1) (sum_within (pos 0) zero (point_of values)))
+
+-- a factor from a denominator of 1 on
+abbrev pub from_one : ℤ → FactorVerdict → FactorVerdict
+from_one den verdict = if int_lt den (pos 1) then BelowOne den else verdict
+
 module _ (p : ProblemView) (left right : Terms) where
   -- num times the left row less den times the right one
   abbrev pub row_of : ℤ → ℤ → Result Terms ℕ
   row_of num den = row_unless (unformed (size_of p.space) num den left right) (side_row (size_of p.space) num den left right)
 
-  -- values at which the problem is met and the first row is -1 or less, and then that the other row is 0 there
-  abbrev pub tight_verdict : Terms → Terms → List ℤ → FactorVerdict
-  tight_verdict below zero values =
-      first_wrong (no_verdict (length (elementals p.space.variables)) (generators p) below (point_of values))
-      (zero_verdict (length (generators p) + 1) (sum_within (pos 0) zero (point_of values)))
-
-  -- a factor from a denominator of 1 on
-  abbrev pub from_one : ℤ → FactorVerdict → FactorVerdict
-  from_one den verdict = if int_lt den (pos 1) then BelowOne den else verdict
-
   -- the least factor: its certificate, and a point at which the left side is at least 1 and the factor just holds
   abbrev pub least_verdict : ℤ → ℤ → CertificateView → List ℤ → FactorVerdict
   least_verdict num den proof values = from_one den (with_row (row_of num den) (λ factor. with_row (row_of (neg_ℤ (pos 1)) (pos 0)) (λ turned.
-      first_wrong (proof_verdict p factor proof) (tight_verdict turned factor values))))
+      first_wrong (proof_verdict p factor proof) (tight_verdict p turned factor values))))
 
   -- no factor: a point at which the right side is at least 1 and the left one 0
   abbrev pub never_verdict : List ℤ → FactorVerdict
-  never_verdict values = with_row (row_of (pos 0) (pos 1)) (λ turned. tight_verdict turned left values)
+  never_verdict values = with_row (row_of (pos 0) (pos 1)) (λ turned. tight_verdict p turned left values)
 
   -- no least factor: a factor's certificate, and one that the left side is at most 0
   abbrev pub unbounded_verdict : ℤ → ℤ → CertificateView → CertificateView → FactorVerdict

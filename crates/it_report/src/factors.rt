@@ -1,12 +1,12 @@
 //! The verdict on what is said of factors, by the rows of both sides of the relation under a problem.
-ghost use Rattle.std.specs.Prelude.{◌≡◌, ◌≤◌, ◌<◌, ◌+◌, ◌++◌, length, pos, IfErr, IfOk, OkIff, OnOk, Some, None};
+ghost use Rattle.std.specs.Prelude.{◌≡◌, ◌+◌, ◌++◌, ¬◌, ℕ, length, pos, IfErr, IfOk, OkIff, OnOk, Some};
 ghost use Rattle.it_space.specs.Answers.{certificate_view};
 ghost use Rattle.it_space.specs.Problems.{IsProblem, problem_view};
 ghost use Rattle.it_space.specs.Rows.{IsOver, point_of, single_term};
 ghost use Rattle.it_space.specs.Spaces.{size_of};
 ghost use Rattle.it_elemental.specs.Generators.{generators};
 ghost use Rattle.it_check.specs.Sums.{sum_within};
-ghost use Rattle.it_ratio.specs.BestViews.{Least, Unbounded, best_view};
+ghost use Rattle.it_ratio.specs.BestViews.{best_view};
 ghost use Rattle.it_report.specs.FactorSteps.{AreSideRows, Gives, IsComplete, IsFactorVerdictOver, NumberFits, RowForms};
 ghost use Rattle.it_report.specs.FactorVerdicts.{best_verdict, first_wrong, least_verdict, never_verdict, side_number, tight_verdict, unbounded_verdict, zero_verdict};
 ghost use Rattle.it_report.specs.RowVerdicts.{proof_verdict};
