@@ -1,11 +1,8 @@
 -- Rows that hold and are the hull of rays are exact bounds.
-use Rattle.std.proofs.Common.{ℕ, ℤ, pos, ◌≤ℤ◌, List, arith, All}
+use Rattle.std.proofs.Common.{ℕ, ℤ, List, arith}
 use Rattle.std.proofs.lemmas.Int.{ints}
 use Rattle.std.proofs.lemmas.List.Elements.{All-weaker}
-use Rattle.it_space.specs.Problems.{ProblemView}
-use Rattle.it_space.specs.Rows.{Terms, point_of, value}
-use Rattle.it_question.specs.Questions.{BodyView}
-use Rattle.it_canon.specs.QuestionDemands.{IsProblemOf}
+use Rattle.it_space.specs.Rows.{point_of}
 use Rattle.it_canon.specs.TrueLines.{AreTrueTogether}
 use Rattle.it_hull.specs.Hulls.{IsAttained}
 use Rattle.it_hull.specs.Theorems.{MeetsProblem}
