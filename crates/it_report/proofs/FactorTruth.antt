@@ -2,7 +2,7 @@
 use Rattle.std.proofs.Common.{◌≡◌, ℕ, ◌+◌, ◌-◌, ◌<◌, ◌≤◌, ℤ, pos, neg_ℤ, ◌-ℤ◌, ◌*ℤ◌, ◌+ℤ◌, ◌≤ℤ◌, int_lt, List, length, map, Bool, true, false, Option, Some, None, option_and_then, if◌then◌else◌, Ok, ◌↔◌, refl, sym, ap, ap₂, subst, ◌∙◌, arith, rules}
 use Rattle.std.specs.Ordering.{int_eq}
 use Rattle.std.proofs.lemmas.Int.{ints}
-use Rattle.std.proofs.lemmas.List.{length-map, get_or-map}
+use Rattle.std.proofs.lemmas.List.{get_or-map}
 use Rattle.it_space.specs.declared.spaces.Space.{Space}
 use Rattle.it_space.specs.Answers.{CertificateView}
 use Rattle.it_space.specs.Problems.{ProblemView, AreMet}
@@ -10,7 +10,7 @@ use Rattle.it_space.specs.Rows.{Terms, IsOver, coefficient, one_at, point_of, va
 use Rattle.it_space.specs.Spaces.{size_of}
 use Rattle.it_space.specs.Sums.{terms_from}
 use Rattle.it_space.proofs.OptionLemmas.{some_same}
-use Rattle.it_space.proofs.SumLemmas.{terms_at, terms_up_to}
+use Rattle.it_space.proofs.SumLemmas.{terms_at}
 use Rattle.it_space.proofs.TermLemmas.{value-one_at}
 use Rattle.it_polymatroid.specs.Certificates.{Form, dot}
 use Rattle.it_polymatroid.specs.Elementals.{elementals, span}
@@ -61,6 +61,7 @@ use Rattle.it_report.specs.Meaning.{ValidFactorIsTrue, ValidFactorIsTrueOfSharin
 use Rattle.it_report.specs.RowVerdicts.{is_valid, proof_verdict}
 use Rattle.it_report.proofs.OneLemmas.{same_read}
 use Rattle.it_report.proofs.ReadingLemmas.{best_is}
+use Rattle.it_report.proofs.SideSteps.{row_over}
 
 -- ---- verdicts with nothing wrong
 
@@ -114,10 +115,6 @@ module _ (size : ℕ) (left right : Terms) (left_over : IsOver size left) (right
   abbrev row : Terms
   row = side_row size num den left right
 
-  row_over : IsOver size row
-  unfolding side_row
-  row_over = terms_up_to size 1 (map (side_number num den left right) (span 1 size)) (omega arith) (omega (arith, length-map (span 1 size) (side_number num den left right), length-span 1 size))
-
   coefficient_is : (c : ℕ) → 1 ≤ c → c ≤ size → coefficient row c ≡ side_number num den left right c
   unfolding side_row
   coefficient_is c h l =
@@ -132,7 +129,7 @@ module _ (size : ℕ) (left right : Terms) (left_over : IsOver size left) (right
   -- the row's value is that of both rows
   value_is : (m : ℕ → ℤ) → m 0 ≡ pos 0 → value row m ≡ num *ℤ value left m -ℤ den *ℤ value right m
   value_is m z =
-      (value_linear size row row_over).sum m z
+      (value_linear size row (row_over size num den left right)).sum m z
       ∙ dot_from_one (size + 1) (λ c. value row (one_at c)) (λ c. num *ℤ value left (one_at c) -ℤ den *ℤ value right (one_at c)) m z
       (λ c h l. value-one_at row c ∙ coefficient_is c (omega (arith, h)) (omega (arith, l)) ∙ ap₂ (λ (x y : ℤ). num *ℤ x -ℤ den *ℤ y) (sym (value-one_at left c)) (sym (value-one_at right c)))
       ∙ sym ((linear-sub (size + 1) (λ p. num *ℤ value left p) (λ p. den *ℤ value right p)
@@ -172,7 +169,7 @@ module _ (q : BodyView) (p : ProblemView) (is : IsProblemOf q p) where
     row_for num den = side_row size num den left right
 
     over : (num den : ℤ) → IsOver size (row_for num den)
-    over num den = row_over size left right left_is.coordinates right_is.coordinates num den
+    over num den = row_over size num den left right
 
     value_at : (num den : ℤ) (m : ℕ → ℤ) → m 0 ≡ pos 0 → value (row_for num den) m ≡ num *ℤ f m -ℤ den *ℤ g m
     value_at num den m z = value_is size left right left_is.coordinates right_is.coordinates num den m z ∙ ap₂ (λ (x y : ℤ). num *ℤ x -ℤ den *ℤ y) (left_is.same m z) (right_is.same m z)

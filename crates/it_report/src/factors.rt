@@ -1,5 +1,5 @@
 //! The verdict on what is said of factors, by the rows of both sides of the relation under a problem.
-ghost use Rattle.std.specs.Prelude.{◌≡◌, ◌+◌, ◌++◌, ¬◌, ℕ, length, pos, IfErr, IfOk, OkIff, OnOk, Some};
+ghost use Rattle.std.specs.Prelude.{◌≡◌, ◌+◌, ◌++◌, ℕ, length, pos, IfErr, IfOk, OkIff, OnOk, Some};
 ghost use Rattle.it_space.specs.Answers.{certificate_view};
 ghost use Rattle.it_space.specs.Problems.{IsProblem, problem_view};
 ghost use Rattle.it_space.specs.Rows.{IsOver, point_of, single_term};
@@ -144,7 +144,6 @@ fn zero_verdict(problem: &Problem, row: &Row, point: &Point) -> FactorVerdict
 }
 
 /// Whether the point meets the problem with `below` at most -1 there, and `zero` 0.
-#[tactic(auto, using(crate::proofs::VerdictLemmas::no_over))]
 fn tight_verdict(problem: &Problem, below: &Row, zero: &Row, point: &Point) -> FactorVerdict
     requires problem { IsProblem (problem_view problem.now) }
     requires below { IsOver (size_of problem.now.space) below.now }
