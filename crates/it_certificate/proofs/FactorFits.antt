@@ -1,5 +1,5 @@
 -- What is read of factors fits its question.
-use Rattle.std.proofs.Common.{◌≡◌, ℕ, ◌<◌, ◌^◌, ℤ, List, [], ◌∷◌, length, refl, ap, subst, ◌∙◌, Option, Some, None, Result, Ok, Err, option_and_then, Bool, true, false, cond, nat_lt, rules, codes}
+use Rattle.std.proofs.Common.{◌≡◌, ℕ, ◌<◌, ◌^◌, ℤ, List, [], ◌∷◌, length, refl, ap, subst, ◌∙◌, Option, Some, None, Result, Ok, Err, option_and_then, Bool, true, false, cond, codes}
 use Rattle.std.specs.Prelude.{All, is_some, ok_or}
 use Rattle.std.proofs.lemmas.List.Elements.{All-head, All-tail}
 use Rattle.std.specs.Option.{option_zip}
@@ -25,7 +25,7 @@ use Rattle.it_certificate.specs.Parts.{certificate_at, count_at, integer_at, lis
 use Rattle.it_certificate.specs.FactorReading.{best_at, both_of, cause_with, certificates_at, factor_at, factor_cause_of, least_at, never_at, one_of, phase_at, ratio_at, steps_at, unbounded_at, undecided_factor_at, verb_best}
 use Rattle.it_certificate.specs.FactorShapes.{AreValues, HasBestShape, HasFactorShape, IsRatio, IsSmallCause}
 use Rattle.it_certificate.proofs.FitLemmas.{certificate_numbers, key_ok, list_numbers, ok_same, step_below, then_ok}
-use Rattle.it_certificate.proofs.WithinLemmas.{and_then_some, cond_some, integer_at_within, pair_some, point_length, point_within}
+use Rattle.it_certificate.proofs.WithinLemmas.{and_then_some, below_limit, integer_at_within, pair_some, point_length, point_within}
 
 -- ---- keys
 
@@ -67,15 +67,8 @@ values_fit size d values is = record { each = point_length size d values is; wit
 steps_fit : (d : Data) (steps : ℕ) → steps_at d ≡ Some steps → steps < 2 ^ 32
 steps_fit d steps is = let h = and_then_some (text_of (get (codes "at") d)) step_of steps is in step_below h.0 steps h.1.1
 
-byte_below : (n m : ℕ) → below (2 ^ 8) n ≡ Some m → m < 2 ^ 8
-byte_below n m is =
-    let h = cond_some (nat_lt n (2 ^ 8)) (Some n) m is in
-    let e : n ≡ m = let s = h.1 in cc in
-    let lt : n < 2 ^ 8 = let t = h.0 in search (rules, t) in
-    subst (λ k. k < 2 ^ 8) e lt
-
 phase_fits : (d : Data) (phase : ℕ) → phase_at d ≡ Some phase → phase < 2 ^ 8
-phase_fits d phase is = let h = and_then_some (option_and_then count_at (get (codes "phase") d)) (below (2 ^ 8)) phase is in byte_below h.0 phase h.1.1
+phase_fits d phase is = let h = and_then_some (option_and_then count_at (get (codes "phase") d)) (below (2 ^ 8)) phase is in below_limit (2 ^ 8) h.0 phase h.1.1
 
 cause_fits : (cause : FactorCause) (steps phase : ℕ) → steps < 2 ^ 32 → phase < 2 ^ 8 → IsSmallCause (cause_with cause steps phase)
 cause_fits words.Pivots steps phase h k = (h, k)

@@ -40,7 +40,7 @@ use Rattle.it_rates.specs.Asked.{eliminated_by}
 use Rattle.it_certificate.specs.Bounds.{BoundsView, HasBoundsShape, bounds_at, drop_at, step_at, steps_at, unmarked_row_at, unmarked_rows_at, verb_bounds}
 use Rattle.it_certificate.specs.Reports.{verb_answer}
 use Rattle.it_certificate.specs.AnswerShapes.{IsNumberedAmount, IsNumbered, IsRowIn, IsFoundIn, IsCauseFor, HasVerbShape, HasQuestionShape}
-use Rattle.it_certificate.proofs.WithinLemmas.{and_then_some, map_some, cond_some, pair_some, all_of_holds, integer_at_within, point_within, point_length}
+use Rattle.it_certificate.proofs.WithinLemmas.{below_limit, and_then_some, map_some, cond_some, pair_some, all_of_holds, integer_at_within, point_within, point_length}
 use Rattle.it_certificate.proofs.RowLemmas.{row_is_canonical}
 
 pub key_ok : {A : Type 0} (k : Key) (o : Option A) (a : A) → ok_or o k ≡ Ok a → o ≡ Some a
@@ -59,16 +59,9 @@ ok_same a b is = cc
 
 -- ---- numbers and terms
 
-count_below : (n m : ℕ) → below (2 ^ 32) n ≡ Some m → m < 2 ^ 32
-count_below n m is =
-    let h = cond_some (nat_lt n (2 ^ 32)) (Some n) m is in
-    let e : n ≡ m = let s = h.1 in cc in
-    let lt : n < 2 ^ 32 = let t = h.0 in search (rules, t) in
-    subst (λ k. k < 2 ^ 32) e lt
-
 count_at_below : (d : Data) (n : ℕ) → count_at d ≡ Some n → n < 2 ^ 32
 unfolding count_at
-count_at_below d n is = let h = and_then_some (option_and_then as_u64 (as_number d)) (below (2 ^ 32)) n is in count_below h.0 n h.1.1
+count_at_below d n is = let h = and_then_some (option_and_then as_u64 (as_number d)) (below (2 ^ 32)) n is in below_limit (2 ^ 32) h.0 n h.1.1
 
 pair_numbers : (d : Data) (t : ℕ × ℤ) → pair_at d ≡ Some t → IsNumberedAmount t
 unfolding pair_at
@@ -136,7 +129,7 @@ no_fits v r d a is =
 -- ---- undecided
 
 integer_below : (z : ℤ) (n : ℕ) → count_of_integer z ≡ Some n → n < 2 ^ 32
-integer_below (pos m) n is = count_below m n is
+integer_below (pos m) n is = below_limit (2 ^ 32) m n is
 integer_below (negsuc m) n is = absurd (cc)
 
 pub step_below : (text : List ℕ) (n : ℕ) → step_of text ≡ Some n → n < 2 ^ 32
@@ -281,8 +274,7 @@ set_fits n d s is =
     let h = and_then_some (count_at d) (below (2 ^ n)) s is in
     let m = cond_some (nat_lt h.0 (2 ^ n)) (Some h.0) s h.1.1 in
     let e : h.0 ≡ s = let t = m.1 in cc in
-    let lt : h.0 < 2 ^ n = let t = m.0 in search (rules, t) in
-    subst (IsSetIn n) e (count_at_below d h.0 h.1.0, lt)
+    (subst (λ k. k < 2 ^ 32) e (count_at_below d h.0 h.1.0), below_limit (2 ^ n) h.0 s h.1.1)
 
 parts_fit : (count n : ℕ) (d : Data) (ss : List ℕ) → parts_at count n d ≡ Some ss → (length ss ≡ count) × All (IsSetIn n) ss
 unfolding parts_at

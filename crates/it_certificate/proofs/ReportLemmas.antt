@@ -20,7 +20,7 @@ use Rattle.it_ratio.specs.BestViews.{BestView, best_view}
 use Rattle.it_ratio.specs.declared.types.Best.{Best}
 use Rattle.it_certificate.specs.declared.kinds.FactorKind.{FactorKind}
 use Rattle.it_certificate.specs.FactorReading.{factor_kind_at, verb_best}
-use Rattle.it_certificate.specs.Reports.{Answered, Factored, Misfit, Reading, ReadsAs, answer_to, best_to, reading_by, report_of, tells_misfit, verb_answer, Bounded, answered_of, bounded_of, bounds_to, tells_outer}
+use Rattle.it_certificate.specs.Reports.{Answered, Factored, Misfit, Reading, ReadsAs, answer_to, best_to, reading_by, report_of, tells_misfit, verb_answer, Bounded, bounded_of, bounds_to, tells_outer}
 use Rattle.it_certificate.specs.Bounds.{BoundsView, bounds_view, verb_bounds}
 use Rattle.it_certificate.specs.ReportSteps.{GivesSource, ReadsValue}
 use Rattle.it_certificate.specs.Sources.{IsSourceOf, Source, asked, source_key}

@@ -29,19 +29,19 @@ all_of_holds P f each (item d ds) xs is =
     let k = map_some (all_of f ds) (λ rest. h.0 ∷ rest) xs h.1.1 in
     subst (λ zs. All P zs) k.1.1 (All-cons P h.0 k.0 (each d h.0 h.1.0) (all_of_holds P f each ds k.0 k.1.0))
 
-up_to_limit_within : (n m : ℕ) → below (2 ^ 127) n ≡ Some m → m < 2 ^ 127
-up_to_limit_within n m is =
-    let h = cond_some (nat_lt n (2 ^ 127)) (Some n) m is in
+pub below_limit : (limit n m : ℕ) → below limit n ≡ Some m → m < limit
+below_limit limit n m is =
+    let h = cond_some (nat_lt n limit) (Some n) m is in
     let e : n ≡ m = let s = h.1 in cc in
-    let lt : n < 2 ^ 127 = let t = h.0 in search (rules, t) in
-    subst (λ k. k < 2 ^ 127) e lt
+    let lt : n < limit = let t = h.0 in search (rules, t) in
+    subst (λ k. k < limit) e lt
 
 magnitude_within : (ds : List ℕ) (m : ℕ) → magnitude_of ds ≡ Some m → m < 2 ^ 127
 unfolding magnitude_of
 magnitude_within ds m is =
     let h = cond_some (nat_le 1 (length ds) && nat_le (length ds) 39) (option_and_then (below (2 ^ 127)) (value_from 0 ds)) m is in
     let k = and_then_some (value_from 0 ds) (below (2 ^ 127)) m h.1 in
-    up_to_limit_within k.0 m k.1.1
+    below_limit (2 ^ 127) k.0 m k.1.1
 
 negative_within : (m : ℕ) → m < 2 ^ 127 → IsWithin (neg_ℤ (pos m))
 negative_within zero lt = lt

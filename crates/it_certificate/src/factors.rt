@@ -175,7 +175,11 @@ fn steps_at(value: &Value) -> Option<u32>
 fn byte_of(number: u32) -> Option<u8>
     ensures { result ≡ below (2 ^ 8) number }
 {
-    if number < 256 { Some(number as u8) } else { None }
+    if number < 256 {
+        Some(number as u8)
+    } else {
+        None
+    }
 }
 
 /// The phase.

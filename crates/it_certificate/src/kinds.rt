@@ -102,7 +102,13 @@ pub fn factor_kind_of(text: &str, has_phase: bool) -> Option<FactorKind>
         "best" => Some(FactorKind::Least),
         "none" => Some(FactorKind::Never),
         "unbounded" => Some(FactorKind::Unbounded),
-        "undecided" => { if has_phase { Some(FactorKind::Undecided) } else { None } }
+        "undecided" => {
+            if has_phase {
+                Some(FactorKind::Undecided)
+            } else {
+                None
+            }
+        }
         _ => None,
     }
 }

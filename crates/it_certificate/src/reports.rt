@@ -60,7 +60,7 @@ fn answered(alloc: Global, value: &Value) -> Result<Reported, ReportFault>
 }
 
 /// The reading of a line of this kind about factors.
-#[tactic(auto, using(crate::proofs::ReportLemmas::no_factor_source, crate::proofs::ReportLemmas::best_ok, crate::proofs::ReportLemmas::best_err))]
+#[tactic(auto, using(crate::proofs::ReportLemmas::no_factor_source, crate::proofs::ReportLemmas::best_err))]
 fn factored(alloc: Global, value: &Value, kind: FactorKind) -> Result<Reported, ReportFault>
     requires told { false ≡ tells_misfit (view value.now) }
     requires outer { false ≡ tells_outer (view value.now) }

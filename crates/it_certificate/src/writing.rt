@@ -266,11 +266,7 @@ pub fn report_json(
 }
 
 /// The line of what is found of the factors of the relation that these texts ask about, without its end, as `report_json` writes it.
-pub fn best_json(
-    alloc: Global,
-    source: SourceText<'_>,
-    best: &Best,
-) -> Result<Vec<u8>, AllocError>
+pub fn best_json(alloc: Global, source: SourceText<'_>, best: &Best) -> Result<Vec<u8>, AllocError>
     ensures { IfOk result (λ out. out.items ≡ report_text (source_texts source.entry) (best_members (best_view best.now))) }
 {
     let members = best_members(alloc, best)?;

@@ -2,7 +2,12 @@ use Rattle.serde_json.specs.View.{view}
 use Rattle.it_question.specs.Questions.{question_view}
 use Rattle.it_ratio.specs.BestViews.{best_view}
 use Rattle.it_certificate.proofs.FactorFits.{best_fits}
+use Rattle.it_certificate.proofs.ReportLemmas.{best_ok}
 use Rattle.it_certificate.proofs.reports.factored.Goals as goal
+
+pub returns-in-Ok-question_best-clause-reading : goal.returns-in-Ok-question_best-clause-reading
+returns-in-Ok-question_best-clause-reading c =
+    best_ok (view c.args.value.now) c.requires.told c.requires.outer c.args.kind c.requires.factors c.in-Ok.question c.in-Ok-question_best.best c.in-Ok.ensures.reading c.in-Ok-question_best.ensures
 
 pub returns-in-Ok-question_best-clause-limits : goal.returns-in-Ok-question_best-clause-limits
 returns-in-Ok-question_best-clause-limits c =
