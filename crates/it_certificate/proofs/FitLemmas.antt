@@ -32,12 +32,12 @@ use Rattle.it_demand.specs.Targets.{targets}
 use Rattle.it_certificate.specs.Numerals.{below, count_of_integer, step_of, integer_of}
 use Rattle.it_certificate.specs.Kinds.{back_of, mark_of}
 use Rattle.std.specs.Option.{option_or, option_zip}
-use Rattle.it_certificate.specs.Parts.{text_of, integer_at, count_at, two_of, pair_at, all_of, list_at, of_length, certificate_at, proofs_at, point_at, back_at, cause_kind_at, cause_of, cause_at, is_row_between, row_of, marked_row_at, rows_at, set_at, parts_at}
+use Rattle.it_certificate.specs.Parts.{text_of, integer_at, count_at, two_of, pair_at, all_of, list_at, of_length, certificate_at, proofs_at, point_at, back_at, cause_kind_at, cause_of, cause_at, is_row_between, row_of, marked_row_at, rows_at, set_at, parts_at, unmarked_row_at}
 use Rattle.it_certificate.specs.AnswerReading.{and_then, no_at, undecided_at, contained_at}
 use Rattle.it_certificate.specs.Obligations.{obligation_count}
 use Rattle.it_spans.specs.Spans.{StepView}
 use Rattle.it_rates.specs.Asked.{eliminated_by}
-use Rattle.it_certificate.specs.Bounds.{BoundsView, HasBoundsShape, bounds_at, drop_at, step_at, steps_at, unmarked_row_at, unmarked_rows_at, verb_bounds}
+use Rattle.it_certificate.specs.Bounds.{BoundsView, HasBoundsShape, bounds_at, drop_at, step_at, steps_at, unmarked_rows_at, verb_bounds}
 use Rattle.it_certificate.specs.Reports.{verb_answer}
 use Rattle.it_certificate.specs.AnswerShapes.{IsNumberedAmount, IsNumbered, IsRowIn, IsFoundIn, IsCauseFor, HasVerbShape, HasQuestionShape}
 use Rattle.it_certificate.proofs.WithinLemmas.{below_limit, and_then_some, map_some, cond_some, pair_some, all_of_holds, integer_at_within, point_within, point_length}
@@ -189,16 +189,20 @@ all_second (t ∷ ts) all = All-cons (λ t. IsWithin t.1) t ts (All-head IsNumbe
 terms_numbers : (d : Data) (ts : Terms) → list_at pair_at (get (codes "row") d) ≡ Some ts → All IsNumberedAmount ts
 terms_numbers d ts is = list_numbers IsNumberedAmount pair_at pair_numbers (get (codes "row") d) ts is
 
+unmarked_row_is : (size : ℕ) (d : Data) (ts : Terms) → unmarked_row_at size d ≡ Some ts → All IsNumberedAmount ts × (is_row_between 1 size ts ≡ true)
+unfolding unmarked_row_at
+unmarked_row_is size d ts is =
+    let k = and_then_some (list_at pair_at (get (codes "row") d)) (row_of size) ts is in
+    let m = cond_some (is_row_between 1 size k.0) (Some k.0) ts k.1.1 in
+    let e : k.0 ≡ ts = let s = m.1 in cc in
+    (subst (λ xs. All IsNumberedAmount xs) e (terms_numbers d k.0 k.1.0), subst (λ xs. is_row_between 1 size xs ≡ true) e m.0)
+
 row_fits : (size : ℕ) (d : Data) (r : Mark × Terms) → marked_row_at size d ≡ Some r → IsRowIn size r
 unfolding marked_row_at
 row_fits size d r is =
-    let h = pair_some (option_and_then mark_of (text_of (get (codes "mark") d))) (option_and_then (row_of size) (list_at pair_at (get (codes "row") d))) r is in
-    let k = and_then_some (list_at pair_at (get (codes "row") d)) (row_of size) r.1 h.1 in
-    let m = cond_some (is_row_between 1 size k.0) (Some k.0) r.1 k.1.1 in
-    let e : k.0 ≡ r.1 = let s = m.1 in cc in
-    let terms : All IsNumberedAmount r.1 = subst (λ ts. All IsNumberedAmount ts) e (terms_numbers d k.0 k.1.0) in
-    let row : is_row_between 1 size r.1 ≡ true = subst (λ ts. is_row_between 1 size ts ≡ true) e m.0 in
-    record { terms = terms; canonical = row_is_canonical size r.1 row (all_second r.1 terms); coordinates = up_to 1 size r.1 (omega arith) row }
+    let h = pair_some (option_and_then mark_of (text_of (get (codes "mark") d))) (unmarked_row_at size d) r is in
+    let k = unmarked_row_is size d r.1 h.1 in
+    record { terms = k.0; canonical = row_is_canonical size r.1 k.1 (all_second r.1 k.0); coordinates = up_to 1 size r.1 (omega arith) k.1 }
 
 region_fits : (v : NamesView) (rates : List ℕ) (d : Data) (a : AnswerView) → ok_or (option_map Region (rows_at (size_of (space_of v)) d)) keys.Rows ≡ Ok a → HasVerbShape v (Eliminate rates) a
 unfolding rows_at
@@ -211,12 +215,7 @@ region_fits v rates d a is =
 -- ---- outer bounds
 
 unmarked_row_fits : (size : ℕ) (d : Data) (r : Terms) → unmarked_row_at size d ≡ Some r → IsOver size r
-unfolding unmarked_row_at
-unmarked_row_fits size d r is =
-    let k = and_then_some (list_at pair_at (get (codes "row") d)) (row_of size) r is in
-    let m = cond_some (is_row_between 1 size k.0) (Some k.0) r k.1.1 in
-    let e : k.0 ≡ r = let s = m.1 in cc in
-    up_to 1 size r (omega arith) (subst (λ ts. is_row_between 1 size ts ≡ true) e m.0)
+unmarked_row_fits size d r is = up_to 1 size r (omega arith) (unmarked_row_is size d r is).1
 
 step_fits : (size : ℕ) (d : Data) (s : StepView) → step_at size d ≡ Some s → length s.ray ≡ size
 unfolding step_at
@@ -247,7 +246,7 @@ bounds_sized size d b is =
     let h = then_ok (ok_or (unmarked_rows_at size d) keys.Rows) (λ rows. and_then (ok_or (proofs_at (length rows) d) keys.Proofs) (λ proofs. and_then (ok_or (steps_at size d) keys.Rays) (λ steps. Ok (bounds_made rows proofs steps)))) b is in
     let k = then_ok (ok_or (proofs_at (length h.0) d) keys.Proofs) (λ proofs. and_then (ok_or (steps_at size d) keys.Rays) (λ steps. Ok (bounds_made h.0 proofs steps))) b h.1.1 in
     let m = then_ok (ok_or (steps_at size d) keys.Rays) (λ steps. Ok (bounds_made h.0 k.0 steps)) b k.1.1 in
-    subst (AreSized size) (ok_same (bounds_made h.0 k.0 m.0) b m.1.1) (
+    subst (AreSized size) {x = bounds_made h.0 k.0 m.0} (ok_same (bounds_made h.0 k.0 m.0) b m.1.1) (
       rows_fit size d h.0 (key_ok keys.Rows (unmarked_rows_at size d) h.0 h.1.0),
       (proofs_fit (length h.0) d k.0 (key_ok keys.Proofs (proofs_at (length h.0) d) k.0 k.1.0)).0,
       steps_fit size d m.0 (key_ok keys.Rays (steps_at size d) m.0 m.1.0),

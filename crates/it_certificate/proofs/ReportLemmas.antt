@@ -22,7 +22,7 @@ use Rattle.it_certificate.specs.declared.kinds.FactorKind.{FactorKind}
 use Rattle.it_certificate.specs.FactorReading.{factor_kind_at, verb_best}
 use Rattle.it_certificate.specs.Reports.{Answered, Factored, Misfit, Reading, ReadsAs, answer_to, best_to, reading_by, report_of, tells_misfit, verb_answer, Bounded, bounded_of, bounds_to, tells_outer}
 use Rattle.it_certificate.specs.Bounds.{BoundsView, bounds_view, verb_bounds}
-use Rattle.it_certificate.specs.ReportSteps.{GivesSource, ReadsValue}
+use Rattle.it_certificate.specs.ReportSteps.{GivesAsked, GivesSource, ReadsValue}
 use Rattle.it_certificate.specs.Sources.{IsSourceOf, Source, asked, source_key}
 use Rattle.it_certificate.specs.Steps.{GivesKeyed, fault_by}
 use Rattle.it_certificate.specs.AnswerReading.{and_then}
@@ -42,16 +42,20 @@ of_no_misfit : (d : Data) → false ≡ tells_misfit d → (o : Option Source) �
 unfolding report_of
 of_no_misfit d told o = ap (λ b. cond b (Ok Misfit) (reading_of o d (tells_outer d))) (sym told)
 
+pub no_question : (d : Data) (refusal : Refusal) (key : Key) (f : ReportFault) → GivesSource d (Err refusal) → key ≡ source_key d → f ≡ fault_by refusal key → GivesAsked d (Err f)
+no_question d refusals.Shape key f none e made = subst (λ g. GivesAsked d (Err g)) (sym made) (e, none)
+no_question d refusals.Memory key f none e made = subst (λ g. GivesAsked d (Err g)) (sym made) tt
+
 -- ---- a line that tells an outer bound
 
 module _ (d : Data) (told : false ≡ tells_misfit d) (outer : true ≡ tells_outer d) where
   of_bounds : (o : Option Source) → report_of o d ≡ bounded_of o d
   of_bounds o = of_no_misfit d told o ∙ ap (reading_of o d) (sym outer)
 
-  pub no_bounds_source : (refusal : Refusal) (key : Key) (f : ReportFault) → GivesSource d (Err refusal) → key ≡ source_key d → f ≡ fault_by refusal key → ReadsValue d (Err f)
-  no_bounds_source refusals.Shape key f none e made =
-      subst (λ g. ReadsValue d (Err g)) (sym (made ∙ ap faults.Shape e)) (record { own = None; source = none; is = of_bounds None })
-  no_bounds_source refusals.Memory key f none e made = subst (λ g. ReadsValue d (Err g)) (sym made) tt
+  pub no_bounds_source : (f : ReportFault) → GivesAsked d (Err f) → ReadsValue d (Err f)
+  no_bounds_source (faults.Shape key) none = subst (λ k. ReadsAs d (Err k)) (sym none.0) (record { own = None; source = none.1; is = of_bounds None })
+  no_bounds_source faults.NotJson none = none
+  no_bounds_source faults.Memory none = tt
 
   bounds_as : (source : Source) (r : Result BoundsView Key) → IsSourceOf d source → bounds_to source d ≡ r → ReadsAs d (and_then r (λ b. Ok (Bounded source b)))
   bounds_as source r own by = record { own = Some source; source = own; is = of_bounds (Some source) ∙ ap (λ z. and_then z (λ b. Ok (Bounded source b))) by }
@@ -87,10 +91,10 @@ module _ (d : Data) (told : false ≡ tells_misfit d) (outer : false ≡ tells_o
         record { own = own.0; source = own.1; is = by_answer own.0 None is }
 
     module _ (kind : AnswerKind) (is : Some kind ≡ answer_kind_at d) where
-      pub no_source : (refusal : Refusal) (key : Key) (f : ReportFault) → GivesSource d (Err refusal) → key ≡ source_key d → f ≡ fault_by refusal key → ReadsValue d (Err f)
-      no_source refusals.Shape key f none e made =
-          subst (λ g. ReadsValue d (Err g)) (sym (made ∙ ap faults.Shape e)) (record { own = None; source = none; is = by_answer None (Some kind) is })
-      no_source refusals.Memory key f none e made = subst (λ g. ReadsValue d (Err g)) (sym made) tt
+      pub no_source : (f : ReportFault) → GivesAsked d (Err f) → ReadsValue d (Err f)
+      no_source (faults.Shape key) none = subst (λ k. ReadsAs d (Err k)) (sym none.0) (record { own = None; source = none.1; is = by_answer None (Some kind) is })
+      no_source faults.NotJson none = none
+      no_source faults.Memory none = tt
 
       answer_as : (source : Source) (r : Result AnswerView Key) → IsSourceOf d source → answer_to source kind d ≡ r → ReadsAs d (and_then r (λ a. Ok (Answered source a)))
       answer_as source r own by = record { own = Some source; source = own; is = by_answer (Some source) (Some kind) is ∙ ap (λ z. and_then z (λ a. Ok (Answered source a))) by }
@@ -111,10 +115,10 @@ module _ (d : Data) (told : false ≡ tells_misfit d) (outer : false ≡ tells_o
   -- ---- a line about factors
 
   module _ (kind : FactorKind) (is : Some kind ≡ factor_kind_at d) where
-    pub no_factor_source : (refusal : Refusal) (key : Key) (f : ReportFault) → GivesSource d (Err refusal) → key ≡ source_key d → f ≡ fault_by refusal key → ReadsValue d (Err f)
-    no_factor_source refusals.Shape key f none e made =
-        subst (λ g. ReadsValue d (Err g)) (sym (made ∙ ap faults.Shape e)) (record { own = None; source = none; is = by_kind None (Some kind) is })
-    no_factor_source refusals.Memory key f none e made = subst (λ g. ReadsValue d (Err g)) (sym made) tt
+    pub no_factor_source : (f : ReportFault) → GivesAsked d (Err f) → ReadsValue d (Err f)
+    no_factor_source (faults.Shape key) none = subst (λ k. ReadsAs d (Err k)) (sym none.0) (record { own = None; source = none.1; is = by_kind None (Some kind) is })
+    no_factor_source faults.NotJson none = none
+    no_factor_source faults.Memory none = tt
 
     best_as : (source : Source) (r : Result BestView Key) → IsSourceOf d source → best_to source kind d ≡ r → ReadsAs d (and_then r (λ b. Ok (Factored source b)))
     best_as source r own by = record { own = Some source; source = own; is = by_kind (Some source) (Some kind) is ∙ ap (λ z. and_then z (λ b. Ok (Factored source b))) by }

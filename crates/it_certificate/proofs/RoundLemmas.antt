@@ -29,7 +29,7 @@ use Rattle.it_demand.specs.Demands.{kind_of}
 use Rattle.it_demand.specs.Targets.{targets}
 use Rattle.it_certificate.specs.Values.{integer_value, count_value, pair_value, proof_value, row_value, step_or_rate_word, answer_members, answer_value}
 use Rattle.std.specs.Option.{option_or, option_zip}
-use Rattle.it_certificate.specs.Parts.{text_of, integer_at, count_at, pair_at, all_of, of_length, certificate_at, answer_kind_at, proofs_at, point_at, back_at, cause_kind_at, cause_of, cause_at, is_row_between, row_of, marked_row_at, rows_at, set_at, parts_at, list_at}
+use Rattle.it_certificate.specs.Parts.{text_of, integer_at, count_at, pair_at, all_of, of_length, certificate_at, answer_kind_at, proofs_at, point_at, back_at, cause_kind_at, cause_of, cause_at, is_row_between, row_of, marked_row_at, rows_at, set_at, parts_at, list_at, unmarked_row_at}
 use Rattle.it_certificate.specs.AnswerReading.{and_then, no_at, undecided_at, contained_at}
 use Rattle.it_certificate.specs.Obligations.{obligation_count}
 use Rattle.it_certificate.specs.FactorReading.{factor_kind_at}
@@ -178,7 +178,7 @@ unfolding row_value
 terms_back r all = same_back IsNumberedAmount pair_at pair_value pair_back r.1 all
 
 row_back : (size : ℕ) (r : Mark × Terms) → IsRowIn size r → marked_row_at size (row_value r) ≡ Some r
-unfolding marked_row_at
+unfolding marked_row_at unmarked_row_at
 row_back size r fits =
     ap (λ o. option_zip o (option_and_then (row_of size) (list_at pair_at (get (codes "row") (row_value r))))) (mark_back r.0 r.1)
     ∙ ap (λ o. option_zip (Some r.0) (option_and_then (row_of size) o)) (terms_back r fits.terms)

@@ -16,7 +16,7 @@ use Rattle.it_certificate.specs.declared.keys.Key.{Key}
 use Rattle.it_certificate.specs.declared.keys.Key.TheVariants as keys
 use Rattle.it_certificate.specs.declared.types.ReportedBounds.{ReportedBounds}
 use Rattle.it_certificate.specs.AnswerReading.{and_then}
-use Rattle.it_certificate.specs.Parts.{certificate_at, count_at, list_at, pair_at, point_at, proofs_at, row_of}
+use Rattle.it_certificate.specs.Parts.{certificate_at, count_at, list_at, point_at, proofs_at, unmarked_row_at}
 
 -- rows, a certificate of each, and steps that make the hull of their rays
 pub record BoundsView : Type 0 where
@@ -29,10 +29,6 @@ abbrev pub bounds_view : ReportedBounds → BoundsView
 bounds_view b = record { rows = b.rows.items; proofs = map certificate_view b.proofs.items; steps = step_views b.steps.items }
 
 -- ---- as they are read
-
--- a row of a space with so many coordinates; a mark beside it counts for nothing
-unfoldable pub unmarked_row_at : ℕ → Data → Option Terms
-unmarked_row_at size d = option_and_then (row_of size) (list_at pair_at (get (codes "row") d))
 
 -- the rows
 unfoldable pub unmarked_rows_at : ℕ → Data → Option (List Terms)

@@ -94,9 +94,13 @@ is_row_between from size (t ∷ ts) = (nat_le from t.0 && (nat_le t.0 size && no
 abbrev pub row_of : ℕ → Terms → Option Terms
 row_of size ts = if is_row_between 1 size ts then Some ts else None
 
+-- the terms of a row; a mark beside them counts for nothing
+unfoldable pub unmarked_row_at : ℕ → Data → Option Terms
+unmarked_row_at size d = option_and_then (row_of size) (list_at pair_at (get (codes "row") d))
+
 -- a row's mark and its terms
 unfoldable pub marked_row_at : ℕ → Data → Option (Mark × Terms)
-marked_row_at size d = option_zip (option_and_then mark_of (text_of (get (codes "mark") d))) (option_and_then (row_of size) (list_at pair_at (get (codes "row") d)))
+marked_row_at size d = option_zip (option_and_then mark_of (text_of (get (codes "mark") d))) (unmarked_row_at size d)
 
 -- the rows of a region
 unfoldable pub rows_at : ℕ → Data → Option (List (Mark × Terms))

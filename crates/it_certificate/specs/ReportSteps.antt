@@ -23,7 +23,7 @@ use Rattle.it_copy.specs.Extensions.{IsExtension, extended}
 use Rattle.it_sharing.specs.Sharings.{SharingView, made_question, maximal_count, minimal_count}
 use Rattle.it_certificate.specs.declared.types.Reported.{Reported}
 use Rattle.it_certificate.specs.Reports.{IsReported, ReadsAs, Reading}
-use Rattle.it_certificate.specs.Sources.{AsksOnly, IsMakeable, IsSourceOf, Source, Copies, asked}
+use Rattle.it_certificate.specs.Sources.{AsksOnly, IsMakeable, IsSourceOf, Source, Copies, asked, source_key}
 
 -- how many forms a demand of this kind says to be at least 0
 abbrev pub form_count : Kind → ℕ
@@ -90,6 +90,13 @@ abbrev pub GivesSource : Data → Result Question Refusal → Type 0
 GivesSource d (Ok q) = (source : Source) × IsSourceOf d source × (asked source ≡ question_view q)
 GivesSource d (Err Shape) = (source : Source) → IsSourceOf d source → ⊥
 GivesSource d (Err Memory) = Unit {0}
+
+-- what the reader of what a line is about gave: the question that is asked, or the key at fault
+abbrev pub GivesAsked : Data → Result Question ReportFault → Type 0
+GivesAsked d (Ok q) = GivesSource d (Ok q)
+GivesAsked d (Err (faults.Shape key)) = (key ≡ source_key d) × ((source : Source) → IsSourceOf d source → ⊥)
+GivesAsked d (Err faults.NotJson) = ⊥
+GivesAsked d (Err faults.Memory) = Unit {0}
 
 -- what the reader of a value gave
 abbrev pub ReadsValue : Data → Result Reported ReportFault → Type 0

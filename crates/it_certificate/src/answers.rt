@@ -14,11 +14,11 @@ ghost use Rattle.it_certificate.specs.Parts.{count_at, proofs_at, rows_at};
 ghost use Rattle.it_certificate.specs.Steps.{GivesKeyed, fault_by};
 
 use crate::keys::{Key, Refusal, ReportFault};
-use crate::members::{back_at, cause_at, cause_kind_at, point_at, proofs_at, tried_at};
+use crate::members::{back_at, cause_at, cause_kind_at, point_in, proofs_at, tried_at};
 use crate::obligations::target_count;
 use crate::rows::rows_at;
 use crate::sets::parts_at;
-use it_space::{Answer, Point, Space};
+use it_space::{Answer, Space};
 use it_syntax::Names;
 use it_syntax::types::Sign;
 use serde_json::Value;
@@ -55,20 +55,17 @@ pub fn yes_at(alloc: Global, value: &Value, sign: Sign) -> Result<Answer, Report
 }
 
 /// A no: one value a coordinate, and a side of the relation.
-#[tactic(auto, using(crate::proofs::WithinLemmas::point_within, crate::proofs::WithinLemmas::point_length), unfolding(crate::specs::AnswerReading::no_at))]
+#[tactic(auto, unfolding(crate::specs::AnswerReading::no_at))]
 pub fn no_at(alloc: Global, value: &Value, space: Space, sign: Sign) -> Result<Answer, ReportFault>
     requires { IsSpace space }
     ensures { GivesKeyed answer_view result (no_at (size_of space) sign (view value.now)) }
 {
-    let values = match point_at(alloc, value, space.size() as usize) {
-        Ok(values) => values,
+    let point = match point_in(alloc, value, space) {
+        Ok(point) => point,
         Err(refusal) => return Err(fault(refusal, Key::Point)),
     };
     match back_at(value, is_equality(sign)) {
-        Some(back) => Ok(Answer::No {
-            back,
-            point: Point::new(space, values),
-        }),
+        Some(back) => Ok(Answer::No { back, point }),
         None => Err(ReportFault::Shape { key: Key::Side }),
     }
 }

@@ -15,12 +15,12 @@ ghost use Rattle.it_certificate.specs.Steps.{GivesKeyed, Yields};
 use crate::answers::fault;
 use crate::keys::{Key, Refusal, ReportFault};
 use crate::lists::{array_of, certificate_at};
-use crate::members::{point_at, proofs_at};
+use crate::members::{point_in, proofs_at};
 use crate::numbers::count_at;
 use crate::rows::unmarked_rows_at;
 use crate::types::ReportedBounds;
 use it_question::types::{Question, Verb};
-use it_space::{Point, Space};
+use it_space::Space;
 use it_spans::{RowDrop, Step};
 use serde_json::Value;
 use std::alloc::Global;
@@ -70,13 +70,12 @@ fn drops_of_member(alloc: Global, value: Option<&Value>) -> Result<Vec<RowDrop>,
 }
 
 /// A ray, and the rows that go after it.
-#[tactic(auto, using(crate::proofs::WithinLemmas::point_within, crate::proofs::WithinLemmas::point_length), unfolding(crate::specs::Bounds::step_at))]
+#[tactic(auto, unfolding(crate::specs::Bounds::step_at))]
 fn step_at(alloc: Global, value: &Value, space: Space) -> Result<Step, Refusal>
     requires { IsSpace space }
     ensures { Yields step_view result (step_at (size_of space) (view value.now)) }
 {
-    let values = point_at(alloc, value, space.size() as usize)?;
-    let ray = Point::new(space, values);
+    let ray = point_in(alloc, value, space)?;
     let drops = drops_of_member(alloc, value.get("drops"))?;
     Ok(Step { ray, drops })
 }

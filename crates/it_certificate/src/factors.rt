@@ -18,11 +18,11 @@ use crate::answers::fault;
 use crate::keys::{Key, Refusal, ReportFault};
 use crate::kinds::{FactorCause, FactorKind, factor_cause_of, factor_kind_of};
 use crate::lists::{certificates_of_member, two_values};
-use crate::members::{point_at, text_of_member};
+use crate::members::{point_in, text_of_member};
 use crate::numbers::{count_at, integer_at, step_of};
 use it_question::types::{Question, Verb};
 use it_ratio::types::{Best, BestCause};
-use it_space::{Certificate, Point, Space};
+use it_space::{Certificate, Space};
 use it_syntax::types::Sign;
 use serde_json::Value;
 use std::alloc::Global;
@@ -103,7 +103,7 @@ fn proofs_at(alloc: Global, value: &Value) -> Result<(Certificate, Certificate),
 }
 
 /// A least factor: the factor, one certificate and a value for each coordinate.
-#[tactic(auto, using(crate::proofs::WithinLemmas::point_within, crate::proofs::WithinLemmas::point_length), unfolding(crate::specs::FactorReading::least_at))]
+#[tactic(auto, unfolding(crate::specs::FactorReading::least_at))]
 fn least_at(alloc: Global, value: &Value, space: Space) -> Result<Best, ReportFault>
     requires { IsSpace space }
     ensures { GivesKeyed best_view result (least_at (size_of space) (view value.now)) }
@@ -115,25 +115,25 @@ fn least_at(alloc: Global, value: &Value, space: Space) -> Result<Best, ReportFa
         Ok(proof) => proof,
         Err(refusal) => return Err(fault(refusal, Key::Proofs)),
     };
-    match point_at(alloc, value, space.size() as usize) {
-        Ok(values) => Ok(Best::Least {
+    match point_in(alloc, value, space) {
+        Ok(point) => Ok(Best::Least {
             num,
             den,
             proof,
-            point: Point::new(space, values),
+            point,
         }),
         Err(refusal) => Err(fault(refusal, Key::Point)),
     }
 }
 
 /// No factor: a value for each coordinate.
-#[tactic(auto, using(crate::proofs::WithinLemmas::point_within, crate::proofs::WithinLemmas::point_length), unfolding(crate::specs::FactorReading::never_at))]
+#[tactic(auto, unfolding(crate::specs::FactorReading::never_at))]
 fn never_at(alloc: Global, value: &Value, space: Space) -> Result<Best, ReportFault>
     requires { IsSpace space }
     ensures { GivesKeyed best_view result (never_at (size_of space) (view value.now)) }
 {
-    match point_at(alloc, value, space.size() as usize) {
-        Ok(values) => Ok(Best::Never(Point::new(space, values))),
+    match point_in(alloc, value, space) {
+        Ok(point) => Ok(Best::Never(point)),
         Err(refusal) => Err(fault(refusal, Key::Point)),
     }
 }

@@ -4,6 +4,7 @@ ghost use Rattle.serde_json.specs.View.{view};
 ghost use Rattle.serde_json.specs.Find.{get};
 ghost use Rattle.std.specs.Option.{option_or};
 ghost use Rattle.it_space.specs.Answers.{certificate_view};
+ghost use Rattle.it_space.specs.Spaces.{IsSpace, size_of};
 ghost use Rattle.it_space.specs.declared.answers.Cause.TheVariants.{WideRate, Width};
 ghost use Rattle.it_certificate.specs.Parts.{answer_kind_at, back_at, cause_at, cause_kind_at, cause_of, count_at, point_at, proofs_at, text_of};
 ghost use Rattle.it_certificate.specs.Reports.{tells_misfit, tells_outer};
@@ -13,7 +14,7 @@ use crate::keys::Refusal;
 use crate::kinds::{AnswerKind, CauseKind, answer_kind_of, back_of, cause_kind_of};
 use crate::lists::{certificates_of_member, integers_of_member};
 use crate::numbers::{count_at, step_of};
-use it_space::{Cause, Certificate};
+use it_space::{Cause, Certificate, Point, Space};
 use it_syntax::Names;
 use serde_json::Value;
 use std::alloc::Global;
@@ -70,7 +71,7 @@ pub fn proofs_at(alloc: Global, value: &Value, count: usize) -> Result<Vec<Certi
 
 /// So many values.
 #[tactic(auto, unfolding(crate::specs::Parts::point_at))]
-pub fn point_at(alloc: Global, value: &Value, count: usize) -> Result<Vec<i128>, Refusal>
+fn point_at(alloc: Global, value: &Value, count: usize) -> Result<Vec<i128>, Refusal>
     ensures { Yields (λ v. v.items) result (point_at count (view value.now)) }
 {
     let values = integers_of_member(alloc, value.get("point"))?;
@@ -79,6 +80,16 @@ pub fn point_at(alloc: Global, value: &Value, count: usize) -> Result<Vec<i128>,
     } else {
         Err(Refusal::Shape)
     }
+}
+
+/// A value for each coordinate of the space.
+#[tactic(auto, using(crate::proofs::WithinLemmas::point_within, crate::proofs::WithinLemmas::point_length))]
+pub fn point_in(alloc: Global, value: &Value, space: Space) -> Result<Point, Refusal>
+    requires { IsSpace space }
+    ensures { Yields (λ p. p) result (point_at (size_of space) (view value.now)) }
+{
+    let values = point_at(alloc, value, space.size() as usize)?;
+    Ok(Point::new(space, values))
 }
 
 /// Whether the point violates the second target.

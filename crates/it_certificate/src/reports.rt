@@ -1,9 +1,11 @@
 //! The reading of a report line.
 ghost use Rattle.std.specs.Prelude.{◌≡◌, false, true, IfOk, None, Some};
 ghost use Rattle.serde_json.specs.View.{view};
+ghost use Rattle.it_question.specs.Limits.{IsQuestion};
+ghost use Rattle.it_question.specs.Questions.{question_body};
 ghost use Rattle.it_certificate.specs.FactorReading.{factor_kind_at};
 ghost use Rattle.it_certificate.specs.Reports.{KeepsLimits, Reports, tells_misfit, tells_outer};
-ghost use Rattle.it_certificate.specs.ReportSteps.{ReadsValue};
+ghost use Rattle.it_certificate.specs.ReportSteps.{GivesAsked, ReadsValue};
 
 use crate::answers::fault;
 use crate::bounds::question_bounds;
@@ -14,8 +16,21 @@ use crate::members::{answer_kind_at, tells_misfit, tells_outer};
 use crate::sources::{source_at, source_key};
 use crate::types::Reported;
 use crate::verbs::question_answer;
+use it_question::types::Question;
 use serde_json::Value;
 use std::alloc::Global;
+
+/// The question that a line is about.
+#[tactic(auto, using(crate::proofs::ReportLemmas::no_question))]
+fn asked_question(alloc: Global, value: &Value) -> Result<Question, ReportFault>
+    ensures reading { GivesAsked (view value.now) result }
+    ensures limits { IfOk result (λ q. IsQuestion (question_body q)) }
+{
+    match source_at(alloc, value) {
+        Ok(question) => Ok(question),
+        Err(refusal) => Err(fault(refusal, source_key(value))),
+    }
+}
 
 /// The reading of a line that tells an outer bound.
 #[tactic(auto, using(crate::proofs::ReportLemmas::no_bounds_source, crate::proofs::ReportLemmas::bounds_ok, crate::proofs::ReportLemmas::bounds_err))]
@@ -25,10 +40,7 @@ fn bounded(alloc: Global, value: &Value) -> Result<Reported, ReportFault>
     ensures reading { ReadsValue (view value.now) result }
     ensures limits { IfOk result KeepsLimits }
 {
-    let question = match source_at(alloc, value) {
-        Ok(question) => question,
-        Err(refusal) => return Err(fault(refusal, source_key(value))),
-    };
+    let question = asked_question(alloc, value)?;
     // `?` would do; with the match each case is a goal of its own, with the reading's equation at hand
     match question_bounds(alloc, value, &question) {
         Ok(bounds) => Ok(Reported::Bounded { question, bounds }),
@@ -48,10 +60,7 @@ fn answered(alloc: Global, value: &Value) -> Result<Reported, ReportFault>
     let Some(kind) = answer_kind_at(value) else {
         return Err(ReportFault::Shape { key: Key::Answer });
     };
-    let question = match source_at(alloc, value) {
-        Ok(question) => question,
-        Err(refusal) => return Err(fault(refusal, source_key(value))),
-    };
+    let question = asked_question(alloc, value)?;
     // as above
     match question_answer(alloc, value, &question, kind) {
         Ok(answer) => Ok(Reported::Answered { question, answer }),
@@ -68,10 +77,7 @@ fn factored(alloc: Global, value: &Value, kind: FactorKind) -> Result<Reported, 
     ensures reading { ReadsValue (view value.now) result }
     ensures limits { IfOk result KeepsLimits }
 {
-    let question = match source_at(alloc, value) {
-        Ok(question) => question,
-        Err(refusal) => return Err(fault(refusal, source_key(value))),
-    };
+    let question = asked_question(alloc, value)?;
     // as above
     match question_best(alloc, value, &question, kind) {
         Ok(best) => Ok(Reported::Factored { question, best }),

@@ -3,8 +3,8 @@ ghost use Rattle.std.specs.Prelude.{◌≡◌, ◌==◌, ◌&&◌, nat_le, not, 
 ghost use Rattle.serde_json.specs.View.{view, items_view};
 ghost use Rattle.serde_json.specs.Find.{get};
 ghost use Rattle.it_number.specs.Limit.{IsWithin};
-ghost use Rattle.it_certificate.specs.Parts.{all_of, is_row_between, list_at, marked_row_at, pair_at, row_of, rows_at, text_of};
-ghost use Rattle.it_certificate.specs.Bounds.{unmarked_row_at, unmarked_rows_at};
+ghost use Rattle.it_certificate.specs.Parts.{all_of, is_row_between, list_at, marked_row_at, pair_at, row_of, rows_at, text_of, unmarked_row_at};
+ghost use Rattle.it_certificate.specs.Bounds.{unmarked_rows_at};
 ghost use Rattle.it_certificate.specs.Steps.{Yields};
 ghost use Rattle.it_certificate.specs.Kinds.{mark_of};
 
@@ -67,6 +67,18 @@ fn terms_at(alloc: Global, value: &Value) -> Result<Vec<(u32, i128)>, Refusal>
     Ok(terms)
 }
 
+/// A row without a mark.
+#[tactic(auto, unfolding(crate::specs::Parts::unmarked_row_at))]
+fn unmarked_row_at(alloc: Global, value: &Value, size: u32) -> Result<Row, Refusal>
+    ensures { Yields (λ r. r) result (unmarked_row_at size (view value.now)) }
+{
+    let terms = terms_at(alloc, value)?;
+    match row_of(terms, size) {
+        Some(row) => Ok(row),
+        None => Err(Refusal::Shape),
+    }
+}
+
 /// A row with its mark.
 #[tactic(auto, unfolding(crate::specs::Parts::marked_row_at))]
 fn marked_row_at(alloc: Global, value: &Value, size: u32) -> Result<(Mark, Row), Refusal>
@@ -75,11 +87,8 @@ fn marked_row_at(alloc: Global, value: &Value, size: u32) -> Result<(Mark, Row),
     let Some(mark) = mark_at(value) else {
         return Err(Refusal::Shape);
     };
-    let terms = terms_at(alloc, value)?;
-    match row_of(terms, size) {
-        Some(row) => Ok((mark, row)),
-        None => Err(Refusal::Shape),
-    }
+    let row = unmarked_row_at(alloc, value, size)?;
+    Ok((mark, row))
 }
 
 /// Rows in order.
@@ -101,18 +110,6 @@ pub fn rows_at(alloc: Global, value: &Value, size: u32) -> Result<Vec<(Mark, Row
 {
     match array_of(value.get("rows")) {
         Some(values) => rows(alloc, values, size),
-        None => Err(Refusal::Shape),
-    }
-}
-
-/// A row without a mark.
-#[tactic(auto, unfolding(crate::specs::Bounds::unmarked_row_at))]
-fn unmarked_row_at(alloc: Global, value: &Value, size: u32) -> Result<Row, Refusal>
-    ensures { Yields (λ r. r) result (unmarked_row_at size (view value.now)) }
-{
-    let terms = terms_at(alloc, value)?;
-    match row_of(terms, size) {
-        Some(row) => Ok(row),
         None => Err(Refusal::Shape),
     }
 }

@@ -1,7 +1,6 @@
 use Rattle.std.proofs.Common.{drop, ◌+◌, ap, sym, ◌∙◌}
 use Rattle.serde_json.specs.View.{items_view}
-use Rattle.it_certificate.specs.Bounds.{unmarked_row_at}
-use Rattle.it_certificate.specs.Parts.{all_of}
+use Rattle.it_certificate.specs.Parts.{all_of, unmarked_row_at}
 use Rattle.it_certificate.specs.Steps.{prepend}
 use Rattle.it_certificate.proofs.ItemLemmas.{item_more}
 use Rattle.it_certificate.proofs.rows.unmarked_rows.Goals as goal
