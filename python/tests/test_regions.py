@@ -83,19 +83,20 @@ class Factors(unittest.TestCase):
             self.assertEqual(found.check(), "valid")
             self.assertTrue(found.holds.certificate.adds_up())
             self.assertEqual(found.value * found.point[greater], found.point[less])
-        self.assertEqual(best(H(X), H(Y)).value, None)
+        nothing = best(H(X), H(Y))
+        self.assertEqual((nothing.value, nothing.check()), (None, "valid"))
+        # a left side with both signs: c E >= -E says (c + 1) E >= 0
+        self.assertEqual(best(I(X & Y) - I(X & Y | Z), I(X & Y | Z) - I(X & Y)).value, -1)
         self.assertEqual(default().itip(["best"], prove(H(X) >= H(Y)).question).split()[1], "none")
 
     def test_no_factor(self):
-        with self.assertRaisesRegex(ItipError, "maybe every number"):
+        with self.assertRaisesRegex(ItipError, "every number is a factor"):
             best(H(X), -H(Y), [H(X) == 0])
-        with self.assertRaisesRegex(ItipError, "can be negative"):
-            best(I(X & Y) - I(X & Y | Z), I(X & Y | Z) - I(X & Y))
         with self.assertRaisesRegex(ItipError, "undecided pivots 1"):
             best(H(X, Y) + H(Y, Z) + H(X, Z), H(X, Y, Z), pivots=1, program=BLAND)
 
     def test_large(self):
-        """Nine variables, which mode `best` can't do, with functions."""
+        """Nine variables, which the defined run of mode `best` can't do, with functions."""
         names = rv("A B C D E F G J K")
         given = [func(b, of=a) for a, b in zip(names, names[1:])]
         self.assertEqual(best(H(names[0]), H(*names), given).value, 1)

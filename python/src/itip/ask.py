@@ -40,6 +40,7 @@ Answers question files in the field's own notation (docs/ask.md); - is standard 
 """
 VERSION = "ask 1\n"
 MODES = ("copy", "best", "sharing", "outer")
+REPORTS: dict[str, tuple[str, ...]] = {"answer": ("--format", "json"), "outer": ()}  # the words for a report; in mode `outer` rows have marks without it
 FEW_STEPS = "100"
 THEN = "  # then yes"  # behind what makes a yes of a no
 SETTINGS = ("--run", "--pivots", "--rows", "--tries")
@@ -175,12 +176,12 @@ class Asker:
     # The programs
 
     def _itip(self, mode: str, text: str, is_heard: bool = True, **settings: str) -> tuple[int, str]:
-        """The status of `itip`, by other settings where some are named, and what it writes of a file: in mode `answer` a report.
+        """The status of `itip`, by other settings where some are named, and what it writes of a file: but in mode `outer` a report.
 
         Where not heard it has no standard error.
         """
         chosen = {**self.words.settings, **{f"--{name}": value for name, value in settings.items()}}
-        words = [mode, *(("--format", "json") if mode == "answer" else ()), *(word for pair in chosen.items() for word in pair)]
+        words = [mode, *REPORTS.get(mode, ("--report",)), *(word for pair in chosen.items() for word in pair)]
         if settings.get("pivots") == "none":
             end_by_signals()
         return run([self.prover, *words], text, is_heard)
@@ -293,23 +294,22 @@ class Asker:
         return [first + THEN, *lines, *(below[2:] for below in told.split("\n")[1:-1])]
 
     def _told_in_mode(self, mode: str, name: str, file: str, lines: Sequence[str]) -> tuple[int, str]:
-        """The same of the lines of another mode."""
+        """The same of the report of another mode."""
         from . import modes
 
         told: list[str] = []
         statuses = [0]
-        for line in lines:
-            number, word, *_ = line.split(" ")
-            if not number.isdigit() or word in ("misfit", "other"):
-                told.append(line)
+        for number, line in enumerate(lines, 1):
+            if modes.is_misfit(line):
+                told.append(modes.misfit(line) if mode == "sharing" else f"{number} {modes.misfit(line)}")
                 continue
-            asked = modes.asked(mode, file, int(number))
-            if line.startswith(f"{number} undecided pivots") and "--pivots" not in self.words.settings:
-                say_anew(name, int(number), UNDECIDED)
+            asked = modes.asked(mode, file, number)
+            if why_open(line) and "--pivots" not in self.words.settings:
+                say_anew(name, number, UNDECIDED)
                 status, anew = self._itip(mode, asked.alone, pivots="none")
-                line = f"{number} " + anew.split("\n")[-2].partition(" ")[2] if status == 0 else line
+                line = anew.split("\n")[-2] if status == 0 else line
             first, parts = modes.shown(line, asked.made)
-            told.append(first)
+            told += [*modes.heading(mode, file), f"{number} {first}"]
             for part in parts:
                 status, below = self._told_below(part.report) if part.report else (0, [f"  {part.plain}"])
                 statuses.append(status)

@@ -2,31 +2,33 @@
 
 from __future__ import annotations
 
-from dataclasses import dataclass
+from collections.abc import Sequence
+from dataclasses import dataclass, field
 from fractions import Fraction
-from typing import Any, Optional
+from typing import Optional
 
-from .answers import No, Yes
-from .asking import prove
-from .errors import ItipError
+from .answers import Answer, No, Yes, read
+from .copies import Copy, copied
+from .errors import Forged, ItipError
 from .evidence import Point
+from .modes import of_report
 from .notation import Relation, Sum
-from .questions import Given
-
-LOWEST = -(2**20)
+from .program import BEST, Budget, Itip, default
+from .questions import Given, Prove, listed, parse, question
+from .reports import decoded
 
 
 @dataclass(frozen=True)
 class Factor:
     """The least c with c E >= F: `holds` proves that c is one, and at `attained` c E is F, so that no smaller one is.
 
-    `value` is None where no number is one: then `attained` has a point at which E is 0 and F isn't.
+    `value` is None where no number is one: then `attained` has a point at which E is 0 and F isn't. `report` is the line that says so.
     """
 
     value: Optional[Fraction]
     holds: Optional[Yes]
     attained: No
-    questions: int
+    report: str = field(repr=False)
 
     @property
     def point(self) -> Point:
@@ -43,10 +45,11 @@ class Factor:
         return 1 / self.value if self.value is not None and self.value > 0 else None
 
     def check(self) -> str:
-        """The verdict of `itip check` on both halves."""
-        if self.holds is not None:
-            self.holds.check()
-        return self.attained.check()
+        """The verdict of `itip check` on the line of the report: `valid` says that this is the least factor, or that there is none."""
+        verdict = self.attained.program.check([self.report])[0]
+        if verdict != "valid":
+            raise Forged(verdict)
+        return verdict
 
     def __str__(self) -> str:
         return "none" if self.value is None else f"{self.value}: {self.relation}"
@@ -55,35 +58,48 @@ class Factor:
         return "no factor" if self.holds is None else f"least factor {self.value}<br>{self.holds._repr_html_()}"
 
 
-def best(greater: Sum, less: Sum, given: Given = None, **settings: Any) -> Factor:
-    """The least c with c E >= F wherever what is given holds; E mustn't be negative there.
-
-    It asks by `prove`, c = 0 first. A point at which c E >= F fails has a larger c at which it just holds, which is asked next, until one
-    has a proof. So functions make it easier, and ten variables are no bar, where the defined run of mode `best` ends at six or seven.
+def best(
+    greater: Sum,
+    less: Sum,
+    given: Given = None,
+    *,
+    copies: Sequence[Copy] = (),
+    pivots: Budget = "usual",
+    program: Optional[Itip] = None,
+) -> Factor:
+    """The least c with c E >= F wherever what is given holds, by one call of mode `best`.
 
     >>> from itip import *
     >>> X, Y, Z = rv("X Y Z")
     >>> print(best(H(X, Y) + H(Y, Z) + H(X, Z), H(X, Y, Z)))
     1/2: H(X,Y) + H(Y,Z) + H(X,Z) >= 2 H(X,Y,Z)
     """
-    c = Fraction(0)
-    last: Optional[No] = None
-    questions = 0
-    while True:
-        questions += 1
-        answer = prove(c.numerator * greater >= c.denominator * less, given, about=[greater, less], **settings)
-        if isinstance(answer, Yes) and last is not None:
-            return Factor(c, answer, last, questions)
-        if isinstance(answer, Yes):  # the least one may be below
-            if c < LOWEST:
-                raise ItipError(f"{c} is a factor, and maybe every number is, since {greater} may always be 0: ask by mode `best`")
-            c = 2 * c - 1
-            continue
-        if not isinstance(answer, No):
-            raise ItipError(f"{answer.word}: the least factor is {c} or above; ask without a budget, by pivots=None")
-        size, other = answer.point[greater], answer.point[less]
-        if size < 0:
-            raise ItipError(f"{greater} can be negative, as at {answer.point}")
-        if size == 0:
-            return Factor(None, None, answer, questions)
-        c, last = other / size, answer
+    at = program or default()
+    relation = greater >= less
+    asked = copied(question(Prove(relation), listed(given), about=[relation]), copies)
+    line, = at.report([asked.text()], pivots, mode=BEST)
+    if decoded(line).get("question") != asked.text():
+        raise Forged("the report answers another question")
+    said, parts = of_report(line)
+    return _factor(said, [_shown(part, at) for part in parts], line, greater)
+
+
+def _shown(line: str, program: Itip) -> Answer:
+    """An answer by its line of a report, which is empty where no question file holds its numbers."""
+    if not line:
+        raise ItipError("no question file holds the numbers of what shows the least factor")
+    return read(parse(decoded(line)["question"]), line, program)
+
+
+def _factor(said: str, answers: Sequence[Answer], line: str, greater: Sum) -> Factor:
+    word, *details = said.split(" ")
+    if word == "unbounded":
+        raise ItipError(f"every number is a factor, since {greater} is never above 0")
+    attained = answers[-1] if answers else None
+    if not isinstance(attained, No):
+        raise ItipError(f"{said}: the least factor isn't known; ask without a budget, by pivots=None")
+    if word == "none":
+        return Factor(None, None, attained, line)
+    holds, _ = answers
+    assert isinstance(holds, Yes)
+    return Factor(Fraction(details[0]), holds, attained, line)

@@ -1,16 +1,18 @@
-"""The lines that the modes copy, best and sharing write, as lines of reports, which `tell` reads (docs/answers.md)."""
+"""The reports of the modes copy, best and sharing, as lines about the questions that they ask, which `tell` reads (docs/answers.md)."""
 
 from __future__ import annotations
 
 import json
 import re
+from collections.abc import Mapping
 from dataclasses import replace
 from typing import Any, NamedTuple
 
 from .copies import copied, read_copies
+from .errors import Forged
 from .evidence import generator_numbers, point
 from .questions import Prove, Question, parse
-from .reports import cut
+from .reports import cut, decoded
 
 MOST = 2**64 - 1  # in a question file
 
@@ -23,10 +25,10 @@ class Asked(NamedTuple):
 
 
 class Shown(NamedTuple):
-    """What shows an answer: a line of a report, nothing where no question holds its numbers, and the same as the mode's line has it."""
+    """What shows an answer: a line of a report, or, where no question holds its numbers, the same as the mode's line has it."""
 
     report: str
-    plain: str
+    plain: str = ""
 
 
 def asked(mode: str, file: str, number: int) -> Asked:
@@ -42,52 +44,70 @@ def asked(mode: str, file: str, number: int) -> Asked:
     return Asked(copied(parse(text), read_copies(head)) if mode == "copy" else parse(text), head + text)
 
 
+def heading(mode: str, file: str) -> list[str]:
+    """What mode `sharing` says before its answer: how many minimal qualified and maximal unqualified sets there are."""
+    if mode != "sharing":
+        return []
+    from .sharing import read_sharing
+
+    who, _ = read_sharing(cut(file)[0])
+    return [f"sharing {len(who.minimal())} {len(who.maximal())}"]
+
+
+def is_misfit(line: str) -> bool:
+    """Whether no question is asked by the line of a report."""
+    return bool(decoded(line).get("answer") == "misfit")
+
+
+def misfit(line: str) -> str:
+    """Why none is asked, as the mode's own line says it."""
+    cause = str(decoded(line).get("cause"))
+    return cause if cause == "other" else f"misfit {cause}"
+
+
 def shown(line: str, question: Question) -> tuple[str, list[Shown]]:
-    """The line's beginning, without its details, and what shows that it is true of the question."""
-    number, word, *details = line.split(" ", 2)
-    text = "".join(details)
-    if word == "yes":
-        return f"{number} yes", [yes_by(question, text)]
-    if word == "no":
-        return f"{number} no", [no_at(question, text)]
-    if word == "none":
-        return f"{number} none", [no_at(question, text)]
-    if word not in ("best", "unbounded"):
-        return line, []
-    assert isinstance(question.goal, Prove)
-    factor, text = text.split(" ", 1)
-    above, below = map(int, factor.split("/"))
-    greater, less = question.goal.relation.left, question.goal.relation.right
-    holds = asking(question, Prove(above * greater >= below * less))
-    if word == "best":
-        proof, values = text.split(" at ")
-        smaller = asking(question, Prove((above - 1) * greater >= below * less))
-        return f"{number} best {factor}", [yes_by(holds, proof), no_at(smaller, values)]
-    proof, other = text.split(" and ")
-    return f"{number} unbounded {factor}", [yes_by(holds, proof), yes_by(asking(question, Prove(0 * greater >= greater)), other)]
+    """What the line of a report says of the question that is asked, without its details, and what shows that it is true."""
+    try:
+        return _shown(decoded(line), question)
+    except (KeyError, ValueError, TypeError, IndexError, AttributeError):
+        raise Forged(f"no line of a report has this shape: {line[:200]}") from None
 
 
-def of_report(line: str) -> tuple[str, list[str]]:
-    """What the line of a report says of factors, and the lines of a yes and a no that show it; for a sharing file by the question that it
-    makes. Of `undecided` and `misfit` nothing is shown."""
-    value = json.loads(line)
+def _shown(value: Mapping[str, Any], question: Question) -> tuple[str, list[Shown]]:
     word = value["answer"]
-    if word not in ("best", "none", "unbounded"):
-        return " ".join([word, *([value["cause"]] if "cause" in value else [])]), []
-    file, mode = (value["sharing"], "sharing") if "sharing" in value else (value["question"], "best")
-    question = asked(mode, file, 1).made
+    if word == "undecided":
+        return undecided(value), []
+    if word == "yes":
+        return word, [yes_by(question, value["proofs"])]
+    if word in ("no", "none"):
+        return word, [no_at(question, value["point"], value.get("side", "forward"))]
     assert isinstance(question.goal, Prove)
-    point = {"point": value.get("point"), "side": "forward"}
-    if word == "none":
-        return word, [report_line("no", question, **point)]
     above, below = map(int, value["factor"])
     greater, less = question.goal.relation.left, question.goal.relation.right
     first, *others = value["proofs"]
-    shown_by = [report_line("yes", asking(question, Prove(above * greater >= below * less)), proofs=[first])]
+    parts = [yes_by(asking(question, Prove(above * greater >= below * less)), [first])]
     if word == "best":
-        shown_by.append(report_line("no", asking(question, Prove((above - 1) * greater >= below * less)), **point))
-    shown_by += [report_line("yes", asking(question, Prove(0 * greater >= greater)), proofs=[other]) for other in others]
-    return f"{word} {above}/{below}", shown_by
+        parts.append(no_at(asking(question, Prove((above - 1) * greater >= below * less)), value["point"]))
+    parts += [yes_by(asking(question, Prove(0 * greater >= greater)), [other]) for other in others]
+    return f"{word} {above}/{below}", parts
+
+
+def undecided(value: Mapping[str, Any]) -> str:
+    """The words of an undecided answer, as the mode's own line has them."""
+    at = [value["at"]] if value["cause"] not in ("scale", "size") else []
+    phase = ["in", str(value["phase"])] if value.get("phase") else []
+    return " ".join(["undecided", value["cause"], *at, *phase])
+
+
+def of_report(line: str) -> tuple[str, list[str]]:
+    """What the line of a report says of factors, and the lines of a yes and a no that show it, empty where no question holds their numbers;
+    for a sharing file by the question that it makes. Of `undecided` and `misfit` nothing is shown."""
+    value = decoded(line)
+    if is_misfit(line):
+        return f"misfit {value.get('cause')}", []
+    file, mode = (value["sharing"], "sharing") if "sharing" in value else (value.get("question", ""), "best")
+    said, parts = shown(line, asked(mode, file, 1).made)
+    return said, [part.report for part in parts]
 
 
 def asking(question: Question, goal: Prove) -> Question:
@@ -100,23 +120,27 @@ def report_line(answer: str, question: Question, **keys: Any) -> str:
     return json.dumps({"answer": answer, "question": text, **keys}) if is_held else ""
 
 
-def yes_by(question: Question, proofs: str) -> Shown:
-    """A yes from its proofs `L : w G + ..`, with ` and ` between them. A generator without a number says nothing."""
-    numbers = generator_numbers(question)
-    found = [proof_of(proof, numbers) for proof in proofs.split(" and ")]
-    return Shown(report_line("yes", question, proofs=found), f"as weights {proofs}")
+def yes_by(question: Question, proofs: list[dict[str, Any]]) -> Shown:
+    """A yes by its proofs."""
+    line = report_line("yes", question, proofs=proofs)
+    return Shown(line) if line else Shown("", "as weights " + " and ".join(weights_text(proof, question) for proof in proofs))
+
+
+def weights_text(proof: Mapping[str, Any], question: Question) -> str:
+    """A proof `L : w G + ..`."""
+    names = {number: name for name, number in generator_numbers(question).items()}
+    terms = " + ".join(f"{weight} {names[number]}" for number, weight in proof["weights"])
+    return f"{proof['scale']} : {terms or '0'}"
 
 
 def proof_of(text: str, numbers: dict[str, int]) -> dict[str, Any]:
+    """The proof that such a text tells; a generator without a number says nothing."""
     scale, _, terms = text.partition(" : ")
     weighed = [term.split(" ", 1) for term in terms.split(" + ") if term != "0"]
     return {"scale": scale, "weights": [[numbers[name], weight] for weight, name in weighed if name in numbers]}
 
 
-def no_at(question: Question, values: str) -> Shown:
-    """A no from its values `h(X)=1 ..`; of an equation that side fails which is negative at them."""
-    assert isinstance(question.goal, Prove)
-    numbers = re.findall("=(-?[0-9]+)", values)
-    at = point([int(number) for number in numbers], question.variables, question.rates)
-    side = "forward" if at[question.goal.relation.target()] < 0 else "back"
-    return Shown(report_line("no", question, point=numbers, side=side), f"as point {values}")
+def no_at(question: Question, numbers: list[str], side: str = "forward") -> Shown:
+    """A no by the numbers of its point."""
+    line = report_line("no", question, point=numbers, side=side)
+    return Shown(line) if line else Shown("", f"as point {point(list(map(int, numbers)), question.variables, question.rates).text()}")

@@ -10,8 +10,8 @@ from math import gcd
 from typing import NamedTuple, Tuple, Union
 
 from .errors import Forged, NotationError
-from .evidence import point
-from .modes import Shown, asking, no_at, yes_by
+from .evidence import generator_numbers, point
+from .modes import Shown, asking, no_at, proof_of, yes_by
 from .notation import Names, Rate, Relation, Sum
 from .questions import Eliminate, Prove, Question
 from .reading import relation
@@ -142,12 +142,14 @@ def why_open(answer: Sequence[str]) -> str:
 
 def row_shown(question: Question, row: RowLine) -> Shown:
     """A row is what the question's lines prove."""
-    return yes_by(asking(question, Prove(authored(row.numbers, rate_sums(staying(question))))), row.proof)
+    asked = asking(question, Prove(authored(row.numbers, rate_sums(staying(question)))))
+    return yes_by(asked, [proof_of(row.proof, generator_numbers(asked))])
 
 
 def ray_shown(question: Question, ray: RayLine) -> Shown:
     """A ray's values make the question's lines true: so they are a point at which what plainly fails there isn't proved."""
-    return no_at(asking(question, Prove(failing(ray.numbers, rate_sums(staying(question))))), ray.values)
+    asked = asking(question, Prove(failing(ray.numbers, rate_sums(staying(question)))))
+    return no_at(asked, re.findall("=(-?[0-9]+)", ray.values))
 
 
 def failing(numbers: Numbers, sums: Sequence[Sum]) -> Relation:

@@ -17,6 +17,8 @@ from .errors import Forged, MissingProgram, ProgramFailed, Refused, TimedOut
 from .refusals import hint, meaning
 from .reports import MOST_BYTES, batches, decoded, why_open
 
+ANSWER = ("answer", "--format", "json")  # the words with which the program writes a report
+BEST = ("best", "--report")
 LONG = f"a file has at most {MOST_BYTES} bytes"
 ENDS = {2: "the words have no reading", 4: "a read failed", 5: "a write failed", 6: "there was too little memory"}
 
@@ -110,36 +112,36 @@ class Itip:
 
     # Reports
 
-    def report(self, questions: Sequence[str], pivots: Budget = "usual", words: Sequence[str] = ()) -> list[str]:
-        """The report of the questions, a line for each. As many as fit go into one call."""
+    def report(self, questions: Sequence[str], pivots: Budget = "usual", words: Sequence[str] = (), mode: Sequence[str] = ANSWER) -> list[str]:
+        """The report of the questions, a line for each. As many as fit go into one call. `mode` has its first words."""
         lines: list[str] = []
         for batch in batches(questions):
-            found = self.file_report("".join(batch), pivots, words)
+            found = self.file_report("".join(batch), pivots, words, mode)
             if len(found) != len(batch):
                 raise ProgramFailed(f"{len(batch)} questions got {len(found)} answers")
             lines += found
         return lines
 
-    def file_report(self, text: str, pivots: Budget = "usual", words: Sequence[str] = ()) -> list[str]:
+    def file_report(self, text: str, pivots: Budget = "usual", words: Sequence[str] = (), mode: Sequence[str] = ANSWER) -> list[str]:
         """The report of a question file."""
         budget = self.pivots if pivots == "usual" else pivots
-        lines = self._judged(text, budget, words)
+        lines = self._judged(text, budget, words, mode)
         if budget == "usual":
-            lines = [self._settled(line, words) if why_open(line) else line for line in lines]
+            lines = [self._settled(line, words, mode) if why_open(line) else line for line in lines]
         return lines
 
-    def _judged(self, text: str, budget: Budget, words: Sequence[str]) -> list[str]:
+    def _judged(self, text: str, budget: Budget, words: Sequence[str], mode: Sequence[str]) -> list[str]:
         pivots = [] if budget == "usual" else ["--pivots", "none" if budget is None else str(budget)]
-        lines = self.itip(["answer", "--format", "json", "--run", self.run, *pivots, *words], text).splitlines()
+        lines = self.itip([*mode, "--run", self.run, *pivots, *words], text).splitlines()
         if self.judge:
             for line, verdict in zip(lines, self.check(lines)):
                 if verdict.startswith("invalid"):
                     raise Forged(f"{verdict}: {line}")
         return lines
 
-    def _settled(self, line: str, words: Sequence[str]) -> str:
+    def _settled(self, line: str, words: Sequence[str], mode: Sequence[str]) -> str:
         """The answer to the same question without a budget."""
-        lines = self._judged(str(decoded(line).get("question")), None, words)
+        lines = self._judged(str(decoded(line).get("question")), None, words, mode)
         if len(lines) != 1:
             raise ProgramFailed(f"one question got {len(lines)} answers")
         return lines[0]
