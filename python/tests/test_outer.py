@@ -1,6 +1,7 @@
 """Outer bounds: by ./ask and as objects, against the literature's rows and rays in examples/outer, and programs that lie."""
 
 import doctest
+import json
 import re
 import unittest
 from fractions import Fraction as F
@@ -423,15 +424,31 @@ class Objects(WithPrograms):
                 continue
             verdict = lines[0].removeprefix("= 1 ")
             told = "\n".join(lines[1:]).replace(" no=", " k1=")  # (the name of the rate that goes)
-            program = self.program(f"sys.exit(honest()) if 'check' in sys.argv else print({told!r})\n")
+            program = self.program(f"sys.exit(honest()) if {{'check', '--report'}} & {{*sys.argv}} else print({told!r})\n")
             verdicts[verdict] = found = self.verdict(kept, given, program)
             self.assertEqual(found, self.due(verdict), "\n".join(lines))
         self.assertGreater(len(verdicts), 20)
 
+    def test_report(self):
+        """The report is asked for when it is needed, shows the bound as a whole, and is judged."""
+        bound = outer_bound(H(A), H(K), H(C), given=self.KEY)
+        found = json.loads(bound.report)
+        self.assertEqual((found["answer"], found["question"]), ("outer", bound.call.question.text()))
+        self.assertEqual((len(found["rows"]), len(found["rays"])), (len(bound.rows), len(bound.rays)))
+        self.assertEqual(default().check([bound.report]), ["valid"])
+        for forged in [
+            {**found, "rows": found["rows"][1:], "proofs": found["proofs"][1:]}, {**found, "rays": found["rays"][1:]}, {**found, "rays": [{}]},
+            {"answer": "misfit", "cause": "undecided drops", "question": found["question"]},
+        ]:  # fmt: skip
+            text = json.dumps(forged)
+            program = self.program(f"print({text!r}) if '--report' in sys.argv else sys.exit(honest())\n")
+            with self.assertRaises((Forged, ItipError)):
+                outer_bound(H(A), H(K), H(C), given=self.KEY, program=program).check()
+
     def due(self, verdict):
-        """That rows and rays fit together, and which rows are needed, is what the mode promises, and nothing here judges. Another spelling
-        is read as well."""
-        if verdict == "valid" or verdict.endswith(("which the rays don't span", "follows from the others", "no row: HK - HM >= 0")):
+        """Where a row or a ray of the report is missing it isn't the bound; which rows are needed nothing here judges. Another spelling is
+        read as well."""
+        if verdict == "valid" or verdict.endswith(("follows from the others", "no row: HK - HM >= 0")):
             return "valid"
         return "undecided" if verdict in ("skipped", "invalid no line of an undecided question") else "forged"
 
@@ -448,7 +465,7 @@ class Objects(WithPrograms):
     def test_judge(self):
         """With `judge` a forged proof isn't handed out, and without it it doesn't add up."""
         lines = "1 outer 1 1\\n1 row needed k1 >= 0 by 1 : 2 H(A) + 1 row 1\\n1 ray k1=1 at h(A)=1 k1=1 k2=0"
-        lying = self.program("if 'check' in sys.argv:\n    sys.exit(honest())\n" + f"print('{lines}')\n")
+        lying = self.program("if {'check', '--report'} & {*sys.argv}:\n    sys.exit(honest())\n" + f"print('{lines}')\n")
         self.assertFalse(outer_bound(H(A), program=lying).proofs[0].adds_up())
         lying.judge = True
         with self.assertRaisesRegex(Forged, "mismatch"):

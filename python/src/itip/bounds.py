@@ -6,6 +6,7 @@ import re
 from collections.abc import Sequence
 from dataclasses import dataclass, field, replace
 from fractions import Fraction
+from functools import cached_property
 from math import gcd, lcm
 from typing import Any, NamedTuple, Optional
 
@@ -20,6 +21,7 @@ from .outer import BoundLines, Numbers, RayLine, RowLine, authored, failing, in_
 from .polygons import Polygon, Values, polygon
 from .program import Budget, Itip, default
 from .questions import Eliminate, Given, Prove, Question, listed, named, with_rates, without_rates
+from .reports import decoded
 
 
 @dataclass(frozen=True)
@@ -38,6 +40,38 @@ class Ray:
         return f"({', '.join(map(str, self.numbers))})"
 
 
+class Call(NamedTuple):
+    """A call of mode `outer`: the question, the words after the mode, and the bound that its lines tell."""
+
+    question: Question
+    words: Names
+    program: Itip
+    bound: BoundLines
+
+    def report(self) -> str:
+        """The line that the same call has with `--report`."""
+        lines = self.program.itip(["outer", "--report", *self.words], self.question.text()).splitlines()
+        if len(lines) != 1:
+            raise Forged(f"one question got {len(lines)} lines of a report")
+        return lines[0]
+
+    def is_told_by(self, line: str) -> bool:
+        """Whether all rows and rays that a line of a report has are among those of the bound, each of which has a proof or a point of its own."""
+        found = decoded(line)
+        if found.get("answer") == "misfit":
+            raise ItipError(f"there is no report: {found.get('cause')}; raise most_rows")
+        first = 2 ** len(self.question.variables)
+        places = [first + self.question.rates.index(name) for name in self.bound.rates]
+        try:
+            rows = [dict(row["row"]) for row in found["rows"]]
+            points = [tuple(int(ray["point"][at - 1]) for at in places) for ray in found["rays"]]
+            vectors = {tuple(int(row.get(at, 0)) for at in places) for row in rows}
+            rays = {lowest(point) for point in points}
+        except (KeyError, ValueError, TypeError, IndexError, ZeroDivisionError):
+            raise Forged(f"no line of a report has this shape: {line[:200]}") from None
+        return vectors <= {row.numbers for row in self.bound.rows} and rays <= {ray.numbers for ray in self.bound.rays}
+
+
 @dataclass(frozen=True)
 class OuterBound:
     """All that Shannon's inequalities and what is given say of the sums that are kept.
@@ -52,6 +86,16 @@ class OuterBound:
     marks: Names
     answers: tuple[Yes, ...] = field(repr=False)
     rays: tuple[Ray, ...]
+    call: Call = field(repr=False, compare=False)
+
+    @cached_property
+    def report(self) -> str:
+        """The line of a report that shows that the rows are all bounds. It is asked for when it is first needed, which takes as long as the
+        bound itself: what shows it is more than the rows with their marks and the rays."""
+        line = self.call.report()
+        if not self.call.is_told_by(line):
+            raise Forged("the report has other rows or rays")
+        return line
 
     @property
     def proofs(self) -> tuple[Certificate, ...]:
@@ -83,12 +127,14 @@ class OuterBound:
         return polygon(self.rows, names, values)
 
     def check(self) -> int:
-        """Has `itip check` judge each row's proof and each ray's point, and says how many there are."""
+        """Has `itip check` judge each row's proof and each ray's point, and says how many there are; and the report, by which the rows are
+        all bounds."""
         found: list[Answer] = [*self.answers, *(ray.answer for ray in self.rays)]
-        verdicts = found[0].program.check([answer.report for answer in found]) if found else []
-        for verdict, answer in zip(verdicts, found):
+        about = [answer.question for answer in found] + [self.call.question.text()]
+        verdicts = self.call.program.check([*(answer.report for answer in found), self.report])
+        for verdict, question in zip(verdicts, about):
             if verdict != "valid":
-                raise Forged(f"{verdict}: {answer.question}")
+                raise Forged(f"{verdict}: {question}")
         return len(found)
 
     def __str__(self) -> str:
@@ -189,13 +235,17 @@ def lowest(numbers: Numbers) -> Numbers:
     return tuple(number // gcd(*numbers) for number in numbers)
 
 
-def bound_lines(asked: Naming, program: Itip, pivots: Budget, most_rows: int = 512, most_rays: int = 256) -> list[str]:
-    """What mode `outer` answers."""
+def bound_words(program: Itip, pivots: Budget, most_rows: int = 512, most_rays: int = 256) -> Names:
+    """The words of a call of mode `outer`, after the mode."""
     budget = program.pivots if pivots == "usual" else pivots
     settings = {"--run": program.run, "--rows": most_rows, "--tries": most_rays}
     if budget != "usual":
         settings["--pivots"] = "none" if budget is None else budget
-    words = [str(word) for pair in settings.items() for word in pair]
+    return tuple(str(word) for pair in settings.items() for word in pair)
+
+
+def bound_lines(asked: Naming, program: Itip, words: Names) -> list[str]:
+    """What mode `outer` answers."""
     return program.itip(["outer", *words], asked.question.text()).splitlines()
 
 
@@ -229,9 +279,11 @@ def outer_bound(
     """
     at = program or default()
     asked = naming(kept, given, copies)
-    lines = bound_lines(asked, at, pivots, most_rows, most_rays)
+    words = bound_words(at, pivots, most_rows, most_rays)
+    lines = bound_lines(asked, at, words)
     if pivots == "usual" and at.pivots == "usual" and lines and why_open(lines):
-        lines = bound_lines(asked, at, None, most_rows, most_rays)
+        words = bound_words(at, None, most_rows, most_rays)
+        lines = bound_lines(asked, at, words)
     found = decided_bound(asked, lines)
     if found is None:
         raise ItipError(f"{asked.why_undecided(lines)}: keep fewer sums, raise most_rows or most_rays, or ask by pivots=None")
@@ -239,7 +291,7 @@ def outer_bound(
     answers = tuple(asked.proved(authored(lowest(row.numbers), asked.kept), row, at) for row in rows)
     rays = tuple(Ray(tuple(map(Fraction, ray.numbers)), asked.attained(ray, at)) for ray in found.rays)
     relations, marks = tuple(answer.relation for answer in answers), tuple(row.mark for row in rows)
-    bound = OuterBound(asked.kept, asked.given, relations, marks, answers, rays)
+    bound = OuterBound(asked.kept, asked.given, relations, marks, answers, rays, Call(asked.question, words, at, found))
     if at.judge:
         bound.check()
     return bound

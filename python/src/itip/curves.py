@@ -11,7 +11,7 @@ from typing import Any, NamedTuple, Optional, Tuple
 
 from .answers import Answer, No, Yes
 from .asking import prove_all
-from .bounds import Naming, bound_lines, decided_bound, lowest, naming
+from .bounds import Naming, bound_lines, bound_words, decided_bound, lowest, naming
 from .codes import Code, code_at, code_for
 from .errors import Forged, ItipError, Refused, TimedOut
 from .evidence import Point
@@ -166,7 +166,7 @@ def _of_bound(asked: Naming, program: Itip, settings: Mapping[str, Any]) -> tupl
     if settings.get("executor") is not None:
         return pool, proved
     try:
-        bound = decided_bound(asked, bound_lines(asked, program, settings.get("pivots", "usual")))
+        bound = decided_bound(asked, bound_lines(asked, program, bound_words(program, settings.get("pivots", "usual"))))
     except (Refused, TimedOut):  # (which single questions may not be)
         bound = None
     if bound is None:
