@@ -1,18 +1,16 @@
 -- What is read of factors fits its question.
-use Rattle.std.proofs.Common.{◌≡◌, ℕ, ◌<◌, ◌^◌, ℤ, List, [], ◌∷◌, length, refl, ap, subst, ◌∙◌, Option, Some, None, Result, Ok, Err, option_and_then, Bool, true, false, cond, codes}
+use Rattle.std.proofs.Common.{◌≡◌, ℕ, ◌<◌, ◌^◌, ℤ, List, [], ◌∷◌, refl, subst, Some, Ok, Err, option_and_then, Bool, true, false, cond, codes}
 use Rattle.std.specs.Prelude.{All, is_some, ok_or}
 use Rattle.std.proofs.lemmas.List.Elements.{All-head, All-tail}
 use Rattle.std.specs.Option.{option_zip}
 use Rattle.serde_json.specs.Data.{Data}
 use Rattle.serde_json.specs.Find.{get, as_array}
-use Rattle.it_number.specs.Limit.{IsWithin}
 use Rattle.it_space.specs.Answers.{CertificateView}
 use Rattle.it_space.specs.Spaces.{size_of}
 use Rattle.it_demand.specs.QuestionSpaces.{space_of}
 use Rattle.it_question.specs.Questions.{QuestionView}
 use Rattle.it_ratio.specs.BestViews.{BestView, Least, Never, Unbounded, Undecided}
 use Rattle.it_ratio.specs.Truth.{asked_by}
-use Rattle.it_certificate.specs.declared.keys.Key.{Key}
 use Rattle.it_certificate.specs.declared.keys.Key.TheVariants as keys
 use Rattle.it_certificate.specs.declared.kinds.FactorKind.{FactorKind}
 use Rattle.it_certificate.specs.declared.kinds.FactorKind.TheVariants as kinds
@@ -21,7 +19,7 @@ use Rattle.it_certificate.specs.declared.kinds.FactorCause.TheVariants as words
 use Rattle.it_certificate.specs.AnswerReading.{and_then}
 use Rattle.it_certificate.specs.AnswerShapes.{IsNumbered}
 use Rattle.it_certificate.specs.Numerals.{below, step_of}
-use Rattle.it_certificate.specs.Parts.{certificate_at, count_at, integer_at, list_at, point_at, text_of, two_of}
+use Rattle.it_certificate.specs.Parts.{certificate_at, count_at, integer_at, point_at, text_of, two_of}
 use Rattle.it_certificate.specs.FactorReading.{best_at, both_of, cause_with, certificates_at, factor_at, factor_cause_of, least_at, never_at, one_of, phase_at, ratio_at, steps_at, unbounded_at, undecided_factor_at, verb_best}
 use Rattle.it_certificate.specs.FactorShapes.{AreValues, HasBestShape, HasFactorShape, IsRatio, IsSmallCause}
 use Rattle.it_certificate.proofs.FitLemmas.{certificate_numbers, key_ok, list_numbers, ok_same, step_below, then_ok}

@@ -24,13 +24,13 @@ use Rattle.it_copy.specs.declared.types.CopyFault.TheVariants as copy_faults
 use Rattle.it_copy.proofs.MisfitLemmas.{extension_or_misfit}
 use Rattle.it_copy.proofs.CopyFileLemmas.{copy_file_is_one, copy_file_or_fault, copy_file_has_one}
 use Rattle.it_sharing.specs.SharingFiles.{IsSharingFile, SharingFaultAt, IsFirstSharingFault}
-use Rattle.it_sharing.specs.Sharings.{SharingView, made_question, maximal_count, minimal_count}
+use Rattle.it_sharing.specs.Sharings.{SharingView, maximal_count, minimal_count}
 use Rattle.it_sharing.proofs.SharingFileLemmas.{sharing_is_one, sharing_or_fault, sharing_has_one}
 use Rattle.it_certificate.specs.declared.keys.Refusal.{Refusal}
 use Rattle.it_certificate.specs.declared.keys.Refusal.TheVariants as refusals
 use Rattle.it_certificate.specs.Parts.{text_of}
 use Rattle.it_certificate.specs.ReportSteps.{GivesOnly, GivesCopied, GivesExtended, GivesMade, GivesMadeFrom, GivesSource, refusal_by}
-use Rattle.it_certificate.specs.Sources.{AsksOnly, IsMakeable, IsQuestionText, IsSharingText, IsSourceAt, IsSourceOf, IsTextWithCopies, Source, Text, Copies, Sharing, asked}
+use Rattle.it_certificate.specs.Sources.{AsksOnly, IsMakeable, IsQuestionText, IsSharingText, IsSourceAt, IsSourceOf, IsTextWithCopies, Source, Text, Copies, Sharing}
 
 -- ---- members
 

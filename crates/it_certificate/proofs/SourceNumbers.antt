@@ -1,5 +1,5 @@
 -- The question that a report line asks counts by numbers of 64 bits, whatever the line is about.
-use Rattle.std.proofs.Common.{◌≡◌, ℕ, ◌+◌, ◌<◌, ◌^◌, lit<, List, [], ◌∷◌, ◌++◌, length, map, filter, drop, Option, Some, None, subst, ◌-◌, Bool, true}
+use Rattle.std.proofs.Common.{ℕ, ◌+◌, lit<, List, [], ◌∷◌, ◌++◌, length, map, filter, drop, Option, Some, None, subst, ◌-◌, true}
 use Rattle.std.specs.List.{AllByRecursion as Every}
 use Rattle.std.specs.Option.{option_map_or}
 use Rattle.it_space.proofs.EveryLemmas.{every-append}
@@ -9,7 +9,6 @@ use Rattle.it_forms.proofs.FormFacts.{always_any, always_said}
 use Rattle.it_forms.specs.Forms.{Form, Give, Take, Then}
 use Rattle.it_forms.specs.Letters.{Letter}
 use Rattle.it_forms.proofs.FormParts.{Always, Fact, always_weaker}
-use Rattle.it_syntax.specs.Givens.{GivenView}
 use Rattle.it_syntax.specs.NamesViews.{NamesView}
 use Rattle.it_question.specs.Lines.{split_lines, letters_of_lines}
 use Rattle.it_question.specs.QuestionForms.{file}
@@ -25,7 +24,7 @@ use Rattle.it_copy.proofs.CopyOutlines.{copy_file_has}
 use Rattle.std.specs.Prelude.{codes}
 use Rattle.it_forms.specs.Words.{file_end, to_end, word}
 use Rattle.it_syntax.specs.LineForms.{names, relation, sum}
-use Rattle.it_syntax.specs.Meaning.{RelationView, multiple_from}
+use Rattle.it_syntax.specs.Meaning.{multiple_from}
 use Rattle.it_syntax.specs.Multiples.{most_terms}
 use Rattle.it_syntax.specs.Scopes.{Scope, scope_of}
 use Rattle.it_sharing.specs.AccessStructures.{minimal_sets, maximal_sets}

@@ -1,5 +1,5 @@
 -- An outer bound in a report: rows, a certificate of each, and rays, each with the rows that go after it when their hull is made.
-use Rattle.std.specs.Prelude.{◌≡◌, ℕ, ℤ, List, length, map, All, codes, Option, Some, None, option_map, option_and_then, Result, Ok, Err, ok_or}
+use Rattle.std.specs.Prelude.{◌≡◌, ℕ, List, length, map, All, codes, Option, Some, option_map, option_and_then, Result, Ok, Err, ok_or}
 use Rattle.std.specs.Option.{option_zip}
 use Rattle.serde_json.specs.Data.{Data}
 use Rattle.serde_json.specs.Find.{get}

@@ -1,7 +1,6 @@
 -- What is said of factors, of the shape that a question wants.
 use Rattle.std.specs.Prelude.{◌≡◌, ℕ, ◌<◌, ◌^◌, ℤ, List, length, true, All, is_some}
 use Rattle.it_number.specs.Limit.{IsWithin}
-use Rattle.it_space.specs.Answers.{CertificateView}
 use Rattle.it_space.specs.Spaces.{size_of}
 use Rattle.it_demand.specs.QuestionSpaces.{space_of}
 use Rattle.it_question.specs.Questions.{BodyView}

@@ -1,14 +1,13 @@
 -- No public clause cites this module: what the readers of a report and of its question give, against the definitions.
 use Rattle.std.specs.Prelude.{◌≡◌, ℕ, ◌+◌, ◌*◌, ◌-◌, ◌<◌, ◌≤◌, List, [], ◌∷◌, length, Option, Some, None, Result, Ok, Err}
 use Rattle.serde_json.specs.Data.{Data}
-use Rattle.it_space.specs.Answers.{answer_view}
 use Rattle.it_space.specs.declared.problems.Kind.{Kind}
 use Rattle.it_space.specs.declared.problems.Kind.TheVariants.{Inequality, Equation}
 use Rattle.it_syntax.specs.declared.types.Sign.{Sign}
 use Rattle.it_syntax.specs.Meaning.{RelationView}
 use Rattle.it_demand.specs.Demands.{kind_of}
 use Rattle.it_syntax.specs.Givens.{GivenView, Relation, Markov, Independent, Function}
-use Rattle.it_question.specs.Questions.{QuestionView, question_body, question_view}
+use Rattle.it_question.specs.Questions.{QuestionView, question_view}
 use Rattle.it_question.specs.Files.{IsFile}
 use Rattle.it_question.specs.QuestionLimits.{most_lines}
 use Rattle.it_question.specs.declared.types.Question.{Question}
