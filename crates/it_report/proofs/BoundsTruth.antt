@@ -37,7 +37,7 @@ use Rattle.it_certificate.proofs.OneLemmas.{one_reading}
 use Rattle.it_report.proofs.FrameLemmas.{are_kept, is_frame}
 use Rattle.it_report.proofs.OneLemmas.{same_read}
 use Rattle.it_report.proofs.ReadingLemmas.{bounds_are}
-use Rattle.it_report.proofs.TruthLemmas.{both_valid}
+use Rattle.it_report.proofs.VerdictLemmas.{both_valid}
 
 -- ---- valid rows and rays
 

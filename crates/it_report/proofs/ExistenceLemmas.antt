@@ -14,7 +14,6 @@ use Rattle.it_certificate.specs.Reports.{Answered, Bounded, Factored, Misfit, Re
 use Rattle.it_certificate.specs.Sources.{asked}
 use Rattle.it_certificate.proofs.SourceLemmas.{source_there}
 use Rattle.it_check.specs.declared.verdicts.Verdict.{Verdict}
-use Rattle.it_check.specs.declared.verdicts.Verdict.TheVariants.{Valid, BadScale, UnknownGenerator, NegativeWeight, Width, Mismatch, BrokenElemental, UnmetConstraint, NotViolated}
 use Rattle.it_rates.specs.Asked.{gone_rates, kept_rates}
 use Rattle.it_spans.proofs.ExistenceLemmas.{hull_verdict_there}
 use Rattle.it_report.specs.BoundsVerdicts.{bounds_verdict, judged_frame}
@@ -23,6 +22,7 @@ use Rattle.it_report.specs.LineVerdicts.{LineVerdict, NotJson, Shape, Skipped, J
 use Rattle.it_report.specs.Judging.{factor_line_verdict, verdict_of, IsAnswerVerdict, IsBoundsVerdict, IsVerdict}
 use Rattle.it_report.specs.Meaning.{EachLineIsJudged}
 use Rattle.it_report.proofs.JudgingLemmas.{read_verdict}
+use Rattle.it_report.proofs.VerdictLemmas.{only_valid}
 
 -- ---- the verdict on an answer
 
@@ -32,17 +32,6 @@ answer_verdict_there q a = by_option (verdict_of q a) refl
     by_option : (o : Option Verdict) → verdict_of q a ≡ o → (v : LineVerdict) × IsAnswerVerdict q a v
     by_option (Some v) e = (Judged (problem_names q) v, (refl, e))
     by_option None e = (Skipped, e)
-
-only_valid : (v : Verdict) → is_valid v ≡ true → v ≡ Valid
-only_valid Valid e = refl
-only_valid (BadScale s) e = absurd (cc)
-only_valid (UnknownGenerator i) e = absurd (cc)
-only_valid (NegativeWeight i) e = absurd (cc)
-only_valid (Width i) e = absurd (cc)
-only_valid (Mismatch i x y) e = absurd (cc)
-only_valid (BrokenElemental i x) e = absurd (cc)
-only_valid (UnmetConstraint i x) e = absurd (cc)
-only_valid (NotViolated x) e = absurd (cc)
 
 -- ---- the verdict on an outer bound
 

@@ -1,6 +1,7 @@
 -- What a valid line says of factors is true.
 use Rattle.std.proofs.Common.{◌≡◌, ℕ, ◌+◌, ◌-◌, ◌<◌, ◌≤◌, ℤ, pos, neg_ℤ, ◌-ℤ◌, ◌*ℤ◌, ◌+ℤ◌, ◌≤ℤ◌, int_lt, List, length, map, Bool, true, false, Option, Some, None, option_and_then, if◌then◌else◌, Ok, ◌↔◌, refl, sym, ap, ap₂, subst, ◌∙◌, arith, rules}
 use Rattle.std.specs.Ordering.{int_eq}
+use Rattle.std.proofs.lemmas.Bool.{true≢false}
 use Rattle.std.proofs.lemmas.Int.{ints}
 use Rattle.std.proofs.lemmas.List.{get_or-map}
 use Rattle.it_space.specs.declared.spaces.Space.{Space}
@@ -41,7 +42,7 @@ use Rattle.it_check.specs.Meaning.{CertifiesRow, RefutesRow}
 use Rattle.it_check.specs.Sums.{sum_within}
 use Rattle.it_check.specs.Verdicts.{no_verdict}
 use Rattle.it_check.specs.declared.verdicts.Verdict.{Verdict}
-use Rattle.it_check.specs.declared.verdicts.Verdict.TheVariants.{Valid, BadScale, UnknownGenerator, NegativeWeight, Width, Mismatch, BrokenElemental, UnmetConstraint, NotViolated}
+use Rattle.it_check.specs.declared.verdicts.Verdict.TheVariants.{Valid}
 use Rattle.it_check.proofs.SumLemmas.{sum_told}
 use Rattle.it_check.proofs.Truth.{valid_yes_is, valid_no_is, yes_is_true}
 use Rattle.it_ratio.specs.BestViews.{BestView, Least, Never, Unbounded, Undecided}
@@ -62,6 +63,7 @@ use Rattle.it_report.specs.RowVerdicts.{is_valid, proof_verdict}
 use Rattle.it_report.proofs.OneLemmas.{same_read}
 use Rattle.it_report.proofs.ReadingLemmas.{best_is}
 use Rattle.it_report.proofs.SideSteps.{row_over}
+use Rattle.it_report.proofs.VerdictLemmas.{only_valid}
 
 -- ---- verdicts with nothing wrong
 
@@ -69,15 +71,11 @@ abbrev valid : FactorVerdict
 valid = Checked Valid
 
 both_valid : (v : Verdict) (other : FactorVerdict) → first_wrong v other ≡ valid → (v ≡ Valid) × (other ≡ valid)
-both_valid Valid other e = (refl, e)
-both_valid (BadScale s) other e = absurd (cc)
-both_valid (UnknownGenerator i) other e = absurd (cc)
-both_valid (NegativeWeight i) other e = absurd (cc)
-both_valid (Width i) other e = absurd (cc)
-both_valid (Mismatch i x y) other e = absurd (cc)
-both_valid (BrokenElemental i x) other e = absurd (cc)
-both_valid (UnmetConstraint i x) other e = absurd (cc)
-both_valid (NotViolated x) other e = absurd (cc)
+both_valid v other e = by_valid (is_valid v) refl e
+  where
+    by_valid : (b : Bool) → is_valid v ≡ b → (if b then other else Checked v) ≡ valid → (v ≡ Valid) × (other ≡ valid)
+    by_valid true is e = (only_valid v is, e)
+    by_valid false is e = let v_is : v ≡ Valid = cc in absurd (true≢false (sym (ap is_valid v_is) ∙ is))
 
 checked_valid : (v : Verdict) → Checked v ≡ valid → v ≡ Valid
 checked_valid v e = cc

@@ -1,6 +1,8 @@
 -- The line about a report's line, step by step as the code forms it.
-use Rattle.std.proofs.Common.{◌≡◌, ℕ, ℤ, lit<, ◌^◌, ◌<◌, ◌≤◌, List, length, take, Bool, true, false, Option, Some, None, option_and_then, Result, Ok, Err, IfOk, refl, sym, ap, ap₂, ◌∙◌, subst, arith, map}
+use Rattle.std.proofs.Common.{◌≡◌, ℕ, ℤ, lit<, ◌+◌, ◌^◌, ◌<◌, ◌≤◌, List, length, take, Bool, true, false, Option, Some, None, option_and_then, Result, Ok, Err, IfOk, refl, sym, ap, ap₂, ◌∙◌, subst, arith, map}
+use Rattle.std.specs.Prelude.{is_some}
 use Rattle.std.proofs.lemmas.List.Elements.{All-weaker}
+use Rattle.std.proofs.lemmas.Nat.{pow_pos}
 use Rattle.it_space.specs.declared.spaces.Space.{Space}
 use Rattle.it_space.specs.Answers.{AnswerView, CertificateView, answer_view}
 use Rattle.it_space.specs.Answers.AnswerView.{Yes, No, Contained}
@@ -13,7 +15,7 @@ use Rattle.it_syntax.specs.NamesViews.{NamesView}
 use Rattle.it_syntax.specs.declared.types.Sign.{Sign}
 use Rattle.it_syntax.specs.declared.types.Sign.TheVariants.{AtLeast, AtMost, Equal}
 use Rattle.it_question.specs.Questions.{BodyView, QuestionView, RegionView, VerbView, Prove, Eliminate, Contain, question_body}
-use Rattle.it_demand.specs.Canonical.{form_of}
+use Rattle.it_demand.specs.Canonical.{IsRowOf, form_of}
 use Rattle.it_elemental.specs.Generators.{is_equation}
 use Rattle.it_demand.specs.Demands.{kind_of}
 use Rattle.it_demand.specs.Origins.{AreStated}
@@ -28,7 +30,7 @@ use Rattle.it_region.specs.Obligations.{obligations, IsSubstitution, ArePulledRo
 use Rattle.it_region.specs.Pairs.{IsPair, IsPairOf, Pairs, IsContainment, FitsPair, pair_obligations}
 use Rattle.it_region.proofs.TextLemmas.{text_rows, parts_fit, rows_as_pulled, pulled_rows_are}
 use Rattle.it_certificate.specs.AnswerShapes.{HasQuestionShape, HasVerbShape, HasContainmentShape}
-use Rattle.it_certificate.specs.Bounds.{bounds_view}
+use Rattle.it_certificate.specs.Bounds.{BoundsView, bounds_view}
 use Rattle.it_certificate.specs.declared.keys.Key.{Key}
 use Rattle.it_certificate.specs.declared.keys.ReportFault.{ReportFault}
 use Rattle.it_certificate.specs.Reports.{Answered, Bounded, Factored, IsReported, Misfit, ReadsReport, Reading, Reports}
@@ -40,11 +42,15 @@ use Rattle.it_region.proofs.PairLemmas.{pair_of_verb}
 use Rattle.it_report.specs.RowVerdicts.{place_named}
 use Rattle.it_report.specs.LineVerdicts.{LineVerdict, NotJson, Shape, Skipped, Judged, Weighed, Hulled, IsLineOf}
 use Rattle.it_ratio.specs.BestViews.{BestView, best_view}
-use Rattle.it_ratio.specs.Truth.{asked_by}
+use Rattle.it_ratio.specs.Truth.{asked_by, at_least}
 use Rattle.it_report.specs.declared.factors.FactorVerdict.{FactorVerdict}
 use Rattle.it_report.specs.Judging.{answer_verdict, factor_line_verdict, factor_verdict_of, weighed_by, IsAnswerVerdict, IsBoundsVerdict, IsReadingVerdict, IsVerdict, IsJudgedLine}
-use Rattle.it_report.specs.Steps.{IsAboutRelation, IsFaultLine, IsJudgedAnswer, IsJudgedReport}
+use Rattle.it_report.specs.FactorVerdicts.{best_verdict}
+use Rattle.it_report.specs.Steps.{IsAboutRelation, IsFaultLine, IsJudgedAnswer, IsJudgedBounds, IsJudgedReport}
 use Rattle.it_demand.specs.RowsOfForms.{terms_of_form}
+use Rattle.it_demand.proofs.FormRows.{row_is_terms_of_form}
+use Rattle.it_canon.specs.Sides.{left_form, right_form}
+use Rattle.it_canon.specs.TrueLines.{variable_count}
 use Rattle.it_canon.proofs.PosesLemmas.{one_problem}
 use Rattle.it_region.specs.AnswerForms.{answer_forms_by, answer_forms}
 use Rattle.it_certificate.specs.declared.keys.ReportFault.TheVariants as faults
@@ -115,6 +121,10 @@ module _ {L E : Type 0} (text : L → List ℕ) (invalid : L → Bool) (k : ℕ)
   verdict_is_told q a names v (Ok j) h told = record { verdict = Judged names v; is = h; told = told }
   verdict_is_told q a names v (Err e) h told = tt
 
+  pub bounds_told : (q : BodyView) (b : BoundsView) (v : LineVerdict) (r : Result L E) → IsBoundsVerdict q b v → IfOk r (λ j. IsLineOf k v (text j) (invalid j)) → IfOk r (λ j. IsJudgedBounds k q b (text j) (invalid j))
+  bounds_told q b v (Ok j) is told = record { verdict = v; is = is; told = told }
+  bounds_told q b v (Err e) is told = tt
+
 -- ---- the question that an answer fits
 
 pub verb_fits : (q : BodyView) (a : AnswerView) (verb : VerbView) → q.verb ≡ verb → HasQuestionShape q a → HasVerbShape q.names verb a
@@ -153,6 +163,40 @@ has_verdict q p is a ts names v are own e =
     let rows : ts ≡ map (terms_in q) (answer_forms q a) =
     pulled_rows_are p.space (answer_forms q a) ts are ∙ ap (λ (s : Space). map (terms_of_form (size_of s)) (answer_forms q a)) is.space in
     (own, ap (λ x. answer_verdict x (map (terms_in q) (answer_forms q a)) a) (sym (one_problem q p is)) ∙ ap (λ us. answer_verdict p us a) (sym rows) ∙ e)
+
+-- ---- factors
+
+-- a coordinate of the problem's space by its names
+pub size_named : (q : BodyView) (s : Space) (names : NamesView) → s ≡ space_of (problem_names q) → names ≡ problem_names q → size_of s + 1 ≡ 2 ^ length names.variables + length names.rates
+size_named q s names own named = ap (λ (t : Space). size_of t + 1) own ∙ all (problem_names q) ∙ ap (λ (v : NamesView). 2 ^ length v.variables + length v.rates) (sym named)
+  where
+    all : (v : NamesView) → size_of (space_of v) + 1 ≡ 2 ^ length v.variables + length v.rates
+    all v = omega (arith, pow_pos (length v.variables))
+
+module _ (q : BodyView) (p : ProblemView) (is : IsProblemOf q p) (r : RelationView) (about : q.verb ≡ Prove r) where
+  side_is : (form : ℕ → Form) (t : Terms) → IsRowOf p.space (form p.space.variables) t → t ≡ terms_in q (form (variable_count q))
+  side_is form t row = row_is_terms_of_form p.space (form p.space.variables) t row ∙ ap (λ (s : Space). terms_of_form (size_of s) (form s.variables)) is.space
+
+  relation_asked : is_some (asked_by q.verb) ≡ true → asked_by q.verb ≡ Some r
+  relation_asked asks = ap asked_by about ∙ by_sign r.sign (subst (λ v. is_some (asked_by v) ≡ true) about asks)
+    where
+      by_sign : (sign : Sign) → is_some (at_least sign r) ≡ true → at_least sign r ≡ Some r
+      by_sign AtLeast e = refl
+      by_sign AtMost e = absurd (cc)
+      by_sign Equal e = absurd (cc)
+
+  -- the verdict by the rows that were formed is that by the text
+  pub weighed_as_told : (best : BestView) (left right : Terms) (names : NamesView) (v : FactorVerdict) → is_some (asked_by q.verb) ≡ true
+      → IsRowOf p.space (left_form p.space.variables r) left → IsRowOf p.space (right_form p.space.variables r) right → names ≡ problem_names q → best_verdict p left right best ≡ Some v
+      → Weighed names v ≡ factor_line_verdict q best
+  weighed_as_told best left right names v asks left_is right_is own e =
+      ap (λ n. Weighed n v) own ∙ sym (ap (λ o. weighed_by q (option_and_then (λ s. factor_verdict_of q s best) o)) (relation_asked asks) ∙ ap (weighed_by q) by_rows)
+    where
+      by_rows : factor_verdict_of q r best ≡ Some v
+      by_rows =
+          ap (λ x. best_verdict x (terms_in q (left_form (variable_count q) r)) (terms_in q (right_form (variable_count q) r)) best) (sym (one_problem q p is))
+          ∙ ap₂ (λ x y. best_verdict p x y best) (sym (side_is (λ n. left_form n r) left left_is)) (sym (side_is (λ n. right_form n r) right right_is))
+          ∙ e
 
 -- ---- a relation
 

@@ -36,9 +36,9 @@ use Rattle.it_certificate.proofs.OneLemmas.{one_reading}
 use Rattle.it_certificate.proofs.SourceNumbers.{source_limits, source_numbers}
 use Rattle.it_check.specs.Meaning.{CertifiesRow, RefutesRow}
 use Rattle.it_check.specs.declared.verdicts.Verdict.{Verdict}
-use Rattle.it_check.specs.declared.verdicts.Verdict.TheVariants.{Valid, BadScale, UnknownGenerator, NegativeWeight, Width, Mismatch, BrokenElemental, UnmetConstraint, NotViolated}
+use Rattle.it_check.specs.declared.verdicts.Verdict.TheVariants.{Valid}
 use Rattle.it_check.proofs.Truth.{valid_yes_is, valid_no_is, yes_is_true}
-use Rattle.it_report.specs.RowVerdicts.{is_valid, proof_verdict, proofs_verdict, point_verdict, place_named}
+use Rattle.it_report.specs.RowVerdicts.{proof_verdict, proofs_verdict, point_verdict, place_named}
 use Rattle.it_report.specs.LineVerdicts.{Judged}
 use Rattle.it_report.specs.Judging.{answer_verdict, verdict_of, IsAnswerVerdict, IsReadingVerdict}
 use Rattle.it_region.specs.AnswerForms.{answer_forms_by}
@@ -47,6 +47,7 @@ use Rattle.it_report.proofs.JudgingLemmas.{verb_fits, target_is_there, point_is_
 use Rattle.it_report.proofs.CountLemmas.{obligations_counted, targets_counted}
 use Rattle.it_report.proofs.OneLemmas.{same_read}
 use Rattle.it_report.proofs.ReadingLemmas.{answer_is}
+use Rattle.it_report.proofs.VerdictLemmas.{both_valid}
 
 -- ---- the question that an answer is about
 
@@ -65,17 +66,6 @@ pub small_numbers : (line : List ℕ) (source : Source) (a : AnswerView) → Rea
 small_numbers line source a h = source_numbers h.value source (source_read line source a h)
 
 -- ---- valid certificates
-
-pub both_valid : (v u : Verdict) → (if is_valid v then u else v) ≡ Valid → (v ≡ Valid) × (u ≡ Valid)
-both_valid Valid u e = (refl, e)
-both_valid (BadScale s) u e = absurd (cc)
-both_valid (UnknownGenerator i) u e = absurd (cc)
-both_valid (NegativeWeight i) u e = absurd (cc)
-both_valid (Width i) u e = absurd (cc)
-both_valid (Mismatch i x y) u e = absurd (cc)
-both_valid (BrokenElemental i x) u e = absurd (cc)
-both_valid (UnmetConstraint i x) u e = absurd (cc)
-both_valid (NotViolated x) u e = absurd (cc)
 
 -- the row at a place is that of the form there
 pulled_row_at : (s : Space) (fs : List Form) (ts : List Terms) (i : ℕ) (f : Form) → ArePulledRows s fs ts → i < length ts → IsPulledRow s (get_or fs i f) (get_or ts i [])

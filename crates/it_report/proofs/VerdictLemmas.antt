@@ -2,6 +2,7 @@
 use Rattle.std.proofs.Common.{◌≡◌, ℕ, zero, suc, ◌+◌, ◌<◌, ◌≤◌, ℤ, pos, nat_lt, int_lt, not, ◌&&◌, List, [], ◌∷◌, Bool, true, false, Option, Some, None, if◌then◌else◌, drop, map, length, get_or, sym, ap, ◌∙◌, refl, arith}
 use Rattle.std.specs.Option.{option_or}
 use Rattle.std.specs.Ordering.{int_eq}
+use Rattle.std.proofs.lemmas.Bool.{true≢false}
 use Rattle.std.proofs.lemmas.List.{at_drop_all}
 use Rattle.it_space.proofs.ListLemmas.{drop_item}
 use Rattle.it_space.specs.declared.problems.Kind.{Kind}
@@ -13,7 +14,7 @@ use Rattle.it_elemental.specs.Generators.{Generator, generator_at, is_equation}
 use Rattle.it_check.specs.Sums.{product_within, sum_within}
 use Rattle.it_check.specs.Verdicts.{column, valid_unless, of_scale, of_weight, of_weights, of_numbers, of_coordinate, of_coordinates, yes_verdict, violates, violation, of_value, of_generators, of_target, met_verdict, no_verdict}
 use Rattle.it_check.specs.declared.verdicts.Verdict.{Verdict}
-use Rattle.it_check.specs.declared.verdicts.Verdict.TheVariants.{Valid, BadScale, UnknownGenerator, NegativeWeight, Mismatch, BrokenElemental, UnmetConstraint, NotViolated}
+use Rattle.it_check.specs.declared.verdicts.Verdict.TheVariants.{Valid, BadScale, UnknownGenerator, NegativeWeight, Width, Mismatch, BrokenElemental, UnmetConstraint, NotViolated}
 use Rattle.it_spans.specs.declared.types.Step.{Step}
 use Rattle.it_spans.specs.Spans.{step_views}
 use Rattle.it_report.specs.RowVerdicts.{proof_verdict, proofs_verdict, ray_verdict, rays_verdict, is_valid}
@@ -93,6 +94,28 @@ no_over b count gs t p = told_over b _ (either_over b (of_generators count 0 gs 
 pub met_over : (b count : ℕ) (gs : List Generator) (p : ℕ → ℤ) → IsVerdictOver b (met_verdict count gs p)
 unfolding met_verdict
 met_over b count gs p = told_over b _ (generators_over b count 0 gs p)
+
+-- ---- verdicts with nothing wrong
+
+pub only_valid : (v : Verdict) → is_valid v ≡ true → v ≡ Valid
+only_valid Valid e = refl
+only_valid (BadScale s) e = absurd (cc)
+only_valid (UnknownGenerator i) e = absurd (cc)
+only_valid (NegativeWeight i) e = absurd (cc)
+only_valid (Width i) e = absurd (cc)
+only_valid (Mismatch i x y) e = absurd (cc)
+only_valid (BrokenElemental i x) e = absurd (cc)
+only_valid (UnmetConstraint i x) e = absurd (cc)
+only_valid (NotViolated x) e = absurd (cc)
+
+pub both_valid : (v u : Verdict) → (if is_valid v then u else v) ≡ Valid → (v ≡ Valid) × (u ≡ Valid)
+both_valid v u e = by_valid (is_valid v) refl e
+  where
+    by_valid : (b : Bool) → is_valid v ≡ b → (if b then u else v) ≡ Valid → (v ≡ Valid) × (u ≡ Valid)
+    by_valid true is e = (only_valid v is, e)
+    by_valid false is e = absurd (true≢false (sym (ap is_valid e) ∙ is))
+
+-- ---- certificates, one after the other
 
 -- the rows and the certificates that are left
 abbrev left_verdict : ProblemView → List Terms → List Certificate → ℕ → Verdict

@@ -71,7 +71,6 @@ pub fn point_verdict(problem: &Problem, rows: &[Row], back: bool, point: &Point)
 }
 
 /// The verdict on a ray's point, which is to meet the problem.
-#[tactic(auto, using(crate::proofs::VerdictLemmas::met_over))]
 fn ray_verdict(problem: &Problem, ray: &Point) -> Verdict
     requires problem { IsProblem (problem_view problem.now) }
     requires complete { length ray.now ≡ size_of problem.now.space }
