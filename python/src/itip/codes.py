@@ -6,11 +6,16 @@ import random
 from collections.abc import Callable, Iterable, Iterator, Mapping, Sequence
 from dataclasses import dataclass, field
 from fractions import Fraction
-from typing import Optional, Tuple
+from typing import TYPE_CHECKING, Optional, Tuple
 
-from . import linear
 from .evidence import Point, subset
+from .linear import code_at as code_of_ranks
+from .linear import subspaces as subspaces_of
+from .linear import without_code
 from .notation import Assumption, Constraint, Key, Sum
+
+if TYPE_CHECKING:
+    from . import linear
 
 Space = Tuple[int, ...]  # a basis: vectors as bits, with different leading ones
 Chosen = Mapping[str, Space]
@@ -47,7 +52,7 @@ def subspaces(dimension: int, rank: int) -> Iterator[Space]:
     [1, 7, 7, 1]
     """
     whole = tuple(tuple(int(place == other) for other in range(dimension)) for place in range(dimension))
-    return map(bits_of, linear.subspaces(whole, rank, 2))
+    return map(bits_of, subspaces_of(whole, rank, 2))
 
 
 @dataclass(frozen=True)
@@ -105,9 +110,9 @@ def code_at(point: Point) -> Optional[Code]:
     """
     names = point.variables
     entropies = [point.values[key] if key else 0 for key in (frozenset(subset(names, number)) for number in range(2 ** len(names)))]
-    if linear.without_code(entropies, len(names)):
+    if without_code(entropies, len(names)):
         return None
-    found = linear.code_at(entropies, len(names), fields=(2,))
+    found = code_of_ranks(entropies, len(names), fields=(2,))
     if found is None:
         return None
     once = [bits_of(space) for space in found.spaces]
