@@ -6,3 +6,5 @@ pub mod TruthLemmas
 pub mod PrintLemmas
 pub mod LineLemmas
 pub mod ToldLemmas
+pub mod StepLemmas
+pub mod FrameLemmas
