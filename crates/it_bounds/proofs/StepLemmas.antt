@@ -180,10 +180,13 @@ reduced_step q effort left ray reduced made red same drops stay = (
 
 -- the rows that stay are those of a hull again
 made_rows : (f : Frame) (effort : Effort) (rows : List Terms) (ray : List ℤ) (made : Made) → IsFrame f → AreHullRows f rows → IsMadeStep f effort rows ray (Some made) → AreHullRows f made.rows.items
-made_rows f effort rows ray made h a (Region next, ends, (kept, dropped, red, same)) = subst (λ (rs : List Terms). AreHullRows f rs) (let e : kept_rows kept ≡ made.rows.items = cc in e) (record {
+made_rows f effort rows ray made h a (Region next, ends, (kept, dropped, red, same)) = subst (λ (rs : List Terms). AreHullRows f rs) (sym (ap (λ (m : MadeStep). m.rows) is_made)) (record {
   over = all_kept (constants f.space) effort (IsOver (size_of f.space)) [] next kept dropped red (few_next f h rows next ray a.over ends).over;
   free = all_kept (constants f.space) effort (λ (row : Terms). coefficient row (2 ^ f.space.variables + f.spare) ≡ pos 0) [] next kept dropped red (next_free (2 ^ f.space.variables) f.rows ray f.spare rows next ends);
 })
+  where
+    is_made : made_view made ≡ record { step = record { ray = ray; drops = numbered_drops 0 next dropped }; rows = kept_rows kept }
+    is_made = cc
 made_rows f effort rows ray made h a (Rows rate, ends, same) = absurd (cc)
 made_rows f effort rows ray made h a (Wide rate, ends, same) = absurd (cc)
 

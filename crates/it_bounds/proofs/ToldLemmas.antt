@@ -74,7 +74,7 @@ one_steps true limits q Size a b defined e d = e ∙ sym d
 one_steps true limits q Other a b defined e d = e ∙ sym d
 one_steps false limits q reply a b defined e d = e ∙ sym d
 
-told_of : ReplyView → Option (List StepView) → ToldReply
+abbrev told_of : ReplyView → Option (List StepView) → ToldReply
 told_of reply steps = record { reply = reply; steps = steps }
 
 pub one_right_told : OneRightTold

@@ -41,7 +41,7 @@ pub fn reply_report(
     requires question { IsQuestion (question_body question.now) }
     requires few_rows { limits.rows ≤ 65535 }
     requires reply { IsToldReply (question_body question.now) reply.now }
-    ensures { IfOk result (IsToldReport limits (question_view question.now) (reply_view reply.now)) }
+    ensures { IfOk result (λ line. IsToldReport limits (question_view question.now) (reply_view reply.now) line.items) }
 {
     let text = question.text(alloc)?;
     let source = SourceText::Question(text.as_slice());
@@ -69,7 +69,10 @@ fn told_steps(
     ensures { IfOk result (λ s. AreToldSteps true limits (question_body question.now) (reply_view reply.now) (option_map (λ v. step_views v.items) s)) }
 {
     match reply {
-        Reply::Bounded { rays, .. } => steps_of(alloc, limits, question, rays.as_slice()),
+        Reply::Bounded { rays, .. } => {
+            let steps = steps_of(alloc, limits, question, rays.as_slice())?;
+            Ok(steps)
+        }
         Reply::Undecided(_) => Ok(None),
         Reply::Size => Ok(None),
         Reply::Other => Ok(None),
@@ -97,7 +100,9 @@ fn steps_of(
         spare: gone[0],
         rows: limits.rows,
     };
-    hull_steps(alloc, frame, kept.as_slice(), limits.effort, rays)
+    // named before it is answered, so that the contract of the call stands at the answer
+    let steps = hull_steps(alloc, frame, kept.as_slice(), limits.effort, rays)?;
+    Ok(steps)
 }
 
 /// The line of bounds, without its end.
@@ -118,7 +123,8 @@ fn bounded_json(
         proofs: copied(alloc, proofs.as_slice())?,
         steps,
     };
-    bounds_json(alloc, source, &bounds)
+    let line = bounds_json(alloc, source, &bounds)?;
+    Ok(line)
 }
 
 /// Rows without their marks.

@@ -1,8 +1,8 @@
 //! The steps by which the hull of rays is made again, for whoever judges it.
-ghost use Rattle.std.specs.Prelude.{◌≡◌, All, IfOk, drop, length, map, option_map};
+ghost use Rattle.std.specs.Prelude.{◌≡◌, ◌≤◌, All, IfOk, drop, length, map, option_map};
 ghost use Rattle.it_space.specs.Answers.{certificate_view};
 ghost use Rattle.it_space.specs.Problems.{problem_view};
-ghost use Rattle.it_space.specs.Spaces.{size_of};
+ghost use Rattle.it_space.specs.Spaces.{IsSpace, size_of};
 ghost use Rattle.it_redundant.specs.Reduction.{IsSystemUnder};
 ghost use Rattle.it_hull.specs.Constants.{constants};
 ghost use Rattle.it_hull.specs.Hulls.{first_rows};
@@ -58,6 +58,7 @@ fn numbered_drops(
 
 /// The same point once more.
 fn copied_ray(alloc: Global, space: Space, ray: &Point) -> Result<Point, AllocError>
+    requires space { IsSpace space }
     requires ray { length ray.now ≡ size_of space }
     ensures { IfOk result (λ p. p ≡ ray.now) }
 {
