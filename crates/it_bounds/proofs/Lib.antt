@@ -8,3 +8,4 @@ pub mod LineLemmas
 pub mod ToldLemmas
 pub mod StepLemmas
 pub mod FrameLemmas
+pub mod ReportLemmas

@@ -1,5 +1,5 @@
 //! The lines of reports of mode `outer`.
-ghost use Rattle.std.specs.Prelude.{◌≡◌, ◌≤◌, All, IfOk, length, map, option_map, true};
+ghost use Rattle.std.specs.Prelude.{◌≡◌, ◌≤◌, ◌++◌, All, IfOk, codes, length, map, option_map, true};
 ghost use Rattle.it_space.specs.Answers.{certificate_view};
 ghost use Rattle.it_space.specs.Spaces.{size_of};
 ghost use Rattle.it_demand.specs.QuestionSpaces.{space_of};
@@ -43,17 +43,36 @@ pub fn reply_report(
     requires reply { IsToldReply (question_body question.now) reply.now }
     ensures { IfOk result (λ line. IsToldReport limits (question_view question.now) (reply_view reply.now) line.items) }
 {
-    let text = question.text(alloc)?;
-    let source = SourceText::Question(text.as_slice());
-    let mut line = match told_steps(alloc, limits, question, reply)? {
-        Some(steps) => bounded_json(alloc, source, reply, steps)?,
-        None => {
-            let words = unreported(alloc, limits, problem_names(question), reply)?;
-            misfit_json(alloc, source, words.as_slice())?
-        }
-    };
+    let mut line = told_line(alloc, limits, question, reply)?;
     line.extend_from_slice(b"\n")?;
     Ok(line)
+}
+
+/// The line without its end.
+fn told_line(
+    alloc: Global,
+    limits: Limits,
+    question: &Question,
+    reply: &Reply,
+) -> Result<Vec<u8>, AllocError>
+    requires question { IsQuestion (question_body question.now) }
+    requires few_rows { limits.rows ≤ 65535 }
+    requires reply { IsToldReply (question_body question.now) reply.now }
+    ensures { IfOk result (λ line. IsToldReport limits (question_view question.now) (reply_view reply.now) (line.items ++ codes "\n")) }
+{
+    let text = question.text(alloc)?;
+    let source = SourceText::Question(text.as_slice());
+    match told_steps(alloc, limits, question, reply)? {
+        Some(steps) => {
+            let line = bounded_json(alloc, source, reply, steps)?;
+            Ok(line)
+        }
+        None => {
+            let words = unreported(alloc, limits, problem_names(question), reply)?;
+            let line = misfit_json(alloc, source, words.as_slice())?;
+            Ok(line)
+        }
+    }
 }
 
 /// The steps that make the hull of a reply's rays; none where it has no rays, or they aren't made.

@@ -11,12 +11,12 @@ reduced_step-requires c = let hull : System = record { space = c.args.frame.spac
   ray = ray_of_next c.args.frame hull c.in-Region.next c.args.ray.now c.in_ok-left.left refl c.in-Region.is c.in_ok-left.ensures.hull c.requires.ray;
 }
 
-pub returns-in_ok-made-in-Region : goal.returns-in_ok-made-in-Region
-returns-in_ok-made-in-Region c = step_is_made c.args.frame c.args.rows.items c.args.ray.now c.in-Region.next c.in_ok-left.left c.in-Region.is c.in_ok-left.ensures.ends c.args.effort (problem_view c.args.givens.now) c.in_ok-made-in-Region.made
+pub returns-in-Region : goal.returns-in-Region
+returns-in-Region c = step_is_made c.args.frame c.args.rows.items c.args.ray.now c.in-Region.next c.in_ok-left.left c.in-Region.is c.in_ok-left.ensures.ends c.args.effort (problem_view c.args.givens.now) c.in_ok-made-in-Region.made
     c.requires.givens c.in_ok-made-in-Region.ensures
 
 pub returns-in-Rows : goal.returns-in-Rows
 returns-in-Rows c = none_by_rows c.args.frame c.args.effort c.args.rows.items c.args.ray.now c.in_ok-left.left _ c.in-Rows.is c.in_ok-left.ensures.ends
 
-pub returns-in-Wide : goal.returns-in-Wide
-returns-in-Wide c = none_by_width c.args.frame c.args.effort c.args.rows.items c.args.ray.now c.in_ok-left.left _ c.in-Wide.is c.in_ok-left.ensures.ends
+pub returns : goal.returns
+returns c = none_by_width c.args.frame c.args.effort c.args.rows.items c.args.ray.now c.in_ok-left.left _ c.in-Wide.is c.in_ok-left.ensures.ends
