@@ -3,8 +3,8 @@
 `valid` files are right, `broken` ones have a few tokens, lines or bytes changed; `limits` are at a limit or just past it; `wide` ones
 have numbers near 2**64 and denominators near 2**32; `large` ones have nine or ten variables; `reports` are right and damaged lines.
 `copies` are files with a head, right ones, broken ones, and ones whose questions can't have the copies. `factors` are right files whose
-questions ask for factors, most of them `prove E >= F`, in mode `best`. `bounds` are right files for mode `outer`. `sharing` are sharing files, right ones, broken ones, and ones with
-dozens of lists.
+questions ask for factors, most of them `prove E >= F`, in mode `best`. `bounds` are right files for mode `outer`. `sharing` are sharing
+files, right ones, broken ones, and ones with dozens of lists.
 """
 
 import re
