@@ -1,12 +1,11 @@
 -- The steps that make a hull: the rows that go by their numbers, one step, and the loop over rays.
-use Rattle.std.proofs.Common.{◌≡◌, ◌⊎◌, inl, inr, ℕ, ◌+◌, ◌-◌, ◌^◌, ◌<◌, ◌≤◌, ℤ, pos, List, [], ◌∷◌, ◌++◌, map, length, drop, get_or, true, false, Option, Some, None, option_map, if◌then◌else◌, refl, sym, ap, ap₂, subst, ◌∙◌, arith, append_assoc, append-nil, length-append, All}
+use Rattle.std.proofs.Common.{◌≡◌, ◌⊎◌, inl, inr, ℕ, ◌+◌, ◌-◌, ◌^◌, ◌<◌, ◌≤◌, ℤ, pos, List, [], ◌∷◌, ◌++◌, map, length, drop, get_or, true, false, Option, Some, None, option_map, if◌then◌else◌, refl, sym, ap, ap₂, subst, ◌∙◌, arith, append_assoc, append-nil, length-append}
 use Rattle.std.proofs.lemmas.Bool.{cases_lt, false≢true}
 use Rattle.std.proofs.lemmas.List.{drop_all, map-append}
 use Rattle.it_space.specs.declared.answers.Certificate.{Certificate}
 use Rattle.it_space.specs.declared.problems.System.{System}
-use Rattle.it_space.specs.declared.spaces.Space.{Space}
 use Rattle.it_space.specs.Answers.{CertificateView, certificate_view}
-use Rattle.it_space.specs.Problems.{IsProblem, ProblemView}
+use Rattle.it_space.specs.Problems.{ProblemView}
 use Rattle.it_space.specs.Rows.{IsOver, Terms, coefficient}
 use Rattle.it_space.specs.Spaces.{size_of}
 use Rattle.it_space.proofs.ListLemmas.{drop_item}

@@ -1,5 +1,5 @@
 -- A step that is made, as contracts see it; no public clause cites it.
-use Rattle.std.specs.Prelude.{◌≡◌, ◌^◌, ℤ, List, [], ◌∷◌, Bool, false, Option, Some, None, option_map}
+use Rattle.std.specs.Prelude.{◌≡◌, ◌^◌, ℤ, List, [], ◌∷◌, Bool, false, Option, option_map}
 use Rattle.it_space.specs.declared.answers.Certificate.{Certificate}
 use Rattle.it_space.specs.Answers.{CertificateView}
 use Rattle.it_space.specs.Problems.{ProblemView}

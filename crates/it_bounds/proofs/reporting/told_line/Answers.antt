@@ -1,5 +1,4 @@
 use Rattle.std.proofs.Common.{Global, Option, Vec, ap, option_map, subst, ◌∙◌, true}
-use Rattle.it_question.specs.ProblemLines.{problem_names}
 use Rattle.it_question.specs.Questions.{question_body, question_view}
 use Rattle.it_spans.specs.declared.types.Step.{Step}
 use Rattle.it_spans.specs.Spans.{step_views}

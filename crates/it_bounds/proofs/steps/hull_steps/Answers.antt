@@ -1,4 +1,4 @@
-use Rattle.std.proofs.Common.{Option, Some, None, subst}
+use Rattle.std.proofs.Common.{Option, subst}
 use Rattle.it_hull.specs.Hulls.{first_rows}
 use Rattle.it_bounds.specs.declared.steps.Made.{Made}
 use Rattle.it_bounds.specs.StepViews.{IsMadeStep}
