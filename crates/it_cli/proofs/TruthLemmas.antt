@@ -1,5 +1,5 @@
 -- Right replies in modes `copy`, `best` and `sharing` are true.
-use Rattle.std.proofs.Common.{Bool, ◌≡◌, ℤ, ◌↔◌, true, List, Some, refl, sym, ap, subst, ◌∙◌}
+use Rattle.std.proofs.Common.{◌≡◌, ℤ, ◌↔◌, true, List, Some, refl, sym, ap, subst, ◌∙◌}
 use Rattle.it_prove.specs.declared.types.Effort.{Effort}
 use Rattle.it_space.specs.Answers.{AnswerView}
 use Rattle.it_space.specs.Answers.AnswerView.{Yes, No, Undecided, Region, Contained, Open}
