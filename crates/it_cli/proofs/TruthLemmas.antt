@@ -21,7 +21,7 @@ use Rattle.it_factor.specs.RightReplies as factors
 use Rattle.it_factor.specs.RightReplies.{IsRightReply}
 use Rattle.it_ratio.specs.Truth.{HoldsFor, IsTrueBest, asked_by, at_least}
 use Rattle.it_factor.specs.Truth.{IsTrueReply}
-use Rattle.it_factor.proofs.TruthLemmas.{true_of_same}
+use Rattle.it_ratio.proofs.SameFactors.{true_of_same}
 use Rattle.it_report.proofs.SourceTruth.{own_lines}
 use Rattle.it_cli.specs.Copies.{CopyQuestion, CopyReply, IsRightCopy, Misfit, Extended}
 use Rattle.it_cli.specs.SharingReplies.{IsRightSharing, SharingReply, Many, Answered, Factored}

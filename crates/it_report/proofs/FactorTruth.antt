@@ -48,6 +48,7 @@ use Rattle.it_check.proofs.Truth.{valid_yes_is, valid_no_is, yes_is_true}
 use Rattle.it_ratio.specs.BestViews.{BestView, Least, Never, Unbounded, Undecided}
 use Rattle.it_ratio.specs.Truth.{HoldsFor, IsTrueBest, asked_by, at_least}
 use Rattle.it_ratio.proofs.Orders.{all_smaller, no_smaller, none_at_zero}
+use Rattle.it_ratio.proofs.SameFactors.{true_of_same}
 use Rattle.it_certificate.specs.FactorShapes.{HasBestShape, HasFactorShape}
 use Rattle.it_certificate.specs.Reports.{Factored, ReadsReport}
 use Rattle.it_certificate.specs.Sources.{IsSourceAt, IsSourceOf, Sharing, Source, asked}
@@ -307,13 +308,6 @@ valid_factor_is_true line names source best h reads =
     told_true q best names (source_limits reads.value source about) (source_numbers reads.value source about) (best_fits_question line source best reads).shape (asked_by q.verb) refl told
 
 -- ---- of a sharing file
-
--- what is true of some factors is true of the same ones, said otherwise
-true_of_same : (P Q : ℤ → ℤ → Type 0) (best : BestView) → ((a b : ℤ) → P a b ↔ Q a b) → IsTrueBest P best → IsTrueBest Q best
-true_of_same P Q (Least num den proof values) same t = (t.0, (same num den).0 t.1, λ a b one holds. t.2 a b one ((same a b).1 holds))
-true_of_same P Q (Never values) same t = λ a b one holds. t a b one ((same a b).1 holds)
-true_of_same P Q (Unbounded num den proof below) same t = (t.0, λ a b one smaller. (same a b).0 (t.1 a b one smaller))
-true_of_same P Q (Undecided cause) same t = tt
 
 module _ (x : SharingView) (within : IsSharing x) where
   -- a factor holds for the made question exactly where it holds wherever the secret is shared perfectly
