@@ -1,11 +1,11 @@
 -- What the words of `tell` ask for.
-use Rattle.std.specs.Prelude.{ℕ, Bool, List, [], ◌∷◌, true, false, Option, Some, codes, option_and_then, option_map}
+use Rattle.std.specs.Prelude.{ℕ, Bool, List, [], ◌∷◌, true, false, not, ◌&&◌, Option, Some, None, if◌then◌else◌, codes, option_and_then, option_map}
 use Rattle.std.specs.Str.{bytes_eq}
 use Rattle.it_tell.specs.declared.settings.Options.{Options}
 use Rattle.it_tell.specs.declared.settings.Settings.{Settings}
 use Rattle.it_tell.specs.declared.settings.Style.{Style}
 use Rattle.it_tell.specs.declared.settings.Style.TheVariants.{Plain, Named, Whole}
-use Rattle.it_tell.specs.declared.settings.Settings.TheVariants.{Tell}
+use Rattle.it_tell.specs.declared.settings.Settings.TheVariants.{Tell, Help, Version}
 
 -- whether no style is asked for
 abbrev pub is_plain : Style → Bool
