@@ -1,5 +1,5 @@
 -- Command lines and what they are read as.
-use Rattle.std.specs.Prelude.{false, Option, ℕ, ◌≡◌, List, [], ◌∷◌, Some, None, codes}
+use Rattle.std.specs.Prelude.{true, false, Option, ℕ, ◌≡◌, List, [], ◌∷◌, Some, None, codes}
 use Rattle.it_settings.specs.declared.types.Format.TheVariants as formats
 use Rattle.it_settings.specs.declared.types.Run.{Run}
 use Rattle.it_settings.specs.declared.types.Run.TheVariants as runs
