@@ -1,5 +1,5 @@
 -- The lines of proofs of rows, which are those of an answer's forms.
-use Rattle.std.proofs.Common.{◌≡◌, ℕ, zero, suc, ◌+◌, ◌<◌, ◌≤◌, pos, ◌*ℤ◌, inl, inr, Bool, List, [], ◌∷◌, map, length, get_or, sym, ap, ap₂, subst, ◌∙◌, arith}
+use Rattle.std.proofs.Common.{◌≡◌, ℕ, zero, suc, ◌+◌, ◌<◌, ◌≤◌, pos, ◌*ℤ◌, inl, inr, Bool, true, List, [], ◌∷◌, ◌++◌, map, length, get_or, refl, sym, ap, ap₂, subst, ◌∙◌, arith}
 use Rattle.std.specs.List.{zip}
 use Rattle.std.proofs.lemmas.List.{get_or_default, get_or-map, length-map}
 use Rattle.std.proofs.lemmas.Slice.Zip.{get_or-zip, length-zip}
@@ -14,8 +14,11 @@ use Rattle.it_demand.proofs.ZipLemmas.{zip-length}
 use Rattle.it_region.specs.Obligations.{ArePulledRows, IsPulledRow}
 use Rattle.it_certificate.specs.AnswerShapes.{HasQuestionShape}
 use Rattle.it_region.specs.AnswerForms.{answer_forms}
-use Rattle.it_tell.specs.Tellings.{AreDetails, AreProofTexts, IsProofText, proof_lines}
-use Rattle.it_tell.specs.Steps.{AppendsDetails, AppendsEach, AppendsProof, AppendsProofs, AreFormRows}
+use Rattle.it_tell.specs.Tellings.{AreContainedLines, AreDetails, AreProofTexts, IsProofText, proof_lines}
+use Rattle.it_tell.specs.Settings.{is_plain}
+use Rattle.it_tell.specs.declared.settings.Style.TheVariants.{Plain, Named, Whole}
+use Rattle.std.proofs.lemmas.Bool.{false≢true}
+use Rattle.it_tell.specs.Steps.{AppendsDetails, AppendsEach, AppendsProof, AppendsProofs, AreFormRows, AreRowsFor}
 use Rattle.it_tell.proofs.DetailLemmas.{Appended, all_appended, appended_more, none_appended}
 use Rattle.it_tell.proofs.PrintableLemmas.{contained_counted, yes_counted}
 use Rattle.it_tell.specs.declared.settings.Options.{Options}
@@ -51,22 +54,19 @@ form_told q style s f row w text pulled (inr (inl h)) = inr (inl (record {
 }))
 form_told q style s f row w text pulled (inr (inr e)) = inr (inr e)
 
--- the lines of the first i proofs are appended, whichever answer the rows are of
+-- the lines of the first i proofs are appended, whichever forms the rows are of
 abbrev pub ProofsAppended : BodyView → Options → List Terms → List CertificateView → List ℕ → List ℕ → ℕ → Type 0
-ProofsAppended q options rows ws old new i = (answer : AnswerView) → AreFormRows q answer rows → Appended proof_lines (AreProofTexts q options) old new (zip (answer_forms q answer) ws) i
+ProofsAppended q options rows ws old new i = (forms : List Form) → AreRowsFor forms rows → Appended proof_lines (AreProofTexts q options) old new (zip forms ws) i
 
 pub no_proof_appended : (q : BodyView) (options : Options) (rows : List Terms) (ws : List CertificateView) (old : List ℕ) → ProofsAppended q options rows ws old old 0
-no_proof_appended q options rows ws old answer are = none_appended proof_lines (AreProofTexts q options) old (zip (answer_forms q answer) ws)
+no_proof_appended q options rows ws old forms are = none_appended proof_lines (AreProofTexts q options) old (zip forms ws)
 
 pub proofs_more : (q : BodyView) (options : Options) (rows : List Terms) (cs : List Certificate) (row : Terms) (c : Certificate) (old now new : List ℕ) (i : ℕ) → ProofsAppended q options rows (map certificate_view cs) old now i
     → length rows ≡ length cs → i < length cs → row ≡ get_or rows i row → c ≡ get_or cs i c → AppendsProof q options (value row, certificate_view c) now new → ProofsAppended q options rows (map certificate_view cs) old new (i + 1)
-unfolding AreFormRows AreProofTexts
-proofs_more q options rows cs row c old now new i before as_many within row_read read told answer are =
-    appended_more proof_lines (AreProofTexts q options) old now new (zip forms ws) i (form, certificate_view c) told.texts (before answer are) in_zip at_zip (form_is_told, told.are.1) told.new_is
+unfolding AreRowsFor AreProofTexts
+proofs_more q options rows cs row c old now new i before as_many within row_read read told forms are =
+    appended_more proof_lines (AreProofTexts q options) old now new (zip forms ws) i (form, certificate_view c) told.texts (before forms are) in_zip at_zip (form_is_told, told.are.1) told.new_is
   where
-    forms : List Form
-    forms = answer_forms q answer
-
     ws : List CertificateView
     ws = map certificate_view cs
 
@@ -97,14 +97,14 @@ proofs_more q options rows cs row c old now new i before as_many within row_read
 
 pub all_proofs : (q : BodyView) (options : Options) (rows : List Terms) (ws : List CertificateView) (old new : List ℕ) (i : ℕ) → ProofsAppended q options rows ws old new i → length ws ≤ i → AppendsProofs q options rows ws old new
 unfolding AppendsProofs
-all_proofs q options rows ws old new i u all answer are =
-    all_appended proof_lines (AreProofTexts q options) old new (zip (answer_forms q answer) ws) i (u answer are) (omega (arith, length-zip (answer_forms q answer) ws, all))
+all_proofs q options rows ws old new i u all forms are =
+    all_appended proof_lines (AreProofTexts q options) old new (zip forms ws) i (u forms are) (omega (arith, length-zip forms ws, all))
 
 -- ---- a relation and a containment
 
 -- there are as many rows as proofs
 rows_counted : (q : BodyView) (answer : AnswerView) (cs : List Certificate) (rows : List Terms) → length (answer_forms q answer) ≡ length (map certificate_view cs) → AreFormRows q answer rows → length rows ≡ length cs
-unfolding AreFormRows
+unfolding AreRowsFor
 rows_counted q answer cs rows counted are = zip-length (IsPulledRow are.0) (answer_forms q answer) rows are.1 ∙ counted ∙ length-map cs certificate_view
 
 pub relation_rows_counted : (q : BodyView) (cs : List Certificate) (rows : List Terms) → HasQuestionShape q (Yes (map certificate_view cs)) → AreFormRows q (Yes (map certificate_view cs)) rows → length rows ≡ length cs
@@ -115,9 +115,15 @@ obligation_rows_counted q parts cs rows fits are = rows_counted q (Contained par
 
 pub yes_details : (q : BodyView) (options : Options) (ws : List CertificateView) (rows : List Terms) (old new : List ℕ) → AreFormRows q (Yes ws) rows → AppendsProofs q options rows ws old new → AppendsDetails q options (Yes ws) old new
 unfolding AppendsDetails AppendsEach AppendsProofs AreDetails
-yes_details q options ws rows old new are h = h (Yes ws) are
+yes_details q options ws rows old new are h = h (answer_forms q (Yes ws)) are
 
-pub contained_details : (q : BodyView) (options : Options) (parts : List ℕ) (ws : List CertificateView) (rows : List Terms) (old new : List ℕ) → AreFormRows q (Contained parts ws) rows → AppendsProofs q options rows ws old new
-    → AppendsDetails q options (Contained parts ws) old new
-unfolding AppendsDetails AppendsEach AppendsProofs AreDetails
-contained_details q options parts ws rows old new are h = h (Contained parts ws) are
+-- plain lines of a containment
+pub contained_details : (q : BodyView) (options : Options) (parts : List ℕ) (ws : List CertificateView) (rows : List Terms) (old new : List ℕ) → is_plain options.style ≡ true → AreFormRows q (Contained parts ws) rows
+    → AppendsProofs q options rows ws old new → AppendsDetails q options (Contained parts ws) old new
+unfolding AppendsDetails AppendsEach AppendsProofs AreContainedLines AreDetails
+contained_details q options parts ws rows old new plain are h = by_style options.style refl
+  where
+    by_style : (style : Style) → options.style ≡ style → (details : List ℕ) × (AreContainedLines q options style parts ws details × (new ≡ old ++ details))
+    by_style Plain e = h (answer_forms q (Contained parts ws)) are
+    by_style Named e = absurd (false≢true (ap is_plain (sym e) ∙ plain))
+    by_style Whole e = absurd (false≢true (ap is_plain (sym e) ∙ plain))
