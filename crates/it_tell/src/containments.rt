@@ -22,8 +22,8 @@ use crate::details::{write_indented, write_proof, write_proofs};
 use crate::settings::{Options, is_plain};
 use it_canon::{problem_names, region_lines};
 use it_check::{Verdict, check_yes};
-use it_print::{write_number, write_set};
-use it_question::types::{Question, Region, Verb};
+use it_print::{write_origin, write_set};
+use it_question::types::{Question, Verb};
 use it_region::{candidate, obligations, pair};
 use it_space::{Certificate, Constraint, Kind, Origin, Problem, Row, VarSet};
 use it_syntax::Names;
@@ -39,24 +39,17 @@ pub struct Containment<'a> {
     pub parts: &'a [VarSet],
 }
 
-/// The second region of a containment question.
-fn second_region(question: &Question) -> &Region
-    requires { IsContainment (question_body question.now).verb }
-{
-    let Verb::Contain { second, .. } = &question.verb else {
-        unreachable!()
-    };
-    second
-}
-
 /// What the second region's own lines demand, by their numbers among these.
 fn own_constraints(alloc: Global, question: &Question) -> Result<Vec<Constraint>, AllocError>
     requires question { IsQuestion (question_body question.now) }
     requires contains { IsContainment (question_body question.now).verb }
     ensures { IfOk result (λ cs. AreOwnConstraints (question_body question.now) cs.items) }
 {
-    let region = second_region(question);
-    let own = region_lines(alloc, region, 1, 1, region.names.space())?;
+    let Verb::Contain { second, .. } = &question.verb else {
+        unreachable!()
+    };
+    let space = second.names.space();
+    let own = region_lines(alloc, second, 1, 1, space)?;
     Ok(own)
 }
 
@@ -78,35 +71,6 @@ fn obligation_rows(
 }
 
 // ---- the comment of a line
-
-/// `.I` where a line gives several constraints.
-fn write_part(out: &mut Vec<u8>, part: u16, parts: u16) -> Result<(), AllocError>
-    ensures { OnOk result (out.new.items ≡ out.old.items ++ (if nat_lt 1 parts then codes "." ++ decimal part else [])) }
-{
-    if parts > 1 {
-        out.extend_from_slice(b".")?;
-        write_number(out, part as usize)?;
-    }
-    Ok(())
-}
-
-/// `given J`, `given J.I` or `row J`.
-#[tactic(auto, unfolding(it_print::specs::Lines::origin_text))]
-fn write_origin(out: &mut Vec<u8>, origin: Origin) -> Result<(), AllocError>
-    ensures { OnOk result (out.new.items ≡ out.old.items ++ origin_text origin) }
-{
-    match origin {
-        Origin::Given { line, part, parts } => {
-            out.extend_from_slice(b"given ")?;
-            write_number(out, line as usize)?;
-            write_part(out, part, parts)
-        }
-        Origin::Rate { line } => {
-            out.extend_from_slice(b"row ")?;
-            write_number(out, line as usize)
-        }
-    }
-}
 
 /// A set, or `0` where it is empty.
 fn write_set_or_zero(out: &mut Vec<u8>, names: &Names, set: VarSet) -> Result<(), AllocError>
@@ -168,10 +132,12 @@ fn write_parts(out: &mut Vec<u8>, asked: &Containment<'_>) -> Result<(), AllocEr
     requires counted { length asked.now.parts.now ≡ length (auxiliary_names (question_body asked.now.question.now).names (question_body asked.now.question.now).verb) }
     ensures { OnOk result (out.new.items ≡ out.old.items ++ with_text (question_body asked.now.question.now) asked.now.parts.now) }
 {
-    let region = second_region(asked.question);
+    let Verb::Contain { second, .. } = &asked.question.verb else {
+        unreachable!()
+    };
     let common = asked.question.names.space().variables;
     let names = problem_names(asked.question);
-    write_choices(out, names, &region.names, common, asked.parts)
+    write_choices(out, names, &second.names, common, asked.parts)
 }
 
 /// A relation after a colon, where there is one.

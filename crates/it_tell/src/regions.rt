@@ -1,12 +1,13 @@
 //! The lines below the first one of a region: its rows.
-ghost use Rattle.std.specs.Prelude.{◌≡◌, ◌≤◌, ◌++◌, length, map, codes, All, IfOk, IfSome, OnOk};
+ghost use Rattle.std.specs.Prelude.{◌≡◌, ◌≤◌, ◌^◌, ◌++◌, length, map, codes, not, nat_lt, All, IfOk, IfSome, OnOk};
+ghost use Rattle.std.specs.List.{insert};
 ghost use Rattle.it_space.specs.declared.problems.Kind.TheVariants.{Inequality};
 ghost use Rattle.it_question.specs.Limits.{IsQuestion};
 ghost use Rattle.it_question.specs.Questions.{question_body};
 ghost use Rattle.it_question.specs.ProblemLines.{problem_names};
 ghost use Rattle.it_canon.specs.TrueLines.{variable_count};
 ghost use Rattle.it_print.specs.Lines.{IsRowOver, row_text};
-ghost use Rattle.it_tell.specs.SortedRows.{is_before, order_key, put_in_order, rate_coordinates};
+ghost use Rattle.it_tell.specs.SortedRows.{is_before, order_key, put_in_order, rate_coordinates, rows_by_rates};
 ghost use Rattle.it_tell.specs.Steps.{AppendsEach};
 ghost use Rattle.it_tell.specs.Tellings.{IsMarkedRowText, IsPrintedRowText, IsRowText, indented_line, mark_comment, told_rows};
 
@@ -103,18 +104,24 @@ fn marked_row(
     Ok(text)
 }
 
-/// How many rates a row has, of so many variables.
-fn rate_count(row: &Row, variables: u8) -> usize
+/// Whether a coordinate is a rate's, of so many variables.
+fn is_rate(coordinate: usize, variables: u8) -> bool
     requires { variables ≤ 10 }
-    ensures { result ≡ length (rate_coordinates variables row.now) }
+    ensures { result ≡ not (nat_lt coordinate (2 ^ variables)) }
 {
-    let mut count: usize = 0;
-    for term in row.terms() {
-        if term.0 >= 1u32 << variables {
-            count += 1;
-        }
-    }
-    count
+    coordinate >= 1usize << variables
+}
+
+/// The coordinates of a row's rates, of so many variables.
+fn rate_coordinates(alloc: Global, row: &Row, variables: u8) -> Result<Vec<usize>, AllocError>
+    requires { variables ≤ 10 }
+    ensures { IfOk result (λ v. v.items ≡ rate_coordinates variables row.now) }
+{
+    row.terms()
+        .iter()
+        .map(|term| term.0 as usize)
+        .filter(|coordinate| is_rate(*coordinate, variables))
+        .collect(alloc)
 }
 
 /// The coordinates of a row's rates, after their number.
@@ -122,13 +129,10 @@ fn order_key(alloc: Global, row: &Row, variables: u8) -> Result<Vec<usize>, Allo
     requires { variables ≤ 10 }
     ensures { IfOk result (λ v. v.items ≡ order_key variables row.now) }
 {
+    let coordinates = rate_coordinates(alloc, row, variables)?;
     let mut key = Vec::new(alloc);
-    key.push(rate_count(row, variables))?;
-    for term in row.terms() {
-        if term.0 >= 1u32 << variables {
-            key.push(term.0 as usize)?;
-        }
-    }
+    key.push(coordinates.len())?;
+    key.extend_from_slice(coordinates.as_slice())?;
     Ok(key)
 }
 
@@ -147,6 +151,27 @@ fn is_before(numbers: &[usize], others: &[usize]) -> bool
     numbers.len() < others.len()
 }
 
+/// The place of the first row that a row comes before, else that after the last one.
+fn place_of(
+    alloc: Global,
+    sorted: &[&(Mark, Row)],
+    row: &(Mark, Row),
+    variables: u8,
+) -> Result<usize, AllocError>
+    requires { variables ≤ 10 }
+    ensures within { IfOk result (λ i. i ≤ length sorted.now) }
+    ensures place { IfOk result (λ i. put_in_order variables row.now (map (λ r. r.now) sorted.now) ≡ insert (map (λ r. r.now) sorted.now) i row.now) }
+{
+    let key = order_key(alloc, &row.1, variables)?;
+    for i in 0..sorted.len() {
+        let other = order_key(alloc, &sorted[i].1, variables)?;
+        if is_before(key.as_slice(), other.as_slice()) {
+            return Ok(i);
+        }
+    }
+    Ok(sorted.len())
+}
+
 /// Puts a row before the first one that it comes before, else at the end.
 fn put_in_order<'a>(
     alloc: Global,
@@ -157,16 +182,36 @@ fn put_in_order<'a>(
     requires { variables ≤ 10 }
     ensures { OnOk result (map (λ r. r.now) sorted.new.items ≡ put_in_order variables row.now (map (λ r. r.now) sorted.old.items)) }
 {
-    let key = order_key(alloc, &row.1, variables)?;
-    for i in 0..sorted.len() {
-        let other = order_key(alloc, &sorted[i].1, variables)?;
-        if is_before(key.as_slice(), other.as_slice()) {
-            sorted.insert(i, row)?;
-            return Ok(());
-        }
-    }
-    sorted.push(row)?;
+    let place = place_of(alloc, sorted.as_slice(), row, variables)?;
+    sorted.insert(place, row)?;
     Ok(())
+}
+
+/// The rows of a region as they are.
+fn rows_in_turn(alloc: Global, rows: &[(Mark, Row)]) -> Result<Vec<&(Mark, Row)>, AllocError>
+    ensures { IfOk result (λ v. map (λ r. r.now) v.items ≡ rows.now) }
+{
+    let mut all = Vec::new(alloc);
+    for row in rows {
+        all.push(row)?;
+    }
+    Ok(all)
+}
+
+/// The rows of a region in order; those of the same rates stay as they were.
+fn rows_by_rates(
+    alloc: Global,
+    rows: &[(Mark, Row)],
+    variables: u8,
+) -> Result<Vec<&(Mark, Row)>, AllocError>
+    requires { variables ≤ 10 }
+    ensures { IfOk result (λ v. map (λ r. r.now) v.items ≡ rows_by_rates variables rows.now) }
+{
+    let mut sorted = Vec::new(alloc);
+    for row in rows {
+        put_in_order(alloc, &mut sorted, row, variables)?;
+    }
+    Ok(sorted)
 }
 
 /// The rows of a region in the order in which they are told: plain ones as they are.
@@ -179,16 +224,11 @@ fn told_rows(
     requires { variables ≤ 10 }
     ensures { IfOk result (λ v. map (λ r. r.now) v.items ≡ told_rows style variables rows.now) }
 {
-    let is_plain = is_plain(style);
-    let mut sorted = Vec::new(alloc);
-    for row in rows {
-        if is_plain {
-            sorted.push(row)?;
-        } else {
-            put_in_order(alloc, &mut sorted, row, variables)?;
-        }
+    if is_plain(style) {
+        rows_in_turn(alloc, rows)
+    } else {
+        rows_by_rates(alloc, rows, variables)
     }
-    Ok(sorted)
 }
 
 /// Appends a line for each row of a region, in their order.

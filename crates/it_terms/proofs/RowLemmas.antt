@@ -31,7 +31,7 @@ use Rattle.it_print.specs.Lines.{origins_of}
 use Rattle.it_terms.specs.FunctionProofs.{IsSaid, by_comment}
 use Rattle.it_terms.specs.Proofs.{constraints_of, demand_at}
 use Rattle.it_terms.specs.RowsUnder.{AreEquations, AreZeroAt, IsPrintedRow, PrintedRowsSay, SaysRowUnder, TellsRowUnder, given_demands}
-use Rattle.it_terms.specs.Signs.{AreGivenEquations, AreLeastSpreadOut, HasSignUnder, IsGiven, IsPrintedRowFrom, SaysSpreadOut, TellsRowBy}
+use Rattle.it_terms.specs.Signs.{AreGivenEquations, AreLeastSpreadOut, HasSignUnder, IsGiven, IsGivenEquation, IsPrintedRowFrom, SaysSpreadOut, TellsRowBy}
 use Rattle.it_terms.specs.Tells.{IsRelationText}
 use Rattle.it_terms.proofs.JudgedTexts.{compares_by_difference}
 use Rattle.it_terms.proofs.SaidLemmas.{constraint_at}
@@ -135,8 +135,7 @@ given_is_demand q s cs l c are h e given equal = record {
 
 each_is_demand : (q : BodyView) (s : Space) (cs : List Constraint) (lines : List ℕ) → AreStated s (question_origins q) (question_demands q) cs → AreGivenEquations cs lines → All (IsGivenDemand q cs) lines
 each_is_demand q s cs lines are given =
-    All-weaker (λ l. (l < length cs) × ((c : Constraint) × ((c ≡ get_or cs l c) × (IsGiven c.origin × (c.kind ≡ Equation))))) (IsGivenDemand q cs)
-    (λ l t. given_is_demand q s cs l t.1.0 are t.0 t.1.1.0 t.1.1.1.0 t.1.1.1.1) lines given
+    All-weaker (IsGivenEquation cs) (IsGivenDemand q cs) (λ l t. given_is_demand q s cs l t.1.0 are t.0 t.1.1.0 t.1.1.1.0 t.1.1.1.1) lines given
 
 all_by_both : (P Q R : ℕ → Type 0) → ((l : ℕ) → P l → Q l → R l) → (ls : List ℕ) → All P ls → All Q ls → All R ls
 all_by_both P Q R f [] a b = All-nil R

@@ -1,18 +1,23 @@
 -- Rows that have one sign everywhere.
-use Rattle.std.proofs.Common.{◌≡◌, ◌↔◌, ℕ, ℤ, pos, ◌≤ℤ◌, List, [], ◌∷◌, map, refl, sym, subst}
+use Rattle.std.proofs.Common.{◌≡◌, ◌↔◌, ℕ, ◌+◌, ◌<◌, ℤ, pos, ◌≤ℤ◌, Bool, List, [], ◌∷◌, length, map, take, get_or, Result, Ok, Err, IfOk, refl, sym, subst, subst₂}
 use Rattle.std.specs.Prelude.{All}
+use Rattle.std.specs.Bool.{OnTrue}
 use Rattle.std.specs.List.{AllZip}
+use Rattle.std.proofs.lemmas.Bool.{OnTrue_at, OnTrue_from}
+use Rattle.std.proofs.lemmas.Grind.{take_at_read}
 use Rattle.std.proofs.lemmas.List.Elements.{All-cons, All-head, All-nil, All-tail}
 use Rattle.it_space.specs.declared.spaces.Space.{Space}
 use Rattle.it_space.specs.Rows.{AreLowestTermsOf, Terms, value}
 use Rattle.it_polymatroid.specs.Certificates.{Form}
 use Rattle.it_syntax.specs.Meaning.{RelationView, Holds, common_denominator, side_at}
+use Rattle.it_syntax.specs.NamesViews.{NamesView}
 use Rattle.it_demand.specs.Canonical.{IsRowOf, form_of}
 use Rattle.it_demand.specs.SystemForms.{AreRowsOf}
 use Rattle.it_demand.specs.Targets.{targets}
 use Rattle.it_demand.proofs.MetLemmas.{targets_met}
+use Rattle.it_demand.proofs.ZipLemmas.{zip-append}
 use Rattle.it_terms.specs.Signs.{AreLeastTogether}
-use Rattle.it_terms.specs.Tells.{SaysForms}
+use Rattle.it_terms.specs.Tells.{IsRelationText, SaysForms, TellsForms}
 
 -- rows that are the same in lowest terms
 pub least_together : (row other low other_low : Terms) → AreLowestTermsOf row low → AreLowestTermsOf other other_low → low ≡ other_low → AreLeastTogether row other
@@ -20,6 +25,13 @@ least_together row other low other_low a b e p = (
   λ h. (b.signs p).positive.1 (subst (λ (t : Terms). pos 0 ≤ℤ value t p) e ((a.signs p).positive.0 h)),
   λ h. (a.signs p).positive.1 (subst (λ (t : Terms). pos 0 ≤ℤ value t p) (sym e) ((b.signs p).positive.0 h)),
 )
+
+-- one pair of rows more
+pub together_more : (rows others : List Terms) (i : ℕ) (row other : Terms) → i < length rows → i < length others → row ≡ get_or rows i row → other ≡ get_or others i other → AreLeastTogether row other
+    → AllZip AreLeastTogether (take i rows) (take i others) → AllZip AreLeastTogether (take (i + 1) rows) (take (i + 1) others)
+together_more rows others i row other inside within is other_is here before =
+    subst₂ (λ (xs ys : List Terms). AllZip AreLeastTogether xs ys) (sym (take_at_read rows i row inside).1) (sym (take_at_read others i other within).1)
+    (zip-append AreLeastTogether (take i rows) (get_or rows i row ∷ []) (take i others) (get_or others i other ∷ []) before (subst₂ (λ (x y : Terms). AreLeastTogether x y) is other_is here, tt))
 
 -- forms are at least 0 where the rows are that have the signs of theirs
 least_by_rows : (s : Space) (p : ℕ → ℤ) → p 0 ≡ pos 0 → (fs : List Form) (own rows : List Terms) → AreRowsOf s fs own → AllZip AreLeastTogether own rows
@@ -44,3 +56,11 @@ forms_said s r own rows a b p z =
     let m : ℕ = common_denominator r in
     let t = targets_met r.sign (side_at n p m r.left) (side_at n p m r.right) (form_of n r) p refl in
     let e = least_by_rows s p z (targets n r) own rows a b in (λ h. e.0 (t.1 h), λ h. t.0 (e.1 h))
+
+-- what a text that is a relation tells of forms
+pub forms_told : {E : Type 0} (v : NamesView) (forms : List Form) (text : List ℕ) (s : Space) (r : RelationView) (result : Result Bool E)
+    → s ≡ record { variables = length v.variables; rates = length v.rates } → IsRelationText v text r
+    → IfOk result (λ b. OnTrue b (SaysForms s.variables r forms)) → IfOk result (λ b. OnTrue b (TellsForms v forms text))
+forms_told v forms text s r (Ok b) e is h =
+    OnTrue_from b (TellsForms v forms text) (λ t. record { relation = r; is = is; same = subst (λ (z : Space). SaysForms z.variables r forms) e (OnTrue_at t h) })
+forms_told v forms text s r (Err x) e is h = tt

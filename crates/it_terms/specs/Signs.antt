@@ -43,9 +43,13 @@ abbrev pub IsGiven : Origin → Type 0
 IsGiven (Given line part parts) = Unit {0}
 IsGiven (Rate line) = ⊥
 
+-- the number is that of an equation of a `given` line
+abbrev pub IsGivenEquation : List Constraint → ℕ → Type 0
+IsGivenEquation cs l = (l < length cs) × ((c : Constraint) × ((c ≡ get_or cs l c) × (IsGiven c.origin × (c.kind ≡ Equation))))
+
 -- these numbers are those of equations of `given` lines
 abbrev pub AreGivenEquations : List Constraint → List ℕ → Type 0
-AreGivenEquations cs lines = All (λ l. (l < length cs) × ((c : Constraint) × ((c ≡ get_or cs l c) × (IsGiven c.origin × (c.kind ≡ Equation))))) lines
+AreGivenEquations cs lines = All (IsGivenEquation cs) lines
 
 -- the text tells the row where the constraints are true that the comment names, which are equations of `given` lines
 pub record IsPrintedRowFrom (v : NamesView) (row : Terms) (cs : List Constraint) (text by : List ℕ) : Type 0 where

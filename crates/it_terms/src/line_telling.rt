@@ -53,7 +53,6 @@ fn are_all_least_together(alloc: Global, rows: &[Row], others: &[Row]) -> Result
 }
 
 /// Whether a relation says just that these rows are at least 0: an equation two of them, its own and the one turned.
-#[tactic(auto, using(crate::proofs::SignLemmas::forms_said))]
 fn says_rows(
     alloc: Global,
     relation: &Relation,

@@ -27,12 +27,9 @@ fn is_over(row: &Row, space: Space) -> bool
     ensures { OnTrue result (IsOver (size_of space) row.now) }
 {
     let size = space.size();
-    for term in row.terms() {
-        if term.0 < 1 || term.0 > size {
-            return false;
-        }
-    }
-    true
+    row.terms()
+        .iter()
+        .all(|(coordinate, _)| 1 <= *coordinate && *coordinate <= size)
 }
 
 /// A row over closed sets, None where it isn't one of the functions' space or a number on the way is too large.
