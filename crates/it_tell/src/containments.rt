@@ -1,21 +1,21 @@
 //! The lines below the first one of a containment: the proofs of what it obliges to, each under its line of the second region.
-ghost use Rattle.std.specs.Prelude.{◌≡◌, ◌≤◌, ◌<◌, ◌+◌, ◌++◌, length, map, codes, All, IfOk, OnOk, [], decimal, drop, nat_lt, if◌then◌else◌, ◌==◌};
+ghost use Rattle.std.specs.Prelude.{◌≡◌, ◌≤◌, ◌<◌, ◌+◌, ◌++◌, length, map, codes, All, IfOk, OnOk, [], drop, if◌then◌else◌, ◌==◌};
 ghost use Rattle.std.specs.Bool.{OnTrue};
 ghost use Rattle.it_space.specs.Answers.{certificate_view};
 ghost use Rattle.it_space.specs.Rows.{IsOver, value};
-ghost use Rattle.it_space.specs.Spaces.{IsSpace, size_of};
+ghost use Rattle.it_space.specs.Problems.{IsProblem, problem_view};
+ghost use Rattle.it_space.specs.Spaces.{size_of};
 ghost use Rattle.it_polymatroid.specs.Elementals.{elementals};
-ghost use Rattle.it_demand.specs.QuestionSpaces.{space_of};
 ghost use Rattle.it_question.specs.Limits.{IsQuestion};
 ghost use Rattle.it_question.specs.Questions.{question_body};
 ghost use Rattle.it_question.specs.ProblemLines.{problem_names};
 ghost use Rattle.it_canon.specs.TrueLines.{variable_count};
 ghost use Rattle.it_canon.specs.QuestionDemands.{question_origins};
 ghost use Rattle.it_certificate.specs.AnswerShapes.{HasQuestionShape};
-ghost use Rattle.it_print.specs.Lines.{AreListed, auxiliary_names, origin_text, origins_of, part_for, set_text};
+ghost use Rattle.it_print.specs.Lines.{AreListed, auxiliary_names, origins_of, part_for, set_text};
 ghost use Rattle.it_region.specs.Pairs.{IsContainment};
 ghost use Rattle.it_tell.specs.OwnLines.{own_line_comment, relation_part, sets_with, with_text};
-ghost use Rattle.it_tell.specs.Steps.{AppendsDetails, AppendsEachOwnLine, AppendsObligation, AppendsOwnLine, AppendsOwnProofs, AreObligations, AreOwnConstraints, HasObligations, SaysOrNothing, contained_by, form_with_proof, obliged};
+ghost use Rattle.it_tell.specs.Steps.{AppendsDetails, AppendsEachOwnLine, AppendsObligation, AppendsOwnLine, AppendsOwnProofs, AreObligations, AreOwnConstraints, HasObligations, IsFreeProblem, SaysOrNothing, contained_by, form_with_proof, obliged};
 ghost use Rattle.it_tell.specs.Tellings.{IsByShannon};
 
 use crate::details::{write_indented, write_proof, write_proofs};
@@ -186,11 +186,22 @@ fn own_line_comment(
 
 // ---- the lines
 
+/// The problem of a question without its constraints.
+#[tactic(auto, using(crate::proofs::OwnLineLemmas::free_problem))]
+fn free_problem(alloc: Global, question: &Question) -> Problem
+    requires { IsQuestion (question_body question.now) }
+    ensures { IsFreeProblem (question_body question.now) result }
+{
+    let space = problem_names(question).space();
+    let constraints = Vec::new(alloc);
+    Problem { space, constraints }
+}
+
 /// Whether Shannon's inequalities alone say a row to be at least 0, by its certificate.
 #[tactic(auto, using(crate::proofs::OwnLineLemmas::valid_is_by_shannon))]
 fn is_by_shannon(problem: &Problem, row: &Row, proof: &Certificate) -> bool
-    requires space { IsSpace problem.now.space }
-    requires free { problem.now.constraints.items ≡ [] }
+    requires problem { IsProblem (problem_view problem.now) }
+    requires none { problem.now.constraints.items ≡ [] }
     requires over { IsOver (size_of problem.now.space) row.now }
     ensures { OnTrue result (IsByShannon problem.now.space.variables (value row.now)) }
 {
@@ -214,6 +225,7 @@ fn line_text(
 }
 
 /// Appends the lines of the proof of an obligation, unless Shannon's inequalities alone say it: those of a problem without constraints.
+#[tactic(auto, using(crate::proofs::OwnLineLemmas::obligation_free, crate::proofs::OwnLineLemmas::obligation_proved))]
 fn write_obligation(
     alloc: Global,
     out: &mut Vec<u8>,
@@ -227,8 +239,7 @@ fn write_obligation(
     requires some { 1 ≤ variable_count (question_body asked.now.question.now) }
     requires origins { origins_of asked.now.constraints.now ≡ question_origins (question_body asked.now.question.now) }
     requires there { All (λ w. w.0 < length (elementals (variable_count (question_body asked.now.question.now))) + length asked.now.constraints.now) proof.now.weights.items }
-    requires space { free.now.space ≡ space_of (problem_names (question_body asked.now.question.now)) }
-    requires free { free.now.constraints.items ≡ [] }
+    requires free { IsFreeProblem (question_body asked.now.question.now) free.now }
     requires over { IsOver (size_of free.now.space) row.now }
     ensures { OnOk result (AppendsObligation (question_body asked.now.question.now) asked.now.options (form_with_proof row.now proof.now) out.old.items out.new.items) }
 {
@@ -244,7 +255,8 @@ fn write_obligation(
         row,
         proof,
         Some(relation),
-    )
+    )?;
+    Ok(())
 }
 
 /// The lines of the proofs of what a line of the second region obliges to, without those that Shannon's inequalities alone say.
@@ -260,8 +272,7 @@ fn own_proofs(
     requires some { 1 ≤ variable_count (question_body asked.now.question.now) }
     requires origins { origins_of asked.now.constraints.now ≡ question_origins (question_body asked.now.question.now) }
     requires there { AreListed (variable_count (question_body asked.now.question.now)) (length asked.now.constraints.now) proofs.now }
-    requires space { free.now.space ≡ space_of (problem_names (question_body asked.now.question.now)) }
-    requires free { free.now.constraints.items ≡ [] }
+    requires free { IsFreeProblem (question_body asked.now.question.now) free.now }
     requires over { All (IsOver (size_of free.now.space)) rows.now }
     requires as_many { length rows.now ≡ length proofs.now }
     ensures { IfOk result (λ v. AppendsOwnProofs (question_body asked.now.question.now) asked.now.options rows.now (map certificate_view proofs.now) [] v.items) }
@@ -289,8 +300,7 @@ fn write_own_line(
     requires contains { IsContainment (question_body asked.now.question.now).verb }
     requires counted { length asked.now.parts.now ≡ length (auxiliary_names (question_body asked.now.question.now).names (question_body asked.now.question.now).verb) }
     requires there { AreListed (variable_count (question_body asked.now.question.now)) (length asked.now.constraints.now) proofs.now }
-    requires space { free.now.space ≡ space_of (problem_names (question_body asked.now.question.now)) }
-    requires free { free.now.constraints.items ≡ [] }
+    requires free { IsFreeProblem (question_body asked.now.question.now) free.now }
     requires over { All (IsOver (size_of free.now.space)) rows.now }
     requires as_many { length rows.now ≡ length proofs.now }
     ensures { OnOk result (AppendsOwnLine (question_body asked.now.question.now) asked.now.options asked.now.parts.now origin rows.now (map certificate_view proofs.now) out.old.items out.new.items) }
@@ -298,9 +308,11 @@ fn write_own_line(
     let relation = line_text(alloc, asked, origin, rows)?;
     let relation = relation.as_slice();
     let below = own_proofs(alloc, asked, free, relation, rows, proofs)?;
+    let below = below.as_slice();
     let comment = own_line_comment(alloc, asked, origin, relation, below.is_empty())?;
     write_indented(out, comment.as_slice())?;
-    out.extend_from_slice(below.as_slice())
+    out.extend_from_slice(below)?;
+    Ok(())
 }
 
 /// How many rows a constraint of this kind obliges to.
@@ -330,30 +342,22 @@ fn write_own_lines(
     requires counted { length asked.now.parts.now ≡ length (auxiliary_names (question_body asked.now.question.now).names (question_body asked.now.question.now).verb) }
     requires origins { origins_of asked.now.constraints.now ≡ question_origins (question_body asked.now.question.now) }
     requires there { AreListed (variable_count (question_body asked.now.question.now)) (length asked.now.constraints.now) proofs.now }
-    requires space { free.now.space ≡ space_of (problem_names (question_body asked.now.question.now)) }
-    requires free { free.now.constraints.items ≡ [] }
+    requires free { IsFreeProblem (question_body asked.now.question.now) free.now }
     requires over { All (IsOver (size_of free.now.space)) rows.now }
     requires as_many { length rows.now ≡ length proofs.now }
     requires all { HasObligations own.now (length rows.now) }
     ensures { OnOk result (AppendsEachOwnLine (question_body asked.now.question.now) asked.now.options asked.now.parts.now own.now rows.now (map certificate_view proofs.now) out.old.items out.new.items) }
 {
-    let mut rows = rows;
-    let mut proofs = proofs;
+    let mut rows_left = rows;
+    let mut proofs_left = proofs;
     for constraint in own {
         let count = obliged(constraint.kind);
-        let (own_rows, later_rows) = rows.split_at(count);
-        let (own_proofs, later_proofs) = proofs.split_at(count);
-        write_own_line(
-            alloc,
-            out,
-            asked,
-            free,
-            constraint.origin,
-            own_rows,
-            own_proofs,
-        )?;
-        rows = later_rows;
-        proofs = later_proofs;
+        let (own_rows, later_rows) = rows_left.split_at(count);
+        let (own_proofs, later_proofs) = proofs_left.split_at(count);
+        let origin = constraint.origin;
+        write_own_line(alloc, out, asked, free, origin, own_rows, own_proofs)?;
+        rows_left = later_rows;
+        proofs_left = later_proofs;
     }
     Ok(())
 }
@@ -387,10 +391,7 @@ pub fn write_contained(
             proofs,
         );
     }
-    let free = Problem {
-        space: problem_names(asked.question).space(),
-        constraints: Vec::new(alloc),
-    };
+    let free = free_problem(alloc, asked.question);
     let own = own_constraints(alloc, asked.question)?;
     write_own_lines(alloc, out, asked, &free, own.as_slice(), rows, proofs)
 }

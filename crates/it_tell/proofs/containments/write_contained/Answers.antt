@@ -1,15 +1,8 @@
-use Rattle.std.proofs.Common.{length, map, ap, ◌∙◌}
+use Rattle.std.proofs.Common.{List, ap, length, map, subst, sym, ◌∙◌}
 use Rattle.std.proofs.lemmas.Result.{on_ok_weaker}
 use Rattle.it_space.specs.Answers.{certificate_view}
 use Rattle.it_question.specs.Questions.{question_body}
+use Rattle.it_report.proofs.JudgingLemmas.{contained_is_about_regions}
+use Rattle.it_tell.proofs.OwnLineLemmas.{all_obligations_there, lines_details, obligations_over}
 use Rattle.it_tell.proofs.ProofLemmas.{contained_details, obligation_rows_counted}
-use Rattle.it_tell.proofs.details.write_obligations.Goals as goal
-
-pub write_proofs-requires-clause-as_many : goal.write_proofs-requires-clause-as_many
-write_proofs-requires-clause-as_many c =
-    ap length c.as_slice.ensures.value ∙ obligation_rows_counted (question_body c.args.question.now) c.args.parts.now c.args.proofs.now c.in_ok-rows.rows.items c.requires.fits c.in_ok-rows.ensures
-
-pub returns : goal.returns
-returns c = on_ok_weaker c.write_proofs.result
-    (contained_details (question_body c.args.question.now) c.args.options c.args.parts.now (map certificate_view c.args.proofs.now) c.in_ok-rows.rows.items c.args.out.now.items c.write_proofs.new.out.items c.in_ok-rows.ensures)
-    (rw c.as_slice.ensures.value at c.write_proofs.ensures)
+use Rattle.it_tell.proofs.containments.write_contained.Goals as goal
