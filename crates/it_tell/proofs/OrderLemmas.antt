@@ -1,11 +1,14 @@
 -- The order in which the rows of a region are told.
-use Rattle.std.proofs.Common.{◌≡◌, ◌≢◌, ℕ, zero, suc, ◌+◌, ◌<◌, ◌≤◌, Bool, true, false, nat_lt, if◌then◌else◌, List, [], ◌∷◌, ◌++◌, map, take, drop, length, get_or, All, refl, sym, ap, ap₂, ◌∙◌, ◌&&◌, ◌||◌, arith, add-one, eq-eqb, ne_eqb, lt-ltb, le-ltb, ltb-true, ltb-false}
+use Rattle.std.proofs.Common.{◌≡◌, ◌≢◌, ℕ, zero, suc, ◌+◌, ◌<◌, ◌≤◌, Bool, true, false, nat_lt, if◌then◌else◌, List, [], ◌∷◌, ◌++◌, map, take, drop, length, get_or, All, refl, sym, ap, ap₂, subst, ◌∙◌, ◌&&◌, ◌||◌, arith, add-one, eq-eqb, ne_eqb, lt-ltb, le-ltb, ltb-true, ltb-false}
+use Rattle.std.specs.Borrow.{Bor}
 use Rattle.std.specs.List.{fold, insert}
-use Rattle.std.proofs.lemmas.List.{drop_all, take_more}
-use Rattle.std.proofs.lemmas.List.Elements.{All-cons, All-head, All-nil, All-tail}
+use Rattle.std.proofs.lemmas.List.{drop_all, get_or-map, length-map, map-append, take_more}
+use Rattle.std.proofs.lemmas.List.Elements.{All-cons, All-get_or, All-head, All-nil, All-tail}
 use Rattle.std.proofs.lemmas.List.Sums.{fold-append}
 use Rattle.it_space.specs.declared.answers.Mark.{Mark}
 use Rattle.it_space.specs.Rows.{Terms}
+use Rattle.it_syntax.specs.NamesViews.{NamesView}
+use Rattle.it_print.specs.Lines.{IsRowOver}
 use Rattle.it_tell.specs.Settings.{is_plain}
 use Rattle.it_tell.specs.SortedRows.{is_before, order_key, put_in_order, rows_by_rates}
 use Rattle.it_tell.specs.Tellings.{told_rows}
@@ -92,7 +95,7 @@ place_behind n row rows i h k e = e ∙ behind rows i h k
     behind (r ∷ rows) zero h k = absurd (omega arith)
     behind (r ∷ rows) (suc i) h k = ap (λ (rs : List (Mark × Terms)). r ∷ rs) (behind rows i (omega arith) (omega arith))
 
-pub map-insert : {X Y : Type 0} (f : X → Y) (xs : List X) (i : ℕ) (x : X) → map f (insert xs i x) ≡ insert (map f xs) i (f x)
+map-insert : {X Y : Type 0} (f : X → Y) (xs : List X) (i : ℕ) (x : X) → map f (insert xs i x) ≡ insert (map f xs) i (f x)
 map-insert f [] zero x = refl
 map-insert f [] (suc i) x = refl
 map-insert f (y ∷ xs) zero x = refl
@@ -122,3 +125,47 @@ module _ (P : Mark × Terms → Type 0) (n : ℕ) where
   all_told Plain rows all = all
   all_told Named rows all = all_by_rates [] rows (All-nil P) all
   all_told Whole rows all = all_by_rates [] rows (All-nil P) all
+
+-- ---- references to rows
+
+-- the rows that references stand for
+abbrev pub rows_at : List (Bor (Mark × Terms)) → List (Mark × Terms)
+rows_at refs = map (λ r. r.now) refs
+
+pub in_rows : (refs : List (Bor (Mark × Terms))) (i : ℕ) → i < length refs → i < length (rows_at refs)
+in_rows refs i h = simp length-map h
+
+pub row_read : (refs : List (Bor (Mark × Terms))) (i : ℕ) (d : Bor (Mark × Terms)) → i < length refs → get_or (rows_at refs) i (get_or refs i d).now ≡ (get_or refs i d).now
+row_read refs i d h = get_or-map (λ (r : Bor (Mark × Terms)). r.now) refs i d (get_or refs i d).now h
+
+pub next_place : (n : ℕ) (row : Mark × Terms) (refs : List (Bor (Mark × Terms))) (i : ℕ) (d : Bor (Mark × Terms)) (here : Bool) → i < length refs → here ≡ is_before (order_key n row.1) (order_key n (get_or refs i d).now.1) → here ≡ false
+    → put_in_order n row (rows_at refs) ≡ take i (rows_at refs) ++ put_in_order n row (drop i (rows_at refs)) → put_in_order n row (rows_at refs) ≡ take (i + 1) (rows_at refs) ++ put_in_order n row (drop (i + 1) (rows_at refs))
+next_place n row refs i d here h is not e = place_goes_on n row (get_or refs i d).now (rows_at refs) i (in_rows refs i h) (row_read refs i d h) (sym is ∙ not) e
+
+pub this_place : (n : ℕ) (row : Mark × Terms) (refs : List (Bor (Mark × Terms))) (i : ℕ) (d : Bor (Mark × Terms)) (here : Bool) → i < length refs → here ≡ is_before (order_key n row.1) (order_key n (get_or refs i d).now.1) → here ≡ true
+    → put_in_order n row (rows_at refs) ≡ take i (rows_at refs) ++ put_in_order n row (drop i (rows_at refs)) → put_in_order n row (rows_at refs) ≡ insert (rows_at refs) i row
+this_place n row refs i d here h is yes e = place_found n row (get_or refs i d).now (rows_at refs) i (in_rows refs i h) (row_read refs i d h) (sym is ∙ yes) e
+
+pub last_place : (n : ℕ) (row : Mark × Terms) (refs : List (Bor (Mark × Terms))) (i : ℕ) → length refs ≤ i → i ≤ length refs → put_in_order n row (rows_at refs) ≡ take i (rows_at refs) ++ put_in_order n row (drop i (rows_at refs))
+    → put_in_order n row (rows_at refs) ≡ insert (rows_at refs) (length refs) row
+last_place n row refs i h k e =
+    let counted : length (rows_at refs) ≡ length refs = length-map refs (λ (r : Bor (Mark × Terms)). r.now) in
+    place_behind n row (rows_at refs) i (omega (arith, counted)) (omega (arith, counted)) e ∙ ap (λ (k : ℕ). insert (rows_at refs) k row) counted
+
+-- a reference put in its place
+pub row_put : (n : ℕ) (row : Bor (Mark × Terms)) (old shown new : List (Bor (Mark × Terms))) (i : ℕ) → shown ≡ old → put_in_order n row.now (rows_at shown) ≡ insert (rows_at shown) i row.now → new ≡ insert old i row
+    → rows_at new ≡ put_in_order n row.now (rows_at old)
+row_put n row old shown new i same place is =
+    ap rows_at is ∙ map-insert (λ (r : Bor (Mark × Terms)). r.now) old i row ∙ sym (subst (λ (rs : List (Bor (Mark × Terms))). put_in_order n row.now (rows_at rs) ≡ insert (rows_at rs) i row.now) same place)
+
+-- one reference more
+pub turn_more : (rows : List (Mark × Terms)) (row : Bor (Mark × Terms)) (old new : List (Bor (Mark × Terms))) (i : ℕ) → i < length rows → row.now ≡ get_or rows i row.now → new ≡ old ++ row ∷ [] → rows_at old ≡ take i rows → rows_at new ≡ take (i + 1) rows
+turn_more rows row old new i h read is before =
+    ap rows_at is ∙ map-append (λ (r : Bor (Mark × Terms)). r.now) old (row ∷ []) ∙ ap₂ (λ (xs ys : List (Mark × Terms)). xs ++ ys) before (ap (λ (r : Mark × Terms). r ∷ []) read) ∙ sym (take_more rows i row.now h)
+
+-- each row that is told is over the names that all are over
+pub told_is_over : (v : NamesView) (style : Style) (n : ℕ) (rows : List (Mark × Terms)) (refs : List (Bor (Mark × Terms))) (i : ℕ) (d : Bor (Mark × Terms)) → All (λ row. IsRowOver v row.1) rows → rows_at refs ≡ told_rows style n rows → i < length refs
+    → IsRowOver v (get_or refs i d).now.1
+told_is_over v style n rows refs i d all are h =
+    let P : Mark × Terms → Type 0 = λ (row : Mark × Terms). IsRowOver v row.1 in
+    subst P (row_read refs i d h) (All-get_or P (rows_at refs) i (get_or refs i d).now (in_rows refs i h) (subst (All P) (sym are) (all_told P n style rows all)))

@@ -1,5 +1,5 @@
 -- The lines of a containment's second region.
-use Rattle.std.proofs.Common.{◌≡◌, ◌↔◌, ℕ, zero, suc, ◌+◌, ◌-◌, ◌<◌, ◌≤◌, ◌^◌, ◌==◌, ℤ, pos, ◌≤ℤ◌, inl, inr, ◌⊎◌, Bool, true, false, Option, None, Some, List, [], ◌∷◌, ◌++◌, append-nil, append_assoc, map, take, drop, length, get_or, if◌then◌else◌, codes, refl, sym, ap, ap₂, subst, ◌∙◌, arith, drop-cons, length-append, length-drop, ne_eqb}
+use Rattle.std.proofs.Common.{◌≡◌, ◌↔◌, ℕ, zero, suc, ◌+◌, ◌-◌, ◌<◌, ◌≤◌, ◌^◌, ◌==◌, ℤ, pos, ◌≤ℤ◌, inl, inr, ◌⊎◌, Bool, true, false, Option, None, Some, List, [], ◌∷◌, ◌++◌, append-nil, append_assoc, map, take, drop, length, get_or, if◌then◌else◌, codes, refl, sym, ap, ap₂, subst, subst₂, ◌∙◌, arith, drop-cons, length-append, length-drop, ne_eqb}
 use Rattle.std.specs.Prelude.{All}
 use Rattle.std.specs.List.{AllZip, zip}
 use Rattle.std.proofs.lemmas.List.Elements.{All-cons, All-head, All-nil, All-tail}
@@ -243,6 +243,16 @@ pub lines_go_on : (q : BodyView) (options : Options) (parts : List ℕ) (own : L
 lines_go_on q options parts own i c rows proofs old now new h read first later =
     subst (λ (cs : List Constraint). AppendsEachOwnLine q options parts cs rows (map certificate_view proofs) old new) (sym (rest_from own i c h read)) (line_more q options parts c (drop (i + 1) own) rows proofs old now new first later)
 
+-- the same where a call has split the rows and the proofs
+pub lines_after : (q : BodyView) (options : Options) (parts : List ℕ) (own : List Constraint) (i : ℕ) (c : Constraint) (rows front back : List Terms) (proofs proofs_front proofs_back : List Certificate) (count : ℕ) (old now new : List ℕ)
+    → i < length own → c ≡ get_or own i c → count ≡ obliged c.kind → front ≡ take count rows → back ≡ drop count rows → proofs_front ≡ take count proofs → proofs_back ≡ drop count proofs
+    → AppendsOwnLine q options parts c.origin front (map certificate_view proofs_front) old now → AppendsEachOwnLine q options parts (drop (i + 1) own) back (map certificate_view proofs_back) now new
+    → AppendsEachOwnLine q options parts (drop i own) rows (map certificate_view proofs) old new
+lines_after q options parts own i c rows front back proofs proofs_front proofs_back count old now new h read e f b pf pb first later =
+    lines_go_on q options parts own i c rows proofs old now new h read
+    (subst₂ (λ (rs : List Terms) (ps : List Certificate). AppendsOwnLine q options parts c.origin rs (map certificate_view ps) old now) (f ∙ ap (λ (k : ℕ). take k rows) e) (pf ∙ ap (λ (k : ℕ). take k proofs) e) first)
+    (subst₂ (λ (rs : List Terms) (ps : List Certificate). AppendsEachOwnLine q options parts (drop (i + 1) own) rs (map certificate_view ps) now new) (b ∙ ap (λ (k : ℕ). drop k rows) e) (pb ∙ ap (λ (k : ℕ). drop k proofs) e) later)
+
 -- what the constraints from a place on oblige to
 pub obligations_go_on : (own : List Constraint) (i : ℕ) (c : Constraint) (count : ℕ) → i < length own → c ≡ get_or own i c → HasObligations (drop i own) count → (obliged c.kind ≤ count) × HasObligations (drop (i + 1) own) (count - obliged c.kind)
 obligations_go_on own i c count h read all = subst (λ (cs : List Constraint). HasObligations cs count) (rest_from own i c h read) all
@@ -275,9 +285,6 @@ module _ (q : BodyView) (parts : List ℕ) (ws : List CertificateView) (cs : Lis
           obligations_there (space_of b.names) (space_of (problem_names q)) (pulled_coordinate (length a.names.variables) (length b.names.variables) (substituted_sets (length q.names.variables) parts))
           (line_demands (length b.names.variables) b.lines) cs rows own.stated are
 
-  pub obligations_over : AreObligations q (Contained parts ws) rows → All (IsOver (size_of (space_of (problem_names q)))) rows
-  obligations_over are = zip-right (IsPulledRow (space_of (problem_names q))) (IsOver (size_of (space_of (problem_names q)))) (λ f row is. is.coordinates) (answer_forms_by q q.verb (Contained parts ws)) rows are
-
   -- lines that aren't plain
   pub lines_details : (options : Options) (old new : List ℕ) → is_plain options.style ≡ false → AreOwnConstraints q cs → AreObligations q (Contained parts ws) rows → AppendsEachOwnLine q options parts cs rows ws old new
       → AppendsDetails q options (Contained parts ws) old new
@@ -295,3 +302,9 @@ module _ (q : BodyView) (parts : List ℕ) (ws : List CertificateView) (cs : Lis
       by_style Plain e = absurd (true≢false (ap is_plain (sym e) ∙ lines))
       by_style Named e = by_verb q.verb own are
       by_style Whole e = by_verb q.verb own are
+
+-- the obligations' rows are over the coordinates of the problem without constraints
+pub rows_over : (q : BodyView) (free : Problem) (parts : List ℕ) (ws : List CertificateView) (rows : List Terms) → IsFreeProblem q free → AreObligations q (Contained parts ws) rows → All (IsOver (size_of free.space)) rows
+rows_over q free parts ws rows is are =
+    subst (λ (s : Space). All (IsOver (size_of s)) rows) (sym is.space)
+    (zip-right (IsPulledRow (space_of (problem_names q))) (IsOver (size_of (space_of (problem_names q)))) (λ f row pulled. pulled.coordinates) (answer_forms_by q q.verb (Contained parts ws)) rows are)

@@ -11,6 +11,8 @@ use Rattle.it_space.specs.Rows.{Terms, value}
 use Rattle.it_polymatroid.specs.Certificates.{Form}
 use Rattle.it_question.specs.Questions.{BodyView}
 use Rattle.it_demand.proofs.ZipLemmas.{zip-length}
+use Rattle.it_demand.specs.QuestionSpaces.{space_of}
+use Rattle.it_question.specs.ProblemLines.{problem_names}
 use Rattle.it_region.specs.Obligations.{ArePulledRows, IsPulledRow}
 use Rattle.it_certificate.specs.AnswerShapes.{HasQuestionShape}
 use Rattle.it_region.specs.AnswerForms.{answer_forms}
@@ -18,7 +20,7 @@ use Rattle.it_tell.specs.Tellings.{AreContainedLines, AreDetails, AreProofTexts,
 use Rattle.it_tell.specs.Settings.{is_plain}
 use Rattle.it_tell.specs.declared.settings.Style.TheVariants.{Plain, Named, Whole}
 use Rattle.std.proofs.lemmas.Bool.{false≢true}
-use Rattle.it_tell.specs.Steps.{AppendsDetails, AppendsEach, AppendsObligation, AppendsOwnProofs, AppendsProof, AppendsProofs, AreFormRows, AreRowsFor}
+use Rattle.it_tell.specs.Steps.{AppendsDetails, AppendsEach, AppendsObligation, AppendsOwnProofs, AppendsProof, AppendsProofs, AreFormRows, AreObligations, AreRowsFor}
 use Rattle.it_tell.proofs.DetailLemmas.{Appended, all_appended, appended_more, none_appended}
 use Rattle.it_tell.proofs.PrintableLemmas.{contained_counted, yes_counted}
 use Rattle.it_tell.specs.declared.settings.Options.{Options}
@@ -162,6 +164,10 @@ obligation_rows_counted q parts cs rows fits are = rows_counted q (Contained par
 pub yes_details : (q : BodyView) (options : Options) (ws : List CertificateView) (rows : List Terms) (old new : List ℕ) → AreFormRows q (Yes ws) rows → AppendsProofs q options rows ws old new → AppendsDetails q options (Yes ws) old new
 unfolding AppendsDetails AppendsEach AppendsProofs AreDetails
 yes_details q options ws rows old new are h = h (answer_forms q (Yes ws)) are
+
+pub form_rows : (q : BodyView) (answer : AnswerView) (rows : List Terms) → AreObligations q answer rows → AreFormRows q answer rows
+unfolding AreRowsFor
+form_rows q answer rows are = (space_of (problem_names q), are)
 
 -- plain lines of a containment
 pub contained_details : (q : BodyView) (options : Options) (parts : List ℕ) (ws : List CertificateView) (rows : List Terms) (old new : List ℕ) → is_plain options.style ≡ true → AreFormRows q (Contained parts ws) rows

@@ -151,6 +151,21 @@ fn is_before(numbers: &[usize], others: &[usize]) -> bool
     numbers.len() < others.len()
 }
 
+/// Whether a row comes before another one, by its rates.
+fn comes_before(
+    alloc: Global,
+    row: &Row,
+    other: &Row,
+    variables: u8,
+) -> Result<bool, AllocError>
+    requires { variables ≤ 10 }
+    ensures { IfOk result (λ b. b ≡ is_before (order_key variables row.now) (order_key variables other.now)) }
+{
+    let key = order_key(alloc, row, variables)?;
+    let other_key = order_key(alloc, other, variables)?;
+    Ok(is_before(key.as_slice(), other_key.as_slice()))
+}
+
 /// The place of the first row that a row comes before, else that after the last one.
 fn place_of(
     alloc: Global,
@@ -162,10 +177,9 @@ fn place_of(
     ensures within { IfOk result (λ i. i ≤ length sorted.now) }
     ensures place { IfOk result (λ i. put_in_order variables row.now (map (λ r. r.now) sorted.now) ≡ insert (map (λ r. r.now) sorted.now) i row.now) }
 {
-    let key = order_key(alloc, &row.1, variables)?;
     for i in 0..sorted.len() {
-        let other = order_key(alloc, &sorted[i].1, variables)?;
-        if is_before(key.as_slice(), other.as_slice()) {
+        let is_here = comes_before(alloc, &row.1, &sorted[i].1, variables)?;
+        if is_here {
             return Ok(i);
         }
     }
@@ -243,9 +257,10 @@ pub fn write_rows(
     requires over { All (λ row. IsRowOver (problem_names (question_body question.now)) row.1) rows.now }
     ensures { OnOk result (AppendsEach indented_line (IsMarkedRowText (question_body question.now) options.style) (told_rows options.style (variable_count (question_body question.now)) rows.now) out.old.items out.new.items) }
 {
-    let variables = problem_names(question).space().variables;
-    let sorted = told_rows(alloc, options.style, rows, variables)?;
-    for row in sorted.as_slice() {
+    let space = problem_names(question).space();
+    let told = told_rows(alloc, options.style, rows, space.variables)?;
+    let in_order = told.as_slice();
+    for row in in_order {
         let text = marked_row(alloc, question, options.style, *row)?;
         write_indented(out, text.as_slice())?;
     }
