@@ -1,5 +1,5 @@
 //! The lines below the first one of a containment: the proofs of what it obliges to, each under its line of the second region.
-ghost use Rattle.std.specs.Prelude.{◌≡◌, ◌≤◌, ◌<◌, ◌+◌, ◌++◌, length, map, codes, All, IfOk, OnOk, [], drop, if◌then◌else◌, ◌==◌};
+ghost use Rattle.std.specs.Prelude.{◌≡◌, ◌≤◌, ◌<◌, ◌+◌, ◌++◌, length, map, codes, All, IfOk, OnOk, [], drop, slice_index_or, if◌then◌else◌, ◌==◌};
 ghost use Rattle.std.specs.Bool.{OnTrue};
 ghost use Rattle.it_space.specs.Answers.{certificate_view};
 ghost use Rattle.it_space.specs.Rows.{IsOver, value};
@@ -83,18 +83,28 @@ fn write_set_or_zero(out: &mut Vec<u8>, names: &Names, set: VarSet) -> Result<()
     }
 }
 
-/// An auxiliary variable, and the set that it stands for.
+/// The name of a variable, by its number.
+fn name_of(names: &Names, variable: u8) -> &[u8]
+    requires { variable < length names.now.variables }
+    ensures { result.now ≡ slice_index_or names.now.variables variable [] }
+{
+    names.variable_name(variable)
+}
+
+/// A variable of the second region, and the set that it stands for.
 #[tactic(auto, unfolding(it_print::specs::Lines::part_for))]
 fn write_choice(
     out: &mut Vec<u8>,
     names: &Names,
-    auxiliary: &[u8],
+    second: &Names,
+    variable: u8,
     set: VarSet,
 ) -> Result<(), AllocError>
-    ensures { OnOk result (out.new.items ≡ out.old.items ++ part_for names.now.variables auxiliary.now set) }
+    requires { variable < length second.now.variables }
+    ensures { OnOk result (out.new.items ≡ out.old.items ++ part_for names.now.variables (slice_index_or second.now.variables variable []) set) }
 {
     out.extend_from_slice(b" ")?;
-    out.extend_from_slice(auxiliary)?;
+    out.extend_from_slice(name_of(second, variable))?;
     out.extend_from_slice(b":=")?;
     write_set_or_zero(out, names, set)
 }
@@ -121,7 +131,7 @@ fn write_choices(
     let _space = second.space();
     for (i, set) in sets.iter().enumerate() {
         out.extend_from_slice(before_choice(i == 0))?;
-        write_choice(out, names, second.variable_name(from + i as u8), *set)?;
+        write_choice(out, names, second, from + i as u8, *set)?;
     }
     Ok(())
 }

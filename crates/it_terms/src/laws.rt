@@ -21,7 +21,6 @@ pub fn told_under_proves()
 {}
 
 /// A row that a text tells where lines are true says what the text says wherever the question's `given` lines are true.
-#[tactic(auto, using(crate::proofs::RowLemmas::printed_rows_say))]
 pub fn printed_rows_say()
     ensures { PrintedRowsSay }
 {}

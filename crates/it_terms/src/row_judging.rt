@@ -81,7 +81,6 @@ fn is_same_closed(
 }
 
 /// Whether an inequality says just what a row says, of the maps that have one value at sets of one closure.
-#[tactic(auto, using(crate::proofs::RowLemmas::spread_says))]
 fn says_under(
     alloc: Global,
     relation: &Relation,
@@ -101,7 +100,7 @@ fn says_under(
 
 /// Whether a text, read as what stands after the word of a `row` line, says what a row says at each polymatroid at which the
 /// constraints of these numbers are true; by the functions that these say.
-#[tactic(auto, using(crate::proofs::RowLemmas::said_by_functions, crate::proofs::UnderLemmas::relation_of_space))]
+#[tactic(auto, using(crate::proofs::UnderLemmas::relation_of_space))]
 pub fn tells_under(
     alloc: Global,
     text: &[u8],
