@@ -144,7 +144,7 @@ next_place n row refs i d here h is not e = place_goes_on n row (get_or refs i d
 
 pub this_place : (n : ℕ) (row : Mark × Terms) (refs : List (Bor (Mark × Terms))) (i : ℕ) (d : Bor (Mark × Terms)) (here : Bool) → i < length refs → here ≡ is_before (order_key n row.1) (order_key n (get_or refs i d).now.1) → here ≡ true
     → put_in_order n row (rows_at refs) ≡ take i (rows_at refs) ++ put_in_order n row (drop i (rows_at refs)) → put_in_order n row (rows_at refs) ≡ insert (rows_at refs) i row
-this_place n row refs i d here h is yes e = place_found n row (get_or refs i d).now (rows_at refs) i (in_rows refs i h) (row_read refs i d h) (sym is ∙ yes) e
+this_place n row refs i d here h is so e = place_found n row (get_or refs i d).now (rows_at refs) i (in_rows refs i h) (row_read refs i d h) (sym is ∙ so) e
 
 pub last_place : (n : ℕ) (row : Mark × Terms) (refs : List (Bor (Mark × Terms))) (i : ℕ) → length refs ≤ i → i ≤ length refs → put_in_order n row (rows_at refs) ≡ take i (rows_at refs) ++ put_in_order n row (drop i (rows_at refs))
     → put_in_order n row (rows_at refs) ≡ insert (rows_at refs) (length refs) row

@@ -140,7 +140,7 @@ zip_front (x ∷ xs) (y ∷ ys) = ap (λ (ps : List _). (x, y) ∷ ps) (zip_fron
 pub own_line_appended : (q : BodyView) (options : Options) (parts : List ℕ) (origin : Origin) (rows : List Terms) (ws : List CertificateView) (relation below comment old mid new : List ℕ)
     → SaysOrNothing (problem_names q) (map value rows) relation → AppendsOwnProofs q options rows ws [] below → comment ≡ own_line_comment q parts origin relation (length below == 0) → mid ≡ old ++ indented_line comment
     → new ≡ mid ++ below → AppendsOwnLine q options parts origin rows ws old new
-unfolding AppendsOwnLine
+unfolding AppendsEach AppendsOwnLine AppendsOwnProofs
 own_line_appended q options parts origin rows ws relation below comment old mid new says proved c m n = λ forms are. (
   indented_line (own_line_comment q parts origin relation (length below == 0)) ++ below,
   (record { relation = relation; proofs = below; says = says_of_forms (problem_names q) forms rows relation are says; are = proofs_are forms are; out_is = refl },
@@ -148,7 +148,6 @@ own_line_appended q options parts origin rows ws relation below comment old mid 
 )
   where
     proofs_are : (forms : List Form) → AreRowsFor forms rows → Each obligation_lines (TellsObligation q options) (zip forms (take (length forms) ws)) below
-    unfolding AppendsEach AppendsOwnProofs
     proofs_are forms are =
         let told = proved forms are in
         subst (λ (out : List ℕ). Each obligation_lines (TellsObligation q options) (zip forms (take (length forms) ws)) out) (sym told.1.1)
@@ -208,14 +207,13 @@ no_line q options parts rows ws old = λ s t f os ds are pulled. by_lines f os d
 pub line_more : (q : BodyView) (options : Options) (parts : List ℕ) (c : Constraint) (cs : List Constraint) (rows : List Terms) (proofs : List Certificate) (old now new : List ℕ)
     → AppendsOwnLine q options parts c.origin (take (obliged c.kind) rows) (map certificate_view (take (obliged c.kind) proofs)) old now
     → AppendsEachOwnLine q options parts cs (drop (obliged c.kind) rows) (map certificate_view (drop (obliged c.kind) proofs)) now new → AppendsEachOwnLine q options parts (c ∷ cs) rows (map certificate_view proofs) old new
-unfolding AppendsEachOwnLine
+unfolding AppendsEachOwnLine AppendsOwnLine AreRowsFor
 line_more q options parts c cs rows proofs old now new first later = λ s t f os ds are pulled. by_lines s t f os ds are pulled
   where
     ws : List CertificateView
     ws = map certificate_view proofs
 
     by_lines : (s t : Space) (f : ℕ → ℕ) (os : List Origin) (ds : List Demand) → AreStated s os ds (c ∷ cs) → ArePulledRows t (demand_obligations f ds) rows → AppendsEach (λ lines. lines) (AreOwnLineTexts q options parts) (own_lines_by f os ds ws) old new
-    unfolding AppendsOwnLine AreRowsFor
     by_lines s t f [] ds are pulled = absurd are.placed
     by_lines s t f (o ∷ os) [] are pulled = absurd are.stated
     by_lines s t f (o ∷ os) (d ∷ ds) are pulled =

@@ -7,8 +7,8 @@ use Rattle.it_question.specs.Questions.{VerbView, region_view, verb_view}
 use Rattle.it_tell.specs.Steps.{AreOwnConstraintsBy}
 use Rattle.it_tell.proofs.containments.own_constraints.Goals as goal
 
-pub returns-in-Contain : goal.returns-in-Contain
-returns-in-Contain c =
+pub returns : goal.returns
+returns c =
     let own = c.in_ok-own.own.items in
     let lines = (region_view c.in-Contain.second).lines in
     subst (λ (v : VerbView). AreOwnConstraintsBy v own) (sym (ap verb_view c.in-Contain.is))
