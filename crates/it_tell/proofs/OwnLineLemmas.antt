@@ -40,7 +40,7 @@ use Rattle.it_region.specs.AnswerForms.{answer_forms_by}
 use Rattle.it_region.specs.Obligations.{ArePulledRows, IsPulledRow, demand_obligations, pulled_form}
 use Rattle.it_region.specs.Pulling.{pulled_coordinate, substituted_sets}
 use Rattle.it_terms.specs.Tells.{TellsForms}
-use Rattle.it_tell.specs.OwnLines.{demanded_forms, own_line, own_line_comment, own_lines_by, sets_with, verb_lines}
+use Rattle.it_tell.specs.OwnLines.{OwnLine, demanded_forms, own_line, own_line_comment, own_lines_by, sets_with, verb_lines}
 use Rattle.it_tell.specs.Settings.{is_plain}
 use Rattle.it_tell.specs.Steps.{AppendsDetails, AppendsEach, AppendsEachOwnLine, AppendsObligation, AppendsOwnLine, AppendsOwnProofs, AppendsProof, AreObligations, AreOwnConstraints, AreOwnConstraintsBy, AreRowsFor, HasObligations, IsFreeProblem, SaysOrNothing, obliged}
 use Rattle.it_tell.specs.Tellings.{AreContainedLines, AreDetails, AreOwnLineTexts, Each, IsByShannon, TellsObligation, indented_line, obligation_lines}
@@ -84,7 +84,8 @@ pub sets_more : (variables names : List (List ℕ)) (sets : List ℕ) (from i : 
     → mid ≡ out ++ (if i == 0 then codes " with" else codes ",") → new ≡ mid ++ part_for variables (get_or names (from + i) []) (get_or sets i 0) → out ++ sets_with (i == 0) variables (drop (from + i) names) (drop i sets) ≡ all
     → new ++ sets_with (i + 1 == 0) variables (drop (from + (i + 1)) names) (drop (i + 1) sets) ≡ all
 sets_more variables names sets from i out mid new all named set m n e =
-    ap (λ (t : List ℕ). new ++ t) rest_is ∙ ap (λ (t : List ℕ). t ++ rest) (n ∙ ap (λ (t : List ℕ). t ++ here) m) ∙ append_assoc (out ++ before) here rest ∙ append_assoc out before (here ++ rest) ∙ ap (λ (t : List ℕ). out ++ t) (sym next) ∙ e
+    ap (λ (t : List ℕ). new ++ t) rest_is ∙ ap (λ (t : List ℕ). t ++ rest) (n ∙ ap (λ (t : List ℕ). t ++ here) m) ∙ append_assoc (out ++ before) here rest ∙ append_assoc out before (here ++ rest)
+    ∙ ap (λ (t : List ℕ). out ++ t) (sym (append_assoc before here rest) ∙ sym next) ∙ e
   where
     before : List ℕ
     before = if i == 0 then codes " with" else codes ","
@@ -160,7 +161,7 @@ module _ {X A : Type 0} (shown : A → List ℕ) (tells : X → A → Type 0) wh
   renumbered : (j k : ℕ) (items : List X) (out : List ℕ) → Groups (λ (s : Unit {0}) (x : X) (a : A). tells x a) (λ (s : Unit {0}) (x : X) (a : A). s) (λ (k : ℕ) (x : X) (a : A). shown a) j tt items tt out
       → Groups (λ (s : Unit {0}) (x : X) (a : A). tells x a) (λ (s : Unit {0}) (x : X) (a : A). s) (λ (k : ℕ) (x : X) (a : A). shown a) k tt items tt out
   renumbered j k [] out g = g
-  renumbered j k (x ∷ xs) out g = (g.0, g.1.0, g.1.1.0, renumbered (j + 1) (k + 1) xs g.1.0 g.1.1.1.0, g.1.1.1.1)
+  renumbered j k (x ∷ xs) out g = (g.0, g.1, g.2, renumbered (j + 1) (k + 1) xs g.1 g.3, g.4)
 
   none_told : (old : List ℕ) → AppendsEach shown tells [] old old
   unfolding AppendsEach
@@ -194,14 +195,17 @@ obliged_counted f d k e = by_kind d.kind ∙ ap obliged (sym e)
     by_kind Inequality = refl
     by_kind Equation = refl
 
+abbrev line_with : List Form → Origin → List CertificateView → OwnLine
+line_with forms origin proofs = record { origin = origin; forms = forms; proofs = proofs }
+
 pub no_line : (q : BodyView) (options : Options) (parts : List ℕ) (rows : List Terms) (ws : List CertificateView) (old : List ℕ) → AppendsEachOwnLine q options parts [] rows ws old old
 unfolding AppendsEachOwnLine
-no_line q options parts rows ws old = λ s t f os ds are pulled. by_lines f os ds are.placed are.stated
+no_line q options parts rows ws old = λ s t f os ds are pulled. by_lines s f os ds are
   where
-    by_lines : {P : Origin → Constraint → Type 0} {Q : Demand → Constraint → Type 0} (f : ℕ → ℕ) (os : List Origin) (ds : List Demand) → AllZip P os [] → AllZip Q ds [] → AppendsEach (λ lines. lines) (AreOwnLineTexts q options parts) (own_lines_by f os ds ws) old old
-    by_lines f [] [] a b = none_told (λ lines. lines) (AreOwnLineTexts q options parts) old
-    by_lines f [] (d ∷ ds) a b = absurd b
-    by_lines f (o ∷ os) ds a b = absurd a
+    by_lines : (s : Space) (f : ℕ → ℕ) (os : List Origin) (ds : List Demand) → AreStated s os ds [] → AppendsEach (λ lines. lines) (AreOwnLineTexts q options parts) (own_lines_by f os ds ws) old old
+    by_lines s f [] [] are = none_told (λ lines. lines) (AreOwnLineTexts q options parts) old
+    by_lines s f [] (d ∷ ds) are = absurd are.stated
+    by_lines s f (o ∷ os) ds are = absurd are.placed
 
 -- the first line, and then the others
 pub line_more : (q : BodyView) (options : Options) (parts : List ℕ) (c : Constraint) (cs : List Constraint) (rows : List Terms) (proofs : List Certificate) (old now new : List ℕ)
@@ -223,15 +227,15 @@ line_more q options parts c cs rows proofs old now new first later = λ s t f os
         let told = first fs (t, subst (λ (j : ℕ). ArePulledRows t fs (take j rows)) counted halves.0) in
         let proofs_are : take (length fs) (map certificate_view (take (obliged c.kind) proofs)) ≡ take (length fs) ws =
         subst (λ (j : ℕ). take (length fs) (map certificate_view (take j proofs)) ≡ take (length fs) ws) counted (front_of_front certificate_view (length fs) proofs) in
-        let line_is : own_line c.origin fs (map certificate_view (take (obliged c.kind) proofs)) ≡ own_line o fs ws = ap₂ (λ (x : Origin) (ps : List CertificateView). record { origin = x; forms = fs; proofs = ps }) are.placed.0 proofs_are in
+        let line_is : own_line c.origin fs (map certificate_view (take (obliged c.kind) proofs)) ≡ own_line o fs ws = ap₂ (line_with fs) are.placed.0 proofs_are in
         let rest_is : map certificate_view (drop (obliged c.kind) proofs) ≡ drop (length fs) ws = subst (λ (j : ℕ). map certificate_view (drop j proofs) ≡ drop (length fs) ws) counted (map_rest certificate_view (length fs) proofs) in
-        first_told (λ lines. lines) (AreOwnLineTexts q options parts) (own_line o fs ws) told.0 (own_lines_by f os ds (drop (length fs) ws)) old now new (subst (λ l. AreOwnLineTexts q options parts l told.0) line_is told.1.0) told.1.1
+        first_told (λ lines. lines) (AreOwnLineTexts q options parts) (own_line o fs ws) told.0 (own_lines_by f os ds (drop (length fs) ws)) old now new (subst (λ (l : OwnLine). AreOwnLineTexts q options parts l told.0) line_is told.1.0) told.1.1
         (subst (λ (ps : List CertificateView). AppendsEach (λ lines. lines) (AreOwnLineTexts q options parts) (own_lines_by f os ds ps) now new) rest_is
         (later s t f os ds (record { placed = are.placed.1; stated = are.stated.1 }) (subst (λ (j : ℕ). ArePulledRows t (demand_obligations f ds) (drop j rows)) counted halves.1)))
 
 -- a list from a place on
 rest_from : {X : Type 0} (xs : List X) (i : ℕ) (x : X) → i < length xs → x ≡ get_or xs i x → drop i xs ≡ x ∷ drop (i + 1) xs
-rest_from xs i x h read = let next : suc i ≡ i + 1 = omega arith in drop-cons xs i x h ∙ ap₂ (λ y (j : ℕ). y ∷ drop j xs) (sym read) next
+rest_from {X} xs i x h read = let next : suc i ≡ i + 1 = omega arith in drop-cons xs i x h ∙ ap₂ (λ (y : X) (j : ℕ). y ∷ drop j xs) (sym read) next
 
 -- the line at a place, and then those behind it
 pub lines_go_on : (q : BodyView) (options : Options) (parts : List ℕ) (own : List Constraint) (i : ℕ) (c : Constraint) (rows : List Terms) (proofs : List Certificate) (old now new : List ℕ) → i < length own → c ≡ get_or own i c
