@@ -144,8 +144,10 @@ pub own_line_appended : (q : BodyView) (options : Options) (parts : List ℕ) (o
 unfolding AppendsEach AppendsOwnLine AppendsOwnProofs
 own_line_appended q options parts origin rows ws relation below comment old mid new says proved c m n = λ forms are. (
   indented_line (own_line_comment q parts origin relation (length below == 0)) ++ below,
-  (record { relation = relation; proofs = below; says = says_of_forms (problem_names q) forms rows relation are says; are = proofs_are forms are; out_is = refl },
-    n ∙ ap (λ (t : List ℕ). t ++ below) (m ∙ ap (λ (t : List ℕ). old ++ indented_line t) c) ∙ append_assoc old (indented_line (own_line_comment q parts origin relation (length below == 0))) below),
+  (
+    record { relation = relation; proofs = below; says = says_of_forms (problem_names q) forms rows relation are says; are = proofs_are forms are; out_is = refl },
+    n ∙ ap (λ (t : List ℕ). t ++ below) (m ∙ ap (λ (t : List ℕ). old ++ indented_line t) c) ∙ append_assoc old (indented_line (own_line_comment q parts origin relation (length below == 0))) below,
+  ),
 )
   where
     proofs_are : (forms : List Form) → AreRowsFor forms rows → Each obligation_lines (TellsObligation q options) (zip forms (take (length forms) ws)) below

@@ -219,6 +219,7 @@ fn is_by_shannon(problem: &Problem, row: &Row, proof: &Certificate) -> bool
 }
 
 /// The text of a line of the second region with sets put in, empty where there is none.
+#[tactic(auto, unfolding(crate::specs::Steps::SaysOrNothing))]
 fn line_text(
     alloc: Global,
     asked: &Containment<'_>,

@@ -170,7 +170,15 @@ fn row_proof(
 {
     match printed_proof(alloc, question, row, certificate, line, options)? {
         Some(text) => Ok(text),
-        None => plain_proof(alloc, question, constraints, row, certificate, line, options),
+        None => plain_proof(
+            alloc,
+            question,
+            constraints,
+            row,
+            certificate,
+            line,
+            options,
+        ),
     }
 }
 
@@ -230,7 +238,15 @@ pub fn write_proof(
     requires there { All (λ w. w.0 < length (elementals (variable_count (question_body question.now))) + length constraints.now) certificate.now.weights.items }
     ensures { OnOk result (AppendsProof (question_body question.now) options (form_with_proof row.now certificate.now) out.old.items out.new.items) }
 {
-    let text = row_proof(alloc, question, constraints, row, certificate, line, options)?;
+    let text = row_proof(
+        alloc,
+        question,
+        constraints,
+        row,
+        certificate,
+        line,
+        options,
+    )?;
     let steps = steps_of(alloc, question, options, text.as_slice())?;
     write_indented(out, text.as_slice())?;
     write_steps(out, steps.as_slice())
@@ -255,7 +271,16 @@ pub fn write_proofs(
 {
     for (i, certificate) in proofs.iter().enumerate() {
         let row = &rows[i];
-        write_proof(alloc, out, question, options, constraints, row, certificate, None)?;
+        write_proof(
+            alloc,
+            out,
+            question,
+            options,
+            constraints,
+            row,
+            certificate,
+            None,
+        )?;
     }
     Ok(())
 }

@@ -10,12 +10,7 @@ use it_ratio::types::Best;
 use std::alloc::{AllocError, Global};
 
 /// Appends a word and a factor.
-fn write_factor(
-    out: &mut Vec<u8>,
-    word: &[u8],
-    num: &i128,
-    den: &i128,
-) -> Result<(), AllocError>
+fn write_factor(out: &mut Vec<u8>, word: &[u8], num: &i128, den: &i128) -> Result<(), AllocError>
     ensures { OnOk result (out.new.items ≡ out.old.items ++ factor_words word.now num.now den.now) }
 {
     out.extend_from_slice(word)?;

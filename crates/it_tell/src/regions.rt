@@ -152,12 +152,7 @@ fn is_before(numbers: &[usize], others: &[usize]) -> bool
 }
 
 /// Whether a row comes before another one, by its rates.
-fn comes_before(
-    alloc: Global,
-    row: &Row,
-    other: &Row,
-    variables: u8,
-) -> Result<bool, AllocError>
+fn comes_before(alloc: Global, row: &Row, other: &Row, variables: u8) -> Result<bool, AllocError>
     requires { variables ≤ 10 }
     ensures { IfOk result (λ b. b ≡ is_before (order_key variables row.now) (order_key variables other.now)) }
 {

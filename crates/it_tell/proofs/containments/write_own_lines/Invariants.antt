@@ -15,5 +15,5 @@ invariant-loop-constraint l = record {
   there : AreListed (variable_count (question_body l.asked.question.now)) (length l.asked.constraints.now) l.proofs_left;
   over : All (IsOver (size_of l.free.space)) l.rows_left;
   as_many : length l.rows_left ≡ length l.proofs_left;
-  all : HasObligations (drop l.constraint-index l.own) (length l.rows_left)
+  all : HasObligations (drop l.constraint-index l.own) (length l.rows_left);
 }
