@@ -153,7 +153,6 @@ fn needed_lines(
 }
 
 /// A text with the lines that it needs, where it tells the row by these.
-#[tactic(auto, using(crate::proofs::RowLemmas::printed_from))]
 fn printed_by(
     alloc: Global,
     names: &Names,
@@ -167,13 +166,15 @@ fn printed_by(
     requires space { problem.now.space ≡ record { variables = length names.now.variables; rates = length names.now.rates } }
     ensures { IfOk result (λ o. IfSome o (λ t. IsPrintedRowFrom names.now row.now problem.now.constraints.items t.text.items t.by.items)) }
 {
-    let lines = needed_lines(alloc, names, problem, lines, row, text.as_slice())?;
+    let shown = text.as_slice();
+    let lines = needed_lines(alloc, names, problem, lines, row, shown)?;
     let lines = lines.as_slice();
     let constraints = problem.constraints.as_slice();
     if !are_given_equations(constraints, lines) {
         return Ok(None);
     }
-    if !tells_under(alloc, text.as_slice(), names, problem, lines, row)? {
+    let tells = tells_under(alloc, shown, names, problem, lines, row)?;
+    if !tells {
         return Ok(None);
     }
     let by = by_comment(alloc, constraints, lines)?;
