@@ -3,8 +3,8 @@
 `valid` files are right, `broken` ones have a few tokens, lines or bytes changed; `limits` are at a limit or just past it; `wide` ones
 have numbers near 2**64 and denominators near 2**32; `large` ones have nine or ten variables; `reports` are right and damaged lines.
 `copies` are files with a head, right ones, broken ones, and ones whose questions can't have the copies. `factors` are right files whose
-questions ask for factors, most of them `prove E >= F`, in mode `best`. `sharing` are sharing files, right ones, broken ones, and ones with
-dozens of lists.
+questions ask for factors, most of them `prove E >= F`, in mode `best`. `bounds` are right files for mode `outer`. `sharing` are sharing
+files, right ones, broken ones, and ones with dozens of lists.
 """
 
 import re
@@ -16,8 +16,8 @@ from closures import table_size
 from generate import Damage, Generator
 from questions import ENTRIES, LINES, read
 
-# of each sixty cases
-SHARES = {"valid": 14, "broken": 16, "limits": 5, "wide": 4, "large": 1, "reports": 5, "copies": 5, "factors": 5, "sharing": 5}
+# of each 64 cases
+SHARES = {"valid": 14, "broken": 16, "limits": 5, "wide": 4, "large": 1, "reports": 7, "copies": 5, "factors": 5, "sharing": 5, "bounds": 2}
 KINDS = [kind for kind, share in SHARES.items() for _ in range(share)]
 
 BUDGETS = ["--pivots", "60", "--rows", "40", "--tries", "8"]
@@ -30,7 +30,8 @@ WORDS = {
     "wide": [["answer", *BUDGETS], ["answer", "--format", "json", *BUDGETS], ["answer", "--format", "proof", *BUDGETS]],
     "large": [["answer", *FEW], ["answer", "--format", "json", *FEW], ["answer", "--format", "proof", *FEW]],
     "reports": [["check"]],
-    "factors": [["best"], ["best", "--pivots", "none"], ["best", "--pivots", "4"]],
+    "factors": [["best"], ["best", "--pivots", "none"], ["best", "--pivots", "4"], ["best", "--report"], ["--pivots=4", "--report", "best"]],
+    "bounds": [["outer", *BUDGETS], ["outer", "--report", *BUDGETS], ["outer", "--report"], ["outer", "--report", "--pivots", "12"]],
     "sharing": [["sharing"], ["sharing", "--pivots", "60"], ["sharing", "--pivots", "none"], ["--pivots=4", "sharing"],
                 ["sharing", "--report"], ["--report", "sharing", "--pivots=4"]],
     "copies": [["copy", "--pivots", "60"], ["copy", "--pivots", "60"], ["copy", "--pivots=300"], ["--pivots", "2", "copy"],
@@ -85,6 +86,9 @@ class Case:
         asked = self.generator.system() if self.chance(0.1) else ""
         signs = [">="] * 8 + ["<=", "="]
         return self.loose(asked + "".join(self.generator.question(signs) for _ in range(self.pick([1, 1, 2, 3]))))
+
+    def bounds(self):
+        return self.loose("".join(self.generator.system() for _ in range(self.pick([1, 1, 2]))))
 
     def broken(self):
         pieces = TOKENS.findall(self.loose(self.questions()))
@@ -264,7 +268,11 @@ class Case:
     def reports(self):
         lines = []
         for _ in range(self.pick([1, 2, 3])):
-            text, _ = outcome(["answer", "--format", "json", *BUDGETS], self.questions().encode())
+            make, words = self.pick([
+                (self.questions, ["answer", "--format", "json", *BUDGETS]), (self.generator.question, ["best", "--report"]),
+                (self.generator.system, ["outer", "--report", *BUDGETS]),
+            ])
+            text, _ = outcome(words, make().encode())
             lines += text.splitlines()
         damage = Damage(self.name + " damage", lines)
         return "".join(damage.line() for _ in range(self.pick([2, 4, 6])))

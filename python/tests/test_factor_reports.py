@@ -30,7 +30,7 @@ class FactorReports(unittest.TestCase):
     def test_nothing_shown(self):
         undecided = {"answer": "undecided", "at": "0", "cause": "size", "phase": 0, "question": SUM}
         self.assertEqual(of_report(json.dumps(undecided)), ("undecided size", []))
-        self.assertEqual(of_report(json.dumps({"answer": "misfit", "cause": "other", "question": SUM})), ("misfit other", []))
+        self.assertEqual(of_report(json.dumps({"answer": "misfit", "cause": "other", "question": SUM})), ("other", []))
 
 
 if __name__ == "__main__":

@@ -6,3 +6,6 @@ pub mod TruthLemmas
 pub mod PrintLemmas
 pub mod LineLemmas
 pub mod ToldLemmas
+pub mod StepLemmas
+pub mod FrameLemmas
+pub mod ReportLemmas

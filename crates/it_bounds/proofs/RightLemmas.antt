@@ -1,5 +1,5 @@
 -- What is right of a problem's rows is right by the meaning of the text.
-use Rattle.std.proofs.Common.{◌≡◌, ◌+◌, ◌<◌, ◌≤◌, ℕ, ℤ, List, [], ◌∷◌, length, map, All, Option, Some, None, refl, sym, ap, subst, ◌∙◌, arith}
+use Rattle.std.proofs.Common.{◌≡◌, ◌+◌, ◌<◌, ◌≤◌, ℕ, ℤ, List, [], ◌∷◌, length, map, All, Option, Some, None, refl, sym, ap, subst, ◌∙◌}
 use Rattle.std.specs.List.{AllZip, AllByRecursion as Every}
 use Rattle.std.proofs.lemmas.List.Elements.{All-weaker}
 use Rattle.it_space.specs.declared.answers.Mark.{Mark}
@@ -13,7 +13,6 @@ use Rattle.it_elemental.specs.Generators.{generators}
 use Rattle.it_check.specs.Meaning.{CertifiesRow}
 use Rattle.it_question.specs.Limits.{IsQuestion}
 use Rattle.it_question.specs.Questions.{BodyView, VerbView, Eliminate}
-use Rattle.it_demand.specs.QuestionSpaces.{space_of}
 use Rattle.it_canon.specs.QuestionDemands.{IsProblemOf, question_demands}
 use Rattle.it_canon.proofs.PosesLemmas.{one_problem}
 use Rattle.it_canon.proofs.SmallProblems.{small_by_problem, small_problem}

@@ -1,6 +1,5 @@
 -- A reply that can be printed can be told in a report, and one report is told.
-use Rattle.std.proofs.Common.{◌≡◌, ℕ, ◌+◌, ◌^◌, ◌≤◌, ℤ, List, [], ◌∷◌, length, Bool, true, false, Option, Some, None, option_map, refl, sym, ap, ap₂, subst, ◌∙◌, All}
-use Rattle.it_space.specs.declared.spaces.Space.{Space}
+use Rattle.std.proofs.Common.{◌≡◌, ℕ, ◌^◌, ◌≤◌, ℤ, List, [], ◌∷◌, length, Bool, true, false, Option, Some, None, option_map, sym, ap, ap₂, subst, ◌∙◌, All}
 use Rattle.it_space.specs.Answers.{CertificateView}
 use Rattle.it_space.specs.Rows.{Terms}
 use Rattle.it_space.specs.Spaces.{size_of}
@@ -17,7 +16,7 @@ use Rattle.it_spans.specs.declared.types.Frame.{Frame}
 use Rattle.it_spans.specs.Spans.{StepView}
 use Rattle.it_question.specs.Limits.{IsQuestion}
 use Rattle.it_question.specs.Questions.{BodyView, VerbView, Eliminate}
-use Rattle.it_question.specs.ProblemLines.{names_under, problem_names}
+use Rattle.it_question.specs.ProblemLines.{names_under}
 use Rattle.it_demand.specs.QuestionSpaces.{space_of}
 use Rattle.it_rates.specs.Asked.{gone_rates, kept_rates}
 use Rattle.it_rates.proofs.AskedLemmas.{eliminated_rates}
@@ -74,7 +73,7 @@ one_steps true limits q Size a b defined e d = e ∙ sym d
 one_steps true limits q Other a b defined e d = e ∙ sym d
 one_steps false limits q reply a b defined e d = e ∙ sym d
 
-told_of : ReplyView → Option (List StepView) → ToldReply
+abbrev told_of : ReplyView → Option (List StepView) → ToldReply
 told_of reply steps = record { reply = reply; steps = steps }
 
 pub one_right_told : OneRightTold

@@ -1,5 +1,5 @@
 -- The lines of mode `outer`.
-use Rattle.std.specs.Prelude.{◌≡◌, ℕ, ℤ, List, [], ◌++◌, All, length, map, flat_map, zip, codes, decimal, false}
+use Rattle.std.specs.Prelude.{◌≡◌, ℕ, ℤ, List, ◌++◌, All, length, map, flat_map, zip, codes, decimal, false}
 use Rattle.std.specs.Fmt.{signed_decimal}
 use Rattle.it_space.specs.Answers.{CertificateView, mark_word}
 use Rattle.it_space.specs.declared.answers.Cause.{Cause}

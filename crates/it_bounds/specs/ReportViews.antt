@@ -7,7 +7,7 @@ use Rattle.it_answer.specs.Truth.{region_rows}
 use Rattle.it_bounds.specs.declared.types.Reply.{Reply}
 use Rattle.it_bounds.specs.declared.types.Reply.TheVariants as replies
 use Rattle.it_bounds.specs.Lines.{IsCausePrintable}
-use Rattle.it_bounds.specs.Replies.{ReplyView, Bounded, Undecided, Size, Other}
+use Rattle.it_bounds.specs.Replies.{ReplyView, Bounded}
 
 -- the names have those of a cause
 abbrev pub IsToldCause : NamesView → Reply → Type 0

@@ -11,7 +11,6 @@ use Rattle.it_demand.specs.QuestionSpaces.{space_of}
 use Rattle.it_canon.specs.QuestionDemands.{question_origins}
 use Rattle.it_rates.specs.Asked.{gone_rates, kept_rates, under_all_lines}
 use Rattle.it_outer.specs.declared.types.Limits.{Limits}
-use Rattle.it_certificate.specs.Bounds.{BoundsView}
 use Rattle.it_certificate.specs.Values.{OfQuestion, bounds_members, misfit_members, report_text}
 use Rattle.it_answer.specs.Truth.{region_rows}
 use Rattle.it_bounds.specs.HullSteps.{AreMade}

@@ -1,5 +1,5 @@
 //! The lines of reports of mode `outer`.
-ghost use Rattle.std.specs.Prelude.{◌≡◌, ◌≤◌, All, IfOk, length, map, option_map, true};
+ghost use Rattle.std.specs.Prelude.{◌≡◌, ◌≤◌, ◌++◌, All, IfOk, codes, length, map, option_map, true};
 ghost use Rattle.it_space.specs.Answers.{certificate_view};
 ghost use Rattle.it_space.specs.Spaces.{size_of};
 ghost use Rattle.it_demand.specs.QuestionSpaces.{space_of};
@@ -41,19 +41,38 @@ pub fn reply_report(
     requires question { IsQuestion (question_body question.now) }
     requires few_rows { limits.rows ≤ 65535 }
     requires reply { IsToldReply (question_body question.now) reply.now }
-    ensures { IfOk result (IsToldReport limits (question_view question.now) (reply_view reply.now)) }
+    ensures { IfOk result (λ line. IsToldReport limits (question_view question.now) (reply_view reply.now) line.items) }
+{
+    let mut line = told_line(alloc, limits, question, reply)?;
+    line.extend_from_slice(b"\n")?;
+    Ok(line)
+}
+
+/// The line without its end.
+fn told_line(
+    alloc: Global,
+    limits: Limits,
+    question: &Question,
+    reply: &Reply,
+) -> Result<Vec<u8>, AllocError>
+    requires question { IsQuestion (question_body question.now) }
+    requires few_rows { limits.rows ≤ 65535 }
+    requires reply { IsToldReply (question_body question.now) reply.now }
+    ensures { IfOk result (λ line. IsToldReport limits (question_view question.now) (reply_view reply.now) (line.items ++ codes "\n")) }
 {
     let text = question.text(alloc)?;
     let source = SourceText::Question(text.as_slice());
-    let mut line = match told_steps(alloc, limits, question, reply)? {
-        Some(steps) => bounded_json(alloc, source, reply, steps)?,
+    match told_steps(alloc, limits, question, reply)? {
+        Some(steps) => {
+            let line = bounded_json(alloc, source, reply, steps)?;
+            Ok(line)
+        }
         None => {
             let words = unreported(alloc, limits, problem_names(question), reply)?;
-            misfit_json(alloc, source, words.as_slice())?
+            let line = misfit_json(alloc, source, words.as_slice())?;
+            Ok(line)
         }
-    };
-    line.extend_from_slice(b"\n")?;
-    Ok(line)
+    }
 }
 
 /// The steps that make the hull of a reply's rays; none where it has no rays, or they aren't made.
@@ -69,7 +88,10 @@ fn told_steps(
     ensures { IfOk result (λ s. AreToldSteps true limits (question_body question.now) (reply_view reply.now) (option_map (λ v. step_views v.items) s)) }
 {
     match reply {
-        Reply::Bounded { rays, .. } => steps_of(alloc, limits, question, rays.as_slice()),
+        Reply::Bounded { rays, .. } => {
+            let steps = steps_of(alloc, limits, question, rays.as_slice())?;
+            Ok(steps)
+        }
         Reply::Undecided(_) => Ok(None),
         Reply::Size => Ok(None),
         Reply::Other => Ok(None),
@@ -97,7 +119,9 @@ fn steps_of(
         spare: gone[0],
         rows: limits.rows,
     };
-    hull_steps(alloc, frame, kept.as_slice(), limits.effort, rays)
+    // named before it is answered, so that the contract of the call stands at the answer
+    let steps = hull_steps(alloc, frame, kept.as_slice(), limits.effort, rays)?;
+    Ok(steps)
 }
 
 /// The line of bounds, without its end.
@@ -118,7 +142,8 @@ fn bounded_json(
         proofs: copied(alloc, proofs.as_slice())?,
         steps,
     };
-    bounds_json(alloc, source, &bounds)
+    let line = bounds_json(alloc, source, &bounds)?;
+    Ok(line)
 }
 
 /// Rows without their marks.

@@ -1,10 +1,9 @@
 //! The steps by which the hull of rays is made again, for whoever judges it.
-ghost use Rattle.std.specs.Prelude.{◌≡◌, All, IfOk, drop, length, map, option_map, take};
-ghost use Rattle.std.specs.List.{list_any};
-ghost use Rattle.it_eliminate.specs.Elimination.{is_same};
+ghost use Rattle.std.specs.Prelude.{◌≡◌, ◌≤◌, All, IfOk, drop, length, map, option_map};
 ghost use Rattle.it_space.specs.Answers.{certificate_view};
 ghost use Rattle.it_space.specs.Problems.{problem_view};
-ghost use Rattle.it_space.specs.Spaces.{size_of};
+ghost use Rattle.it_space.specs.Spaces.{IsSpace, size_of};
+ghost use Rattle.it_redundant.specs.Reduction.{IsSystemUnder};
 ghost use Rattle.it_hull.specs.Constants.{constants};
 ghost use Rattle.it_hull.specs.Hulls.{first_rows};
 ghost use Rattle.it_spans.specs.Drops.{drop_view};
@@ -12,7 +11,7 @@ ghost use Rattle.it_spans.specs.HullRows.{AreHullRows};
 ghost use Rattle.it_spans.specs.Spans.{step_views};
 ghost use Rattle.it_spans.specs.Theorems.{AreKept, IsFrame};
 ghost use Rattle.it_bounds.specs.HullSteps.{AreMade, numbered_drops};
-ghost use Rattle.it_bounds.specs.StepViews.{IsMadeStep, AreMadeRows};
+ghost use Rattle.it_bounds.specs.StepViews.{IsMadeStep, IsReducedStep, goes_first};
 
 use it_eliminate::Eliminated;
 use it_hull::{constants, first_rows, with_ray};
@@ -30,7 +29,7 @@ struct Made {
 
 /// Whether a row is the next one that goes.
 fn goes_next(row: &Row, dropped: &[(Row, Certificate)], next: usize) -> bool
-    ensures { result ≡ list_any (λ d. is_same row.now d.0) (take 1 (drop next dropped.now)) }
+    ensures { result ≡ goes_first row.now (drop next dropped.now) }
 {
     next < dropped.len() && row.terms() == dropped[next].0.terms()
 }
@@ -59,11 +58,36 @@ fn numbered_drops(
 
 /// The same point once more.
 fn copied_ray(alloc: Global, space: Space, ray: &Point) -> Result<Point, AllocError>
+    requires space { IsSpace space }
     requires ray { length ray.now ≡ size_of space }
     ensures { IfOk result (λ p. p ≡ ray.now) }
 {
     let values = ray.values().iter().copied().collect(alloc)?;
     Ok(Point::new(space, values))
+}
+
+/// A ray with the rows that go after it, of those that it leaves, and the rows that stay.
+fn reduced_step(
+    alloc: Global,
+    left: &System,
+    givens: &Problem,
+    effort: Effort,
+    ray: &Point,
+) -> Result<Made, AllocError>
+    requires left { IsSystemUnder (problem_view givens.now) left.now }
+    requires few_rows { length left.now.rows.items ≤ 65535 }
+    requires ray { length ray.now ≡ size_of left.now.space }
+    ensures { IfOk result (IsReducedStep (problem_view givens.now) effort left.now.rows.items ray.now) }
+{
+    let reduced = reduce(alloc, left, givens, effort)?;
+    let drops = numbered_drops(alloc, left.rows.as_slice(), reduced.dropped.as_slice())?;
+    let mut kept = kept_system(alloc, left.space, &reduced)?;
+    let rows = std::mem::replace(&mut kept.rows, Vec::new(alloc));
+    let ray = copied_ray(alloc, left.space, ray)?;
+    Ok(Made {
+        step: Step { ray, drops },
+        rows,
+    })
 }
 
 /// A ray with the rows that go after it, if it leaves few enough, and those that stay.
@@ -79,24 +103,17 @@ fn made_step(
     requires givens { problem_view givens.now ≡ constants frame.space }
     requires rows { AreHullRows frame rows.items }
     requires ray { length ray.now ≡ size_of frame.space }
-    ensures made { IfOk result (IsMadeStep frame effort rows.items ray.now) }
-    ensures rows { IfOk result (AreMadeRows frame) }
+    ensures { IfOk result (IsMadeStep frame effort rows.items ray.now) }
 {
     let hull = System {
         space: frame.space,
         rows,
     };
-    match with_ray(alloc, &hull, ray, frame.spare, frame.rows)? {
+    let left = with_ray(alloc, &hull, ray, frame.spare, frame.rows)?;
+    match left {
         Eliminated::Region(next) => {
-            let reduced = reduce(alloc, &next, givens, effort)?;
-            let drops = numbered_drops(alloc, next.rows.as_slice(), reduced.dropped.as_slice())?;
-            let mut left = kept_system(alloc, frame.space, &reduced)?;
-            let rows = std::mem::replace(&mut left.rows, Vec::new(alloc));
-            let ray = copied_ray(alloc, frame.space, ray)?;
-            Ok(Some(Made {
-                step: Step { ray, drops },
-                rows,
-            }))
+            let made = reduced_step(alloc, &next, givens, effort, ray)?;
+            Ok(Some(made))
         }
         Eliminated::Rows { rate: _ } => Ok(None),
         Eliminated::Wide { rate: _ } => Ok(None),

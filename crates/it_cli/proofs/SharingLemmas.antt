@@ -1,5 +1,5 @@
 -- From the lines about the question that a sharing file makes to what is written for the file.
-use Rattle.std.proofs.Common.{◌≡◌, ℕ, ◌+◌, ◌≤◌, ◌++◌, true, false, List, codes, refl, sym, ap, ap₂, subst, ◌∙◌, []}
+use Rattle.std.proofs.Common.{◌≡◌, ℕ, ◌+◌, ◌≤◌, ◌++◌, true, false, List, codes, sym, ap, ap₂, subst, ◌∙◌, []}
 use Rattle.it_prove.specs.declared.types.Effort.{Effort}
 use Rattle.it_question.specs.Questions.{QuestionView}
 use Rattle.it_copy.specs.Extensions.{IsProof}

@@ -1,5 +1,5 @@
 -- Right replies in modes `copy`, `best` and `sharing` are true.
-use Rattle.std.proofs.Common.{Bool, ◌≡◌, ℤ, ◌↔◌, true, List, Some, refl, sym, ap, subst, ◌∙◌}
+use Rattle.std.proofs.Common.{◌≡◌, ℤ, ◌↔◌, true, List, Some, refl, sym, ap, subst, ◌∙◌}
 use Rattle.it_prove.specs.declared.types.Effort.{Effort}
 use Rattle.it_space.specs.Answers.{AnswerView}
 use Rattle.it_space.specs.Answers.AnswerView.{Yes, No, Undecided, Region, Contained, Open}
@@ -21,7 +21,7 @@ use Rattle.it_factor.specs.RightReplies as factors
 use Rattle.it_factor.specs.RightReplies.{IsRightReply}
 use Rattle.it_ratio.specs.Truth.{HoldsFor, IsTrueBest, asked_by, at_least}
 use Rattle.it_factor.specs.Truth.{IsTrueReply}
-use Rattle.it_factor.proofs.TruthLemmas.{true_of_same}
+use Rattle.it_ratio.proofs.SameFactors.{true_of_same}
 use Rattle.it_report.proofs.SourceTruth.{own_lines}
 use Rattle.it_cli.specs.Copies.{CopyQuestion, CopyReply, IsRightCopy, Misfit, Extended}
 use Rattle.it_cli.specs.SharingReplies.{IsRightSharing, SharingReply, Many, Answered, Factored}

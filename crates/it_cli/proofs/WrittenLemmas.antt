@@ -16,7 +16,6 @@ use Rattle.it_answer.specs.Replies.{Reply}
 use Rattle.it_answer.specs.Shows as answers
 use Rattle.it_answer.specs.Shows.{Shows}
 use Rattle.it_answer.specs.Truth.{IsTrueAnswer}
-use Rattle.it_bounds.specs.Lines.{reply_lines}
 use Rattle.it_bounds.specs.Replies as bounds
 use Rattle.it_bounds.specs.RightReplies as right_bounds
 use Rattle.it_bounds.specs.Truth as true_bounds
@@ -29,7 +28,6 @@ use Rattle.it_cli.specs.Copies.{AsksWithCopies, CopyQuestion, copy_lines, with_c
 use Rattle.it_cli.specs.Modes.{Mode, WholeOutput}
 use Rattle.it_cli.specs.Outputs.{IsOutput, answer_mode, best_mode, copy_mode, most_bytes, outer_mode, sharing_mode}
 use Rattle.it_cli.specs.Right.{answer_lines, budgets_of, effort_of, limits_of}
-use Rattle.it_canon.specs.QuestionDemands.{question_origins}
 use Rattle.it_cli.specs.SharingReplies.{AsksOfSharing, SharingFile, SharingReply, said_by, sharing_lines}
 use Rattle.it_cli.specs.Truth.{IsTrueCopy, IsTrueSharing}
 use Rattle.it_cli.specs.Written.{AnswersAreTrue, AnswersShow, AreLinesFor, AreReplyLines, BoundsAreTrue, CopiesAreTrue, FactorsAreTrue, SharingIsTrue, ShownAnswers, TrueAnswers, TrueBounds, TrueCopies, TrueFactors, TrueSharing, WritesSuch}

@@ -20,7 +20,6 @@ use Rattle.it_prove.specs.declared.types.Effort.{Effort}
 use Rattle.it_bounds.specs.Reports.{IsRightTold, told_lines}
 use Rattle.it_factor.specs.RightReplies.{IsRightReply}
 use Rattle.it_cli.specs.Right.{IsRightAfter, answer_lines, budgets_of, effort_of, limits_of}
-use Rattle.it_canon.specs.QuestionDemands.{question_origins}
 use Rattle.it_cli.specs.Counts.{IsBenchLine}
 use Rattle.it_cli.specs.FactorReports.{best_lines}
 use Rattle.it_cli.specs.Copies.{AsksWithCopies, IsRightCopy, copy_lines}

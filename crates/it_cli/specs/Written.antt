@@ -12,14 +12,11 @@ use Rattle.it_question.specs.Files.{IsFile}
 use Rattle.it_question.specs.Questions.{QuestionView}
 use Rattle.it_answer.specs.Shows.{Shows}
 use Rattle.it_answer.specs.Truth.{IsTrueAnswer}
-use Rattle.it_bounds.specs.Lines.{reply_lines}
-use Rattle.it_bounds.specs.Replies as bounds
 use Rattle.it_bounds.specs.Truth as true_bounds
 use Rattle.it_bounds.specs.Reports.{ToldReply, told_lines}
 use Rattle.it_factor.specs.Replies.{ReplyView}
 use Rattle.it_factor.specs.Truth.{IsTrueReply}
 use Rattle.it_cli.specs.Right.{answer_lines, limits_of}
-use Rattle.it_canon.specs.QuestionDemands.{question_origins}
 use Rattle.it_cli.specs.Copies.{AsksWithCopies, copy_lines}
 use Rattle.it_cli.specs.FactorReports.{best_lines}
 use Rattle.it_cli.specs.SharingReplies.{AsksOfSharing, SharingFile, SharingReply, sharing_lines}

@@ -92,11 +92,7 @@ pub fn proof_report(
 }
 
 /// The line of a report of a reply, without its end, about what these texts ask.
-fn reply_json(
-    alloc: Global,
-    source: SourceText<'_>,
-    reply: &Reply,
-) -> Result<Vec<u8>, AllocError>
+fn reply_json(alloc: Global, source: SourceText<'_>, reply: &Reply) -> Result<Vec<u8>, AllocError>
     ensures { IfOk result (λ out. out.items ≡ report_text (source_texts source.entry) (reply_members (reply_view reply.now))) }
 {
     match reply {

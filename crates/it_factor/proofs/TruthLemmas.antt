@@ -1,5 +1,5 @@
 -- What shows what it says of the factors is true of them.
-use Rattle.std.proofs.Common.{ℤ, neg_ℤ, ◌*ℤ◌, ◌-ℤ◌, ◌↔◌}
+use Rattle.std.proofs.Common.{ℤ, neg_ℤ, ◌*ℤ◌, ◌-ℤ◌}
 use Rattle.it_space.specs.Answers.{CertificateView}
 use Rattle.it_space.specs.Rows.{point_of}
 use Rattle.it_polymatroid.specs.Certificates.{Form}
@@ -7,11 +7,10 @@ use Rattle.it_question.specs.Questions.{BodyView}
 use Rattle.it_canon.specs.TrueLines.{variable_count}
 use Rattle.it_canon.specs.Sides.{left_form, right_form}
 use Rattle.it_answer.proofs.TruthLemmas.{form_at_least_zero}
-use Rattle.it_ratio.specs.BestViews.{BestView, Least, Never, Unbounded, Undecided}
+use Rattle.it_ratio.specs.BestViews.{Least, Never, Unbounded, Undecided}
 use Rattle.it_best.specs.Factors.{HoldsFactor, IsFactor}
 use Rattle.it_ratio.proofs.Orders.{all_smaller, no_smaller, none_at_zero}
 use Rattle.it_factor.specs.RightReplies.{WhatIsShownIsTrue, question_ground}
-use Rattle.it_ratio.specs.Truth.{IsTrueBest}
 
 -- a certified factor holds
 certified_holds : (q : BodyView) (left right : Form) (num den : ℤ) (w : CertificateView) → IsFactor (question_ground q) left right num den w → HoldsFactor (question_ground q) left right num den
@@ -37,10 +36,3 @@ what_is_shown_is_true q r (Unbounded num den proof below) s =
           (form_at_least_zero q p together (λ x. neg_ℤ (left x)) below s.1),
     )
 what_is_shown_is_true q r (Undecided cause) s = tt
-
--- what is true of some factors is true of the same ones, said otherwise
-pub true_of_same : (P Q : ℤ → ℤ → Type 0) (best : BestView) → ((a b : ℤ) → P a b ↔ Q a b) → IsTrueBest P best → IsTrueBest Q best
-true_of_same P Q (Least num den proof values) same t = (t.0, (same num den).0 t.1, λ a b one holds. t.2 a b one ((same a b).1 holds))
-true_of_same P Q (Never values) same t = λ a b one holds. t a b one ((same a b).1 holds)
-true_of_same P Q (Unbounded num den proof below) same t = (t.0, λ a b one smaller. (same a b).0 (t.1 a b one smaller))
-true_of_same P Q (Undecided cause) same t = tt

@@ -1,12 +1,11 @@
 -- What a search without some rates is about.
-use Rattle.std.proofs.Common.{◌≡◌, inl, inr, ℕ, zero, suc, ◌+◌, ◌^◌, ◌<◌, ◌≤◌, List, [], ◌∷◌, map, length, slice_index_or, Bool, true, false, ◌||◌, nat_eq, eq-eqb, if◌then◌else◌, refl, sym, ap, ap₂, subst, ◌∙◌, arith, All}
-use Rattle.std.specs.Prelude.{Contains}
-use Rattle.std.specs.List.{list_any, AllByRecursion as Every}
+use Rattle.std.proofs.Common.{◌≡◌, ℕ, zero, suc, ◌+◌, ◌^◌, ◌<◌, ◌≤◌, List, [], ◌∷◌, map, length, slice_index_or, Bool, true, false, nat_eq, if◌then◌else◌, sym, ap₂, subst, arith, All}
+use Rattle.std.specs.List.{list_any}
 use Rattle.std.proofs.lemmas.Nat.{pow_pos}
 use Rattle.it_space.specs.declared.spaces.Space.{Space}
 use Rattle.it_space.specs.Problems.{ProblemView, IsProblem, problem_view}
 use Rattle.it_space.specs.Spaces.{size_of}
-use Rattle.it_space.proofs.EveryLemmas.{all_of, every-map, every-same}
+use Rattle.it_space.proofs.EveryLemmas.{all_of, every-same}
 use Rattle.it_outer.specs.declared.types.Frame.{Frame}
 use Rattle.it_outer.specs.declared.types.Limits.{Limits}
 use Rattle.it_hull.specs.Constants.{constants}

@@ -1,9 +1,7 @@
 -- The search round by round. No public clause cites this module.
-use Rattle.std.specs.Prelude.{◌≡◌, ℕ, suc, ◌+◌, ◌^◌, ◌≤◌, ℤ, List, [], ◌∷◌, ◌++◌, map, length, All, Bool, nat_eq, if◌then◌else◌}
-use Rattle.std.specs.List.{list_any}
+use Rattle.std.specs.Prelude.{◌≡◌, ℕ, suc, ◌+◌, ◌^◌, ◌≤◌, ℤ, List, [], ◌∷◌, ◌++◌, map, length, All, Bool}
 use Rattle.std.specs.Global.{Vec}
 use Rattle.it_space.specs.declared.problems.System.{System}
-use Rattle.it_space.specs.declared.spaces.Space.{Space}
 use Rattle.it_space.specs.Answers.{certificate_view}
 use Rattle.it_space.specs.Problems.{ProblemView, IsSystem, problem_view}
 use Rattle.it_space.specs.Rows.{Terms}

@@ -25,10 +25,10 @@ use Rattle.it_rates.specs.Bounds.{AreExactBounds, IsTrueRay}
 use Rattle.it_rates.proofs.AskedLemmas.{all_lines_question, at_question, meets_true}
 use Rattle.it_rates.proofs.BoundLemmas.{hull_is_exact}
 use Rattle.it_certificate.specs.Bounds.{BoundsView, HasBoundsShape}
-use Rattle.it_certificate.specs.Reports.{Bounded, ReadsReport, Reading}
-use Rattle.it_certificate.specs.Sources.{IsSourceAt, IsSourceOf, Source, asked}
+use Rattle.it_certificate.specs.Reports.{Bounded, Reading}
+use Rattle.it_certificate.specs.Sources.{IsSourceAt, IsSourceOf, asked}
 use Rattle.it_certificate.proofs.SourceNumbers.{source_limits, source_numbers}
-use Rattle.it_report.specs.BoundsVerdicts.{HullVerdictIs, bounds_verdict, judged_frame}
+use Rattle.it_report.specs.BoundsVerdicts.{HullVerdictIs, judged_frame}
 use Rattle.it_report.specs.Judging.{IsReadingVerdict}
 use Rattle.it_report.specs.LineVerdicts.{Hulled}
 use Rattle.it_report.specs.Meaning.{ValidIsTrueOfBounds}

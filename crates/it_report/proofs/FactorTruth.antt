@@ -1,5 +1,5 @@
 -- What a valid line says of factors is true.
-use Rattle.std.proofs.Common.{◌≡◌, ℕ, ◌+◌, ◌-◌, ◌<◌, ◌≤◌, ℤ, pos, neg_ℤ, ◌-ℤ◌, ◌*ℤ◌, ◌+ℤ◌, ◌≤ℤ◌, int_lt, List, length, map, Bool, true, false, Option, Some, None, option_and_then, if◌then◌else◌, Ok, ◌↔◌, refl, sym, ap, ap₂, subst, ◌∙◌, arith, rules}
+use Rattle.std.proofs.Common.{◌≡◌, ℕ, ◌+◌, ◌-◌, ◌≤◌, ℤ, pos, neg_ℤ, ◌-ℤ◌, ◌*ℤ◌, ◌+ℤ◌, ◌≤ℤ◌, int_lt, List, length, map, Bool, true, false, Option, Some, None, option_and_then, if◌then◌else◌, Ok, ◌↔◌, refl, sym, ap, ap₂, subst, ◌∙◌, arith, rules}
 use Rattle.std.specs.Ordering.{int_eq}
 use Rattle.std.proofs.lemmas.Bool.{true≢false}
 use Rattle.std.proofs.lemmas.Int.{ints}
@@ -13,7 +13,7 @@ use Rattle.it_space.specs.Sums.{terms_from}
 use Rattle.it_space.proofs.OptionLemmas.{some_same}
 use Rattle.it_space.proofs.SumLemmas.{terms_at}
 use Rattle.it_space.proofs.TermLemmas.{value-one_at}
-use Rattle.it_polymatroid.specs.Certificates.{Form, dot}
+use Rattle.it_polymatroid.specs.Certificates.{Form}
 use Rattle.it_polymatroid.specs.Elementals.{elementals, span}
 use Rattle.it_polymatroid.specs.Polymatroid.{IsPolymatroid}
 use Rattle.it_polymatroid.proofs.Forms.{dot_from_one, linear-scale, linear-sub, value_linear}
@@ -48,6 +48,7 @@ use Rattle.it_check.proofs.Truth.{valid_yes_is, valid_no_is, yes_is_true}
 use Rattle.it_ratio.specs.BestViews.{BestView, Least, Never, Unbounded, Undecided}
 use Rattle.it_ratio.specs.Truth.{HoldsFor, IsTrueBest, asked_by, at_least}
 use Rattle.it_ratio.proofs.Orders.{all_smaller, no_smaller, none_at_zero}
+use Rattle.it_ratio.proofs.SameFactors.{true_of_same}
 use Rattle.it_certificate.specs.FactorShapes.{HasBestShape, HasFactorShape}
 use Rattle.it_certificate.specs.Reports.{Factored, ReadsReport}
 use Rattle.it_certificate.specs.Sources.{IsSourceAt, IsSourceOf, Sharing, Source, asked}
@@ -228,7 +229,7 @@ module _ (q : BodyView) (p : ProblemView) (is : IsProblemOf q p) where
     true_by : (best : BestView) → HasBestShape size best → best_verdict p left right best ≡ Some valid → IsTrueBest HoldsBetween best
     true_by (Least num den w values) shape e =
         let one = denominator_is den (rest_of num den (λ factor turned. first_wrong (proof_verdict p factor w) (tight_verdict p turned factor values)))
-            (some_same (from_one den (rest_of num den (λ factor turned. first_wrong (proof_verdict p factor w) (tight_verdict p turned factor values)))) valid e) in
+        (some_same (from_one den (rest_of num den (λ factor turned. first_wrong (proof_verdict p factor w) (tight_verdict p turned factor values)))) valid e) in
         let rest = rest_is num den (λ factor turned. first_wrong (proof_verdict p factor w) (tight_verdict p turned factor values)) one.1 in
         let both = both_valid (proof_verdict p (row_for num den) w) (tight_verdict p (row_for (neg_ℤ (pos 1)) (pos 0)) (row_for num den) values) rest in
         let at = tight values shape.2.each num den both.1 in (
@@ -238,12 +239,12 @@ module _ (q : BodyView) (p : ProblemView) (is : IsProblemOf q p) where
         )
     true_by (Never values) shape e =
         let rest = row_taken (unformed size (pos 0) (pos 1) left right) (row_for (pos 0) (pos 1)) (λ turned. tight_verdict p turned left values)
-            (some_same (with_row (row_unless (unformed size (pos 0) (pos 1) left right) (row_for (pos 0) (pos 1))) (λ turned. tight_verdict p turned left values)) valid e) in
+        (some_same (with_row (row_unless (unformed size (pos 0) (pos 1) left right) (row_for (pos 0) (pos 1))) (λ turned. tight_verdict p turned left values)) valid e) in
         let at = never values shape.each rest in
         λ a b from holds. none_at_zero a b (f (point_of values)) (g (point_of values)) at.1 at.2 from (holds (point_of values) at.0)
     true_by (Unbounded num den w below) shape e =
         let one = denominator_is den (rest_of num den (λ factor turned. first_wrong (proof_verdict p factor w) (Checked (proof_verdict p turned below))))
-            (some_same (from_one den (rest_of num den (λ factor turned. first_wrong (proof_verdict p factor w) (Checked (proof_verdict p turned below))))) valid e) in
+        (some_same (from_one den (rest_of num den (λ factor turned. first_wrong (proof_verdict p factor w) (Checked (proof_verdict p turned below))))) valid e) in
         let rest = rest_is num den (λ factor turned. first_wrong (proof_verdict p factor w) (Checked (proof_verdict p turned below))) one.1 in
         let both = both_valid (proof_verdict p (row_for num den) w) (Checked (proof_verdict p (row_for (neg_ℤ (pos 1)) (pos 0)) below)) rest in
         let second = checked_valid (proof_verdict p (row_for (neg_ℤ (pos 1)) (pos 0)) below) both.1 in (
@@ -286,10 +287,13 @@ told_true : (q : BodyView) (best : BestView) (names : NamesView) → IsQuestion 
 told_true q best names k small shape None asks e = absurd (cc)
 told_true q best names k small shape (Some r) asks e =
     let about = asks_relation q r asks in
-    let rows = side_rows q k small r about in
-    (r, asks, true_by q (problem_of q) (question_poses q k small) (left_form (variable_count q) r) (right_form (variable_count q) r)
-    (terms_in q (left_form (variable_count q) r)) (terms_in q (right_form (variable_count q) r)) rows.0 rows.1 best
-    (subst (λ (v : NamesView). HasBestShape (size_of (space_of v)) best) (sym (own_names q r about)) shape) (by_option (factor_verdict_of q r best) e))
+    let rows = side_rows q k small r about in (
+      r,
+      asks,
+      true_by q (problem_of q) (question_poses q k small) (left_form (variable_count q) r) (right_form (variable_count q) r)
+          (terms_in q (left_form (variable_count q) r)) (terms_in q (right_form (variable_count q) r)) rows.0 rows.1 best
+          (subst (λ (v : NamesView). HasBestShape (size_of (space_of v)) best) (sym (own_names q r about)) shape) (by_option (factor_verdict_of q r best) e),
+    )
   where
     by_option : (o : Option FactorVerdict) → Weighed names valid ≡ weighed_by q o → o ≡ Some valid
     by_option None e = absurd (cc)
@@ -304,13 +308,6 @@ valid_factor_is_true line names source best h reads =
     told_true q best names (source_limits reads.value source about) (source_numbers reads.value source about) (best_fits_question line source best reads).shape (asked_by q.verb) refl told
 
 -- ---- of a sharing file
-
--- what is true of some factors is true of the same ones, said otherwise
-true_of_same : (P Q : ℤ → ℤ → Type 0) (best : BestView) → ((a b : ℤ) → P a b ↔ Q a b) → IsTrueBest P best → IsTrueBest Q best
-true_of_same P Q (Least num den proof values) same t = (t.0, (same num den).0 t.1, λ a b one holds. t.2 a b one ((same a b).1 holds))
-true_of_same P Q (Never values) same t = λ a b one holds. t a b one ((same a b).1 holds)
-true_of_same P Q (Unbounded num den proof below) same t = (t.0, λ a b one smaller. (same a b).0 (t.1 a b one smaller))
-true_of_same P Q (Undecided cause) same t = tt
 
 module _ (x : SharingView) (within : IsSharing x) where
   -- a factor holds for the made question exactly where it holds wherever the secret is shared perfectly

@@ -5,7 +5,6 @@ use Rattle.serde_json.specs.Read.{read}
 use Rattle.serde_json.specs.Data.{Data}
 use Rattle.it_space.specs.Answers.{AnswerView}
 use Rattle.it_space.proofs.OptionLemmas.{some_same}
-use Rattle.it_syntax.specs.NamesViews.{NamesView}
 use Rattle.it_question.specs.Questions.{BodyView}
 use Rattle.it_certificate.specs.declared.keys.Key.{Key}
 use Rattle.it_certificate.specs.Bounds.{BoundsView}

@@ -1,5 +1,5 @@
 -- The row of both sides, step by step as the code forms it.
-use Rattle.std.proofs.Common.{◌≡◌, ℕ, zero, suc, ◌+◌, ◌-◌, ◌<◌, ◌≤◌, ◌⊎◌, inl, inr, ℤ, ◌-ℤ◌, ◌*ℤ◌, List, [], ◌∷◌, ◌++◌, append_assoc, append-nil, length, map, Bool, not, ◌&&◌, cond, Option, Some, None, Result, Ok, Err, sym, ap, ap₂, subst, subst₂, ◌∙◌, arith}
+use Rattle.std.proofs.Common.{◌≡◌, ℕ, zero, suc, ◌+◌, ◌-◌, ◌<◌, ◌≤◌, ◌⊎◌, inl, inr, ℤ, ◌-ℤ◌, ◌*ℤ◌, List, [], ◌++◌, append_assoc, append-nil, map, not, ◌&&◌, cond, Some, Result, Ok, Err, sym, ap, ap₂, subst, subst₂, ◌∙◌, arith}
 use Rattle.std.specs.Bool.{Decides}
 use Rattle.std.specs.List.{find}
 use Rattle.std.specs.Result.{IsErrAnd, OkIff}

@@ -1,5 +1,5 @@
 -- The claim of a valid line is true.
-use Rattle.std.proofs.Common.{◌≡◌, ℕ, zero, suc, ◌<◌, ℤ, pos, neg_ℤ, ◌≤ℤ◌, List, [], ◌∷◌, map, length, get_or, Bool, true, false, Option, Some, None, Result, Ok, Err, All, if◌then◌else◌, refl, sym, ap, subst, ◌∙◌, arith}
+use Rattle.std.proofs.Common.{◌≡◌, ℕ, zero, suc, ◌<◌, ℤ, pos, neg_ℤ, ◌≤ℤ◌, List, [], ◌∷◌, map, length, get_or, Bool, Some, Ok, All, refl, sym, subst, ◌∙◌, arith}
 use Rattle.std.proofs.lemmas.List.Elements.{All-nil, All-cons}
 use Rattle.std.proofs.lemmas.List.{length-map}
 use Rattle.it_space.specs.declared.spaces.Space.{Space}
@@ -35,7 +35,6 @@ use Rattle.it_certificate.specs.Sources.{IsSourceAt, IsSourceOf, Source, asked}
 use Rattle.it_certificate.proofs.OneLemmas.{one_reading}
 use Rattle.it_certificate.proofs.SourceNumbers.{source_limits, source_numbers}
 use Rattle.it_check.specs.Meaning.{CertifiesRow, RefutesRow}
-use Rattle.it_check.specs.declared.verdicts.Verdict.{Verdict}
 use Rattle.it_check.specs.declared.verdicts.Verdict.TheVariants.{Valid}
 use Rattle.it_check.proofs.Truth.{valid_yes_is, valid_no_is, yes_is_true}
 use Rattle.it_report.specs.RowVerdicts.{proof_verdict, proofs_verdict, point_verdict, place_named}

@@ -1,12 +1,11 @@
 -- The verdict on an outer bound: on the certificates of its rows, on the points of its rays, and on the rows as the hull of the rays.
-use Rattle.std.specs.Prelude.{◌≡◌, ℕ, List, Bool, true, false, if◌then◌else◌, slice_index_or}
+use Rattle.std.specs.Prelude.{ℕ, List, Bool, true, false, if◌then◌else◌, slice_index_or}
 use Rattle.it_space.specs.Problems.{ProblemView}
 use Rattle.it_spans.specs.declared.types.Frame.{Frame}
 use Rattle.it_spans.specs.declared.types.HullVerdict.{HullVerdict}
 use Rattle.it_spans.specs.declared.types.HullVerdict.TheVariants as hulls
 use Rattle.it_spans.specs.Verdicts.{VerdictIs}
 use Rattle.it_check.specs.declared.verdicts.Verdict.{Verdict}
-use Rattle.it_check.specs.declared.verdicts.Verdict.TheVariants.{Valid}
 use Rattle.it_question.specs.Questions.{BodyView}
 use Rattle.it_demand.specs.QuestionSpaces.{space_of}
 use Rattle.it_canon.specs.QuestionDemands.{problem_of}

@@ -18,7 +18,7 @@ use it_elemental::generator_count;
 use it_fraction::{Wide, difference, signed_product};
 use it_ratio::types::Best;
 use it_space::{Certificate, Point, Problem, Row, value};
-use std::alloc::{AllocError, AllocFailed, Global};
+use std::alloc::{AllocError, Global};
 
 /// What is wrong with what is said of factors, or that nothing is.
 #[derive(Clone, Copy)]
@@ -45,17 +45,6 @@ impl From<AllocError> for RowStop {
     ghost from_gives = { λ _ e. e ≡ Memory };
 
     fn from(_error: AllocError) -> RowStop {
-        RowStop::Memory
-    }
-}
-
-impl<T: Drop> From<AllocFailed<T>> for RowStop {
-    ghost use Rattle.std.specs.Prelude.{◌≡◌};
-    ghost use Rattle.it_report.specs.declared.factors.RowStop.TheVariants.{Memory};
-
-    ghost from_gives = { λ _ e. e ≡ Memory };
-
-    fn from(_error: AllocFailed<T>) -> RowStop {
         RowStop::Memory
     }
 }
@@ -94,13 +83,11 @@ fn push_number(
     ensures fits { OnOk result (NumberFits num.now den.now left.now right.now at) }
     ensures wide { IfErr result (λ e. (c : ℕ) → e ≡ RowStop.Wide c → (c ≡ at) × ¬ (NumberFits num.now den.now left.now right.now at)) }
 {
-    match side_number(left, right, num, den, at) {
-        Ok(number) => match push_some(terms, at, number) {
-            Ok(()) => Ok(()),
-            Err(_) => Err(RowStop::Memory),
-        },
-        Err(_) => Err(RowStop::Wide { coordinate: at }),
-    }
+    let Ok(number) = side_number(left, right, num, den, at) else {
+        return Err(RowStop::Wide { coordinate: at });
+    };
+    push_some(terms, at, number)?;
+    Ok(())
 }
 
 /// `num` times the left row less `den` times the right one.

@@ -37,12 +37,12 @@ pub fn key_name(key: Key) -> &'static str
     }
 }
 
-/// Appends words and a generator's number, or that of a place.
-fn write_place(out: &mut Vec<u8>, words: &[u8], place: u32) -> Result<(), AllocError>
+/// Appends words and a number: of a generator, a place, a ray or a row.
+fn write_place(out: &mut Vec<u8>, words: &[u8], place: usize) -> Result<(), AllocError>
     ensures { OnOk result (out.new.items ≡ out.old.items ++ (words.now ++ decimal place)) }
 {
     out.extend_from_slice(words)?;
-    write_number(out, place as usize)
+    write_number(out, place)
 }
 
 /// Appends words and a number.
@@ -62,7 +62,7 @@ fn write_generator_value(
 ) -> Result<(), AllocError>
     ensures { OnOk result (out.new.items ≡ out.old.items ++ (words.now ++ decimal index ++ codes " " ++ signed_decimal value.now)) }
 {
-    write_place(out, words, index)?;
+    write_place(out, words, index as usize)?;
     write_value(out, b" ", value)
 }
 
@@ -93,9 +93,17 @@ pub fn write_verdict(out: &mut Vec<u8>, names: &Names, verdict: &Verdict) -> Res
     match verdict {
         Verdict::Valid => out.extend_from_slice(b"valid"),
         Verdict::BadScale { scale } => write_value(out, b"invalid scale ", scale),
-        Verdict::UnknownGenerator { index } => write_place(out, b"invalid generator ", *index),
-        Verdict::NegativeWeight { index } => write_place(out, b"invalid negative ", *index),
-        Verdict::Width { place } => write_place(out, b"invalid width ", *place),
+        Verdict::UnknownGenerator { index } => write_place(
+            out,
+            b"invalid generator ",
+            *index as usize,
+        ),
+        Verdict::NegativeWeight { index } => write_place(
+            out,
+            b"invalid negative ",
+            *index as usize,
+        ),
+        Verdict::Width { place } => write_place(out, b"invalid width ", *place as usize),
         Verdict::Mismatch {
             coordinate,
             left,
@@ -132,18 +140,8 @@ pub fn write_factor_verdict(
 fn write_drop(out: &mut Vec<u8>, words: &[u8], ray: usize, number: usize) -> Result<(), AllocError>
     ensures { OnOk result (out.new.items ≡ out.old.items ++ (words.now ++ decimal ray ++ codes " " ++ decimal number)) }
 {
-    out.extend_from_slice(words)?;
-    write_number(out, ray)?;
-    out.extend_from_slice(b" ")?;
-    write_number(out, number)
-}
-
-/// Appends words and the number of a ray or of a row.
-fn write_at(out: &mut Vec<u8>, words: &[u8], place: usize) -> Result<(), AllocError>
-    ensures { OnOk result (out.new.items ≡ out.old.items ++ (words.now ++ decimal place)) }
-{
-    out.extend_from_slice(words)?;
-    write_number(out, place)
+    write_place(out, words, ray)?;
+    write_place(out, b" ", number)
 }
 
 /// Appends the words of what is wrong with the steps of a hull.
@@ -151,8 +149,8 @@ fn write_fault(out: &mut Vec<u8>, fault: &Fault) -> Result<(), AllocError>
     ensures { OnOk result (out.new.items ≡ out.old.items ++ (codes "invalid " ++ fault_text fault.now)) }
 {
     match fault {
-        Fault::TooMany { ray } => write_at(out, b"invalid many ", *ray),
-        Fault::TooWide { ray } => write_at(out, b"invalid wide ", *ray),
+        Fault::TooMany { ray } => write_place(out, b"invalid many ", *ray),
+        Fault::TooWide { ray } => write_place(out, b"invalid wide ", *ray),
         Fault::NoRow { ray, drop } => write_drop(out, b"invalid drop ", *ray, *drop),
         Fault::Refused { ray, drop, .. } => write_drop(out, b"invalid drop ", *ray, *drop),
     }
@@ -166,7 +164,7 @@ pub fn write_hull_verdict(out: &mut Vec<u8>, verdict: &HullVerdict) -> Result<()
     match verdict {
         HullVerdict::Valid => out.extend_from_slice(b"valid"),
         HullVerdict::Faulty(fault) => write_fault(out, fault),
-        HullVerdict::OtherRow { place } => write_at(out, b"invalid hull ", *place),
+        HullVerdict::OtherRow { place } => write_place(out, b"invalid hull ", *place),
     }
 }
 

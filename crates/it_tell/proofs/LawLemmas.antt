@@ -26,7 +26,7 @@ use Rattle.it_report.proofs.TruthLemmas.{valid_is_true}
 use Rattle.it_certificate.proofs.OneLemmas.{one_reading}
 use Rattle.it_certificate.specs.Reports as reports
 use Rattle.it_certificate.specs.Reports.{ReadsReport, Reading}
-use Rattle.it_certificate.specs.Sources.{Source, asked}
+use Rattle.it_certificate.specs.Sources.{asked}
 use Rattle.it_cli.specs.Ends.{Call}
 use Rattle.it_cli.specs.Modes.{WholeOutput}
 use Rattle.it_canon.specs.QuestionDemands.{question_origins}

@@ -1,5 +1,5 @@
 -- How a call of `tell` ends: what each status says of the words, of what the source gave and of what the sink took. It has no boxes.
-use Rattle.std.specs.Prelude.{◌≡◌, ℕ, List, [], codes, Bool, ◌⊎◌, Option, Some, None, option_and_then}
+use Rattle.std.specs.Prelude.{◌≡◌, ℕ, List, [], codes, ◌⊎◌, Option, Some, None, option_and_then}
 use Rattle.it_outside.specs.Traffic.{GaveMore, TookPrefix}
 use Rattle.std.specs.List.{list_any}
 use Rattle.it_outside.specs.Causes.{next_count}

@@ -1,5 +1,5 @@
 -- What follows from how a call of `tell` ends and from what may be told.
-use Rattle.std.specs.Prelude.{◌≡◌, ℕ, List, ◌++◌, ◌⊎◌, Bool, Some}
+use Rattle.std.specs.Prelude.{◌≡◌, ℕ, List, ◌++◌, ◌⊎◌, Some}
 use Rattle.it_space.specs.Answers.{AnswerView}
 use Rattle.it_certificate.specs.Sources.{Source, asked}
 use Rattle.it_report.specs.Meaning.{IsClaimTrue}

@@ -1,15 +1,14 @@
 -- The functions that are read off some of a problem's constraints are said by these.
 use Rattle.std.proofs.Common.{◌≡◌, ℕ, zero, suc, ◌+◌, ◌<◌, ℤ, pos, Bool, true, false, List, [], ◌∷◌, ◌++◌, length, map, take, get_or, All, refl, sym, ap, ◌∙◌, subst, arith}
-use Rattle.std.specs.List.{AllByRecursion as Every, AllZip}
+use Rattle.std.specs.List.{AllByRecursion as Every}
 use Rattle.std.proofs.lemmas.Grind.{take_at_read}
 use Rattle.std.proofs.lemmas.Int.{ints}
 use Rattle.std.proofs.lemmas.List.{length-map}
 use Rattle.std.proofs.lemmas.List.Elements.{All-cons, All-get_or, All-nil, Contains-get_or}
 use Rattle.it_space.specs.declared.spaces.Space.{Space}
 use Rattle.it_space.specs.declared.problems.Constraint.{Constraint}
-use Rattle.it_space.specs.Problems.{IsProblem}
 use Rattle.it_space.specs.Rows.{IsOver, Terms, value}
-use Rattle.it_space.specs.Spaces.{size_of, IsSpace}
+use Rattle.it_space.specs.Spaces.{size_of}
 use Rattle.it_space.proofs.EveryLemmas.{all_of}
 use Rattle.it_polymatroid.specs.Elementals.{elementals}
 use Rattle.it_elemental.specs.Generators.{Generator, forms_of, of_constraint, generator_at, is_equation}

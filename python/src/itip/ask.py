@@ -40,7 +40,7 @@ Answers question files in the field's own notation (docs/ask.md); - is standard 
 """
 VERSION = "ask 1\n"
 MODES = ("copy", "best", "sharing", "outer")
-REPORTS: dict[str, tuple[str, ...]] = {"answer": ("--format", "json"), "outer": ()}  # the words for a report; in mode `outer` rows have marks without it
+REPORTS: dict[str, tuple[str, ...]] = {"answer": ("--format", "json"), "outer": ()}  # the words for a report; the lines of `outer` have marks
 FEW_STEPS = "100"
 THEN = "  # then yes"  # behind what makes a yes of a no
 SETTINGS = ("--run", "--pivots", "--rows", "--tries")
@@ -307,7 +307,7 @@ class Asker:
             if why_open(line) and "--pivots" not in self.words.settings:
                 say_anew(name, number, UNDECIDED)
                 status, anew = self._itip(mode, asked.alone, pivots="none")
-                line = anew.split("\n")[-2] if status == 0 else line
+                line = anew.split("\n")[0] if status == 0 and anew.count("\n") == 1 else line
             first, parts = modes.shown(line, asked.made)
             told += [*modes.heading(mode, file), f"{number} {first}"]
             for part in parts:

@@ -6,11 +6,16 @@ import random
 from collections.abc import Callable, Iterable, Iterator, Mapping, Sequence
 from dataclasses import dataclass, field
 from fractions import Fraction
-from itertools import combinations, islice, product
-from typing import Optional, Tuple
+from typing import TYPE_CHECKING, Optional, Tuple
 
-from .evidence import Point
+from .evidence import Point, subset
+from .linear import code_at as code_of_ranks
+from .linear import subspaces as subspaces_of
+from .linear import without_code
 from .notation import Assumption, Constraint, Key, Sum
+
+if TYPE_CHECKING:
+    from . import linear
 
 Space = Tuple[int, ...]  # a basis: vectors as bits, with different leading ones
 Chosen = Mapping[str, Space]
@@ -35,19 +40,19 @@ def joined(spaces: Iterable[Space]) -> Space:
     return tuple(found)
 
 
+def bits_of(space: linear.Space) -> Space:
+    """The same space with vectors as bits: their first number is the greatest bit."""
+    return tuple(sum(number << place for place, number in enumerate(reversed(vector))) for vector in space)
+
+
 def subspaces(dimension: int, rank: int) -> Iterator[Space]:
-    """Each subspace once, by its reduced row echelon form.
+    """Each subspace once.
 
     >>> [len(list(subspaces(3, rank))) for rank in range(4)]
     [1, 7, 7, 1]
     """
-    for leads in combinations(range(dimension - 1, -1, -1), rank):
-        free = [[bit for bit in range(lead) if bit not in leads] for lead in leads]
-        for numbers in product(*(range(2 ** len(bits)) for bits in free)):
-            yield tuple(
-                1 << lead | sum(1 << bit for place, bit in enumerate(bits) if number >> place & 1)
-                for lead, bits, number in zip(leads, free, numbers)
-            )
+    whole = tuple(tuple(int(place == other) for other in range(dimension)) for place in range(dimension))
+    return map(bits_of, subspaces_of(whole, rank, 2))
 
 
 @dataclass(frozen=True)
@@ -69,53 +74,52 @@ class Code:
 
 
 class _Search:
-    """Chooses a space for one name after the other, depth first, as long as each choice fits those before it."""
+    """Chooses a space for one name after the other in random order, depth first, as long as each choice fits those before it."""
 
-    def __init__(self, spaces: Mapping[str, Sequence[Space]], fits: Callable[[Chosen, str], bool]) -> None:
+    def __init__(self, spaces: Mapping[str, Sequence[Space]], fits: Callable[[Chosen, str], bool], seed: int) -> None:
         self.spaces = spaces
         self.names = tuple(spaces)
         self.fits = fits
+        self.shuffle = random.Random(seed)
         self.left = 0  # steps; below 0 where they were too few
 
-    def run(self, steps: int, shuffle: Optional[random.Random] = None) -> Optional[Chosen]:
+    def run(self, steps: int) -> Optional[Chosen]:
         self.left = steps
-        return self._completed({}, shuffle)
+        return self._completed({})
 
-    def _completed(self, chosen: Chosen, shuffle: Optional[random.Random]) -> Optional[Chosen]:
+    def _completed(self, chosen: Chosen) -> Optional[Chosen]:
         if len(chosen) == len(self.names):
             return chosen
         name = self.names[len(chosen)]
         spaces = self.spaces[name]
-        for space in shuffle.sample(spaces, len(spaces)) if shuffle else spaces:
+        for space in self.shuffle.sample(spaces, len(spaces)):
             self.left -= 1
             if self.left < 0:
                 return None
             longer = {**chosen, name: space}
-            found = self._completed(longer, shuffle) if self.fits(longer, name) else None
+            found = self._completed(longer) if self.fits(longer, name) else None
             if found is not None:
                 return found
         return None
 
 
-def code_at(point: Point, steps: int = 200_000) -> Optional[Code]:
-    """A code that has just the point's entropies. None where there is none, or none is found within the steps.
+def code_at(point: Point) -> Optional[Code]:
+    """A code that has just the point's entropies. None where there is none, or none is found in time.
 
     With it the point is one of random variables: a relation that fails at the point fails for them.
     """
-    sizes, bits = _sizes(point)
-    if bits > MOST_BITS:
+    names = point.variables
+    entropies = [point.values[key] if key else 0 for key in (frozenset(subset(names, number)) for number in range(2 ** len(names)))]
+    if without_code(entropies, len(names)):
         return None
-    names = sorted(point.variables, key=lambda name: -sizes[name])
-    spaces = {name: list(islice(subspaces(bits, sizes[name]), steps)) for name in names}
-    spaces[names[0]] = spaces[names[0]][:1]  # all of one rank are alike
-
-    def fits(chosen: Chosen, name: str) -> bool:
-        others = [other for other in chosen if other != name]
-        groups = (frozenset((*group, name)) for size in range(len(others) + 1) for group in combinations(others, size))
-        return all(len(joined(chosen[member] for member in group)) == point.values[group] for group in groups)
-
-    found = _Search(spaces, fits).run(steps)
-    return None if found is None else Code(bits, {name: found[name] for name in point.variables})
+    found = code_of_ranks(entropies, len(names), fields=(2,))
+    if found is None:
+        return None
+    once = [bits_of(space) for space in found.spaces]
+    symbols = entropies[-1] // found.times
+    # as many codes side by side, each with bits of its own, as the point is times the ranks
+    copies = [symbols * number for number in reversed(range(found.times))]
+    return Code(entropies[-1], {name: tuple(vector << by for by in copies for vector in space) for name, space in zip(names, once)})
 
 
 @dataclass(frozen=True)
@@ -151,10 +155,9 @@ def code_for(point: Point, given: Sequence[Assumption], keep: Sequence[Sum] = ()
         named = {name for key in one.row if not isinstance(key, str) for name in key}
         if named:
             due[max(named, key=names.index)].append(one)
-    search = _Search(spaces, lambda chosen, name: all(one.holds(chosen, point) for one in due[name]))
-    shuffle = random.Random(seed)
+    search = _Search(spaces, lambda chosen, name: all(one.holds(chosen, point) for one in due[name]), seed)
     for _ in range(0, steps, STEPS_BEFORE_A_NEW_START):
-        found = search.run(STEPS_BEFORE_A_NEW_START, shuffle=shuffle)
+        found = search.run(STEPS_BEFORE_A_NEW_START)
         if found is not None:
             return Code(bits, {name: found[name] for name in point.variables})
         if search.left >= 0:

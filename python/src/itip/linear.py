@@ -1,4 +1,4 @@
-"""Linear codes at the points of `no`, for `./ask --code` (docs/ask.md): variables that are linear functions of a uniform message.
+"""Linear codes at points, as those of a `no` for `./ask --code` (docs/ask.md): variables that are linear functions of a uniform message.
 
 A vector has a number below q for each symbol of the message, and a space is a basis in echelon form: each vector begins with a 1, at a
 place of its own, where no other one has a number.
@@ -83,12 +83,12 @@ def without_code(h: Ranks, variables: int) -> tuple[int, ...]:
     return ()
 
 
-def code_at(h: Ranks, variables: int) -> Optional[Code]:
-    """A code whose ranks are the values, but for a number of times. None where none is found in time."""
+def code_at(h: Ranks, variables: int, fields: Sequence[int] = FIELDS) -> Optional[Code]:
+    """A code over one of the fields whose ranks are the values, but for a number of times. None where none is found in time."""
     times = gcd(*h) or 1
     ranks = [value // times for value in h]
     end = monotonic() + SECONDS
-    for elements in FIELDS:
+    for elements in fields:
         try:
             spaces = _Search(ranks, variables, elements, end).run() if elements ** ranks[-1] <= MOST_MESSAGES else None
         except Late:

@@ -102,9 +102,9 @@ def undecided(value: Mapping[str, Any]) -> str:
 def of_report(line: str) -> tuple[str, list[str]]:
     """What the line of a report says of factors, and the lines of a yes and a no that show it, empty where no question holds their numbers;
     for a sharing file by the question that it makes. Of `undecided` and `misfit` nothing is shown."""
-    value = decoded(line)
     if is_misfit(line):
-        return f"misfit {value.get('cause')}", []
+        return misfit(line), []
+    value = decoded(line)
     file, mode = (value["sharing"], "sharing") if "sharing" in value else (value.get("question", ""), "best")
     said, parts = shown(line, asked(mode, file, 1).made)
     return said, [part.report for part in parts]

@@ -1,4 +1,4 @@
-use Rattle.std.proofs.Common.{◌≡◌, ap, ◌∙◌, [], None, true, false, refl}
+use Rattle.std.proofs.Common.{◌≡◌, ap, ◌∙◌, sym, subst, [], Bool, true, false, None, IfOk, refl}
 use Rattle.it_run.proofs.AnswerLemmas.{if_ok}
 use Rattle.it_question.specs.Questions.{question_body, question_view}
 use Rattle.it_canon.specs.QuestionDemands.{question_origins}
@@ -12,19 +12,25 @@ use Rattle.it_cli.specs.Outputs.{outer_mode}
 use Rattle.it_cli.proofs.LineLemmas.{origins_same}
 use Rattle.it_cli.proofs.bounding.bound_lines.Goals as goal
 
-pub returns-in-then : goal.returns-in-then
-returns-in-then c = let q = question_view c.args.question.now in if_ok c.reply_report.result (λ t. IsToldReport c.args.limits q (reply_view c.in_ok-replied.replied.reply) t.items)
+pub returns-then-report : goal.returns-then-report
+returns-then-report c =
+    let q = question_view c.args.question.now in
+    subst (λ (b : Bool). IfOk c.reply_report.result (λ t. IsTextOf (outer_mode b c.args.limits) [] c.args.k q t.items)) (sym c.if-report.true)
+    (if_ok c.reply_report.result (λ t. IsToldReport c.args.limits q (reply_view c.in_ok-replied.replied.reply) t.items)
     (λ t. IsTextOf (outer_mode true c.args.limits) [] c.args.k q t.items) c.reply_report.ensures (λ t told. record {
       reply = record { reply = reply_view c.in_ok-replied.replied.reply; steps = told.0 };
       right = record { reply = c.in_ok-replied.ensures.right; steps = told.1 };
       is = told.2;
-    })
+    }))
 
-pub returns-in-else : goal.returns-in-else
-returns-in-else c = let q = question_body c.args.question.now in if_ok c.reply_lines.result (λ t. t.items ≡ reply_lines c.args.limits c.args.k q (origins_of c.as_slice.result.now) (reply_view c.in_ok-replied.replied.reply))
+pub returns : goal.returns
+returns c =
+    let q = question_body c.args.question.now in
+    subst (λ (b : Bool). IfOk c.reply_lines.result (λ t. IsTextOf (outer_mode b c.args.limits) [] c.args.k (question_view c.args.question.now) t.items)) (sym c.if-report.false)
+    (if_ok c.reply_lines.result (λ t. t.items ≡ reply_lines c.args.limits c.args.k q (origins_of c.as_slice.result.now) (reply_view c.in_ok-replied.replied.reply))
     (λ t. IsTextOf (outer_mode false c.args.limits) [] c.args.k (question_view c.args.question.now) t.items) c.reply_lines.ensures (λ t is. record {
       reply = record { reply = reply_view c.in_ok-replied.replied.reply; steps = None };
       right = record { reply = c.in_ok-replied.ensures.right; steps = refl };
       is = is ∙ ap (λ cs. reply_lines c.args.limits c.args.k q (origins_of cs) (reply_view c.in_ok-replied.replied.reply)) c.as_slice.ensures.value ∙ ap (λ xs. reply_lines c.args.limits c.args.k q xs (reply_view c.in_ok-replied.replied.reply))
           (origins_same (question_origins (under_all_lines q)) c.in_ok-replied.replied.problem.constraints.items c.in_ok-replied.ensures.problem.placed);
-    })
+    }))

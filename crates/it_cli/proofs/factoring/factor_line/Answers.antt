@@ -1,4 +1,4 @@
-use Rattle.std.proofs.Common.{◌≡◌, ap, ◌∙◌, []}
+use Rattle.std.proofs.Common.{◌≡◌, ap, ◌∙◌, [], false}
 use Rattle.it_run.proofs.AnswerLemmas.{if_ok}
 use Rattle.it_question.specs.Questions.{question_body, question_view}
 use Rattle.it_canon.specs.QuestionDemands.{question_origins}

@@ -1,8 +1,7 @@
-use Rattle.std.proofs.Common.{◌≡◌, length, All, sym, ap, subst, ◌∙◌}
+use Rattle.std.proofs.Common.{◌≡◌, length, All, sym, subst, ◌∙◌}
 use Rattle.it_space.specs.Spaces.{size_of}
 use Rattle.it_space.specs.declared.spaces.Space.{Space}
 use Rattle.it_spans.specs.Spans.{StepView, step_views}
-use Rattle.it_spans.specs.declared.types.Step.{Step}
 use Rattle.it_question.specs.Questions.{question_body}
 use Rattle.it_certificate.specs.Bounds.{bounds_view}
 use Rattle.it_report.proofs.FrameLemmas.{kept_at, steps_complete}

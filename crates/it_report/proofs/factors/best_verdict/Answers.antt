@@ -9,7 +9,7 @@ pub returns-clause-over : goal.returns-clause-over
 returns-clause-over c v e =
     let size = size_of c.args.problem.now.space + 1 in
     let over : IfOk c.match-best.given (IsFactorVerdictOver size) = elim c.match-best.branch [
-      in-Least w ↦ subst (λ r. IfOk r (IsFactorVerdictOver size)) (sym w.given-is) w.least_verdict-given.ensures.over
+      | in-Least w ↦ subst (λ r. IfOk r (IsFactorVerdictOver size)) (sym w.given-is) w.least_verdict-given.ensures.over
       | in-Never w ↦ subst (λ r. IfOk r (IsFactorVerdictOver size)) (sym w.given-is) w.never_verdict-given.ensures.over
       | in-Unbounded w ↦ subst (λ r. IfOk r (IsFactorVerdictOver size)) (sym w.given-is) w.unbounded_verdict-given.ensures.over
     ] in

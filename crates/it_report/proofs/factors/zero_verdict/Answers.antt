@@ -11,8 +11,13 @@ use Rattle.it_report.proofs.factors.zero_verdict.Goals as goal
 use mir.Syntax.{w128}
 
 pub overflow_add-place : goal.overflow_add-place
-overflow_add-place c = omega (arith, c.generator_count-place.ensures, c.requires.problem.few, few_elementals c.args.problem.now.space.variables c.requires.problem.space.few,
-    length-listed c.args.problem.now.space.variables c.args.problem.now.constraints.items)
+overflow_add-place c = omega (
+  arith,
+  c.generator_count-place.ensures,
+  c.requires.problem.few,
+  few_elementals c.args.problem.now.space.variables c.requires.problem.space.few,
+  length-listed c.args.problem.now.space.variables c.args.problem.now.constraints.items,
+)
 
 pub returns-in_default-clause-verdict : goal.returns-in_default-clause-verdict
 returns-in_default-clause-verdict c = ap (λ n. Checked (Width (n + 1))) c.generator_count-place.ensures
