@@ -26,6 +26,10 @@ def options(words):
     return dict(zip(words, words[1:]))
 
 
+# the word of the mode may stand behind options
+MODES = ("answer", "check", "bench", "copy", "best", "outer", "sharing")
+
+
 class Answers:
     """The answers that are due to the questions of a file, asked for in their order: a containment tries what the last one found."""
 
@@ -33,7 +37,8 @@ class Answers:
         chosen = {"--pivots": "20000", "--rows": "512", "--tries": "256", "--format": "text"} | options(words)
         self.pivots = None if chosen["--pivots"] == "none" else int(chosen["--pivots"])
         self.rows, self.tries = int(chosen["--rows"]), int(chosen["--tries"])
-        self.format, self.mode, self.is_quick = chosen["--format"], words[0] if words else "answer", chosen.get("--run") == "quick"
+        self.mode = next((word for word in words if word in MODES), "answer")
+        self.format, self.is_quick = chosen["--format"], chosen.get("--run") == "quick"
         self.reports, self.kept, self.steps = "--report" in words, None, 0
 
     def answer(self, question):

@@ -10,10 +10,10 @@ ghost use Rattle.it_best.specs.PhaseSteps.{AreSides, FirstSums, FollowsPoint, Fo
 
 use crate::judging::{below_proof, factor_proof, least_point, never_point};
 use crate::numbers::{factor_of, numbers, values_of, weights_of};
-use it_ratio::types::{Best, BestCause};
 use crate::unknowns::Unknown;
 use it_elemental::generator_count;
 use it_fraction::Fraction;
+use it_ratio::types::{Best, BestCause};
 use it_space::{Problem, Row, RowFault};
 use std::alloc::{AllocError, Global};
 

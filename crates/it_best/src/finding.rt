@@ -17,10 +17,10 @@ use crate::sizes::is_large;
 use crate::systems::{
     first_phase, left_equation, right_equation, second_phase, third_phase, with_term,
 };
-use it_ratio::types::{Best, BestCause};
 use crate::unknowns::{Unknown, columns, equations};
 use it_columns::opposite_row;
 use it_fraction::Fraction;
+use it_ratio::types::{Best, BestCause};
 use it_simplex::{Budget, Solved, solve};
 use it_space::{Problem, Row};
 use std::alloc::{AllocError, Global};

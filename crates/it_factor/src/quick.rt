@@ -17,11 +17,11 @@ ghost use Rattle.it_factor.specs.QuickSteps.{IsQuickBest, IsStep, IsTrial, answe
 
 use crate::joining::joined;
 use it_best::factor_row;
-use it_ratio::types::Best;
 use it_columns::opposite_row;
 use it_fraction::Fraction;
 use it_prove::{Proof, QUICK_STEPS, settle};
 use it_quick::QuickProblem;
+use it_ratio::types::Best;
 use it_space::{Certificate, Point, Problem, Row, RowFault, value};
 use std::alloc::{AllocError, Global};
 
