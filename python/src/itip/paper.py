@@ -180,8 +180,8 @@ class Paper:
             self._close_relations()
             self.parts.append(self._own_line(line))
             return
-        text, *comments = re.split(" *# ", line.lstrip(" "), maxsplit=1)
-        comment = "".join(comments)
+        text, *comments = re.split(" *# ", line.lstrip(" "))
+        comment = "; ".join(comments)
         if text.startswith("as row "):
             text = text[len("as row ") :]
             comment = "as the report has it" + (", " + comment if comment else "")
