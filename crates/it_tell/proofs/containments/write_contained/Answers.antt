@@ -22,8 +22,8 @@ write_own_lines-requires-clause-as_many c =
     ap length c.as_slice-rows.ensures.value
     ∙ obligation_rows_counted q parts c.args.proofs.now c.in_ok-rows.rows.items c.requires.fits (form_rows q (contained_by parts c.args.proofs.now) c.in_ok-rows.rows.items c.in_ok-rows.ensures)
 
-pub own_constraints-own-requires-clause-contains : goal.own_constraints-own-requires-clause-contains
-own_constraints-own-requires-clause-contains c = contained_is_about_regions (question_body c.args.asked.now.question.now) c.args.asked.now.parts.now (map certificate_view c.args.proofs.now) c.requires.fits
+pub own_constraints-requires-clause-contains : goal.own_constraints-requires-clause-contains
+own_constraints-requires-clause-contains c = contained_is_about_regions (question_body c.args.asked.now.question.now) c.args.asked.now.parts.now (map certificate_view c.args.proofs.now) c.requires.fits
 
 pub write_own_lines-requires-clause-contains : goal.write_own_lines-requires-clause-contains
 write_own_lines-requires-clause-contains c = contained_is_about_regions (question_body c.args.asked.now.question.now) c.args.asked.now.parts.now (map certificate_view c.args.proofs.now) c.requires.fits
