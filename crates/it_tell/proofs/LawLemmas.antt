@@ -11,7 +11,6 @@ use Rattle.it_space.specs.Answers.{AnswerView, CertificateView}
 use Rattle.it_space.specs.Answers.AnswerView.{Yes, No, Undecided, Region, Contained, Open}
 use Rattle.it_space.specs.Rows.{Terms}
 use Rattle.it_polymatroid.specs.Certificates.{Form}
-use Rattle.it_syntax.specs.NamesViews.{NamesView}
 use Rattle.it_question.specs.Questions.{BodyView, VerbView, Prove, Eliminate, Contain}
 use Rattle.it_question.specs.ProblemLines.{problem_names}
 use Rattle.it_check.specs.declared.verdicts.Verdict.{Verdict}

@@ -9,7 +9,6 @@ use Rattle.it_space.specs.declared.answers.Mark.{Mark}
 use Rattle.it_space.specs.Rows.{Terms}
 use Rattle.it_syntax.specs.NamesViews.{NamesView}
 use Rattle.it_print.specs.Lines.{IsRowOver}
-use Rattle.it_tell.specs.Settings.{is_plain}
 use Rattle.it_tell.specs.SortedRows.{is_before, order_key, put_in_order, rows_by_rates}
 use Rattle.it_tell.specs.Tellings.{told_rows}
 use Rattle.it_tell.specs.declared.settings.Style.{Style}

@@ -1,5 +1,5 @@
 -- The lines of a containment's second region.
-use Rattle.std.proofs.Common.{◌≡◌, ◌↔◌, ℕ, zero, suc, ◌+◌, ◌-◌, ◌<◌, ◌≤◌, ◌^◌, ◌==◌, ℤ, pos, ◌≤ℤ◌, inl, inr, ◌⊎◌, Bool, true, false, Option, None, Some, List, [], ◌∷◌, ◌++◌, append-nil, append_assoc, map, take, drop, length, get_or, if◌then◌else◌, codes, refl, sym, ap, ap₂, subst, subst₂, ◌∙◌, arith, drop-cons, length-append, length-drop, ne_eqb}
+use Rattle.std.proofs.Common.{◌≡◌, ◌↔◌, ℕ, zero, suc, ◌+◌, ◌-◌, ◌<◌, ◌≤◌, ◌^◌, ◌==◌, ℤ, pos, ◌≤ℤ◌, inl, inr, ◌⊎◌, Bool, true, false, None, Some, List, [], ◌∷◌, ◌++◌, append-nil, append_assoc, map, take, drop, length, get_or, if◌then◌else◌, codes, refl, sym, ap, ap₂, subst, subst₂, ◌∙◌, arith, drop-cons, length-append, length-drop, ne_eqb}
 use Rattle.std.specs.Prelude.{All}
 use Rattle.std.specs.List.{AllZip, zip}
 use Rattle.std.proofs.lemmas.List.Elements.{All-cons, All-head, All-nil, All-tail}
@@ -13,7 +13,7 @@ use Rattle.it_space.specs.declared.problems.Kind.TheVariants.{Inequality, Equati
 use Rattle.it_space.specs.declared.problems.Origin.{Origin}
 use Rattle.it_space.specs.declared.problems.Problem.{Problem}
 use Rattle.it_space.specs.Problems.{IsMet, IsProblem, problem_view}
-use Rattle.it_space.specs.Answers.{AnswerView, CertificateView, certificate_view}
+use Rattle.it_space.specs.Answers.{CertificateView, certificate_view}
 use Rattle.it_space.specs.Answers.AnswerView.{Contained}
 use Rattle.it_space.specs.Rows.{IsOver, Terms, value}
 use Rattle.it_space.specs.Spaces.{IsSpace, size_of}

@@ -1,7 +1,7 @@
 -- What is told of a line of a report: the verdict's own line where that is invalid, else the first line of its answer and below it, line by
 -- line, the answer's rows, its proofs, with their steps where these are asked for, or its point. Where proofs are asked for in which functions
 -- hold, rows stand in order, and what a containment obliges to stands under the line of the second region that does.
-use Rattle.std.specs.Prelude.{◌≡◌, ℕ, ℤ, List, [], ◌++◌, length, Bool, true, false, ◌⊎◌, Ok, codes, decimal, pos, ◌≤ℤ◌, All, if◌then◌else◌, ◌==◌, Option, Some, None}
+use Rattle.std.specs.Prelude.{◌≡◌, ℕ, ℤ, List, [], ◌++◌, length, Bool, true, false, ◌⊎◌, Ok, codes, decimal, pos, ◌≤ℤ◌, if◌then◌else◌, ◌==◌, Option, Some, None}
 use Rattle.std.specs.Fmt.{signed_decimal}
 use Rattle.std.specs.List.{flat_map, zip}
 use Rattle.it_outside.specs.Groups.{Groups}

@@ -1,5 +1,5 @@
 -- Rows that are told where functions hold.
-use Rattle.std.proofs.Common.{◌≡◌, ◌≢◌, ◌↔◌, ℕ, zero, suc, ◌+◌, ◌<◌, ℤ, pos, ◌≤ℤ◌, true, List, [], ◌∷◌, ◌++◌, length, map, flat_map, get_or, All, Option, None, Some, IfSome, refl, sym, ap, ◌∙◌, subst, arith}
+use Rattle.std.proofs.Common.{◌≡◌, ◌≢◌, ◌↔◌, ℕ, zero, suc, ◌+◌, ◌<◌, ℤ, pos, ◌≤ℤ◌, true, List, [], ◌∷◌, ◌++◌, length, map, get_or, All, Option, None, Some, IfSome, sym, ap, ◌∙◌, subst, arith}
 use Rattle.std.proofs.Math.Path.{fun_ext}
 use Rattle.std.proofs.lemmas.List.{get_or_append_left, length-map}
 use Rattle.std.proofs.lemmas.List.Elements.{All-cons, All-contains, All-head, All-nil, All-tail, All-weaker}
@@ -11,7 +11,7 @@ use Rattle.it_space.specs.declared.problems.Origin.{Origin}
 use Rattle.it_space.specs.Rows.{AreLowestTermsOf, HaveOneSign, Terms, value}
 use Rattle.it_polymatroid.specs.Polymatroid.{IsPolymatroid}
 use Rattle.it_polymatroid.specs.Certificates.{Generators}
-use Rattle.it_elemental.specs.Generators.{Generator, forms_of, of_constraint, generator_at, is_equation}
+use Rattle.it_elemental.specs.Generators.{Generator, forms_of, of_constraint, is_equation}
 use Rattle.it_closure.specs.declared.dependences.Dependence.{Dependence}
 use Rattle.it_closure.specs.Collapse.{IsCollapseOf, spread_out}
 use Rattle.it_closure.proofs.Places.{is_spread_out, place-zero}
@@ -19,10 +19,10 @@ use Rattle.it_syntax.specs.declared.types.Sign.TheVariants.{Equal}
 use Rattle.it_syntax.specs.Meaning.{Holds, RelationView, common_denominator, side_at}
 use Rattle.it_syntax.specs.NamesViews.{NamesView}
 use Rattle.it_demand.specs.Canonical.{IsRowOf, form_of}
-use Rattle.it_demand.specs.Demands.{Demand, demand_of, demands, equation}
-use Rattle.it_demand.specs.Origins.{AreStated, ComesFrom, States, given_origins, row_origins}
+use Rattle.it_demand.specs.Demands.{Demand, demand_of, equation}
+use Rattle.it_demand.specs.Origins.{AreStated, ComesFrom, given_origins, row_origins}
 use Rattle.it_demand.proofs.LimitLemmas.{given_origins-length}
-use Rattle.it_demand.proofs.MetLemmas.{IsSatisfied, givens_satisfied}
+use Rattle.it_demand.proofs.MetLemmas.{givens_satisfied}
 use Rattle.it_question.specs.Questions.{BodyView}
 use Rattle.it_question.specs.ProblemLines.{problem_lines, problem_names}
 use Rattle.it_canon.specs.TrueLines.{variable_count}
@@ -30,7 +30,7 @@ use Rattle.it_canon.specs.QuestionDemands.{question_demands, question_origins}
 use Rattle.it_print.specs.Lines.{origins_of}
 use Rattle.it_terms.specs.FunctionProofs.{IsSaid, by_comment}
 use Rattle.it_terms.specs.Proofs.{constraints_of, demand_at}
-use Rattle.it_terms.specs.RowsUnder.{AreEquations, AreZeroAt, IsPrintedRow, PrintedRowsSay, SaysRowUnder, TellsRowUnder, given_demands}
+use Rattle.it_terms.specs.RowsUnder.{AreZeroAt, IsPrintedRow, PrintedRowsSay, SaysRowUnder, given_demands}
 use Rattle.it_terms.specs.Signs.{AreGivenEquations, AreLeastSpreadOut, HasSignUnder, IsGiven, IsGivenEquation, IsPrintedRowFrom, SaysSpreadOut, TellsRowBy}
 use Rattle.it_terms.specs.Tells.{IsRelationText}
 use Rattle.it_terms.proofs.JudgedTexts.{compares_by_difference}

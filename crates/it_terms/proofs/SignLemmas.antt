@@ -9,9 +9,9 @@ use Rattle.std.proofs.lemmas.List.Elements.{All-cons, All-head, All-nil, All-tai
 use Rattle.it_space.specs.declared.spaces.Space.{Space}
 use Rattle.it_space.specs.Rows.{AreLowestTermsOf, Terms, value}
 use Rattle.it_polymatroid.specs.Certificates.{Form}
-use Rattle.it_syntax.specs.Meaning.{RelationView, Holds, common_denominator, side_at}
+use Rattle.it_syntax.specs.Meaning.{RelationView, common_denominator, side_at}
 use Rattle.it_syntax.specs.NamesViews.{NamesView}
-use Rattle.it_demand.specs.Canonical.{IsRowOf, form_of}
+use Rattle.it_demand.specs.Canonical.{form_of}
 use Rattle.it_demand.specs.SystemForms.{AreRowsOf}
 use Rattle.it_demand.specs.Targets.{targets}
 use Rattle.it_demand.proofs.MetLemmas.{targets_met}
