@@ -1,5 +1,5 @@
 -- What a call that is done has written, that each line has a telling, and that what is told is true.
-use Rattle.std.proofs.Common.{◌≡◌, ℕ, ℤ, ◌+◌, inl, inr, List, [], ◌∷◌, ◌++◌, Bool, true, false, Option, Some, None, Ok, option_and_then, codes, refl, ap, sym, subst, ◌∙◌}
+use Rattle.std.proofs.Common.{◌≡◌, ℕ, ℤ, ◌+◌, inl, inr, List, [], ◌∷◌, ◌++◌, Bool, true, false, Option, Some, None, Ok, option_and_then, codes, length, ◌==◌, refl, ap, sym, subst, ◌∙◌}
 use Rattle.std.specs.List.{zip}
 use Rattle.std.proofs.lemmas.Bool.{true≢false}
 use Rattle.it_outside.specs.Groups.{Groups}
@@ -11,7 +11,6 @@ use Rattle.it_space.specs.Answers.{AnswerView, CertificateView}
 use Rattle.it_space.specs.Answers.AnswerView.{Yes, No, Undecided, Region, Contained, Open}
 use Rattle.it_space.specs.Rows.{Terms}
 use Rattle.it_polymatroid.specs.Certificates.{Form}
-use Rattle.it_syntax.specs.NamesViews.{NamesView}
 use Rattle.it_question.specs.Questions.{BodyView, VerbView, Prove, Eliminate, Contain}
 use Rattle.it_question.specs.ProblemLines.{problem_names}
 use Rattle.it_check.specs.declared.verdicts.Verdict.{Verdict}
@@ -30,9 +29,13 @@ use Rattle.it_certificate.specs.Sources.{asked}
 use Rattle.it_cli.specs.Ends.{Call}
 use Rattle.it_cli.specs.Modes.{WholeOutput}
 use Rattle.it_canon.specs.QuestionDemands.{question_origins}
+use Rattle.it_canon.specs.TrueLines.{variable_count}
 use Rattle.it_cli.specs.declared.status.Status.{Status}
 use Rattle.it_cli.specs.declared.status.Status.TheVariants.{Done, Invalid}
-use Rattle.it_tell.specs.Tellings.{Answered, AreDetails, AreProofTexts, Each, IsMarkedRowText, IsPointText, IsProofText, IsRowText, IsTelling, ProofTexts, Telling, indented_line, mark_comment, proof_lines}
+use Rattle.it_tell.specs.Tellings.{Answered, AreContainedLines, AreDetails, AreOwnLineTexts, AreProofTexts, Each, IsMarkedRowText, IsPointText, IsProofText, IsRowText, IsTelling, ProofTexts, Telling, TellsObligation, indented_line, mark_comment, obligation_lines, proof_lines, told_rows}
+use Rattle.it_tell.specs.OwnLines.{OwnLine, own_line_comment, own_lines}
+use Rattle.it_tell.specs.declared.settings.Style.{Style}
+use Rattle.it_tell.specs.declared.settings.Style.TheVariants.{Plain, Named, Whole}
 use Rattle.it_tell.specs.Tellings as tellings
 use Rattle.it_tell.specs.declared.settings.Options.{Options}
 use Rattle.it_tell.specs.declared.settings.Settings.TheVariants.{Tell}
@@ -80,9 +83,9 @@ module _ {X A : Type 0} (shown : A → List ℕ) (tells : X → A → Type 0) (e
   lines_there : (items : List X) → (out : List ℕ) × Each shown tells items out
   lines_there items = lines_from 1 items
 
-row_there : (v : NamesView) (row : Mark × Terms) → (text : List ℕ) × IsMarkedRowText v row text
+row_there : (q : BodyView) (style : Style) (row : Mark × Terms) → (text : List ℕ) × IsMarkedRowText q style row text
 unfolding IsMarkedRowText IsRowText
-row_there v row = let own = codes "as row " ++ row_text v Inequality row.1 in (own ++ mark_comment row.0, (own, (inr refl, refl)))
+row_there q style row = let own = codes "as row " ++ row_text (problem_names q) Inequality row.1 in (own ++ mark_comment row.0, (own, (inr (inr refl), refl)))
 
 proof_there : (q : BodyView) (options : Options) (proof : Form × CertificateView) → (t : ProofTexts) × AreProofTexts q options proof t
 unfolding AreProofTexts IsProofText
@@ -92,13 +95,29 @@ point_there : (q : BodyView) (values : List ℤ) → (text : List ℕ) × IsPoin
 unfolding IsPointText
 point_there q values = (codes "as point " ++ values_text (problem_names q) values, inr refl)
 
+obligation_there : (q : BodyView) (options : Options) (proof : Form × CertificateView) → (t : Option ProofTexts) × TellsObligation q options proof t
+obligation_there q options proof = let t = proof_there q options proof in (Some t.0, t.1)
+
+own_line_there : (q : BodyView) (options : Options) (parts : List ℕ) (line : OwnLine) → (out : List ℕ) × AreOwnLineTexts q options parts line out
+own_line_there q options parts line =
+    let below = lines_there obligation_lines (TellsObligation q options) (obligation_there q options) (zip line.forms line.proofs) in (
+      indented_line (own_line_comment q parts line.origin [] (length below.0 == 0)) ++ below.0,
+      record { relation = []; proofs = below.0; says = inr refl; are = below.1; out_is = refl },
+    )
+
+contained_there : (q : BodyView) (options : Options) (style : Style) (parts : List ℕ) (ws : List CertificateView) → (out : List ℕ) × AreContainedLines q options style parts ws out
+unfolding AreContainedLines
+contained_there q options Plain parts ws = lines_there proof_lines (AreProofTexts q options) (proof_there q options) (zip (answer_forms q (Contained parts ws)) ws)
+contained_there q options Named parts ws = lines_there (λ lines. lines) (AreOwnLineTexts q options parts) (own_line_there q options parts) (own_lines q parts ws)
+contained_there q options Whole parts ws = lines_there (λ lines. lines) (AreOwnLineTexts q options parts) (own_line_there q options parts) (own_lines q parts ws)
+
 details_there : (q : BodyView) (options : Options) (a : AnswerView) → (out : List ℕ) × AreDetails q options a out
 unfolding AreDetails
 details_there q options (Yes proofs) = lines_there proof_lines (AreProofTexts q options) (proof_there q options) (zip (answer_forms q (Yes proofs)) proofs)
 details_there q options (No back values) = let point = point_there q values in (indented_line point.0, (point.0, (point.1, refl)))
 details_there q options (Undecided cause) = ([], refl)
-details_there q options (Region rows) = lines_there indented_line (IsMarkedRowText (problem_names q)) (row_there (problem_names q)) rows
-details_there q options (Contained parts proofs) = lines_there proof_lines (AreProofTexts q options) (proof_there q options) (zip (answer_forms q (Contained parts proofs)) proofs)
+details_there q options (Region rows) = lines_there indented_line (IsMarkedRowText q options.style) (row_there q options.style) (told_rows options.style (variable_count q) rows)
+details_there q options (Contained parts proofs) = contained_there q options options.style parts proofs
 details_there q options (Open tried) = ([], refl)
 
 reading_there : (options : Options) (line : List ℕ) (v : LineVerdict) → IsVerdict line v → is_invalid v ≡ false → (x : Reading) → ReadsReport line (Ok x) → (telling : Telling) × IsTelling options line telling

@@ -5,3 +5,5 @@ pub mod EndLemmas
 pub mod DetailLemmas
 pub mod LawLemmas
 pub mod ProofLemmas
+pub mod OrderLemmas
+pub mod OwnLineLemmas

@@ -1,3 +1,5 @@
+pub mod SortedRows
+pub mod OwnLines
 pub mod Tellings
 pub mod Settings
 pub mod Ends

@@ -1,6 +1,7 @@
 -- What is told of a line of a report: the verdict's own line where that is invalid, else the first line of its answer and below it, line by
--- line, the answer's rows, its proofs, with their steps where these are asked for, or its point.
-use Rattle.std.specs.Prelude.{◌≡◌, ℕ, ℤ, List, [], ◌++◌, length, Bool, true, false, ◌⊎◌, Ok, codes, decimal}
+-- line, the answer's rows, its proofs, with their steps where these are asked for, or its point. Where proofs are asked for in which functions
+-- hold, rows stand in order, and what a containment obliges to stands under the line of the second region that does.
+use Rattle.std.specs.Prelude.{◌≡◌, ℕ, ℤ, List, [], ◌++◌, length, Bool, true, false, ◌⊎◌, Ok, codes, decimal, pos, ◌≤ℤ◌, if◌then◌else◌, ◌==◌, Option, Some, None}
 use Rattle.std.specs.Fmt.{signed_decimal}
 use Rattle.std.specs.List.{flat_map, zip}
 use Rattle.it_outside.specs.Groups.{Groups}
@@ -12,6 +13,7 @@ use Rattle.it_space.specs.Answers.{AnswerView, CertificateView}
 use Rattle.it_space.specs.Answers.AnswerView.{Yes, No, Undecided, Region, Contained, Open}
 use Rattle.it_space.specs.Rows.{Terms}
 use Rattle.it_polymatroid.specs.Certificates.{Form}
+use Rattle.it_polymatroid.specs.Polymatroid.{IsPolymatroid}
 use Rattle.it_syntax.specs.NamesViews.{NamesView}
 use Rattle.it_question.specs.Questions.{BodyView}
 use Rattle.it_question.specs.ProblemLines.{problem_names}
@@ -20,9 +22,9 @@ use Rattle.it_certificate.specs.Reports as reports
 use Rattle.it_certificate.specs.Reports.{ReadsReport}
 use Rattle.it_certificate.specs.Sources.{Source, asked}
 use Rattle.it_print.specs.Lines.{certificate_text, contained_line, open_line, row_text, undecided_line, values_text, variable_names}
-use Rattle.it_ratio.specs.BestViews.{BestView, Least, Never, Unbounded}
-use Rattle.it_ratio.specs.BestViews.{BestView as bests}
-use Rattle.it_terms.specs.Tells.{TellsRow}
+use Rattle.it_ratio.specs.BestViews.{BestView, Least, Never, Unbounded, BestView as bests}
+use Rattle.it_terms.specs.RowsUnder.{IsPrintedRow}
+use Rattle.it_terms.specs.Tells.{TellsForms, TellsRow}
 use Rattle.it_terms.specs.Proofs.{TellsForm}
 use Rattle.it_terms.specs.FunctionProofs.{TellsFormUnder, by_comment}
 use Rattle.it_facts.specs.Points.{TellsPoint}
@@ -31,6 +33,10 @@ use Rattle.it_report.specs.Judging.{IsVerdict}
 use Rattle.it_region.specs.AnswerForms.{answer_forms}
 use Rattle.it_report.specs.LineVerdicts.{LineVerdict, is_invalid, numbered_line, verdict_line}
 use Rattle.it_canon.specs.QuestionDemands.{question_origins}
+use Rattle.it_canon.specs.TrueLines.{variable_count}
+use Rattle.it_tell.specs.OwnLines.{OwnLine, own_line_comment, own_lines}
+use Rattle.it_tell.specs.Settings.{is_plain}
+use Rattle.it_tell.specs.SortedRows.{rows_by_rates}
 use Rattle.it_tell.specs.declared.settings.Options.{Options}
 use Rattle.it_tell.specs.declared.settings.Style.{Style}
 use Rattle.it_tell.specs.declared.settings.Style.TheVariants.{Plain, Named, Whole}
@@ -49,9 +55,13 @@ step_line text = codes "    " ++ text ++ codes "\n"
 abbrev pub Each : {X A : Type 0} → (A → List ℕ) → (X → A → Type 0) → List X → List ℕ → Type 0
 Each {X} {A} shown tells items out = Groups (λ (s : Unit {0}) (x : X) (a : A). tells x a) (λ (s : Unit {0}) (x : X) (a : A). s) (λ (k : ℕ) (x : X) (a : A). shown a) 1 tt items tt out
 
--- a row in the question's own terms, or as reports have it and said to be that
-unfoldable pub IsRowText : NamesView → Terms → List ℕ → Type 0
-IsRowText v row text = TellsRow v row text ⊎ (text ≡ codes "as row " ++ row_text v Inequality row)
+-- a row told in the terms of an equal one where the question's functions hold, and behind it the lines that say these; plain ones aren't
+unfoldable pub IsPrintedRowText : BodyView → Style → Terms → List ℕ → Type 0
+IsPrintedRowText q style row text = (is_plain style ≡ false) × ((own : List ℕ) × (by : List ℕ) × (IsPrintedRow q row own by × (text ≡ own ++ by)))
+
+-- a row in the question's own terms, for all maps or where functions hold, or as reports have it and said to be that
+unfoldable pub IsRowText : BodyView → Style → Terms → List ℕ → Type 0
+IsRowText q style row text = TellsRow (problem_names q) row text ⊎ (IsPrintedRowText q style row text ⊎ (text ≡ codes "as row " ++ row_text (problem_names q) Inequality row))
 
 -- what is said of a row that isn't known to be needed, as a comment
 abbrev pub mark_comment : Mark → List ℕ
@@ -60,8 +70,12 @@ mark_comment Needed = []
 mark_comment Unsettled = codes "  # unsettled"
 
 -- a row of a region
-unfoldable pub IsMarkedRowText : NamesView → Mark × Terms → List ℕ → Type 0
-IsMarkedRowText v row text = (own : List ℕ) × (IsRowText v row.1 own × (text ≡ own ++ mark_comment row.0))
+unfoldable pub IsMarkedRowText : BodyView → Style → Mark × Terms → List ℕ → Type 0
+IsMarkedRowText q style row text = (own : List ℕ) × (IsRowText q style row.1 own × (text ≡ own ++ mark_comment row.0))
+
+-- the rows of a region in the order in which they are told: plain ones as they are
+abbrev pub told_rows : Style → ℕ → List (Mark × Terms) → List (Mark × Terms)
+told_rows style n rows = if is_plain style then rows else rows_by_rates n rows
 
 -- the weights of a certificate as answers have them, and said to be that
 abbrev pub weights_text : BodyView → List Origin → CertificateView → List ℕ
@@ -107,13 +121,42 @@ AreProofSteps q options proof steps = (steps ≡ []) ⊎ ((options.steps ≡ tru
 unfoldable pub AreProofTexts : BodyView → Options → Form × CertificateView → ProofTexts → Type 0
 AreProofTexts q options proof t = IsProofText q options.style proof t.proof × AreProofSteps q options t.proof t.steps
 
+-- Shannon's inequalities alone say that the form is at least 0: it is so at each polymatroid of n variables.
+abbrev pub IsByShannon : ℕ → Form → Type 0
+IsByShannon n form = (p : ℕ → ℤ) → IsPolymatroid n p → pos 0 ≤ℤ form p
+
+-- how an obligation is told: by nothing where Shannon's inequalities alone say it, else by texts of its proof
+abbrev pub TellsObligation : BodyView → Options → Form × CertificateView → Option ProofTexts → Type 0
+TellsObligation q options proof None = IsByShannon (variable_count q) proof.0
+TellsObligation q options proof (Some texts) = AreProofTexts q options proof texts
+
+-- its lines
+abbrev pub obligation_lines : Option ProofTexts → List ℕ
+obligation_lines None = []
+obligation_lines (Some texts) = proof_lines texts
+
+-- A line of the second region with sets put in for its auxiliary variables, as a relation that says what it obliges to or without one, and
+-- below it how that is proved. Where nothing stands below it, it says that Shannon's inequalities are enough.
+pub record AreOwnLineTexts (q : BodyView) (options : Options) (parts : List ℕ) (line : OwnLine) (out : List ℕ) : Type 0 where
+  pub relation : List ℕ
+  pub proofs : List ℕ
+  pub says : TellsForms (problem_names q) line.forms relation ⊎ (relation ≡ [])
+  pub are : Each obligation_lines (TellsObligation q options) (zip line.forms line.proofs) proofs
+  pub out_is : out ≡ indented_line (own_line_comment q parts line.origin relation (length proofs == 0)) ++ proofs
+
+-- the lines of a containment: the proofs of its obligations one after the other, or each under its line of the second region
+unfoldable pub AreContainedLines : BodyView → Options → Style → List ℕ → List CertificateView → List ℕ → Type 0
+AreContainedLines q options Plain parts ws out = Each proof_lines (AreProofTexts q options) (zip (answer_forms q (Contained parts ws)) ws) out
+AreContainedLines q options Named parts ws out = Each (λ lines. lines) (AreOwnLineTexts q options parts) (own_lines q parts ws) out
+AreContainedLines q options Whole parts ws out = Each (λ lines. lines) (AreOwnLineTexts q options parts) (own_lines q parts ws) out
+
 -- the lines below the first one: of the proofs of what the answer says, of its rows, or of its point
 unfoldable pub AreDetails : BodyView → Options → AnswerView → List ℕ → Type 0
 AreDetails q options (Yes proofs) out = Each proof_lines (AreProofTexts q options) (zip (answer_forms q (Yes proofs)) proofs) out
 AreDetails q options (No back values) out = (text : List ℕ) × (IsPointText (problem_names q) values text × (out ≡ indented_line text))
 AreDetails q options (Undecided cause) out = out ≡ []
-AreDetails q options (Region rows) out = Each indented_line (IsMarkedRowText (problem_names q)) rows out
-AreDetails q options (Contained parts proofs) out = Each proof_lines (AreProofTexts q options) (zip (answer_forms q (Contained parts proofs)) proofs) out
+AreDetails q options (Region rows) out = Each indented_line (IsMarkedRowText q options.style) (told_rows options.style (variable_count q) rows) out
+AreDetails q options (Contained parts proofs) out = AreContainedLines q options options.style parts proofs out
 AreDetails q options (Open tried) out = out ≡ []
 
 -- ---- the first line
