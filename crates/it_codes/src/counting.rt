@@ -1,6 +1,6 @@
 //! The messages at which functions are 0, by counting.
-ghost use Rattle.std.specs.Prelude.{◌≡◌, ◌+◌, ◌*◌, ◌≤◌, ◌^◌, ◌<◌, cond, length, IfOk};
-ghost use Rattle.it_codes.specs.Codes.{size, IsCode, count_around, is_zero_at, vanishes, zero_set, zero_sets};
+ghost use Rattle.std.specs.Prelude.{◌≡◌, ◌+◌, ◌*◌, ◌≤◌, ◌^◌, ◌<◌, cond, length, map, IfOk};
+ghost use Rattle.it_codes.specs.Codes.{IsCode, code_sets, code_view, count_around, functions_of, is_zero_at, size, vanishes, zero_set};
 
 use crate::codes::{LinearCode, Variable};
 use std::alloc::{AllocError, Global};
@@ -21,10 +21,11 @@ fn is_zero_at(size: u32, message: u32, function: &[u8]) -> bool
 }
 
 /// Whether all functions of a variable are 0 at a message.
+#[tactic(auto, using(crate::proofs::CountingLemmas::all_vanish))]
 fn vanishes(size: u32, message: u32, variable: &Variable) -> bool
     requires some { 1 ≤ size }
     requires few { size ≤ 3 }
-    ensures { result ≡ vanishes size message variable.now }
+    ensures { result ≡ vanishes size message (functions_of variable.now) }
 {
     variable
         .functions
@@ -47,7 +48,7 @@ fn zero_set(size: u32, message: u32, variables: &[Variable]) -> u16
     requires some { 1 ≤ size }
     requires few { size ≤ 3 }
     requires variables { length variables.now ≤ 10 }
-    ensures { result ≡ zero_set size message variables.now }
+    ensures { result ≡ zero_set size message (map functions_of variables.now) }
 {
     let mut set = 0;
     let mut place = 1;
@@ -60,7 +61,7 @@ fn zero_set(size: u32, message: u32, variables: &[Variable]) -> u16
 
 /// How many messages there are.
 pub fn message_count(code: &LinearCode) -> u32
-    requires { IsCode code.now }
+    requires { IsCode (code_view code.now) }
     ensures { result ≡ size code.now.field ^ code.now.symbols }
 {
     code.field.size().pow(code.symbols as u32)
@@ -68,8 +69,8 @@ pub fn message_count(code: &LinearCode) -> u32
 
 /// The sets of variables that are 0, at each message.
 pub fn zero_sets(alloc: Global, code: &LinearCode) -> Result<Vec<u16>, AllocError>
-    requires { IsCode code.now }
-    ensures { IfOk result (λ v. v.items ≡ zero_sets (size code.now.field) code.now.symbols code.now.variables.items) }
+    requires { IsCode (code_view code.now) }
+    ensures { IfOk result (λ v. v.items ≡ code_sets (code_view code.now)) }
 {
     let size = code.field.size();
     (0..message_count(code))
