@@ -1,6 +1,6 @@
 -- A point has a first set whose value isn't so many times the entropy by a code, or it has none, and one alone.
 use Rattle.std.proofs.Common.{◌≡◌, ◌⊎◌, inl, inr, ◌+◌, ◌-◌, ◌*◌, ◌^◌, ◌<◌, ◌≤◌, ◌∙◌, ℕ, zero, suc, ℤ, pos, negsuc, List, Option, Some, None, refl, ap, sym, subst, arith}
-use Rattle.std.proofs.Math.Nat.{mul-le-mul_left, mul_comm, pow-suc, zero-mul}
+use Rattle.std.proofs.Math.Nat.{mul-le-mul_left, mul_comm, one-le-pow, pow-suc, zero-mul}
 use Rattle.std.proofs.lemmas.Bool.{cases_order}
 use Rattle.std.proofs.lemmas.Nat.{pow_pos}
 use Rattle.it_space.specs.Rows.{point_of}
@@ -34,7 +34,7 @@ value_or_not (negsuc m) n = inr (negative m n)
 -- ---- powers
 
 above_exponent : (q h : ℕ) → 2 ≤ q → h < q ^ h
-above_exponent q zero some = let one : q ^ 0 ≡ 1 = refl in omega (arith, one)
+above_exponent q zero some = one-le-pow 0 q (omega (arith, some))
 above_exponent q (suc h) some =
     let before : h < q ^ h = above_exponent q h some in
     let next : q ^ suc h ≡ q ^ h * q = pow-suc q h in

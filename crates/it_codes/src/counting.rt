@@ -1,5 +1,6 @@
 //! The messages at which functions are 0, by counting.
 ghost use Rattle.std.specs.Prelude.{◌≡◌, ◌+◌, ◌*◌, ◌≤◌, ◌^◌, ◌<◌, cond, length, map, IfOk};
+ghost use Rattle.std.specs.List.{list_all, range_with_len};
 ghost use Rattle.it_codes.specs.Codes.{IsCode, code_sets, code_view, count_around, functions_of, is_zero_at, size, vanishes, zero_set};
 
 use crate::codes::{LinearCode, Variable};
@@ -20,17 +21,24 @@ fn is_zero_at(size: u32, message: u32, function: &[u8]) -> bool
     sum == 0
 }
 
+/// Whether all of some functions are 0 at a message.
+fn are_zero_at(size: u32, message: u32, functions: &[Vec<u8>]) -> bool
+    requires some { 1 ≤ size }
+    requires few { size ≤ 3 }
+    ensures { result ≡ list_all (λ f. is_zero_at size message f.items) functions.now }
+{
+    functions
+        .iter()
+        .all(|function| is_zero_at(size, message, function.as_slice()))
+}
+
 /// Whether all functions of a variable are 0 at a message.
-#[tactic(auto, using(crate::proofs::CountingLemmas::all_vanish))]
 fn vanishes(size: u32, message: u32, variable: &Variable) -> bool
     requires some { 1 ≤ size }
     requires few { size ≤ 3 }
     ensures { result ≡ vanishes size message (functions_of variable.now) }
 {
-    variable
-        .functions
-        .iter()
-        .all(|function| is_zero_at(size, message, function.as_slice()))
+    are_zero_at(size, message, variable.functions.as_slice())
 }
 
 /// A number with a place added, or without.
@@ -67,15 +75,35 @@ pub fn message_count(code: &LinearCode) -> u32
     code.field.size().pow(code.symbols as u32)
 }
 
+/// The sets of variables that are 0, at each of so many messages.
+fn sets_at(
+    alloc: Global,
+    size: u32,
+    count: u32,
+    variables: &[Variable],
+) -> Result<Vec<u16>, AllocError>
+    requires some { 1 ≤ size }
+    requires few { size ≤ 3 }
+    requires variables { length variables.now ≤ 10 }
+    ensures { IfOk result (λ v. v.items ≡ map (λ message. zero_set size message (map functions_of variables.now)) (range_with_len 0 count)) }
+{
+    (0..count)
+        .map(|message| zero_set(size, message, variables))
+        .collect(alloc)
+}
+
 /// The sets of variables that are 0, at each message.
+#[tactic(auto, using(crate::proofs::CountingLemmas::few_items))]
 pub fn zero_sets(alloc: Global, code: &LinearCode) -> Result<Vec<u16>, AllocError>
     requires { IsCode (code_view code.now) }
     ensures { IfOk result (λ v. v.items ≡ code_sets (code_view code.now)) }
 {
-    let size = code.field.size();
-    (0..message_count(code))
-        .map(|message| zero_set(size, message, code.variables.as_slice()))
-        .collect(alloc)
+    sets_at(
+        alloc,
+        code.field.size(),
+        message_count(code),
+        code.variables.as_slice(),
+    )
 }
 
 /// How many of some sets hold all members of a set.
