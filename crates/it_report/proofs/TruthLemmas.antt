@@ -30,6 +30,7 @@ use Rattle.it_region.proofs.ExistenceLemmas.{obligation_rows_there}
 use Rattle.it_region.proofs.RegionLemmas.{obligations_contain}
 use Rattle.it_region.proofs.TextLemmas.{rows_as_pulled}
 use Rattle.it_certificate.specs.AnswerShapes.{HasQuestionShape, HasContainmentShape}
+use Rattle.it_certificate.specs.CodeReading.{ReportedCodeView}
 use Rattle.it_certificate.specs.Reports.{Answered, Coded, ReadsReport}
 use Rattle.it_certificate.specs.Sources.{IsSourceAt, IsSourceOf, Source, asked}
 use Rattle.it_certificate.proofs.OneLemmas.{one_reading}
@@ -63,6 +64,9 @@ limits_question line source a h = source_limits h.value source (source_read line
 
 pub small_numbers : (line : List ℕ) (source : Source) (a : AnswerView) → ReadsReport line (Ok (Answered source a)) → QuestionHasSmallNumbers (asked source).body
 small_numbers line source a h = source_numbers h.value source (source_read line source a h)
+
+pub coded_numbers : (line : List ℕ) (source : Source) (a : AnswerView) (c : ReportedCodeView) → ReadsReport line (Ok (Coded source a c)) → QuestionHasSmallNumbers (asked source).body
+coded_numbers line source a c h = source_numbers h.value source (subst (IsSourceAt h.value) (coded_is h.reads.own h.value source a c h.reads.is).0 h.reads.source)
 
 -- ---- valid certificates
 

@@ -5,3 +5,4 @@ pub mod EndLemmas
 pub mod DetailLemmas
 pub mod LawLemmas
 pub mod ProofLemmas
+mod CodeLemmas

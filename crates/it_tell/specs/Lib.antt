@@ -1,3 +1,4 @@
+pub mod CodeTexts
 pub mod Tellings
 pub mod Settings
 pub mod Ends

@@ -31,7 +31,7 @@ use std::alloc::{AllocError, Global};
 
 /// Appends a text as a line below the first one.
 #[tactic(auto, unfolding(crate::specs::Tellings::indented_line))]
-fn write_indented(out: &mut Vec<u8>, text: &[u8]) -> Result<(), AllocError>
+pub fn write_indented(out: &mut Vec<u8>, text: &[u8]) -> Result<(), AllocError>
     ensures { OnOk result (out.new.items ≡ out.old.items ++ indented_line text.now) }
 {
     out.extend_from_slice(b"  ")?;
