@@ -1,5 +1,5 @@
 -- The line about a report's line, step by step as the code forms it.
-use Rattle.std.proofs.Common.{◌≡◌, ℕ, ℤ, lit<, ◌+◌, ◌^◌, ◌<◌, ◌≤◌, List, length, take, Bool, true, false, Option, Some, None, option_and_then, Result, Ok, Err, IfOk, refl, sym, ap, ap₂, ◌∙◌, subst, arith, map}
+use Rattle.std.proofs.Common.{◌≡◌, ℕ, ℤ, lit<, ◌+◌, ◌-◌, ◌^◌, ◌<◌, ◌≤◌, List, length, take, Bool, true, false, Option, Some, None, option_and_then, Result, Ok, Err, IfOk, refl, sym, ap, ap₂, ◌∙◌, subst, arith, map}
 use Rattle.std.specs.Prelude.{is_some, not}
 use Rattle.std.proofs.lemmas.Bool.{true≢false}
 use Rattle.std.proofs.lemmas.List.Elements.{All-weaker}
@@ -15,6 +15,7 @@ use Rattle.it_syntax.specs.Meaning.{RelationView}
 use Rattle.it_syntax.specs.NamesViews.{NamesView}
 use Rattle.it_syntax.specs.declared.types.Sign.{Sign}
 use Rattle.it_syntax.specs.declared.types.Sign.TheVariants.{AtLeast, AtMost, Equal}
+use Rattle.it_question.specs.Limits.{IsQuestion}
 use Rattle.it_question.specs.Questions.{BodyView, QuestionView, RegionView, VerbView, Prove, Eliminate, Contain, question_body}
 use Rattle.it_demand.specs.Canonical.{IsRowOf, form_of}
 use Rattle.it_elemental.specs.Generators.{is_equation}
@@ -32,8 +33,8 @@ use Rattle.it_region.specs.Pairs.{IsPair, IsPairOf, Pairs, IsContainment, FitsPa
 use Rattle.it_region.proofs.TextLemmas.{text_rows, parts_fit, rows_as_pulled, pulled_rows_are}
 use Rattle.it_certificate.specs.AnswerShapes.{HasQuestionShape, HasVerbShape, HasContainmentShape}
 use Rattle.it_certificate.specs.Bounds.{BoundsView, bounds_view}
-use Rattle.it_certificate.specs.CodeReading.{IsNo, ReportedCodeView, reported_code_view}
-use Rattle.it_codes.specs.Codes.{AreEntropies, IsFirstOther}
+use Rattle.it_certificate.specs.CodeReading.{HasCodedShape, IsNo, ReportedCodeView, reported_code_view}
+use Rattle.it_codes.specs.Codes.{AreEntropies, IsCode, IsFirstOther, variables_of}
 use Rattle.it_certificate.specs.declared.keys.Key.{Key}
 use Rattle.it_certificate.specs.declared.keys.ReportFault.{ReportFault}
 use Rattle.it_certificate.specs.Reports.{Answered, Bounded, Coded, Factored, IsReported, Misfit, ReadsReport, Reading, Reports}
@@ -109,11 +110,37 @@ has_a_verdict q (Contained parts ws) no none = absurd no
 has_a_verdict q (Open tried) no none = absurd no
 
 -- where nothing is said to be invalid, it is valid
-is_valid_no : {k : ℕ} (q : BodyView) (a : AnswerView) (t : List ℕ) (i : Bool) → IsNo a → i ≡ false → IsJudgedAnswer k q a t i → verdict_of q a ≡ Some Valid
-is_valid_no {k} q a t i no valid judged = by_verdict judged.verdict judged.is judged.told
+is_valid_no : (k : ℕ) (q : BodyView) (a : AnswerView) (t : List ℕ) (i : Bool) → IsNo a → i ≡ false → IsJudgedAnswer k q a t i → verdict_of q a ≡ Some Valid
+is_valid_no k q a t i no valid judged = by_verdict judged.verdict judged.is judged.told
   where
     by_verdict : (v : LineVerdict) → IsAnswerVerdict q a v → IsLineOf k v t i → verdict_of q a ≡ Some Valid
     by_verdict (Judged names v) is told = is.1 ∙ ap Some (only_valid v (not_invalid (is_valid v) (sym told.1 ∙ valid)))
+    by_verdict Skipped is told = absurd (has_a_verdict q a no is)
+    by_verdict NotJson is told = absurd is
+    by_verdict (Shape key) is told = absurd is
+    by_verdict (Weighed names v) is told = absurd is
+    by_verdict (OtherCode names s) is told = absurd is
+    by_verdict (Hulled v) is told = absurd is
+
+-- a no that isn't valid has the same verdict with a code
+pub invalid_coded : (k : ℕ) (q : BodyView) (a : AnswerView) (c : ReportedCodeView) (t : List ℕ) (i : Bool) → IsNo a → i ≡ true → IsJudgedAnswer k q a t i → IsJudgedCoded k q a c t i
+invalid_coded k q a c t i no invalid judged = by_verdict judged.verdict judged.is judged.told
+  where
+    by_verdict : (v : LineVerdict) → IsAnswerVerdict q a v → IsLineOf k v t i → IsJudgedCoded k q a c t i
+    by_verdict (Judged names v) is told = record { verdict = Judged names v; is = (is.0, is.1, λ valid. absurd (not_valid v valid (sym told.1 ∙ invalid))); told = told }
+    by_verdict Skipped is told = absurd (true≢false (sym invalid ∙ told.1))
+    by_verdict NotJson is told = absurd is
+    by_verdict (Shape key) is told = absurd is
+    by_verdict (Weighed names v) is told = absurd is
+    by_verdict (OtherCode names s) is told = absurd is
+    by_verdict (Hulled v) is told = absurd is
+
+-- one that is valid and of the code is so with it
+pub valid_coded : (k : ℕ) (q : BodyView) (a : AnswerView) (c : ReportedCodeView) (t : List ℕ) (i : Bool) → IsNo a → i ≡ false → IsJudgedAnswer k q a t i → AreEntropies c.code c.times (values_of a) → IsJudgedCoded k q a c t i
+valid_coded k q a c t i no valid judged all = by_verdict judged.verdict judged.is judged.told
+  where
+    by_verdict : (v : LineVerdict) → IsAnswerVerdict q a v → IsLineOf k v t i → IsJudgedCoded k q a c t i
+    by_verdict (Judged names v) is told = record { verdict = Judged names v; is = (is.0, is.1, λ valid. all); told = told }
     by_verdict Skipped is told = absurd (has_a_verdict q a no is)
     by_verdict NotJson is told = absurd is
     by_verdict (Shape key) is told = absurd is
@@ -177,36 +204,10 @@ module _ {L E : Type 0} (text : L → List ℕ) (invalid : L → Bool) (k : ℕ)
   verdict_is_told q a names v (Ok j) h told = record { verdict = Judged names v; is = h; told = told }
   verdict_is_told q a names v (Err e) h told = tt
 
-  -- a no that isn't valid has the same verdict with a code
-  pub invalid_coded : (q : BodyView) (a : AnswerView) (c : ReportedCodeView) (t : List ℕ) (i : Bool) → IsNo a → i ≡ true → IsJudgedAnswer k q a t i → IsJudgedCoded k q a c t i
-  invalid_coded q a c t i no invalid judged = by_verdict judged.verdict judged.is judged.told
-    where
-      by_verdict : (v : LineVerdict) → IsAnswerVerdict q a v → IsLineOf k v t i → IsJudgedCoded k q a c t i
-      by_verdict (Judged names v) is told = record { verdict = Judged names v; is = (is.0, is.1, λ valid. absurd (not_valid v valid (sym told.1 ∙ invalid))); told = told }
-      by_verdict Skipped is told = absurd (true≢false (sym invalid ∙ told.1))
-      by_verdict NotJson is told = absurd is
-      by_verdict (Shape key) is told = absurd is
-      by_verdict (Weighed names v) is told = absurd is
-      by_verdict (OtherCode names s) is told = absurd is
-      by_verdict (Hulled v) is told = absurd is
-
-  -- one that is valid and of the code is so with it
-  pub valid_coded : (q : BodyView) (a : AnswerView) (c : ReportedCodeView) (t : List ℕ) (i : Bool) → IsNo a → i ≡ false → IsJudgedAnswer k q a t i → AreEntropies c.code c.times (values_of a) → IsJudgedCoded k q a c t i
-  valid_coded q a c t i no valid judged all = by_verdict judged.verdict judged.is judged.told
-    where
-      by_verdict : (v : LineVerdict) → IsAnswerVerdict q a v → IsLineOf k v t i → IsJudgedCoded k q a c t i
-      by_verdict (Judged names v) is told = record { verdict = Judged names v; is = (is.0, is.1, λ valid. all); told = told }
-      by_verdict Skipped is told = absurd (has_a_verdict q a no is)
-      by_verdict NotJson is told = absurd is
-      by_verdict (Shape key) is told = absurd is
-      by_verdict (Weighed names v) is told = absurd is
-      by_verdict (OtherCode names s) is told = absurd is
-      by_verdict (Hulled v) is told = absurd is
-
   -- and of one that is valid and isn't the first other set is told
   pub other_coded : (q : BodyView) (a : AnswerView) (c : ReportedCodeView) (t : List ℕ) (i : Bool) (names : NamesView) (s : ℕ) (r : Result L E) → IsNo a → i ≡ false → IsJudgedAnswer k q a t i → names ≡ problem_names q
       → IsFirstOther c.code c.times (values_of a) s → IfOk r (λ j. IsLineOf k (OtherCode names s) (text j) (invalid j)) → IfOk r (λ j. IsJudgedCoded k q a c (text j) (invalid j))
-  other_coded q a c t i names s (Ok j) no valid judged own first told = record { verdict = OtherCode names s; is = (own, is_valid_no q a t i no valid judged, first); told = told }
+  other_coded q a c t i names s (Ok j) no valid judged own first told = record { verdict = OtherCode names s; is = (own, is_valid_no k q a t i no valid judged, first); told = told }
   other_coded q a c t i names s (Err e) no valid judged own first told = tt
 
   pub bounds_told : (q : BodyView) (b : BoundsView) (v : LineVerdict) (r : Result L E) → IsBoundsVerdict q b v → IfOk r (λ j. IsLineOf k v (text j) (invalid j)) → IfOk r (λ j. IsJudgedBounds k q b (text j) (invalid j))
@@ -356,3 +357,51 @@ module _ (q : BodyView) (p : Pair) (parts : List ℕ) (ws : List CertificateView
   pub obligation_rows_are : (c : Candidate) (ts : List Terms) → take c.count c.parts ≡ parts → ArePulledRows p.first.space (pair_obligations p c) ts → ArePulledRows p.first.space (answer_forms q (Contained parts ws)) ts
   obligation_rows_are c ts same are = of_pair (ArePulledRows p.first.space (answer_forms q (Contained parts ws)) ts) (λ first second tries e o h.
       subst (λ fs. ArePulledRows p.first.space fs ts) (ap (obligations q first second) same ∙ sym (ap (λ v. answer_forms_by q v (Contained parts ws)) e)) (text_rows q first second p o c ts are))
+
+-- ---- a code
+
+-- a code of the question's variables is one that calls take
+pub code_is : (q : BodyView) (a : AnswerView) (c : ReportedCodeView) → IsQuestion q → HasCodedShape q a c → IsCode c.code
+code_is q a c k h = record {
+  some = subst (λ n. 1 ≤ n) (sym h.code.variables) k.some;
+  few = subst (λ n. n ≤ 10) (sym h.code.variables) k.few;
+  messages = h.code.messages;
+}
+
+-- the values of the point are those of all sets
+pub values_complete : (q : BodyView) (a : AnswerView) (c : ReportedCodeView) → HasCodedShape q a c → 2 ^ variables_of c.code - 1 ≤ length (values_of a)
+values_complete q a c h = by_answer a h.no h.answered
+  where
+    by_verb : (verb : VerbView) (back : Bool) (values : List ℤ) → HasVerbShape q.names verb (No back values) → length values ≡ size_of (space_of q.names)
+    by_verb (Prove r) back values fits = fits.0
+    by_verb (Eliminate rates) back values fits = absurd fits
+    by_verb (Contain first second tries) back values fits = absurd fits
+
+    by_answer : (a : AnswerView) → IsNo a → HasQuestionShape q a → 2 ^ variables_of c.code - 1 ≤ length (values_of a)
+    by_answer (No back values) no fits =
+        let size : length values ≡ size_of (space_of q.names) = by_verb q.verb back values (verb_fits q (No back values) q.verb refl fits) in
+        let sets : 2 ^ variables_of c.code ≡ 2 ^ length q.names.variables = ap (λ n. 2 ^ n) h.code.variables in
+        omega (arith, size, sets, pow_pos (length q.names.variables))
+    by_answer (Yes ws) no fits = absurd no
+    by_answer (Undecided cause) no fits = absurd no
+    by_answer (Region rows) no fits = absurd no
+    by_answer (Contained parts ws) no fits = absurd no
+    by_answer (Open tried) no fits = absurd no
+
+-- a set of the code's variables is one of the names'
+pub set_named : (q : BodyView) (a : AnswerView) (c : ReportedCodeView) (names : NamesView) (s : ℕ) → HasCodedShape q a c → names ≡ problem_names q → IsFirstOther c.code c.times (values_of a) s → s < 2 ^ length names.variables
+set_named q a c names s h own first =
+    subst (λ (n : ℕ). s < 2 ^ n) (h.code.variables ∙ ap (λ (v : NamesView). length v.variables) (sym (own ∙ by_answer a h.no h.answered))) first.within
+  where
+    by_verb : (verb : VerbView) (back : Bool) (values : List ℤ) → q.verb ≡ verb → HasVerbShape q.names verb (No back values) → problem_names q ≡ q.names
+    by_verb (Prove r) back values e fits = relation_names q r e
+    by_verb (Eliminate rates) back values e fits = absurd fits
+    by_verb (Contain first second tries) back values e fits = absurd fits
+
+    by_answer : (a : AnswerView) → IsNo a → HasQuestionShape q a → problem_names q ≡ q.names
+    by_answer (No back values) no fits = by_verb q.verb back values refl (verb_fits q (No back values) q.verb refl fits)
+    by_answer (Yes ws) no fits = absurd no
+    by_answer (Undecided cause) no fits = absurd no
+    by_answer (Region rows) no fits = absurd no
+    by_answer (Contained parts ws) no fits = absurd no
+    by_answer (Open tried) no fits = absurd no

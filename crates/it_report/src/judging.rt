@@ -170,7 +170,9 @@ fn coded_line(
     if judged.invalid {
         return Ok(judged);
     }
-    match first_other(alloc, &code.code, code.times as u64, point_of(answer))? {
+    let point = point_of(answer);
+    let other = first_other(alloc, &code.code, code.times as u64, point)?;
+    match other {
         Some(set) => other_line(alloc, k, problem_names(question), set),
         None => Ok(judged),
     }
