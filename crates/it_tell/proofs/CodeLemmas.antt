@@ -8,21 +8,23 @@ use Rattle.it_space.specs.Answers.{AnswerView}
 use Rattle.it_space.proofs.ListLemmas.{drop_item}
 use Rattle.it_certificate.specs.CodeReading.{HasCodedShape, ReportedCodeView, reported_code_view}
 use Rattle.it_certificate.specs.declared.types.ReportedCode.{ReportedCode}
-use Rattle.it_print.specs.Lines.{joined_texts}
+use Rattle.it_print.specs.Lines.{joined_texts, or_zero}
 use Rattle.it_print.proofs.LineLemmas.{or_zero_unless, sum_step}
 use Rattle.it_tell.specs.CodeTexts.{code_text, function_text, symbol_text, symbol_texts, variable_text, variable_texts}
 use Rattle.it_tell.specs.Steps.{IsAnsweredText, IsCodedText}
 use Rattle.it_tell.specs.Tellings.{indented_line}
 use Rattle.it_tell.specs.declared.settings.Options.{Options}
 
--- one more symbol of a function
-pub symbol_step : (cs : List ℕ) (i : ℕ) (some : Bool) (out : List ℕ) → i < length cs
-    → (out ++ joined_texts (codes " + ") some (if not (get_or cs i 0 == 0) then symbol_text (i + 1) (get_or cs i 0) ∷ [] else []))
-    ++ joined_texts (codes " + ") (some || not (get_or cs i 0 == 0)) (or_zero_unless (some || not (get_or cs i 0 == 0)) (symbol_texts (i + 1 + 1) (drop (i + 1) cs)))
-    ≡ out ++ joined_texts (codes " + ") some (or_zero_unless some (symbol_texts (i + 1) (drop i cs)))
-symbol_step cs i some out h =
-    sum_step some (not (get_or cs i 0 == 0)) (symbol_text (i + 1) (get_or cs i 0)) (symbol_texts (i + 1 + 1) (drop (i + 1) cs)) out
-    ∙ ap (λ xs. out ++ joined_texts (codes " + ") some (or_zero_unless some (symbol_texts (i + 1) xs))) (sym (drop_more cs i 0 h))
+-- a function before its first symbol
+pub function_begins : (cs : List ℕ) (out : List ℕ) → out ++ joined_texts (codes " + ") false (or_zero (symbol_texts 1 cs)) ≡ out ++ function_text cs
+unfolding function_text
+function_begins cs out = refl
+
+-- and what it still has to write
+pub term_step : (some wanted : Bool) (text : List ℕ) (rest : List (List ℕ)) (out : List ℕ)
+    → (out ++ joined_texts (codes " + ") some (if wanted then text ∷ [] else [])) ++ joined_texts (codes " + ") (some || wanted) (or_zero_unless (some || wanted) rest)
+    ≡ out ++ joined_texts (codes " + ") some (or_zero_unless some ((if wanted then text ∷ [] else []) ++ rest))
+term_step some wanted text rest out = sum_step some wanted text rest out
 
 -- one more text
 pub text_step : (separator text : List ℕ) (rest : List (List ℕ)) (some : Bool) (out : List ℕ)

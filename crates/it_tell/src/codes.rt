@@ -53,13 +53,14 @@ fn write_term(
 }
 
 /// A function by its coefficients.
+#[tactic(auto, using(crate::proofs::CodeLemmas::function_begins, crate::proofs::CodeLemmas::term_step))]
 fn function_text(alloc: Global, coefficients: &[u8]) -> Result<Vec<u8>, AllocError>
     ensures { IfOk result (λ t. t.items ≡ function_text coefficients.now) }
 {
     let mut out = Vec::new(alloc);
     let mut some = false;
-    for i in 0..coefficients.len() {
-        some = write_term(&mut out, some, i + 1, coefficients[i])?;
+    for (i, coefficient) in coefficients.iter().enumerate() {
+        some = write_term(&mut out, some, i + 1, *coefficient)?;
     }
     if !some {
         out.extend_from_slice(b"0")?;
@@ -128,19 +129,21 @@ fn write_variable(
 }
 
 /// Variables with `, ` between them.
+#[tactic(auto, using(crate::proofs::CodeLemmas::text_step))]
 fn variables_text(
     alloc: Global,
     names: &Names,
     variables: &[Variable],
 ) -> Result<Vec<u8>, AllocError>
-    requires { length variables.now ≤ length names.now.variables }
+    requires named { length variables.now ≤ length names.now.variables }
+    requires few { length names.now.variables ≤ 10 }
     ensures { IfOk result (λ t. t.items ≡ joined_texts (codes ", ") false (variable_texts names.now.variables 0 (map functions_of variables.now))) }
 {
     let mut out = Vec::new(alloc);
     let mut some = false;
-    for i in 0..variables.len() {
+    for (i, variable) in variables.iter().enumerate() {
         let name = names.variable_name(i as u8);
-        write_variable(alloc, &mut out, some, name, &variables[i])?;
+        write_variable(alloc, &mut out, some, name, variable)?;
         some = true;
     }
     Ok(out)
@@ -161,7 +164,8 @@ fn write_times(out: &mut Vec<u8>, times: u32) -> Result<(), AllocError>
 /// A code of these variables.
 #[tactic(auto, unfolding(crate::specs::CodeTexts::code_text))]
 pub fn code_text(alloc: Global, names: &Names, code: &ReportedCode) -> Result<Vec<u8>, AllocError>
-    requires { length code.now.code.variables.items ≤ length names.now.variables }
+    requires named { length code.now.code.variables.items ≤ length names.now.variables }
+    requires few { length names.now.variables ≤ 10 }
     ensures { IfOk result (λ t. t.items ≡ code_text names.now.variables (reported_code_view code.now)) }
 {
     let variables = variables_text(alloc, names, code.code.variables.as_slice())?;

@@ -55,6 +55,7 @@ fn answered_text(
 }
 
 /// The lines about a no with a code: those of the no, and below them the code.
+#[tactic(auto, using(crate::proofs::CodeLemmas::coded_appended))]
 fn coded_text(
     alloc: Global,
     options: Options,
