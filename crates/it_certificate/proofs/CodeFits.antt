@@ -33,7 +33,8 @@ few_messages : (field : Field) (k : ℕ) → k < most_symbols field + 1 → size
 few_messages Two k lt = let le : k ≤ 12 = omega (arith, lt) in pow_mono {i = k} {j = 12} le
 few_messages Three k lt =
     let le : k ≤ 7 = omega (arith, lt) in
-    let power : 3 ^ k ≤ 3 ^ 7 = pow-le-pow_right {a = 3} (lit< tt) le in
+    let positive : 0 < 3 = lit< tt in
+    let power : 3 ^ k ≤ 3 ^ 7 = pow-le-pow_right positive le in
     omega (arith, power)
 
 symbols_fit : (field : Field) (d : Data) (k : ℕ) → symbols_at field d ≡ Some k → size field ^ k ≤ most_messages

@@ -72,7 +72,7 @@ fn answered(alloc: Global, value: &Value) -> Result<Reported, ReportFault>
 }
 
 /// The reading of a line that tells a no with a code.
-#[tactic(auto, using(crate::proofs::ReportLemmas::no_code_source, crate::proofs::ReportLemmas::no_err, crate::proofs::ReportLemmas::code_err))]
+#[tactic(auto, using(crate::proofs::ReportLemmas::no_code_source, crate::proofs::ReportLemmas::no_err))]
 fn coded(alloc: Global, value: &Value) -> Result<Reported, ReportFault>
     requires told { false ≡ tells_misfit (view value.now) }
     requires outer { false ≡ tells_outer (view value.now) }
