@@ -41,7 +41,7 @@ answer_verdict_there q a = by_option (verdict_of q a) refl
 -- ---- the verdict on a no with a code
 
 coded_verdict_there : (q : BodyView) (a : AnswerView) (c : ReportedCodeView) → IsNo a → (v : LineVerdict) × IsCodedVerdict q a c v
-coded_verdict_there q a c no = by_option (verdict_of q a) refl
+coded_verdict_there q a c is_no = by_option (verdict_of q a) refl
   where
     by_first : verdict_of q a ≡ Some Valid → (o : Option ℕ) → FirstOtherIs c.code c.times (values_of a) o → (v : LineVerdict) × IsCodedVerdict q a c v
     by_first e (Some s) first = (OtherCode (problem_names q) s, (refl, e, first))
@@ -53,7 +53,7 @@ coded_verdict_there q a c no = by_option (verdict_of q a) refl
 
     by_option : (o : Option Verdict) → verdict_of q a ≡ o → (v : LineVerdict) × IsCodedVerdict q a c v
     by_option (Some v) e = by_valid v (is_valid v) refl e
-    by_option None e = absurd (has_a_verdict q a no e)
+    by_option None e = absurd (has_a_verdict q a is_no e)
 
 -- ---- the verdict on an outer bound
 

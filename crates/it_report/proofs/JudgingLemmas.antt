@@ -102,20 +102,20 @@ none_is_some v e = cc
 
 -- a no is judged
 pub has_a_verdict : (q : BodyView) (a : AnswerView) → IsNo a → verdict_of q a ≡ None → ⊥
-has_a_verdict q (Yes ws) no none = absurd no
-has_a_verdict q (No back values) no none = none_is_some (point_verdict (problem_of q) (map (terms_in q) (answer_forms q (No back values))) back values) none
-has_a_verdict q (Undecided cause) no none = absurd no
-has_a_verdict q (Region rows) no none = absurd no
-has_a_verdict q (Contained parts ws) no none = absurd no
-has_a_verdict q (Open tried) no none = absurd no
+has_a_verdict q (Yes ws) is_no none = absurd is_no
+has_a_verdict q (No back values) is_no none = none_is_some (point_verdict (problem_of q) (map (terms_in q) (answer_forms q (No back values))) back values) none
+has_a_verdict q (Undecided cause) is_no none = absurd is_no
+has_a_verdict q (Region rows) is_no none = absurd is_no
+has_a_verdict q (Contained parts ws) is_no none = absurd is_no
+has_a_verdict q (Open tried) is_no none = absurd is_no
 
 -- where nothing is said to be invalid, it is valid
 is_valid_no : (k : ℕ) (q : BodyView) (a : AnswerView) (t : List ℕ) (i : Bool) → IsNo a → i ≡ false → IsJudgedAnswer k q a t i → verdict_of q a ≡ Some Valid
-is_valid_no k q a t i no valid judged = by_verdict judged.verdict judged.is judged.told
+is_valid_no k q a t i is_no valid judged = by_verdict judged.verdict judged.is judged.told
   where
     by_verdict : (v : LineVerdict) → IsAnswerVerdict q a v → IsLineOf k v t i → verdict_of q a ≡ Some Valid
     by_verdict (Judged names v) is told = is.1 ∙ ap Some (only_valid v (not_invalid (is_valid v) (sym told.1 ∙ valid)))
-    by_verdict Skipped is told = absurd (has_a_verdict q a no is)
+    by_verdict Skipped is told = absurd (has_a_verdict q a is_no is)
     by_verdict NotJson is told = absurd is
     by_verdict (Shape key) is told = absurd is
     by_verdict (Weighed names v) is told = absurd is
@@ -124,7 +124,7 @@ is_valid_no k q a t i no valid judged = by_verdict judged.verdict judged.is judg
 
 -- a no that isn't valid has the same verdict with a code
 pub invalid_coded : (k : ℕ) (q : BodyView) (a : AnswerView) (c : ReportedCodeView) (t : List ℕ) (i : Bool) → IsNo a → i ≡ true → IsJudgedAnswer k q a t i → IsJudgedCoded k q a c t i
-invalid_coded k q a c t i no invalid judged = by_verdict judged.verdict judged.is judged.told
+invalid_coded k q a c t i is_no invalid judged = by_verdict judged.verdict judged.is judged.told
   where
     by_verdict : (v : LineVerdict) → IsAnswerVerdict q a v → IsLineOf k v t i → IsJudgedCoded k q a c t i
     by_verdict (Judged names v) is told = record { verdict = Judged names v; is = (is.0, is.1, λ valid. absurd (not_valid v valid (sym told.1 ∙ invalid))); told = told }
@@ -137,11 +137,11 @@ invalid_coded k q a c t i no invalid judged = by_verdict judged.verdict judged.i
 
 -- one that is valid and of the code is so with it
 pub valid_coded : (k : ℕ) (q : BodyView) (a : AnswerView) (c : ReportedCodeView) (t : List ℕ) (i : Bool) → IsNo a → i ≡ false → IsJudgedAnswer k q a t i → AreEntropies c.code c.times (values_of a) → IsJudgedCoded k q a c t i
-valid_coded k q a c t i no valid judged all = by_verdict judged.verdict judged.is judged.told
+valid_coded k q a c t i is_no valid judged all = by_verdict judged.verdict judged.is judged.told
   where
     by_verdict : (v : LineVerdict) → IsAnswerVerdict q a v → IsLineOf k v t i → IsJudgedCoded k q a c t i
     by_verdict (Judged names v) is told = record { verdict = Judged names v; is = (is.0, is.1, λ valid. all); told = told }
-    by_verdict Skipped is told = absurd (has_a_verdict q a no is)
+    by_verdict Skipped is told = absurd (has_a_verdict q a is_no is)
     by_verdict NotJson is told = absurd is
     by_verdict (Shape key) is told = absurd is
     by_verdict (Weighed names v) is told = absurd is
@@ -204,11 +204,16 @@ module _ {L E : Type 0} (text : L → List ℕ) (invalid : L → Bool) (k : ℕ)
   verdict_is_told q a names v (Ok j) h told = record { verdict = Judged names v; is = h; told = told }
   verdict_is_told q a names v (Err e) h told = tt
 
-  -- and of one that is valid and isn't the first other set is told
+  -- of an answer without a verdict that is told
+  pub skipped_is_told : (q : BodyView) (a : AnswerView) (r : Result L E) → verdict_of q a ≡ None → IfOk r (λ j. IsLineOf k Skipped (text j) (invalid j)) → IfOk r (λ j. IsJudgedAnswer k q a (text j) (invalid j))
+  skipped_is_told q a (Ok j) none told = record { verdict = Skipped; is = none; told = told }
+  skipped_is_told q a (Err e) none told = tt
+
+  -- of a no that is valid the first set whose value is another by the code is told
   pub other_coded : (q : BodyView) (a : AnswerView) (c : ReportedCodeView) (t : List ℕ) (i : Bool) (names : NamesView) (s : ℕ) (r : Result L E) → IsNo a → i ≡ false → IsJudgedAnswer k q a t i → names ≡ problem_names q
       → IsFirstOther c.code c.times (values_of a) s → IfOk r (λ j. IsLineOf k (OtherCode names s) (text j) (invalid j)) → IfOk r (λ j. IsJudgedCoded k q a c (text j) (invalid j))
-  other_coded q a c t i names s (Ok j) no valid judged own first told = record { verdict = OtherCode names s; is = (own, is_valid_no k q a t i no valid judged, first); told = told }
-  other_coded q a c t i names s (Err e) no valid judged own first told = tt
+  other_coded q a c t i names s (Ok j) is_no valid judged own first told = record { verdict = OtherCode names s; is = (own, is_valid_no k q a t i is_no valid judged, first); told = told }
+  other_coded q a c t i names s (Err e) is_no valid judged own first told = tt
 
   pub bounds_told : (q : BodyView) (b : BoundsView) (v : LineVerdict) (r : Result L E) → IsBoundsVerdict q b v → IfOk r (λ j. IsLineOf k v (text j) (invalid j)) → IfOk r (λ j. IsJudgedBounds k q b (text j) (invalid j))
   bounds_told q b v (Ok j) is told = record { verdict = v; is = is; told = told }
@@ -378,15 +383,15 @@ values_complete q a c h = by_answer a h.no h.answered
     by_verb (Contain first second tries) back values fits = absurd fits
 
     by_answer : (a : AnswerView) → IsNo a → HasQuestionShape q a → 2 ^ variables_of c.code - 1 ≤ length (values_of a)
-    by_answer (No back values) no fits =
+    by_answer (No back values) is_no fits =
         let size : length values ≡ size_of (space_of q.names) = by_verb q.verb back values (verb_fits q (No back values) q.verb refl fits) in
         let sets : 2 ^ variables_of c.code ≡ 2 ^ length q.names.variables = ap (λ n. 2 ^ n) h.code.variables in
         omega (arith, size, sets, pow_pos (length q.names.variables))
-    by_answer (Yes ws) no fits = absurd no
-    by_answer (Undecided cause) no fits = absurd no
-    by_answer (Region rows) no fits = absurd no
-    by_answer (Contained parts ws) no fits = absurd no
-    by_answer (Open tried) no fits = absurd no
+    by_answer (Yes ws) is_no fits = absurd is_no
+    by_answer (Undecided cause) is_no fits = absurd is_no
+    by_answer (Region rows) is_no fits = absurd is_no
+    by_answer (Contained parts ws) is_no fits = absurd is_no
+    by_answer (Open tried) is_no fits = absurd is_no
 
 -- a set of the code's variables is one of the names'
 pub set_named : (q : BodyView) (a : AnswerView) (c : ReportedCodeView) (names : NamesView) (s : ℕ) → HasCodedShape q a c → names ≡ problem_names q → IsFirstOther c.code c.times (values_of a) s → s < 2 ^ length names.variables
@@ -399,9 +404,9 @@ set_named q a c names s h own first =
     by_verb (Contain first second tries) back values e fits = absurd fits
 
     by_answer : (a : AnswerView) → IsNo a → HasQuestionShape q a → problem_names q ≡ q.names
-    by_answer (No back values) no fits = by_verb q.verb back values refl (verb_fits q (No back values) q.verb refl fits)
-    by_answer (Yes ws) no fits = absurd no
-    by_answer (Undecided cause) no fits = absurd no
-    by_answer (Region rows) no fits = absurd no
-    by_answer (Contained parts ws) no fits = absurd no
-    by_answer (Open tried) no fits = absurd no
+    by_answer (No back values) is_no fits = by_verb q.verb back values refl (verb_fits q (No back values) q.verb refl fits)
+    by_answer (Yes ws) is_no fits = absurd is_no
+    by_answer (Undecided cause) is_no fits = absurd is_no
+    by_answer (Region rows) is_no fits = absurd is_no
+    by_answer (Contained parts ws) is_no fits = absurd is_no
+    by_answer (Open tried) is_no fits = absurd is_no
