@@ -15,14 +15,15 @@ use Rattle.it_question.specs.Questions.{BodyView, VerbView, Prove, Eliminate, Co
 use Rattle.it_question.specs.ProblemLines.{problem_names}
 use Rattle.it_check.specs.declared.verdicts.Verdict.{Verdict}
 use Rattle.it_print.specs.Lines.{certificate_text, row_text, values_text}
-use Rattle.it_report.specs.Judging.{IsReadingVerdict, IsVerdict, verdict_of}
+use Rattle.it_report.specs.Judging.{HasReading, IsCodedVerdict, IsReadingVerdict, IsVerdict, verdict_of}
 use Rattle.it_region.specs.AnswerForms.{answer_forms}
-use Rattle.it_report.specs.LineVerdicts.{LineVerdict, NotJson, Shape, Skipped, Judged, Weighed, Hulled, is_invalid}
-use Rattle.it_report.specs.Meaning.{IsClaimTrueBy}
+use Rattle.it_report.specs.LineVerdicts.{LineVerdict, NotJson, Shape, Skipped, Judged, Weighed, OtherCode, Hulled, is_invalid}
+use Rattle.it_report.specs.Meaning.{IsClaimTrue, IsClaimTrueBy}
 use Rattle.it_report.proofs.ExistenceLemmas.{each_line_is_judged}
 use Rattle.it_report.proofs.OneLemmas.{same_read}
-use Rattle.it_report.proofs.TruthLemmas.{valid_is_true}
+use Rattle.it_report.proofs.TruthLemmas.{valid_code_is_true, valid_is_true}
 use Rattle.it_certificate.proofs.OneLemmas.{one_reading}
+use Rattle.it_codes.specs.Codes.{AreEntropies}
 use Rattle.it_certificate.specs.Reports as reports
 use Rattle.it_certificate.specs.Reports.{ReadsReport, Reading}
 use Rattle.it_certificate.specs.Sources.{asked}
@@ -40,7 +41,7 @@ use Rattle.it_tell.specs.Tellings as tellings
 use Rattle.it_tell.specs.declared.settings.Options.{Options}
 use Rattle.it_tell.specs.declared.settings.Settings.TheVariants.{Tell}
 use Rattle.it_tell.specs.Ends.{AsksForText, AsksToTell, Ends, HasTold, shown_by, tell_mode}
-use Rattle.it_tell.specs.Laws.{EachLineIsTold, Headline, ToldAnswersAreTrue}
+use Rattle.it_tell.specs.Laws.{EachLineIsTold, Headline, ToldAnswersAreTrue, ToldCodesAreTrue}
 use Rattle.it_tell.proofs.PrintableLemmas.{not_invalid_is_valid}
 
 -- ---- what is written
@@ -124,6 +125,9 @@ reading_there : (options : Options) (line : List ℕ) (v : LineVerdict) → IsVe
 reading_there options line v is accepted (reports.Answered source a) reads =
     let details = details_there (asked source).body options a in
     (Answered source a details.0, (record { verdict = v; is = is; accepted = accepted; reads = reads }, details.1))
+reading_there options line v is accepted (reports.Coded source a c) reads =
+    let details = details_there (asked source).body options a in
+    (tellings.Coded source a c details.0, (record { verdict = v; is = is; accepted = accepted; reads = reads }, details.1))
 reading_there options line v is accepted (reports.Factored source best) reads = (tellings.Factored source best, record { verdict = v; is = is; accepted = accepted; reads = reads })
 reading_there options line v is accepted (reports.Bounded source b) reads = (tellings.Bounded source b, record { verdict = v; is = is; accepted = accepted; reads = reads })
 reading_there options line v is accepted reports.Misfit reads = (tellings.Misfit, reads)
@@ -145,6 +149,7 @@ each_line_is_told options line = let judged = (each_line_is_judged 1 line).2 in 
         by_test : (b : Bool) → is_invalid (Weighed names v) ≡ b → (telling : Telling) × IsTelling options line telling
         by_test true e = (tellings.Invalid (Weighed names v), (is, e))
         by_test false e = reading_there options line (Weighed names v) is e is.reading is.reads
+    by_verdict (OtherCode names s) is = (tellings.Invalid (OtherCode names s), (is, refl))
     by_verdict (Hulled v) is = by_test (is_invalid (Hulled v)) refl
       where
         by_test : (b : Bool) → is_invalid (Hulled v) ≡ b → (telling : Telling) × IsTelling options line telling
@@ -179,8 +184,29 @@ told_answers_are_true options line source a details (h, lines) = by_verdict h.ve
     by_verdict (Weighed names v) is accepted =
         let same = same_read is.reading (reports.Answered source a) (one_reading line (Ok is.reading) (Ok (reports.Answered source a)) is.reads h.reads) in
         absurd (subst (λ (x : Reading). IsReadingVerdict x (Weighed names v)) same is.verdict)
+    by_verdict (OtherCode names s) is accepted = absurd (true≢false accepted)
     by_verdict (Judged names v) is accepted =
         valid_is_true line names source a (subst (λ (w : Verdict). IsVerdict line (Judged names w)) (not_invalid_is_valid v accepted) is) h.reads
     by_verdict (Hulled v) is accepted =
         let same = same_read is.reading (reports.Answered source a) (one_reading line (Ok is.reading) (Ok (reports.Answered source a)) is.reads h.reads) in
         absurd (subst (λ (x : Reading). IsReadingVerdict x (Hulled v)) same is.verdict)
+
+-- of a no with a code
+pub told_codes_are_true : ToldCodesAreTrue
+told_codes_are_true options line source back values code details (h, lines) = by_verdict h.verdict h.is h.accepted
+  where
+    on_code : (v : LineVerdict) (r : HasReading line v) → IsCodedVerdict (asked source).body (No back values) code v
+    on_code v r =
+        let same = same_read r.reading (reports.Coded source (No back values) code) (one_reading line (Ok r.reading) (Ok (reports.Coded source (No back values) code)) r.reads h.reads) in
+        subst (λ (x : Reading). IsReadingVerdict x v) same r.verdict
+
+    by_verdict : (v : LineVerdict) → IsVerdict line v → is_invalid v ≡ false → IsClaimTrue (asked source).body (No back values) × AreEntropies code.code code.times values
+    by_verdict NotJson is accepted = absurd (true≢false accepted)
+    by_verdict (Shape key) is accepted = absurd (true≢false accepted)
+    by_verdict (OtherCode names s) is accepted = absurd (true≢false accepted)
+    by_verdict Skipped is accepted = absurd (on_code Skipped is)
+    by_verdict (Weighed names v) is accepted = absurd (on_code (Weighed names v) is)
+    by_verdict (Hulled v) is accepted = absurd (on_code (Hulled v) is)
+    by_verdict (Judged names v) is accepted =
+        let true_code = valid_code_is_true line names source back values code (subst (λ (w : Verdict). IsVerdict line (Judged names w)) (not_invalid_is_valid v accepted) is) h.reads in
+        (true_code.0, true_code.3)

@@ -7,3 +7,4 @@ pub mod LawLemmas
 pub mod ProofLemmas
 pub mod OrderLemmas
 pub mod OwnLineLemmas
+mod CodeLemmas

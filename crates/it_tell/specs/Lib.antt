@@ -1,3 +1,4 @@
+pub mod CodeTexts
 pub mod SortedRows
 pub mod OwnLines
 pub mod Tellings

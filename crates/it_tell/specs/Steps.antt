@@ -32,6 +32,8 @@ use Rattle.it_region.specs.AnswerForms.{answer_forms}
 use Rattle.it_ratio.specs.BestViews.{best_view}
 use Rattle.it_certificate.specs.Bounds.{bounds_view}
 use Rattle.it_tell.specs.Tellings.{AreDetails, AreProofTexts, Each, IsPointText, IsTelling, ProofTexts, Telling, best_words, bounds_words, head_line, indented_line, proof_lines, tells_invalid, telling_text, AreOwnLineTexts, TellsObligation, obligation_lines}
+use Rattle.it_certificate.specs.CodeReading.{ReportedCodeView, reported_code_view}
+use Rattle.it_tell.specs.CodeTexts.{code_text}
 use Rattle.it_space.specs.Answers.AnswerView.{Contained}
 use Rattle.it_space.specs.declared.answers.Certificate.{Certificate}
 use Rattle.it_cli.specs.Ends.{call_of}
@@ -54,9 +56,15 @@ pub record IsToldLine (options : Options) (k : ℕ) (line text : List ℕ) (inva
 unfoldable pub IsAnsweredText : Options → ℕ → BodyView → AnswerView → List ℕ → Type 0
 IsAnsweredText options k q answer text = (details : List ℕ) × (AreDetails q options answer details × (text ≡ head_line k q answer ++ details))
 
+-- the lines about a no with a code
+unfoldable pub IsCodedText : Options → ℕ → BodyView → AnswerView → ReportedCodeView → List ℕ → Type 0
+IsCodedText options k q answer code text =
+    (details : List ℕ) × (AreDetails q options answer details × (text ≡ head_line k q answer ++ details ++ indented_line (code_text q.names.variables code)))
+
 -- the lines about what was read
 abbrev pub IsReportedText : Options → ℕ → Reported → List ℕ → Type 0
 IsReportedText options k (variants.Answered question answer) text = IsAnsweredText options k (question_body question) (answer_view answer) text
+IsReportedText options k (variants.Coded question answer code) text = IsCodedText options k (question_body question) (answer_view answer) (reported_code_view code) text
 IsReportedText options k (variants.Factored question best) text = text ≡ numbered_line k (best_words (best_view best))
 IsReportedText options k (variants.Bounded question bounds) text = text ≡ numbered_line k (bounds_words (bounds_view bounds))
 IsReportedText options k variants.Misfit text = text ≡ numbered_line k (codes "misfit")
@@ -64,6 +72,7 @@ IsReportedText options k variants.Misfit text = text ≡ numbered_line k (codes 
 -- the answer that was read can be printed
 abbrev pub CanBePrinted : Reported → Type 0
 CanBePrinted (variants.Answered question answer) = IsPrintable (question_body question) (length (question_demands (question_body question))) answer
+CanBePrinted (variants.Coded question answer code) = IsPrintable (question_body question) (length (question_demands (question_body question))) answer
 CanBePrinted (variants.Factored question best) = Unit {0}
 CanBePrinted (variants.Bounded question bounds) = Unit {0}
 CanBePrinted variants.Misfit = Unit {0}

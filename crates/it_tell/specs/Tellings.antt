@@ -1,6 +1,6 @@
 -- What is told of a line of a report: the verdict's own line where that is invalid, else the first line of its answer and below it, line by
--- line, the answer's rows, its proofs, with their steps where these are asked for, or its point. Where proofs are asked for in which functions
--- hold, rows stand in order, and what a containment obliges to stands under the line of the second region that does.
+-- line, the answer's rows, its proofs, with their steps where these are asked for, or its point with the code that it is of. Where proofs are
+-- asked for in which functions hold, rows stand in order, and what a containment obliges to stands under the line of the second region that does.
 use Rattle.std.specs.Prelude.{◌≡◌, ℕ, ℤ, List, [], ◌++◌, length, Bool, true, false, ◌⊎◌, Ok, codes, decimal, pos, ◌≤ℤ◌, if◌then◌else◌, ◌==◌, Option, Some, None}
 use Rattle.std.specs.Fmt.{signed_decimal}
 use Rattle.std.specs.List.{flat_map, zip}
@@ -18,6 +18,7 @@ use Rattle.it_syntax.specs.NamesViews.{NamesView}
 use Rattle.it_question.specs.Questions.{BodyView}
 use Rattle.it_question.specs.ProblemLines.{problem_names}
 use Rattle.it_certificate.specs.Bounds.{BoundsView}
+use Rattle.it_certificate.specs.CodeReading.{ReportedCodeView}
 use Rattle.it_certificate.specs.Reports as reports
 use Rattle.it_certificate.specs.Reports.{ReadsReport}
 use Rattle.it_certificate.specs.Sources.{Source, asked}
@@ -37,6 +38,7 @@ use Rattle.it_canon.specs.TrueLines.{variable_count}
 use Rattle.it_tell.specs.OwnLines.{OwnLine, own_line_comment, own_lines}
 use Rattle.it_tell.specs.Settings.{is_plain}
 use Rattle.it_tell.specs.SortedRows.{rows_by_rates}
+use Rattle.it_tell.specs.CodeTexts.{code_text}
 use Rattle.it_tell.specs.declared.settings.Options.{Options}
 use Rattle.it_tell.specs.declared.settings.Style.{Style}
 use Rattle.it_tell.specs.declared.settings.Style.TheVariants.{Plain, Named, Whole}
@@ -172,11 +174,13 @@ head_line k q (Open tried) = open_line k tried
 
 -- ---- a line of a report
 
--- that it is invalid, with this verdict; its answer to the question that is asked, with these lines below the first one; its outer bound;
+-- that it is invalid, with this verdict; its answer to the question that is asked, with these lines below the first one; a no with these
+-- and its code; its outer bound;
 -- or that a question can't have what is asked for
 pub data Telling : Type 0 where
   Invalid : (verdict : LineVerdict) → Telling
   Answered : (source : Source) (answer : AnswerView) (details : List ℕ) → Telling
+  Coded : (source : Source) (answer : AnswerView) (code : ReportedCodeView) (details : List ℕ) → Telling
   Factored : (source : Source) (best : BestView) → Telling
   Bounded : (source : Source) (bounds : BoundsView) → Telling
   Misfit : Telling
@@ -187,6 +191,13 @@ pub record IsAccepted (line : List ℕ) (source : Source) (answer : AnswerView) 
   pub is : IsVerdict line verdict
   pub accepted : is_invalid verdict ≡ false
   pub reads : ReadsReport line (Ok (reports.Answered source answer))
+
+-- the line reads as this no with this code, and its verdict isn't an invalid one
+pub record IsAcceptedCode (line : List ℕ) (source : Source) (answer : AnswerView) (code : ReportedCodeView) : Type 0 where
+  pub verdict : LineVerdict
+  pub is : IsVerdict line verdict
+  pub accepted : is_invalid verdict ≡ false
+  pub reads : ReadsReport line (Ok (reports.Coded source answer code))
 
 -- the line reads as this of the factors that this asks for, and its verdict isn't an invalid one
 pub record IsAcceptedBest (line : List ℕ) (source : Source) (best : BestView) : Type 0 where
@@ -221,6 +232,7 @@ bounds_words b = codes "outer " ++ decimal (length b.rows) ++ codes " " ++ decim
 abbrev pub IsTelling : Options → List ℕ → Telling → Type 0
 IsTelling options line (Invalid v) = IsVerdict line v × (is_invalid v ≡ true)
 IsTelling options line (Answered source answer details) = IsAccepted line source answer × AreDetails (asked source).body options answer details
+IsTelling options line (Coded source answer code details) = IsAcceptedCode line source answer code × AreDetails (asked source).body options answer details
 IsTelling options line (Factored source best) = IsAcceptedBest line source best
 IsTelling options line (Bounded source bounds) = IsAcceptedBound line source bounds
 IsTelling options line Misfit = ReadsReport line (Ok reports.Misfit)
@@ -229,6 +241,7 @@ IsTelling options line Misfit = ReadsReport line (Ok reports.Misfit)
 abbrev pub tells_invalid : Telling → Bool
 tells_invalid (Invalid v) = true
 tells_invalid (Answered source answer details) = false
+tells_invalid (Coded source answer code details) = false
 tells_invalid (Factored source best) = false
 tells_invalid (Bounded source bounds) = false
 tells_invalid Misfit = false
@@ -237,6 +250,7 @@ tells_invalid Misfit = false
 abbrev pub telling_text : ℕ → Telling → List ℕ
 telling_text k (Invalid v) = verdict_line k v
 telling_text k (Answered source answer details) = head_line k (asked source).body answer ++ details
+telling_text k (Coded source answer code details) = head_line k (asked source).body answer ++ details ++ indented_line (code_text (asked source).body.names.variables code)
 telling_text k (Factored source best) = numbered_line k (best_words best)
 telling_text k (Bounded source bounds) = numbered_line k (bounds_words bounds)
 telling_text k Misfit = numbered_line k (codes "misfit")

@@ -1,6 +1,7 @@
 //! What is told of a report: the answers of its lines in the field's own notation.
 #![tactic(auto)]
 
+mod codes;
 mod containments;
 mod details;
 mod factors;
