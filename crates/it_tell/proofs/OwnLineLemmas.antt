@@ -1,5 +1,5 @@
 -- The lines of a containment's second region.
-use Rattle.std.proofs.Common.{◌≡◌, ◌↔◌, ℕ, zero, suc, ◌+◌, ◌-◌, ◌<◌, ◌≤◌, ◌^◌, ◌==◌, ℤ, pos, ◌≤ℤ◌, inl, inr, ◌⊎◌, Bool, true, false, None, Some, List, [], ◌∷◌, ◌++◌, append-nil, append_assoc, map, take, drop, length, get_or, if◌then◌else◌, codes, refl, sym, ap, ap₂, subst, subst₂, ◌∙◌, arith, drop-cons, length-append, length-drop, ne_eqb}
+use Rattle.std.proofs.Common.{◌≡◌, ◌↔◌, ℕ, zero, suc, ◌+◌, ◌-◌, ◌<◌, ◌≤◌, ◌^◌, ◌==◌, ℤ, pos, ◌≤ℤ◌, inl, inr, ◌⊎◌, Bool, false, None, Some, List, [], ◌∷◌, ◌++◌, append-nil, append_assoc, map, take, drop, length, get_or, if◌then◌else◌, codes, refl, sym, ap, ap₂, subst, subst₂, ◌∙◌, arith, drop-cons, length-append, length-drop, ne_eqb}
 use Rattle.std.specs.Prelude.{All}
 use Rattle.std.specs.List.{AllZip, zip}
 use Rattle.std.proofs.lemmas.List.Elements.{All-cons, All-head, All-nil, All-tail}
