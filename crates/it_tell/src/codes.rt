@@ -1,5 +1,5 @@
 //! A linear code as it is told.
-ghost use Rattle.std.specs.Prelude.{◌≡◌, ◌≤◌, ◌<◌, ◌==◌, ◌++◌, ◌||◌, [], ◌∷◌, not, false, map, length, slice_index_or, if◌then◌else◌, codes, IfOk, OnOk};
+ghost use Rattle.std.specs.Prelude.{◌≡◌, ◌≤◌, ◌<◌, ◌==◌, ◌++◌, ◌||◌, [], ◌∷◌, not, false, map, length, if◌then◌else◌, codes, IfOk, OnOk};
 ghost use Rattle.it_codes.specs.Codes.{functions_of};
 ghost use Rattle.it_certificate.specs.CodeReading.{reported_code_view};
 ghost use Rattle.it_print.specs.Lines.{joined_texts};
@@ -95,6 +95,13 @@ fn functions_text(alloc: Global, functions: &[Vec<u8>]) -> Result<Vec<u8>, Alloc
     Ok(out)
 }
 
+/// The functions of a variable with `, ` between them.
+fn variable_functions(alloc: Global, variable: &Variable) -> Result<Vec<u8>, AllocError>
+    ensures { IfOk result (λ t. t.items ≡ joined_texts (codes ", ") false (map function_text (functions_of variable.now))) }
+{
+    functions_text(alloc, variable.functions.as_slice())
+}
+
 /// A variable of this name: its functions.
 #[tactic(auto, unfolding(crate::specs::CodeTexts::variable_text))]
 fn variable_text(
@@ -104,7 +111,7 @@ fn variable_text(
 ) -> Result<Vec<u8>, AllocError>
     ensures { IfOk result (λ t. t.items ≡ variable_text name.now (functions_of variable.now)) }
 {
-    let functions = functions_text(alloc, variable.functions.as_slice())?;
+    let functions = variable_functions(alloc, variable)?;
     let mut out = Vec::new(alloc);
     out.extend_from_slice(name)?;
     out.extend_from_slice(b" = (")?;
@@ -129,7 +136,6 @@ fn write_variable(
 }
 
 /// Variables with `, ` between them.
-#[tactic(auto, using(crate::proofs::CodeLemmas::text_step))]
 fn variables_text(
     alloc: Global,
     names: &Names,
