@@ -123,12 +123,7 @@ fn coefficients(alloc: Global, elements: u32, values: &[Value]) -> Result<Vec<u8
 
 /// A linear function of so many symbols.
 #[tactic(auto, unfolding(crate::specs::CodeReading::function_at))]
-fn function_at(
-    alloc: Global,
-    elements: u32,
-    symbols: u8,
-    value: &Value,
-) -> Result<Vec<u8>, Refusal>
+fn function_at(alloc: Global, elements: u32, symbols: u8, value: &Value) -> Result<Vec<u8>, Refusal>
     requires { elements ≤ 3 }
     ensures { Yields (λ v. v.items) result (function_at elements symbols (view value.now)) }
 {

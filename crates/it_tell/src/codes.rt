@@ -35,12 +35,7 @@ fn write_symbol(out: &mut Vec<u8>, i: usize, coefficient: u8) -> Result<(), Allo
 }
 
 /// The same after ` + ` where something stands before, unless the coefficient is 0. Answers whether something stands now.
-fn write_term(
-    out: &mut Vec<u8>,
-    some: bool,
-    i: usize,
-    coefficient: u8,
-) -> Result<bool, AllocError>
+fn write_term(out: &mut Vec<u8>, some: bool, i: usize, coefficient: u8) -> Result<bool, AllocError>
     ensures written { OnOk result (out.new.items ≡ out.old.items ++ joined_texts (codes " + ") some (if not (coefficient == 0) then symbol_text i coefficient ∷ [] else [])) }
     ensures now { IfOk result (λ b. b ≡ (some || not (coefficient == 0))) }
 {
@@ -104,11 +99,7 @@ fn variable_functions(alloc: Global, variable: &Variable) -> Result<Vec<u8>, All
 
 /// A variable of this name: its functions.
 #[tactic(auto, unfolding(crate::specs::CodeTexts::variable_text))]
-fn variable_text(
-    alloc: Global,
-    name: &[u8],
-    variable: &Variable,
-) -> Result<Vec<u8>, AllocError>
+fn variable_text(alloc: Global, name: &[u8], variable: &Variable) -> Result<Vec<u8>, AllocError>
     ensures { IfOk result (λ t. t.items ≡ variable_text name.now (functions_of variable.now)) }
 {
     let functions = variable_functions(alloc, variable)?;

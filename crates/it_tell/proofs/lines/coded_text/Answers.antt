@@ -6,4 +6,3 @@ use Rattle.it_tell.proofs.lines.coded_text.Goals as goal
 
 pub code_text-requires-clause-named : goal.code_text-requires-clause-named
 code_text-requires-clause-named c = named_variables (question_body c.args.question.now) (answer_view c.args.answer.now) c.args.code.now c.requires.fits
-
