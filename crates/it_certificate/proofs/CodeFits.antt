@@ -1,5 +1,5 @@
 -- What is read of a code fits its question.
-use Rattle.std.proofs.Common.{◌≡◌, ℕ, lit<, ◌+◌, ◌<◌, ◌≤◌, ◌^◌, ◌==◌, List, length, refl, ap, sym, subst, ◌∙◌, Some, Ok, Err, option_and_then, option_map, true, cond, nat_le, rules, arith, codes}
+use Rattle.std.proofs.Common.{◌≡◌, ℕ, lit<, ◌+◌, ◌<◌, ◌≤◌, ◌^◌, ◌==◌, List, length, ap, sym, subst, ◌∙◌, Some, Ok, option_and_then, option_map, nat_le, rules, arith, codes}
 use Rattle.std.specs.Prelude.{ok_or}
 use Rattle.std.proofs.Math.Nat.{pow-le-pow_right}
 use Rattle.std.proofs.Math.Pow.{pow_mono}

@@ -1,13 +1,12 @@
 //! The linear code of a report: what its point is said to be of.
-ghost use Rattle.std.specs.Prelude.{◌≡◌, ◌≤◌, codes, length, map, option_and_then, option_map};
-ghost use Rattle.serde_json.specs.Find.{get};
+ghost use Rattle.std.specs.Prelude.{◌≡◌, ◌≤◌, map, option_and_then, option_map};
 ghost use Rattle.serde_json.specs.View.{items_view, view};
 ghost use Rattle.it_codes.specs.Codes.{functions_of, size};
 ghost use Rattle.it_question.specs.Limits.{IsQuestion};
 ghost use Rattle.it_question.specs.Questions.{question_body};
 ghost use Rattle.it_certificate.specs.CodeReading.{code_in, coefficient_at, field_at, field_of, function_at, most_symbols, names_code, reported_code_view, some_of, symbols_at, tells_code, times_at, variable_at, variables_at};
 ghost use Rattle.it_certificate.specs.Numerals.{below};
-ghost use Rattle.it_certificate.specs.Parts.{all_of, list_at};
+ghost use Rattle.it_certificate.specs.Parts.{all_of};
 ghost use Rattle.it_certificate.specs.Steps.{GivesKeyed, Yields};
 
 use crate::answers::fault;
@@ -124,12 +123,7 @@ fn coefficients(alloc: Global, elements: u32, values: &[Value]) -> Result<Vec<u8
 
 /// A linear function of so many symbols.
 #[tactic(auto, unfolding(crate::specs::CodeReading::function_at))]
-fn function_at(
-    alloc: Global,
-    elements: u32,
-    symbols: u8,
-    value: &Value,
-) -> Result<Vec<u8>, Refusal>
+fn function_at(alloc: Global, elements: u32, symbols: u8, value: &Value) -> Result<Vec<u8>, Refusal>
     requires { elements ≤ 3 }
     ensures { Yields (λ v. v.items) result (function_at elements symbols (view value.now)) }
 {

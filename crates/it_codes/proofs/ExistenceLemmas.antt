@@ -1,5 +1,5 @@
 -- A point has a first set whose value isn't so many times the entropy by a code, or it has none, and one alone.
-use Rattle.std.proofs.Common.{◌≡◌, ◌⊎◌, inl, inr, ◌+◌, ◌-◌, ◌*◌, ◌^◌, ◌<◌, ◌≤◌, ◌∙◌, ℕ, zero, suc, ℤ, pos, negsuc, List, Option, Some, None, refl, ap, sym, subst, arith}
+use Rattle.std.proofs.Common.{◌≡◌, ◌⊎◌, inl, inr, ◌-◌, ◌*◌, ◌^◌, ◌<◌, ◌≤◌, ◌∙◌, ℕ, zero, suc, ℤ, pos, negsuc, List, Option, Some, None, refl, ap, sym, subst, arith}
 use Rattle.std.proofs.Math.Nat.{mul-le-mul_left, mul_comm, one-le-pow, pow-suc, zero-mul}
 use Rattle.std.proofs.lemmas.Bool.{cases_order}
 use Rattle.std.proofs.lemmas.Nat.{pow_pos}

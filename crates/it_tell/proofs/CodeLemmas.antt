@@ -1,7 +1,9 @@
 -- Steps of the text of a code.
-use Rattle.std.proofs.Common.{◌≡◌, ℕ, ◌+◌, ◌<◌, ◌≤◌, ◌==◌, ◌||◌, not, if◌then◌else◌, List, [], ◌∷◌, ◌++◌, length, map, drop, get_or, Bool, true, false, refl, sym, ap, subst, ◌∙◌, append_assoc, codes, arith}
-use Rattle.std.proofs.lemmas.List.{drop_more, length-map}
-use Rattle.it_codes.specs.Codes.{functions_of, variables_of}
+use Rattle.std.proofs.Common.{◌≡◌, ℕ, ◌+◌, ◌<◌, ◌≤◌, ◌||◌, if◌then◌else◌, List, [], ◌∷◌, ◌++◌, length, map, drop, get_or, Bool, true, false, Some, refl, sym, ap, ◌∙◌, append_assoc, codes, arith}
+use Rattle.std.specs.List.{slice_get}
+use Rattle.std.proofs.lemmas.List.{length-map}
+use Rattle.std.proofs.lemmas.Option.{get_or_from_slice_get}
+use Rattle.it_codes.specs.Codes.{functions_of}
 use Rattle.it_codes.specs.declared.codes.Variable.{Variable}
 use Rattle.it_question.specs.Questions.{BodyView}
 use Rattle.it_space.specs.Answers.{AnswerView}
@@ -10,7 +12,7 @@ use Rattle.it_certificate.specs.CodeReading.{HasCodedShape, ReportedCodeView, re
 use Rattle.it_certificate.specs.declared.types.ReportedCode.{ReportedCode}
 use Rattle.it_print.specs.Lines.{joined_texts, or_zero}
 use Rattle.it_print.proofs.LineLemmas.{or_zero_unless, sum_step}
-use Rattle.it_tell.specs.CodeTexts.{code_text, function_text, symbol_text, symbol_texts, variable_text, variable_texts}
+use Rattle.it_tell.specs.CodeTexts.{code_text, function_text, symbol_texts, variable_text, variable_texts}
 use Rattle.it_tell.specs.Steps.{IsAnsweredText, IsCodedText}
 use Rattle.it_tell.specs.Tellings.{indented_line}
 use Rattle.it_tell.specs.declared.settings.Options.{Options}
@@ -33,12 +35,22 @@ text_step separator text rest some out =
     ap (λ (t : List ℕ). t ++ joined_texts separator true rest) (append_assoc out (if some then separator else []) text)
     ∙ append_assoc out ((if some then separator else []) ++ text) (joined_texts separator true rest)
 
+-- a function of what each item is seen as
+seen_as : {A B C : Type 0} (f : A → B) (g : B → C) (xs : List A) → map (λ x. g (f x)) xs ≡ map g (map f xs)
+seen_as f g [] = refl
+seen_as f g (x ∷ xs) = ap (λ ys. g (f x) ∷ ys) (seen_as f g xs)
+
+-- the texts of a variable's functions
+pub functions_same : (v : Variable) → joined_texts (codes ", ") false (map (λ f. function_text f.items) v.functions.items) ≡ joined_texts (codes ", ") false (map function_text (functions_of v))
+functions_same v = ap (joined_texts (codes ", ") false) (seen_as (λ f. f.items) function_text v.functions.items)
+
 -- one more variable of a code
-pub variable_step : (names : List (List ℕ)) (variables : List Variable) (i : ℕ) (v : Variable) (some : Bool) (out : List ℕ) → i < length variables → v ≡ get_or variables i v
-    → (out ++ (if some then codes ", " else []) ++ variable_text (get_or names i []) (functions_of v)) ++ joined_texts (codes ", ") true (variable_texts names (i + 1) (map functions_of (drop (i + 1) variables)))
+pub variable_step : (names : List (List ℕ)) (variables : List Variable) (i : ℕ) (v : Variable) (name : List ℕ) (some : Bool) (out : List ℕ) → i < length variables → v ≡ get_or variables i v → slice_get names i ≡ Some name
+    → (out ++ (if some then codes ", " else []) ++ variable_text name (functions_of v)) ++ joined_texts (codes ", ") true (variable_texts names (i + 1) (map functions_of (drop (i + 1) variables)))
     ≡ out ++ joined_texts (codes ", ") some (variable_texts names i (map functions_of (drop i variables)))
-variable_step names variables i v some out h is =
-    text_step (codes ", ") (variable_text (get_or names i []) (functions_of v)) (variable_texts names (i + 1) (map functions_of (drop (i + 1) variables))) some out
+variable_step names variables i v name some out h is named =
+    text_step (codes ", ") (variable_text name (functions_of v)) (variable_texts names (i + 1) (map functions_of (drop (i + 1) variables))) some out
+    ∙ ap (λ (n : List ℕ). out ++ joined_texts (codes ", ") some (variable_text n (functions_of v) ∷ variable_texts names (i + 1) (map functions_of (drop (i + 1) variables)))) (sym (get_or_from_slice_get names i name [] named))
     ∙ ap (λ xs. out ++ joined_texts (codes ", ") some (variable_texts names i (map functions_of xs))) (sym (drop_item variables i v h is))
 
 -- a code has as many variables as there are names
@@ -52,4 +64,4 @@ pub coded_appended : (options : Options) (k : ℕ) (q : BodyView) (a : AnswerVie
     → text ≡ answered ++ indented_line (code_text q.names.variables c) → IsCodedText options k q a c text
 unfolding IsAnsweredText IsCodedText
 coded_appended options k q a c answered text told is =
-    (told.0, (told.1.0, is ∙ ap (λ t. t ++ indented_line (code_text q.names.variables c)) told.1.1 ∙ append_assoc _ told.0 (indented_line (code_text q.names.variables c))))
+    (told.0, (told.1.0, is ∙ ap (λ t. t ++ indented_line (code_text q.names.variables c)) told.1.1))

@@ -1,5 +1,5 @@
 //! A linear code as it is told.
-ghost use Rattle.std.specs.Prelude.{◌≡◌, ◌≤◌, ◌<◌, ◌==◌, ◌++◌, ◌||◌, [], ◌∷◌, not, false, map, length, slice_index_or, if◌then◌else◌, codes, IfOk, OnOk};
+ghost use Rattle.std.specs.Prelude.{◌≡◌, ◌≤◌, ◌<◌, ◌==◌, ◌++◌, ◌||◌, [], ◌∷◌, not, false, map, length, if◌then◌else◌, codes, IfOk, OnOk};
 ghost use Rattle.it_codes.specs.Codes.{functions_of};
 ghost use Rattle.it_certificate.specs.CodeReading.{reported_code_view};
 ghost use Rattle.it_print.specs.Lines.{joined_texts};
@@ -35,12 +35,7 @@ fn write_symbol(out: &mut Vec<u8>, i: usize, coefficient: u8) -> Result<(), Allo
 }
 
 /// The same after ` + ` where something stands before, unless the coefficient is 0. Answers whether something stands now.
-fn write_term(
-    out: &mut Vec<u8>,
-    some: bool,
-    i: usize,
-    coefficient: u8,
-) -> Result<bool, AllocError>
+fn write_term(out: &mut Vec<u8>, some: bool, i: usize, coefficient: u8) -> Result<bool, AllocError>
     ensures written { OnOk result (out.new.items ≡ out.old.items ++ joined_texts (codes " + ") some (if not (coefficient == 0) then symbol_text i coefficient ∷ [] else [])) }
     ensures now { IfOk result (λ b. b ≡ (some || not (coefficient == 0))) }
 {
@@ -95,16 +90,19 @@ fn functions_text(alloc: Global, functions: &[Vec<u8>]) -> Result<Vec<u8>, Alloc
     Ok(out)
 }
 
+/// The functions of a variable with `, ` between them.
+fn variable_functions(alloc: Global, variable: &Variable) -> Result<Vec<u8>, AllocError>
+    ensures { IfOk result (λ t. t.items ≡ joined_texts (codes ", ") false (map function_text (functions_of variable.now))) }
+{
+    functions_text(alloc, variable.functions.as_slice())
+}
+
 /// A variable of this name: its functions.
 #[tactic(auto, unfolding(crate::specs::CodeTexts::variable_text))]
-fn variable_text(
-    alloc: Global,
-    name: &[u8],
-    variable: &Variable,
-) -> Result<Vec<u8>, AllocError>
+fn variable_text(alloc: Global, name: &[u8], variable: &Variable) -> Result<Vec<u8>, AllocError>
     ensures { IfOk result (λ t. t.items ≡ variable_text name.now (functions_of variable.now)) }
 {
-    let functions = functions_text(alloc, variable.functions.as_slice())?;
+    let functions = variable_functions(alloc, variable)?;
     let mut out = Vec::new(alloc);
     out.extend_from_slice(name)?;
     out.extend_from_slice(b" = (")?;
@@ -129,7 +127,6 @@ fn write_variable(
 }
 
 /// Variables with `, ` between them.
-#[tactic(auto, using(crate::proofs::CodeLemmas::text_step))]
 fn variables_text(
     alloc: Global,
     names: &Names,

@@ -1,4 +1,4 @@
-use Rattle.std.proofs.Common.{◌≡◌, ◌^◌, ◌-◌, ◌≤◌, length, None, sym, subst}
+use Rattle.std.proofs.Common.{◌^◌, ◌-◌, ◌≤◌, length, sym, subst}
 use Rattle.it_space.specs.Answers.{answer_view}
 use Rattle.it_codes.specs.Codes.{FirstOtherIs, variables_of}
 use Rattle.it_question.specs.Questions.{question_body}
