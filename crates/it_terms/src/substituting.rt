@@ -34,6 +34,18 @@ fn once(atom: Atom) -> Term {
     }
 }
 
+/// What two sets share; where one of them lies in the other its entropy, and None where one is empty.
+fn mutual(left: VarSet, right: VarSet, given: VarSet) -> Option<Atom> {
+    if left == VarSet::empty() || right == VarSet::empty() {
+        return None;
+    }
+    let of = left.meet(right);
+    if of == left || of == right {
+        return Some(Atom::Entropy { of, given });
+    }
+    Some(Atom::Mutual { left, right, given })
+}
+
 impl Substitution<'_> {
     /// The variables that stay.
     fn own(&self) -> VarSet {
@@ -69,8 +81,7 @@ impl Substitution<'_> {
                 let given = self.set(*given);
                 let left = self.set(*left).minus(given);
                 let right = self.set(*right).minus(given);
-                let is_left = left != VarSet::empty() && right != VarSet::empty();
-                is_left.then_some(Atom::Mutual { left, right, given })
+                mutual(left, right, given)
             }
         }
     }
