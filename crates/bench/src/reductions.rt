@@ -5,7 +5,7 @@ ghost use Rattle.std.specs.Bool.{OnTrue};
 ghost use Rattle.it_question.specs.Limits.{IsQuestion};
 ghost use Rattle.it_question.specs.Questions.{question_body};
 ghost use Rattle.it_redundant.specs.Reduction.{IsSystemUnder};
-ghost use Rattle.it_space.specs.Problems.{IsProblem, problem_view};
+ghost use Rattle.it_space.specs.Problems.{IsProblem};
 ghost use Rattle.it_space.specs.Rows.{IsOver};
 
 use crate::Task;
@@ -81,7 +81,7 @@ fn push_givens(
     constraints: &mut Vec<Constraint>,
     givens: &Problem,
 ) -> Result<(), AllocError> {
-    for given in givens.constraints.as_slice() {
+    for given in givens.constraints() {
         push(alloc, constraints, &given.row, given.kind, given.origin)?;
     }
     Ok(())
@@ -99,22 +99,22 @@ fn problem_around(
     push_rows(alloc, &mut constraints, before)?;
     push_rows(alloc, &mut constraints, after)?;
     Ok(Problem {
-        space: givens.space,
+        space: givens.space(),
         constraints,
     })
 }
 
 /// Whether the constraints are few, and rows of the space.
 fn is_problem(problem: &Problem) -> bool
-    ensures problem { OnTrue result (IsProblem (problem_view problem.now)) }
-    ensures few { OnTrue result (length problem.now.constraints.items ≤ 65535) }
+    ensures problem { OnTrue result (IsProblem problem.now) }
+    ensures few { OnTrue result (length problem.now.constraints ≤ 65535) }
 {
-    let space = problem.space;
+    let space = problem.space();
     if space.variables < 1 || space.variables > 10 || space.rates > 16 {
         return false;
     }
     let size = space.size();
-    problem.constraints.len() <= 65535
+    problem.constraints().len() <= 65535
         && problem
             .constraints
             .iter()
@@ -131,7 +131,7 @@ fn follows(
     asking: &mut Asking,
 ) -> Result<bool, AllocError> {
     let problem = problem_around(alloc, givens, before, after)?;
-    if !is_problem(&problem) || !is_up_to(row, problem.space.size()) {
+    if !is_problem(&problem) || !is_up_to(row, problem.size()) {
         return Ok(false);
     }
     asking.proves(alloc, &problem, row)
@@ -166,7 +166,7 @@ fn reduction(
     way: &str,
     asking: &mut Asking,
 ) -> Result<System, AllocError>
-    requires under { IsSystemUnder (problem_view givens.now) list }
+    requires under { IsSystemUnder givens.now list }
     requires few { length list.rows.items ≤ 65535 }
 {
     match way {
@@ -181,13 +181,13 @@ fn reduction(
 
 /// Whether the list has few rows of the givens' space.
 fn is_under(list: &System, givens: &Problem) -> bool
-    ensures under { OnTrue result (IsSystemUnder (problem_view givens.now) list.now) }
+    ensures under { OnTrue result (IsSystemUnder givens.now list.now) }
     ensures few { OnTrue result (length list.now.rows.items ≤ 65535) }
 {
-    list.space == givens.space
+    list.space == givens.space()
         && is_problem(givens)
         && list.rows.len() <= 65535
-        && are_up_to(list.rows.as_slice(), givens.space.size())
+        && are_up_to(list.rows.as_slice(), givens.size())
 }
 
 /// The list after a rate, if there is one.

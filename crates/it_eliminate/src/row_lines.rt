@@ -1,6 +1,5 @@
 //! Rows as constraints after some givens: each as that of a `row` line.
 ghost use Rattle.std.specs.Prelude.{◌≡◌, [], ◌∷◌, ◌++◌, ◌≤◌, length, OnOk, IfOk};
-ghost use Rattle.it_space.specs.Problems.{problem_view};
 ghost use Rattle.it_eliminate.specs.RowLines.{row_constraints, with_rows};
 
 use it_space::{Constraint, Kind, Origin, Problem, Row};
@@ -47,12 +46,12 @@ fn push_rows(
 /// The givens, and rows after them, as `row` lines counted from 1.
 pub fn problem_with(alloc: Global, givens: &Problem, rows: &[Row]) -> Result<Problem, AllocError>
     requires { length rows.now ≤ 65535 }
-    ensures { IfOk result (λ p. problem_view p ≡ with_rows (problem_view givens.now) rows.now) }
+    ensures { IfOk result (λ p. p ≡ with_rows givens.now rows.now) }
 {
-    let mut constraints = copies(alloc, givens.constraints.as_slice())?;
+    let mut constraints = copies(alloc, givens.constraints())?;
     push_rows(alloc, &mut constraints, rows)?;
     Ok(Problem {
-        space: givens.space,
+        space: givens.space(),
         constraints,
     })
 }

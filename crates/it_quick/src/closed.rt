@@ -1,5 +1,5 @@
 //! The linear program about a target, over closed sets.
-ghost use Rattle.it_space.specs.Problems.{IsProblem, problem_view};
+ghost use Rattle.it_space.specs.Problems.{IsProblem};
 
 use crate::closures::{Closures, Companions, with, without};
 use crate::places::Places;
@@ -163,7 +163,7 @@ impl ClosedProgram {
         problem: &Problem,
         target: &Row,
     ) -> Result<bool, AllocError>
-        requires { IsProblem (problem_view problem.now) }
+        requires { IsProblem problem.now }
     {
         let is_posed = self.put_constraints(alloc, problem)? && self.put_right(alloc, target)?;
         if !is_posed {
@@ -175,12 +175,12 @@ impl ClosedProgram {
 
     /// Puts the columns of a problem's constraints in the place of those that are there. False where a number is large.
     fn put_constraints(&mut self, alloc: Global, problem: &Problem) -> Result<bool, AllocError>
-        requires { IsProblem (problem_view problem.now) }
+        requires { IsProblem problem.now }
     {
         self.program.put_costs_back();
         self.before = std::mem::replace(&mut self.program.others, Vec::new(alloc));
-        let mut generator = count(problem.space.variables);
-        for constraint in problem.constraints.as_slice() {
+        let mut generator = count(problem.space().variables);
+        for constraint in problem.constraints() {
             if !self.push_constraint(alloc, constraint, generator)? {
                 return Ok(false);
             }

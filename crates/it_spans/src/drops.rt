@@ -1,7 +1,6 @@
 //! Rows that go.
 ghost use Rattle.std.specs.Prelude.{◌≡◌, ◌<◌, ◌≤◌, length, map, All, IfOk, IfNone, OnOk};
 ghost use Rattle.std.specs.List.{remove};
-ghost use Rattle.it_space.specs.Problems.{problem_view};
 ghost use Rattle.it_space.specs.Rows.{IsOver};
 ghost use Rattle.it_space.specs.Spaces.{IsSpace, size_of};
 ghost use Rattle.it_hull.specs.Constants.{constants};
@@ -21,7 +20,7 @@ fn take_row(
     drop: &RowDrop,
 ) -> Result<Verdict, AllocError>
     requires space { IsSpace givens.now.space }
-    requires givens { problem_view givens.now ≡ constants givens.now.space }
+    requires givens { givens.now ≡ constants givens.now.space }
     requires over { All (IsOver (size_of givens.now.space)) rows.old.items }
     requires few { length rows.old.items ≤ 65535 }
     requires listed { drop.now.row < length rows.old.items }
@@ -57,7 +56,7 @@ fn drop_row(
     number: usize,
 ) -> Result<Option<Fault>, AllocError>
     requires space { IsSpace givens.now.space }
-    requires givens { problem_view givens.now ≡ constants givens.now.space }
+    requires givens { givens.now ≡ constants givens.now.space }
     requires over { All (IsOver (size_of givens.now.space)) rows.old.items }
     requires few { length rows.old.items ≤ 65535 }
     ensures fault { IfOk result (λ f. f ≡ drop_fault givens.now.space ray number rows.old.items (drop_view drop.now)) }
@@ -79,7 +78,7 @@ pub fn drop_rows(
     ray: usize,
 ) -> Result<Option<Fault>, AllocError>
     requires space { IsSpace givens.now.space }
-    requires givens { problem_view givens.now ≡ constants givens.now.space }
+    requires givens { givens.now ≡ constants givens.now.space }
     requires over { All (IsOver (size_of givens.now.space)) rows.old.items }
     requires few { length rows.old.items ≤ 65535 }
     ensures { IfOk result (λ f. after_drops givens.now.space ray 0 rows.old.items (map drop_view drops.now) ≡ fault_or f (Ok rows.new.items)) }

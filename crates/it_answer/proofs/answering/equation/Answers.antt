@@ -1,6 +1,5 @@
 use Rattle.std.proofs.Common.{◌≡◌, ◌∷◌, [], subst, refl}
 use Rattle.it_space.specs.Answers.{answer_view, certificate_view}
-use Rattle.it_space.specs.Problems.{problem_view}
 use Rattle.it_syntax.specs.Meaning.{relation_view}
 use Rattle.it_demand.specs.Canonical.{form_of}
 use Rattle.it_demand.specs.Targets.{negation}
@@ -16,11 +15,11 @@ prove-requires-in-Yes-clause-target c =
     (row_negation c.args.problem.now.space (form_of c.args.problem.now.space.variables (relation_view c.args.relation.now)) c.in_ok-row.row c.in_ok-other-in-Yes.other c.in_ok-other-in-Yes.ensures c.in_ok-row.ensures).coordinates
 
 pub prove-requires-in-Yes-clause-closed : goal.prove-requires-in-Yes-clause-closed
-prove-requires-in-Yes-clause-closed c = c.in_ok-proof.ensures.stays (problem_view c.args.problem.now) c.in_ok-closed.ensures
+prove-requires-in-Yes-clause-closed c = c.in_ok-proof.ensures.stays c.args.problem.now c.in_ok-closed.ensures
 
 pub returns-in-Yes : goal.returns-in-Yes
 returns-in-Yes c =
-    let p = problem_view c.args.problem.now in
+    let p = c.args.problem.now in
     let f = form_of p.space.variables (relation_view c.args.relation.now) in
     let g = negation f in
     let t = c.in_ok-row.row in
@@ -33,7 +32,7 @@ returns-in-Yes c =
 
 pub returns : goal.returns
 returns c =
-    let p = problem_view c.args.problem.now in
+    let p = c.args.problem.now in
     let f = form_of p.space.variables (relation_view c.args.relation.now) in
     let g = negation f in
     let t = c.in_ok-row.row in

@@ -32,5 +32,5 @@ returns c =
       reply = record { reply = reply_view c.in_ok-replied.replied.reply; steps = None };
       right = record { reply = c.in_ok-replied.ensures.right; steps = refl };
       is = is ∙ ap (λ cs. reply_lines c.args.limits c.args.k q (origins_of cs) (reply_view c.in_ok-replied.replied.reply)) c.as_slice.ensures.value ∙ ap (λ xs. reply_lines c.args.limits c.args.k q xs (reply_view c.in_ok-replied.replied.reply))
-          (origins_same (question_origins (under_all_lines q)) c.in_ok-replied.replied.problem.constraints.items c.in_ok-replied.ensures.problem.placed);
+          (origins_same (question_origins (under_all_lines q)) c.in_ok-replied.replied.problem.constraints c.in_ok-replied.ensures.problem.placed);
     }))

@@ -16,5 +16,5 @@ returns c = let q = question_body c.args.question.now in if_ok c.reply_line.resu
       reply = reply_view c.in_ok-replied.replied.reply;
       right = c.in_ok-replied.ensures.right;
       is = is ∙ ap (λ cs. reply_line c.args.k q (origins_of cs) (reply_view c.in_ok-replied.replied.reply)) c.as_slice.ensures.value ∙ ap (λ xs. reply_line c.args.k q xs (reply_view c.in_ok-replied.replied.reply))
-          (origins_same (question_origins q) c.in_ok-replied.replied.problem.constraints.items c.in_ok-replied.ensures.problem.placed);
+          (origins_same (question_origins q) c.in_ok-replied.replied.problem.constraints c.in_ok-replied.ensures.problem.placed);
     })

@@ -6,4 +6,4 @@ pub overflow_add-result : goal.overflow_add-result
 overflow_add-result c = omega (arith, few_elementals c.args.problem.now.space.variables c.requires.space.few)
 
 pub returns : goal.returns
-returns c = omega (arith, length-listed c.args.problem.now.space.variables c.args.problem.now.constraints.items)
+returns c = omega (arith, length-listed c.args.problem.now.space.variables c.args.problem.now.constraints)

@@ -1,6 +1,5 @@
 use Rattle.std.proofs.Common.{rules, sym, subst}
 use Rattle.it_space.specs.Answers.{certificate_view}
-use Rattle.it_space.specs.Problems.{problem_view}
 use Rattle.it_space.specs.Rows.{Terms, IsOver}
 use Rattle.it_space.specs.Spaces.{size_of}
 use Rattle.it_check.specs.Meaning.{CertifiesRow}
@@ -17,7 +16,7 @@ settle-requires-clause-target c =
 
 pub returns-in-Some-Yes : goal.returns-in-Some-Yes
 returns-in-Some-Yes c =
-    let q = problem_view c.args.problem.now in
+    let q = c.args.problem.now in
     let w = certificate_view c.in-Some-Yes.proof in
     let settled : IsSettled q c.args.row.now (Yes w) = search rules in
     subst (IsQuickBest q c.args.left.now c.args.right.now) (sym c.answer.ensures)

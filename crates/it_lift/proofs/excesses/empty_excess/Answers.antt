@@ -1,4 +1,3 @@
-use Rattle.it_space.specs.Problems.{problem_view}
 use Rattle.std.proofs.Common.{rules, ◌≡◌, ◌^◌, ◌<◌, ℕ, List, nat_eq, FitsSigned, to_z, to_z-of_z, sym, ap, ap₂, subst, ◌∙◌}
 use Rattle.std.proofs.lemmas.Nat.{pow_pos}
 use Rattle.it_space.specs.Answers.{CertificateView, certificate_view}
@@ -24,7 +23,7 @@ returns-in_err-total-clause-wide c =
     let ds : List Dependence = c.args.dependences.now.list in
     let m : ℕ = c.loop-number.number in
     let target : Form = value c.args.target.now in
-    let g : Generators = generators_of (problem_view c.args.problem.now) in
+    let g : Generators = generators_of c.args.problem.now in
     let w : CertificateView = certificate_view c.args.collapsed.now in
     let below : m < 2 ^ n = number_below m c.args.problem.now.space.variables n c.loop-number-test.true c.requires.problem.space.few (ap (λ s. s.variables) c.requires.space) in
     let left_fits : FitsSigned w128 c.in_ok-left.left = search rules in
@@ -41,7 +40,7 @@ loop-number-preserved c =
     let ds : List Dependence = c.args.dependences.now.list in
     let m : ℕ = c.loop-number.number in
     let target : Form = value c.args.target.now in
-    let g : Generators = generators_of (problem_view c.args.problem.now) in
+    let g : Generators = generators_of c.args.problem.now in
     let w : CertificateView = certificate_view c.args.collapsed.now in
     let below : m < 2 ^ n = number_below m c.args.problem.now.space.variables n c.loop-number-test.true c.requires.problem.space.few (ap (λ s. s.variables) c.requires.space) in
     let left_fits : FitsSigned w128 c.in_ok-left.left = search rules in

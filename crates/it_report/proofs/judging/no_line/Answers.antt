@@ -1,7 +1,6 @@
 use Rattle.std.proofs.Common.{◌≡◌, ◌<◌, length, sym, ap, subst, Some}
 use Rattle.it_report.specs.RowVerdicts.{place_named}
 use Rattle.it_space.specs.Answers.AnswerView.{No}
-use Rattle.it_space.specs.Problems.{problem_view}
 use Rattle.it_syntax.specs.Meaning.{relation_view}
 use Rattle.it_question.specs.Questions.{question_body}
 use Rattle.it_demand.specs.Targets.{targets}
@@ -16,7 +15,7 @@ relation_of-requires c = no_is_about_relation (question_body c.args.question.now
 pub point_verdict-verdict-requires-clause-named : goal.point_verdict-verdict-requires-clause-named
 point_verdict-verdict-requires-clause-named c =
     let r = relation_view c.relation_of.result.now in
-    let p = problem_view c.in_ok-problem.problem in
+    let p = c.in_ok-problem.problem in
     subst (λ ts. place_named c.args.back < length ts) (sym c.as_slice.ensures.value)
     (target_is_there (question_body c.args.question.now) r c.relation_of.ensures c.args.back c.args.point.now p.space.variables c.in_ok-rows.rows.items
     (as_many_rows p.space (targets p.space.variables r) c.in_ok-rows.rows.items c.in_ok-rows.ensures) c.requires.fits)
@@ -28,7 +27,7 @@ point_verdict-verdict-requires-clause-complete c =
 pub returns : goal.returns
 returns c =
     let q = question_body c.args.question.now in
-    let p = problem_view c.in_ok-problem.problem in
+    let p = c.in_ok-problem.problem in
     let a = No c.args.back c.args.point.now in
     let v = c.point_verdict-verdict.result in
     let e : answer_verdict p c.in_ok-rows.rows.items a ≡ Some v

@@ -1,7 +1,6 @@
 use Rattle.std.proofs.Common.{◌≡◌, map, sym, ap, subst, Some}
 use Rattle.it_space.specs.Answers.{certificate_view}
 use Rattle.it_space.specs.Answers.AnswerView.{Yes}
-use Rattle.it_space.specs.Problems.{problem_view}
 use Rattle.it_syntax.specs.Meaning.{relation_view}
 use Rattle.it_question.specs.Questions.{question_body}
 use Rattle.it_report.specs.Judging.{answer_verdict}
@@ -14,7 +13,7 @@ relation_of-requires c = yes_is_about_relation (question_body c.args.question.no
 pub returns : goal.returns
 returns c =
     let q = question_body c.args.question.now in
-    let p = problem_view c.in_ok-problem.problem in
+    let p = c.in_ok-problem.problem in
     let a = Yes (map certificate_view c.args.proofs.now) in
     let v = c.proofs_verdict-verdict.result in
     let e : answer_verdict p c.in_ok-rows.rows.items a ≡ Some v

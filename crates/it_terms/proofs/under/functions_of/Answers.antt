@@ -11,7 +11,7 @@ use Rattle.it_terms.proofs.under.functions_of.Goals as goal
 pub read-requires : goal.read-requires
 read-requires c =
     let s = c.args.problem.now.space in
-    let cs = c.args.problem.now.constraints.items in
+    let cs = c.args.problem.now.constraints in
     let lines = c.args.lines.now in
     let chosen = c.in-Some.constraints.items in
     let are : AreChosen cs lines chosen = rw c.as_slice.ensures.value at rw c.in-Some.is at c.in_ok-constraints.ensures in
@@ -24,7 +24,7 @@ read-requires c =
 pub returns-in_ok-read-in-Some-clause-said : goal.returns-in_ok-read-in-Some-clause-said
 returns-in_ok-read-in-Some-clause-said c =
     let s = c.args.problem.now.space in
-    let cs = c.args.problem.now.constraints.items in
+    let cs = c.args.problem.now.constraints in
     let lines = c.args.lines.now in
     let chosen = c.in-Some.constraints.items in
     let are : AreChosen cs lines chosen = rw c.as_slice.ensures.value at rw c.in-Some.is at c.in_ok-constraints.ensures in
@@ -33,7 +33,7 @@ returns-in_ok-read-in-Some-clause-said c =
 
 pub returns-in_ok-read-in-Some-clause-there : goal.returns-in_ok-read-in-Some-clause-there
 returns-in_ok-read-in-Some-clause-there c =
-    let cs = c.args.problem.now.constraints.items in
+    let cs = c.args.problem.now.constraints in
     let lines = c.args.lines.now in
     let chosen = c.in-Some.constraints.items in
     let are : AreChosen cs lines chosen = rw c.as_slice.ensures.value at rw c.in-Some.is at c.in_ok-constraints.ensures in

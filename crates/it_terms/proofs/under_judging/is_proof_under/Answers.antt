@@ -15,7 +15,7 @@ use Rattle.it_terms.proofs.under_judging.is_proof_under.Goals as goal
 pub returns : goal.returns
 returns c =
     let s : Space = c.args.problem.now.space in
-    let cs : List Constraint = c.args.problem.now.constraints.items in
+    let cs : List Constraint = c.args.problem.now.constraints in
     let r = relation_view c.args.relation.now in
     let named = c.args.sides.now.named.items in
     let ds = c.args.functions.now.list in
