@@ -3,7 +3,6 @@
 ghost use Rattle.std.specs.Prelude.{◌≡◌};
 ghost use Rattle.it_question.specs.Limits.{IsQuestion};
 ghost use Rattle.it_question.specs.Questions.{Prove, question_body};
-ghost use Rattle.it_space.specs.Problems.{IsProblem};
 ghost use Rattle.it_space.specs.Rows.{IsOver};
 ghost use Rattle.it_space.specs.Spaces.{size_of};
 ghost use Rattle.it_syntax.specs.Meaning.{relation_view};
@@ -66,7 +65,6 @@ impl Asking {
         problem: &Problem,
         target: &Row,
     ) -> Result<Option<Proof>, AllocError>
-        requires problem { IsProblem problem.now }
         requires target { IsOver (size_of problem.now.space) target.now }
     {
         if !self.quick {
@@ -88,7 +86,6 @@ impl Asking {
         problem: &Problem,
         target: &Row,
     ) -> Result<bool, AllocError>
-        requires problem { IsProblem problem.now }
         requires target { IsOver (size_of problem.now.space) target.now }
     {
         self.asked = self.asked.wrapping_add(1);

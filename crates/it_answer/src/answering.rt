@@ -1,7 +1,6 @@
 //! The answers to questions.
 ghost use Rattle.std.specs.Prelude.{◌≡◌, map, IfOk};
 ghost use Rattle.it_space.specs.Answers.{answer_view, certificate_view};
-ghost use Rattle.it_space.specs.Problems.{IsProblem};
 ghost use Rattle.it_syntax.specs.Meaning.{relation_view};
 ghost use Rattle.it_syntax.specs.Givens.{IsRelationOf};
 ghost use Rattle.it_question.specs.Limits.{IsQuestion};
@@ -83,7 +82,6 @@ fn relation_answer(
     relation: &Relation,
     effort: Effort,
 ) -> Result<Answer, AllocError>
-    requires problem { IsProblem problem.now }
     requires relation { IsRelationOf problem.now.space.variables problem.now.space.rates (relation_view relation.now) }
     ensures { IfOk result (λ a. AnswersRelation problem.now (relation_view relation.now) (answer_view a) effort) }
 {
@@ -101,7 +99,6 @@ fn inequality(
     relation: &Relation,
     effort: Effort,
 ) -> Result<Answer, AllocError>
-    requires problem { IsProblem problem.now }
     requires relation { IsRelationOf problem.now.space.variables problem.now.space.rates (relation_view relation.now) }
     ensures { IfOk result (λ a. AnswersInequality problem.now (relation_view relation.now) (answer_view a) effort) }
 {
@@ -117,7 +114,6 @@ fn equation(
     relation: &Relation,
     effort: Effort,
 ) -> Result<Answer, AllocError>
-    requires problem { IsProblem problem.now }
     requires relation { IsRelationOf problem.now.space.variables problem.now.space.rates (relation_view relation.now) }
     ensures { IfOk result (λ a. AnswersEquality problem.now (relation_view relation.now) (answer_view a) effort) }
 {

@@ -1,6 +1,5 @@
 //! The best factor.
 ghost use Rattle.std.specs.Prelude.{◌≡◌, ◌<◌, ◌^◌, IfOk};
-ghost use Rattle.it_space.specs.Problems.{IsProblem};
 ghost use Rattle.it_space.specs.Rows.{IsOver, negated_terms, value};
 ghost use Rattle.it_space.specs.Spaces.{size_of};
 ghost use Rattle.it_run.specs.Answers.{end_of_answer};
@@ -92,7 +91,6 @@ fn third_end(
     unknowns: &[Unknown],
     budget: Budget,
 ) -> Result<Solved, AllocError>
-    requires problem { IsProblem problem.now }
     requires right { IsOver (size_of problem.now.space) right.now }
     ensures ends { IfOk result (λ a. ThirdEnds problem.now right.now (unknown_views unknowns.now) budget (end_of_answer a)) }
     ensures right { IfOk result (λ a. ThirdIsRight problem.now right.now (unknown_views unknowns.now) a) }
@@ -167,7 +165,6 @@ fn second_end(
     others: &[Unknown],
     budget: Budget,
 ) -> Result<Solved, AllocError>
-    requires problem { IsProblem problem.now }
     ensures ends { IfOk result (λ a. PhaseEnds (size_of problem.now.space) (unknown_views others.now) (negated_terms left.now) budget (end_of_answer a)) }
     ensures right { IfOk result (λ a. PhaseIsRight (size_of problem.now.space) (unknown_views others.now) (negated_terms left.now) a) }
 {
@@ -295,11 +292,11 @@ pub fn best(
     right: &Row,
     budget: Budget,
 ) -> Result<Best, AllocError>
-    requires problem { IsProblem problem.now }
     requires left { IsOver (size_of problem.now.space) left.now }
     requires right { IsOver (size_of problem.now.space) right.now }
     ensures ends { IfOk result (λ b. EndsWith problem.now left.now right.now budget (best_view b)) }
     ensures right { IfOk result (λ b. IsRightBest (ground_of problem.now) (value left.now) (value right.now) (best_view b)) }
 {
+    problem.facts();
     best_by_phases(alloc, problem, left, right, budget)
 }

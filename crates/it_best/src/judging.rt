@@ -2,7 +2,6 @@
 ghost use Rattle.std.specs.Prelude.{◌≡◌, ◌<◌, ◌^◌, ◌++◌, ◌*ℤ◌, ◌≤ℤ◌, pos, neg_ℤ, map, length, IfErr, IfOk, OkIff, OnOk};
 ghost use Rattle.it_number.specs.Limit.{IsWithin};
 ghost use Rattle.it_space.specs.Answers.{certificate_view};
-ghost use Rattle.it_space.specs.Problems.{IsProblem};
 ghost use Rattle.it_space.specs.Rows.{IsOver, ValueFits, point_of, negated_terms, single_term, value};
 ghost use Rattle.it_space.specs.Spaces.{size_of};
 ghost use Rattle.it_check.specs.Meaning.{CertificateFits, CertifiesRow, PointFits};
@@ -61,7 +60,6 @@ pub fn factor_row(
     right: &Row,
     factor: &Fraction,
 ) -> Result<Row, RowFault>
-    requires { IsProblem problem.now }
     ensures value { IfOk result (λ r. r ≡ factor_row (size_of problem.now.space) left.now right.now factor.now) }
     ensures fits { OnOk result (RowFits (size_of problem.now.space) left.now right.now factor.now) }
     ensures wide { IfErr result (λ f. f ≡ RowFault.Wide → ¬ (RowFits (size_of problem.now.space) left.now right.now factor.now)) }
@@ -75,11 +73,11 @@ pub fn factor_row(
 
 /// The certificate where the check finds it valid; else a number of the check passes the limit.
 fn if_valid(problem: &Problem, target: &Row, proof: Certificate) -> Result<Certificate, Wide>
-    requires problem { IsProblem problem.now }
     requires target { IsOver (size_of problem.now.space) target.now }
     requires certifies { CertifiesRow problem.now target.now (certificate_view proof) }
     ensures { OkIff result (CertificateFits problem.now target.now (certificate_view proof)) proof }
 {
+    problem.facts();
     match check_yes(problem, target, &proof) {
         Verdict::Valid => Ok(proof),
         _ => Err(Wide),
@@ -96,7 +94,6 @@ pub fn factor_proof(
     factor: &Fraction,
     weights: &[Fraction],
 ) -> Result<Certificate, RowFault>
-    requires problem { IsProblem problem.now }
     requires few { length weights.now < 2 ^ 32 }
     requires factor { CertifyFactor problem.now left.now right.now factor.now weights.now }
     ensures value { IfOk result (λ c. certificate_view c ≡ weights_certificate (pos factor.now.den) weights.now) }
@@ -117,7 +114,6 @@ pub fn below_proof(
     left: &Row,
     weights: &[Fraction],
 ) -> Result<Certificate, RowFault>
-    requires problem { IsProblem problem.now }
     requires left { IsOver (size_of problem.now.space) left.now }
     requires few { length weights.now < 2 ^ 32 }
     requires certified { CertifyBelow problem.now left.now weights.now }
@@ -134,13 +130,13 @@ pub fn below_proof(
 /// Has the check find the point, which meets the problem, valid for a row that is above 0 there. `Wide` where a number of the check passes
 /// the limit.
 fn check_point(alloc: Global, problem: &Problem, row: &Row, point: &Point) -> Result<(), RowFault>
-    requires problem { IsProblem problem.now }
     requires row { IsOver (size_of problem.now.space) row.now }
     requires meets { IsPoint (ground_of problem.now) point.now }
     requires above { pos 1 ≤ℤ value row.now (point_of point.now) }
     ensures fits { OnOk result (PointFits problem.now row.now point.now) }
     ensures wide { IfErr result (λ f. f ≡ RowFault.Wide → ¬ (PointFits problem.now row.now point.now)) }
 {
+    problem.facts();
     let target = opposite_row(alloc, row)?;
     match check_no(problem, &target, point) {
         Verdict::Valid => Ok(()),

@@ -1,7 +1,6 @@
 //! The unknowns of the three phases.
 ghost use Rattle.std.specs.Prelude.{◌≡◌, ◌≢◌, ◌<◌, ◌+◌, ◌^◌, ◌++◌, ◌∷◌, [], pos, List, length, map, All, IfOk, OnOk};
 ghost use Rattle.it_number.specs.Limit.{IsWithin};
-ghost use Rattle.it_space.specs.Problems.{IsProblem};
 ghost use Rattle.it_space.specs.Rows.{IsOver, coefficient};
 ghost use Rattle.it_space.specs.Spaces.{size_of};
 ghost use Rattle.it_elemental.specs.Generators.{Generator, generators, generator_at};
@@ -17,7 +16,6 @@ use std::alloc::{AllocError, Global};
 
 /// A generator as an unknown: its weight.
 fn weight(alloc: Global, problem: &Problem, index: u32) -> Result<Unknown, AllocError>
-    requires problem { IsProblem problem.now }
     requires listed { index < length (generators problem.now) }
     ensures { IfOk result (λ u. unknown_view u ≡ generator_at (generators problem.now) index) }
 {
@@ -30,7 +28,6 @@ fn weight(alloc: Global, problem: &Problem, index: u32) -> Result<Unknown, Alloc
 
 /// The weight of a generator that counts against the factor: the generator turned.
 fn counterweight(alloc: Global, problem: &Problem, index: u32) -> Result<Unknown, AllocError>
-    requires problem { IsProblem problem.now }
     requires listed { index < length (generators problem.now) }
     ensures { IfOk result (λ u. unknown_view u ≡ counterweight (generator_at (generators problem.now) index)) }
 {
@@ -48,7 +45,6 @@ fn push_counterweights(
     alloc: Global,
     problem: &Problem,
 ) -> Result<(), AllocError>
-    requires problem { IsProblem problem.now }
     ensures { OnOk result (unknown_views unknowns.new.items ≡ unknown_views unknowns.old.items ++ map counterweight (generators problem.now)) }
 {
     for index in 0..generator_count(problem) {
@@ -60,7 +56,6 @@ fn push_counterweights(
 
 /// The first phase: the factor, and the weights of the generators. They are to make the right side.
 pub fn first_phase(alloc: Global, problem: &Problem, left: &Row) -> Result<Vec<Unknown>, AllocError>
-    requires problem { IsProblem problem.now }
     ensures { IfOk result (λ v. unknown_views v.items ≡ first_phase (generators problem.now) left.now) }
 {
     let mut unknowns = Vec::new(alloc);
@@ -75,7 +70,6 @@ pub fn first_phase(alloc: Global, problem: &Problem, left: &Row) -> Result<Vec<U
 
 /// The second phase: the weights of the generators. They are to make the left side turned.
 pub fn second_phase(alloc: Global, problem: &Problem) -> Result<Vec<Unknown>, AllocError>
-    requires problem { IsProblem problem.now }
     ensures { IfOk result (λ v. unknown_views v.items ≡ generators problem.now) }
 {
     let mut unknowns = Vec::new(alloc);
@@ -88,7 +82,6 @@ pub fn second_phase(alloc: Global, problem: &Problem) -> Result<Vec<Unknown>, Al
 
 /// The rows of the generators, in order.
 fn generator_rows(alloc: Global, problem: &Problem) -> Result<Vec<Row>, AllocError>
-    requires problem { IsProblem problem.now }
     ensures { IfOk result (λ v. v.items ≡ map (λ g. g.row) (generators problem.now)) }
 {
     let mut rows = Vec::new(alloc);
@@ -101,19 +94,19 @@ fn generator_rows(alloc: Global, problem: &Problem) -> Result<Vec<Row>, AllocErr
 
 /// The equation of the left side's value at the point, which is 1.
 pub fn left_equation(problem: &Problem) -> u32
-    requires problem { IsProblem problem.now }
     ensures value { result ≡ left_equation (size_of problem.now.space) (generators problem.now) }
     ensures few { result < 2 ^ 22 }
 {
+    problem.facts();
     problem.size() + generator_count(problem) + 1
 }
 
 /// The equation of the right side's value at the point, which is the factor.
 pub fn right_equation(problem: &Problem) -> u32
-    requires problem { IsProblem problem.now }
     ensures value { result ≡ right_equation (size_of problem.now.space) (generators problem.now) }
     ensures few { result < 2 ^ 22 }
 {
+    problem.facts();
     problem.size() + generator_count(problem) + 2
 }
 
@@ -165,10 +158,10 @@ fn coordinate_row(
     right: &Row,
     coordinate: u32,
 ) -> Result<Row, AllocError>
-    requires problem { IsProblem problem.now }
     requires rows { rows.now ≡ map (λ g. g.row) (generators problem.now) }
     ensures { IfOk result (λ r. r ≡ coordinate_row (size_of problem.now.space) (generators problem.now) left.now right.now coordinate) }
 {
+    problem.facts();
     let mut terms = coordinate_terms(alloc, rows, problem.size() + 1, coordinate)?;
     push_some(
         &mut terms,
@@ -185,7 +178,6 @@ fn coordinate_row(
 
 /// Whether a coordinate's value is at least 0, as that of a set is, or any number, as a rate is.
 fn coordinate_kind(problem: &Problem, coordinate: u32) -> Kind
-    requires problem { IsProblem problem.now }
     ensures { IsCoordinateKind problem.now.space.variables coordinate result }
 {
     if coordinate < 1 << problem.space().variables {
@@ -204,7 +196,6 @@ fn push_values(
     left: &Row,
     right: &Row,
 ) -> Result<(), AllocError>
-    requires problem { IsProblem problem.now }
     requires rows { rows.now ≡ map (λ g. g.row) (generators problem.now) }
     ensures { OnOk result (unknown_views unknowns.new.items ≡ unknown_views unknowns.old.items ++ all_values problem.now left.now right.now) }
 {
@@ -244,9 +235,9 @@ fn push_slacks(
     alloc: Global,
     problem: &Problem,
 ) -> Result<(), AllocError>
-    requires problem { IsProblem problem.now }
     ensures { OnOk result (unknown_views unknowns.new.items ≡ unknown_views unknowns.old.items ++ all_slacks problem.now) }
 {
+    problem.facts();
     let first = problem.size() + 1;
     for index in 0..generator_count(problem) {
         push_slack(unknowns, alloc, kind_at(problem, index), first + index)?;
@@ -262,7 +253,6 @@ pub fn third_phase(
     left: &Row,
     right: &Row,
 ) -> Result<Vec<Unknown>, AllocError>
-    requires problem { IsProblem problem.now }
     requires left { IsOver (size_of problem.now.space) left.now }
     ensures { IfOk result (λ v. unknown_views v.items ≡ third problem.now left.now right.now) }
 {

@@ -1,6 +1,5 @@
 //! The replies to questions.
 ghost use Rattle.std.specs.Prelude.{◌≡◌, ◌<◌, ◌≤◌, All, IfOk, length};
-ghost use Rattle.it_space.specs.Problems.{IsProblem};
 ghost use Rattle.it_space.specs.Rows.{IsOver};
 ghost use Rattle.it_space.specs.Spaces.{IsSpace, size_of};
 ghost use Rattle.it_question.specs.Limits.{IsQuestion};
@@ -73,12 +72,12 @@ fn reply_under(
 
 /// The outer bound of a problem without some rates.
 fn bound(alloc: Global, problem: &Problem, gone: &[u8], limits: Limits) -> Result<Reply, AllocError>
-    requires problem { IsProblem problem.now }
     requires gone { All (λ r. r < problem.now.space.rates) gone.now }
     requires some { 1 ≤ length gone.now }
     requires few_rows { limits.rows ≤ 65535 }
     ensures { IfOk result (λ r. IsReplyByRows limits problem.now gone.now (reply_view r)) }
 {
+    problem.facts();
     let size = size(alloc, problem)?;
     if MOST_ENTRIES < size {
         return Ok(Reply::Size);

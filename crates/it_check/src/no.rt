@@ -1,6 +1,5 @@
 //! The verdicts on a point that is to meet a problem, and on a counterexample.
 ghost use Rattle.std.specs.Prelude.{◌≡◌, ◌<◌, length, pos};
-ghost use Rattle.it_space.specs.Problems.{IsProblem};
 ghost use Rattle.it_space.specs.Rows.{IsOver, point_of};
 ghost use Rattle.it_space.specs.Spaces.{size_of};
 ghost use Rattle.it_polymatroid.specs.Elementals.{elementals};
@@ -26,7 +25,6 @@ fn violates(kind: Kind, value: i128) -> bool
 
 /// The finding of a generator that the point violates, by its number.
 fn violation(problem: &Problem, index: u32, value: i128) -> Verdict
-    requires { IsProblem problem.now }
     ensures { result ≡ violation (length (elementals problem.now.space.variables)) index value }
 {
     if index < count(problem.space().variables) {
@@ -38,7 +36,6 @@ fn violation(problem: &Problem, index: u32, value: i128) -> Verdict
 
 /// A generator that isn't met, or whose value is wide.
 fn of_generator(problem: &Problem, index: u32, point: &Point) -> Option<Verdict>
-    requires problem { IsProblem problem.now }
     requires listed { index < length (generators problem.now) }
     requires complete { length point.now ≡ size_of problem.now.space }
     ensures { result ≡ of_generator problem.now index (point_of point.now) }
@@ -55,7 +52,6 @@ fn of_generator(problem: &Problem, index: u32, point: &Point) -> Option<Verdict>
 
 /// The first such generator.
 fn of_generators(problem: &Problem, point: &Point) -> Option<Verdict>
-    requires problem { IsProblem problem.now }
     requires complete { length point.now ≡ size_of problem.now.space }
     ensures { result ≡ of_generators (length (elementals problem.now.space.variables)) 0 (generators problem.now) (point_of point.now) }
 {
@@ -70,7 +66,6 @@ fn of_generators(problem: &Problem, point: &Point) -> Option<Verdict>
 /// Whether the point meets the problem: the first thing that is wrong with it, in order of the generators.
 #[tactic(auto, unfolding(crate::specs::Verdicts::met_verdict))]
 pub fn check_met(problem: &Problem, point: &Point) -> Verdict
-    requires problem { IsProblem problem.now }
     requires complete { length point.now ≡ size_of problem.now.space }
     ensures { result ≡ met_verdict (length (elementals problem.now.space.variables)) (generators problem.now) (point_of point.now) }
 {
@@ -82,7 +77,6 @@ pub fn check_met(problem: &Problem, point: &Point) -> Verdict
 
 /// A target that isn't violated, or whose value is wide.
 fn of_target(problem: &Problem, target: &Row, point: &Point) -> Option<Verdict>
-    requires problem { IsProblem problem.now }
     requires target { IsOver (size_of problem.now.space) target.now }
     requires complete { length point.now ≡ size_of problem.now.space }
     ensures { result ≡ of_target (length (generators problem.now)) (sum_within (pos 0) target.now (point_of point.now)) }
@@ -101,7 +95,6 @@ fn of_target(problem: &Problem, target: &Row, point: &Point) -> Option<Verdict>
 /// Whether the point meets the problem and violates the target: the first thing that is wrong with it, in order of the
 /// generators and then the target.
 pub fn check_no(problem: &Problem, target: &Row, point: &Point) -> Verdict
-    requires problem { IsProblem problem.now }
     requires target { IsOver (size_of problem.now.space) target.now }
     requires complete { length point.now ≡ size_of problem.now.space }
     ensures { result ≡ no_verdict (length (elementals problem.now.space.variables)) (generators problem.now) target.now (point_of point.now) }

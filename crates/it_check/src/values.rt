@@ -1,6 +1,5 @@
 //! The values of generators at a point.
 ghost use Rattle.std.specs.Prelude.{◌≡◌, ◌<◌, length};
-ghost use Rattle.it_space.specs.Problems.{IsProblem};
 ghost use Rattle.it_space.specs.Rows.{IsValueOrWide, point_of};
 ghost use Rattle.it_space.specs.Spaces.{size_of};
 ghost use Rattle.it_elemental.specs.Generators.{generators, generator_at};
@@ -11,11 +10,11 @@ use it_space::{Point, Problem, value};
 
 /// The value of a generator at a point.
 pub fn generator_value(problem: &Problem, index: u32, point: &Point) -> Result<i128, Wide>
-    requires problem { IsProblem problem.now }
     requires listed { index < length (generators problem.now) }
     requires complete { length point.now ≡ size_of problem.now.space }
     ensures { IsValueOrWide (generator_at (generators problem.now) index).row (point_of point.now) result }
 {
+    problem.facts();
     let n = problem.space().variables;
     let elementals = count(n);
     if index >= elementals {

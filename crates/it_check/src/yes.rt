@@ -2,7 +2,6 @@
 ghost use Rattle.std.specs.Prelude.{◌≡◌, ◌<◌, ◌≤◌, ℤ, length, All, OkIff, None, ◌*ℤ◌};
 ghost use Rattle.it_number.specs.Limit.{IsWithin};
 ghost use Rattle.it_space.specs.Answers.{certificate_view};
-ghost use Rattle.it_space.specs.Problems.{IsProblem};
 ghost use Rattle.it_space.specs.Rows.{IsOver, IsValueOrWide, coefficient};
 ghost use Rattle.it_space.specs.Spaces.{size_of};
 ghost use Rattle.it_elemental.specs.Generators.{generators};
@@ -27,7 +26,6 @@ fn of_scale(certificate: &Certificate) -> Option<Verdict>
 
 /// A weight of a generator that isn't there, or a negative one of an inequality.
 fn of_weight(problem: &Problem, weight: &(u32, i128)) -> Option<Verdict>
-    requires { IsProblem problem.now }
     ensures { result ≡ of_weight (generators problem.now) weight.now }
 {
     let index = weight.0;
@@ -42,7 +40,6 @@ fn of_weight(problem: &Problem, weight: &(u32, i128)) -> Option<Verdict>
 
 /// The first such weight.
 fn of_weights(problem: &Problem, weights: &[(u32, i128)]) -> Option<Verdict>
-    requires { IsProblem problem.now }
     ensures { result ≡ of_weights (generators problem.now) weights.now }
 {
     for weight in weights {
@@ -62,7 +59,6 @@ fn left_number(target: &Row, certificate: &Certificate, at: u32) -> Result<i128,
 
 /// The sum of weights times coefficients at a coordinate.
 fn right_number(problem: &Problem, weights: &[(u32, i128)], coordinate: u32) -> Result<i128, Wide>
-    requires problem { IsProblem problem.now }
     requires listed { All (λ w. w.0 < length (generators problem.now)) weights.now }
     requires from_one { 1 ≤ coordinate }
     requires of_space { coordinate ≤ size_of problem.now.space }
@@ -82,7 +78,6 @@ fn of_coordinate(
     certificate: &Certificate,
     coordinate: u32,
 ) -> Option<Verdict>
-    requires problem { IsProblem problem.now }
     requires listed { All (λ w. w.0 < length (generators problem.now)) certificate.now.weights.items }
     requires from_one { 1 ≤ coordinate }
     requires of_space { coordinate ≤ size_of problem.now.space }
@@ -106,7 +101,6 @@ fn of_coordinate(
 
 /// The first coordinate with such sides.
 fn of_coordinates(problem: &Problem, target: &Row, certificate: &Certificate) -> Option<Verdict>
-    requires problem { IsProblem problem.now }
     requires listed { All (λ w. w.0 < length (generators problem.now)) certificate.now.weights.items }
     ensures { result ≡ of_coordinates (generators problem.now) target.now (certificate_view certificate.now) 1 (size_of problem.now.space) }
 {
@@ -121,7 +115,6 @@ fn of_coordinates(problem: &Problem, target: &Row, certificate: &Certificate) ->
 /// Whether the weights add up to the target at its scale: the first thing that is wrong with them, in order of the scale,
 /// the weights as listed and the coordinates.
 pub fn check_yes(problem: &Problem, target: &Row, certificate: &Certificate) -> Verdict
-    requires problem { IsProblem problem.now }
     requires target { IsOver (size_of problem.now.space) target.now }
     ensures { result ≡ yes_verdict (generators problem.now) (size_of problem.now.space) target.now (certificate_view certificate.now) }
 {

@@ -1,7 +1,6 @@
 //! The functional dependences among given equations, and the closure of a set under them.
 ghost use Rattle.std.specs.Prelude.{IfOk, ◌≡◌, ◌<◌, ◌^◌, All};
 ghost use Rattle.it_closure.specs.Closures.{closure, first_open, is_open};
-ghost use Rattle.it_space.specs.Problems.{IsProblem};
 ghost use Rattle.it_closure.specs.DependencesViews.{AreOfSpace};
 ghost use Rattle.it_closure.specs.Reading.{dependences_of};
 
@@ -42,10 +41,10 @@ impl Model for Dependences {
 impl Dependences {
     /// The dependences among a problem's given equations.
     pub fn read(alloc: Global, problem: &Problem) -> Result<Dependences, AllocError>
-        requires { IsProblem problem.now }
         ensures space { IfOk result (λ d. d.space ≡ problem.now.space) }
         ensures list { IfOk result (λ d. d.list ≡ dependences_of problem.now) }
     {
+        problem.facts();
         let n = problem.space().variables;
         let list = read_all(alloc, n, count(n), problem.constraints())?;
         Ok(Dependences {

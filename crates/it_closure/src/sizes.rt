@@ -1,6 +1,5 @@
 //! How large the table is with which the run about a problem begins.
 ghost use Rattle.std.specs.Prelude.{◌≡◌, ◌≤◌, ◌*◌, length, IfOk};
-ghost use Rattle.it_space.specs.Problems.{IsProblem};
 ghost use Rattle.it_closure.specs.Sizes.{column_count, constraint_columns, table_size};
 
 use crate::dependences::Dependences;
@@ -13,9 +12,9 @@ use std::alloc::{AllocError, Global};
 /// each equation two, and each row an artificial one.
 #[tactic(auto, unfolding(crate::specs::Sizes::table_size))]
 pub fn size(alloc: Global, problem: &Problem) -> Result<u64, AllocError>
-    requires { IsProblem problem.now }
     ensures { IfOk result (λ k. k ≡ table_size problem.now) }
 {
+    problem.facts();
     let dependences = Dependences::read(alloc, problem)?;
     let coordinates = dependences.closed(alloc, problem.space())?;
     let rows = coordinates.len() as u64;

@@ -1,7 +1,6 @@
 //! Rows term by term, turned, and by the number of their generator.
 ghost use Rattle.std.specs.Prelude.{◌≡◌, ◌<◌, ◌++◌, neg_ℤ, length, IfOk, OnOk};
 ghost use Rattle.it_number.specs.Limit.{IsWithin};
-ghost use Rattle.it_space.specs.Problems.{IsProblem};
 ghost use Rattle.it_space.specs.Rows.{IsCanonical, negated_terms, single_term};
 ghost use Rattle.it_elemental.specs.Generators.{generators, generator_at};
 
@@ -49,7 +48,6 @@ pub fn opposite_row(alloc: Global, row: &Row) -> Result<Row, AllocError>
 
 /// The row of a generator by its number: below their count an elemental inequality, from there on a constraint.
 pub fn generator_row(alloc: Global, problem: &Problem, index: u32) -> Result<Row, AllocError>
-    requires problem { IsProblem problem.now }
     requires listed { index < length (generators problem.now) }
     ensures { IfOk result (λ r. r ≡ (generator_at (generators problem.now) index).row) }
 {

@@ -1,6 +1,5 @@
 //! Whether a candidate is proved.
 ghost use Rattle.std.specs.Prelude.{All, IfOk, OnOk};
-ghost use Rattle.it_space.specs.Problems.{IsProblem};
 ghost use Rattle.it_space.specs.Rows.{IsOver};
 ghost use Rattle.it_space.specs.Spaces.{size_of};
 ghost use Rattle.it_region.specs.Pairs.{IsPair};
@@ -21,7 +20,6 @@ fn proof_of(
     effort: Effort,
     outcomes: &mut Outcomes,
 ) -> Result<Option<Certificate>, AllocError>
-    requires problem { IsProblem problem.now }
     requires target { IsOver (size_of problem.now.space) target.now }
     requires outcomes { AreOutcomes problem.now effort outcomes.old }
     ensures proves { IfOk result (λ o. ProvesOne problem.now effort target.now o) }
@@ -44,7 +42,6 @@ fn proofs_of(
     effort: Effort,
     outcomes: &mut Outcomes,
 ) -> Result<Option<Vec<Certificate>>, AllocError>
-    requires problem { IsProblem problem.now }
     requires targets { All (IsOver (size_of problem.now.space)) targets.now }
     requires outcomes { AreOutcomes problem.now effort outcomes.old }
     ensures proves { IfOk result (λ o. ProvesAll problem.now effort targets.now o) }

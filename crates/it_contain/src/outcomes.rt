@@ -2,7 +2,6 @@
 ghost use Rattle.std.specs.Prelude.{◌≡◌, IfOk, OnOk};
 ghost use Rattle.std.specs.Option.{option_map};
 ghost use Rattle.it_space.specs.Answers.{certificate_view};
-ghost use Rattle.it_space.specs.Problems.{IsProblem};
 ghost use Rattle.it_space.specs.Rows.{IsOver};
 ghost use Rattle.it_space.specs.Spaces.{size_of};
 ghost use Rattle.it_contain.specs.SearchSteps.{AreOutcomes, IsKept, ProvesOne};
@@ -38,7 +37,6 @@ impl Outcomes {
         problem: &Problem,
         effort: Effort,
     ) -> Result<Outcomes, AllocError>
-        requires { IsProblem problem.now }
         ensures { IfOk result (AreOutcomes problem.now effort) }
     {
         let closed = ClosedProblem::read(alloc, problem, effort)?;
@@ -56,7 +54,6 @@ impl Outcomes {
         target: &Row,
         effort: Effort,
     ) -> Result<Option<Certificate>, AllocError>
-        requires problem { IsProblem problem.now }
         requires target { IsOver (size_of problem.now.space) target.now }
         requires outcomes { AreOutcomes problem.now effort self.old }
         ensures proves { IfOk result (λ o. ProvesOne problem.now effort target.now o) }

@@ -1,7 +1,6 @@
 //! The replies to questions.
 ghost use Rattle.std.specs.Prelude.{◌≡◌, length, true, IfOk};
 ghost use Rattle.std.specs.Option.{IfSome};
-ghost use Rattle.it_space.specs.Problems.{IsProblem};
 ghost use Rattle.it_syntax.specs.Givens.{IsRelationOf};
 ghost use Rattle.it_syntax.specs.Meaning.{relation_view};
 ghost use Rattle.it_question.specs.Limits.{IsQuestion};
@@ -73,7 +72,6 @@ fn relation_reply(
     relation: &Relation,
     effort: Effort,
 ) -> Result<Reply, AllocError>
-    requires problem { IsProblem problem.now }
     requires relation { IsRelationOf problem.now.space.variables problem.now.space.rates (relation_view relation.now) }
     ensures { IfOk result (λ r. IsRelationReply problem.now effort (relation_view relation.now) (reply_view r)) }
 {
@@ -94,7 +92,6 @@ fn factors(
     relation: &Relation,
     effort: Effort,
 ) -> Result<Best, AllocError>
-    requires problem { IsProblem problem.now }
     requires relation { IsRelationOf problem.now.space.variables problem.now.space.rates (relation_view relation.now) }
     ensures { IfOk result (λ b. IsFoundByRows problem.now effort (relation_view relation.now) (best_view b)) }
 {

@@ -1,7 +1,6 @@
 //! The lift of a certificate.
 ghost use Rattle.std.specs.Prelude.{[], ◌≢◌, ◌≡◌, ◌<◌, ◌≤◌, ◌+◌, ◌-◌, pos, length, All, OnOk, IfOk, IfErr};
 ghost use Rattle.it_space.specs.Answers.{certificate_view};
-ghost use Rattle.it_space.specs.Problems.{IsProblem};
 ghost use Rattle.it_space.specs.Rows.{IsOver};
 ghost use Rattle.it_space.specs.Spaces.{size_of};
 ghost use Rattle.it_polymatroid.specs.Elementals.{elementals};
@@ -27,7 +26,6 @@ pub fn lift(
     target: &Row,
     collapsed: &Certificate,
 ) -> Result<Certificate, RowFault>
-    requires problem { IsProblem problem.now }
     requires dependences { AreDependencesOf problem.now dependences.now }
     requires target { IsOver (size_of problem.now.space) target.now }
     requires sums { IsCertificateOverClosed problem.now dependences.now target.now (certificate_view collapsed.now) }
@@ -37,6 +35,7 @@ pub fn lift(
     ensures lifted { IfOk result (λ c. IsLiftOf problem.now dependences.now target.now (certificate_view collapsed.now) (certificate_view c)) }
     ensures wide { IfErr result (λ f. f ≡ RowFault.Wide → IsLiftWide problem.now dependences.now target.now (certificate_view collapsed.now)) }
 {
+    problem.facts();
     if dependences.list().is_empty() {
         return Ok(collapsed.copy(alloc)?);
     }
@@ -51,7 +50,6 @@ fn lift_all(
     target: &Row,
     collapsed: &Certificate,
 ) -> Result<Certificate, RowFault>
-    requires problem { IsProblem problem.now }
     requires dependences { AreDependencesOf problem.now dependences.now }
     requires target { IsOver (size_of problem.now.space) target.now }
     requires sums { IsCertificateOverClosed problem.now dependences.now target.now (certificate_view collapsed.now) }
@@ -60,6 +58,7 @@ fn lift_all(
     ensures lifted { IfOk result (λ c. IsLiftOf problem.now dependences.now target.now (certificate_view collapsed.now) (certificate_view c)) }
     ensures wide { IfErr result (λ f. f ≡ RowFault.Wide → ¬ (FitsLift problem.now dependences.now target.now (certificate_view collapsed.now))) }
 {
+    problem.facts();
     let count = count(problem.space().variables) as usize + problem.constraints().len();
     let mut sums = WeightSums::start(alloc, count, collapsed.weights.as_slice())?;
     add_all(alloc, &mut sums, problem, dependences, target, collapsed)?;
@@ -78,7 +77,6 @@ fn add_all(
     target: &Row,
     collapsed: &Certificate,
 ) -> Result<(), RowFault>
-    requires problem { IsProblem problem.now }
     requires space { dependences.now.space ≡ problem.now.space }
     requires listed { All (λ p. p.0 < (generators_of problem.now).count) collapsed.now.weights.items }
     requires places { All (λ d. d.generator < length sums.old) dependences.now.list }
@@ -102,7 +100,6 @@ fn add_others(
     target: &Row,
     collapsed: &Certificate,
 ) -> Result<(), RowFault>
-    requires problem { IsProblem problem.now }
     requires space { dependences.now.space ≡ problem.now.space }
     requires listed { All (λ p. p.0 < (generators_of problem.now).count) collapsed.now.weights.items }
     requires places { All (λ d. d.generator < length sums.old) dependences.now.list }
@@ -111,6 +108,7 @@ fn add_others(
     ensures added { OnOk result (AreWeightsAdded sums.old sums.new (nonempty_moves problem.now dependences.now target.now collapsed.now)) }
     ensures wide { IfErr result (AreSumsWide sums.old (nonempty_moves problem.now dependences.now target.now collapsed.now)) }
 {
+    problem.facts();
     for number in 1..1u16 << problem.space().variables {
         let set = VarSet::from_number(number);
         let left = excess(problem, target, collapsed, set)?;

@@ -2,7 +2,7 @@
 ghost use Rattle.std.specs.Prelude.{◌≡◌, ◌≢◌, ℕ, true, IfOk, OnOk};
 ghost use Rattle.std.specs.Option.{IfNone, IfSome};
 ghost use Rattle.it_space.specs.declared.answers.Cause.TheVariants as causes;
-ghost use Rattle.it_space.specs.Problems.{IsProblem, ProblemView};
+ghost use Rattle.it_space.specs.Problems.{ProblemView};
 ghost use Rattle.it_space.specs.Rows.{IsOver};
 ghost use Rattle.it_space.specs.Spaces.{size_of};
 ghost use Rattle.it_prove.specs.ClosedProblems.{IsClosedProblem};
@@ -26,7 +26,6 @@ impl ClosedProblem {
         target: &Row,
         effort: Effort,
     ) -> Result<Option<Proof>, AllocError>
-        requires problem { IsProblem problem.now }
         requires target { IsOver (size_of problem.now.space) target.now }
         ensures settled { IfOk result (λ o. IfSome o (λ proof. (effort.quick ≡ true) × IsSettled problem.now target.now (proof_view proof))) }
         ensures stays { OnOk result ((q : ProblemView) → IsClosedProblem q self.old → IsClosedProblem q self.new) }
@@ -50,7 +49,6 @@ impl ClosedProblem {
         target: &Row,
         effort: Effort,
     ) -> Result<Proof, AllocError>
-        requires problem { IsProblem problem.now }
         requires closed { IsClosedProblem problem.now self.old }
         requires target { IsOver (size_of problem.now.space) target.now }
         ensures ends { IfOk result (λ proof. EndsWith problem.now target.now effort (proof_view proof)) }
@@ -58,6 +56,7 @@ impl ClosedProblem {
         ensures right { IfOk result (λ proof. IsRightProof problem.now target.now (proof_view proof)) }
         ensures stays { OnOk result ((q : ProblemView) → IsClosedProblem q self.old → IsClosedProblem q self.new) }
     {
+        problem.facts();
         match self.settled(alloc, problem, target, effort)? {
             Some(proof) => Ok(proof),
             None => self.defined(alloc, problem, target, effort.pivots),
@@ -77,7 +76,6 @@ pub fn prove(
     target: &Row,
     effort: Effort,
 ) -> Result<Proof, AllocError>
-    requires problem { IsProblem problem.now }
     requires target { IsOver (size_of problem.now.space) target.now }
     ensures ends { IfOk result (λ proof. EndsWith problem.now target.now effort (proof_view proof)) }
     ensures unbound { IfNone effort.pivots (IfOk result (λ proof. (k : ℕ) → proof_view proof ≢ Undecided (causes.Pivots k))) }

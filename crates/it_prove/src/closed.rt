@@ -1,6 +1,5 @@
 //! What is made once of a problem, for runs about many targets under it and under problems that go on after its constraints.
 ghost use Rattle.std.specs.Prelude.{◌≡◌, [], ◌++◌, IfErr, IfOk, OnOk};
-ghost use Rattle.it_space.specs.Problems.{IsProblem};
 ghost use Rattle.it_prove.specs.Closed.{closed_generators};
 ghost use Rattle.it_prove.specs.ClosedProblems.{IsClosedProblem, SameRows};
 ghost use Rattle.it_prove.specs.Steps.{GeneratorsFit};
@@ -44,7 +43,6 @@ impl ClosedProblem {
         problem: &Problem,
         effort: Effort,
     ) -> Result<ClosedProblem, AllocError>
-        requires { IsProblem problem.now }
         ensures { IfOk result (IsClosedProblem problem.now) }
     {
         let mut closed = without_columns(alloc, problem)?;
@@ -66,7 +64,6 @@ impl ClosedProblem {
 
 /// That of a problem, before any column is made.
 fn without_columns(alloc: Global, problem: &Problem) -> Result<ClosedProblem, AllocError>
-    requires { IsProblem problem.now }
     ensures closed { IfOk result (IsClosedProblem problem.now) }
     ensures none { IfOk result (λ c. c.columns.items ≡ []) }
 {
@@ -88,7 +85,6 @@ pub fn other_columns(
     problem: &Problem,
     closed: &ClosedProblem,
 ) -> Result<Vec<Row>, RowFault>
-    requires problem { IsProblem problem.now }
     requires closed { IsClosedProblem problem.now closed.now }
     ensures same { IfOk result (λ v. SameRows (closed.now.columns.items ++ v.items) (columns (closed_generators problem.now))) }
     ensures fits { OnOk result (GeneratorsFit problem.now) }

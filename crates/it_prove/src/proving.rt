@@ -2,7 +2,7 @@
 //! A last call is named before it is answered, so that its contract stands at the answer.
 ghost use Rattle.std.specs.Prelude.{◌≡◌, ◌++◌, ℕ, IfErr, IfOk, OnOk};
 ghost use Rattle.it_space.specs.Answers.{certificate_view};
-ghost use Rattle.it_space.specs.Problems.{IsProblem, ProblemView};
+ghost use Rattle.it_space.specs.Problems.{ProblemView};
 ghost use Rattle.it_space.specs.Rows.{IsOver, coefficient};
 ghost use Rattle.it_space.specs.Spaces.{size_of};
 ghost use Rattle.it_closure.specs.Reading.{dependences_of};
@@ -35,7 +35,6 @@ fn lifted_certificate(
     target: &Row,
     weights: &[(usize, Fraction)],
 ) -> Result<Certificate, RowFault>
-    requires problem { IsProblem problem.now }
     requires space { dependences.now.space ≡ problem.now.space }
     requires list { dependences.now.list ≡ dependences_of problem.now }
     requires target { IsOver (size_of problem.now.space) target.now }
@@ -45,6 +44,7 @@ fn lifted_certificate(
     ensures fits { OnOk result (LiftedFit problem.now target.now weights.now) }
     ensures wide { IfErr result (λ f. f ≡ RowFault.Wide → ¬ (LiftedFit problem.now target.now weights.now)) }
 {
+    problem.facts();
     let collapsed = certificate(alloc, problem, weights)?;
     let certificate = lift(alloc, problem, dependences, target, &collapsed)?;
     Ok(certificate)
@@ -58,13 +58,13 @@ fn by_weights(
     target: &Row,
     weights: &[(usize, Fraction)],
 ) -> Result<Proof, AllocError>
-    requires problem { IsProblem problem.now }
     requires space { dependences.now.space ≡ problem.now.space }
     requires list { dependences.now.list ≡ dependences_of problem.now }
     requires target { IsOver (size_of problem.now.space) target.now }
     requires sum { ClosedSumsUp problem.now target.now weights.now }
     ensures { IfOk result (λ proof. Follows problem.now target.now (Weights weights.now) (proof_view proof)) }
 {
+    problem.facts();
     match lifted_certificate(alloc, problem, dependences, target, weights) {
         Ok(certificate) => match check_yes(problem, target, &certificate) {
             Verdict::Valid => Ok(Proof::Yes(certificate)),
@@ -84,7 +84,6 @@ fn by_point(
     coordinates: &[u32],
     point: &[Fraction],
 ) -> Result<Proof, AllocError>
-    requires problem { IsProblem problem.now }
     requires space { dependences.now.space ≡ problem.now.space }
     requires list { dependences.now.list ≡ dependences_of problem.now }
     requires target { IsOver (size_of problem.now.space) target.now }
@@ -92,6 +91,7 @@ fn by_point(
     requires apart { ClosedSeparates problem.now target.now point.now }
     ensures { IfOk result (λ proof. Follows problem.now target.now (Point point.now) (proof_view proof)) }
 {
+    problem.facts();
     match whole_point(alloc, problem, dependences, coordinates, point) {
         Ok(point) => match check_no(problem, target, &point) {
             Verdict::Valid => Ok(Proof::No(point)),
@@ -116,7 +116,6 @@ fn collapse_rows(
     closed: &ClosedProblem,
     target: &Row,
 ) -> Result<ClosedRows, RowFault>
-    requires problem { IsProblem problem.now }
     requires closed { IsClosedProblem problem.now closed.now }
     requires target { IsOver (size_of problem.now.space) target.now }
     ensures columns { IfOk result (λ c. SameRows (closed.now.columns.items ++ c.columns.items) (columns (closed_generators problem.now))) }
@@ -138,7 +137,6 @@ fn closed_proof(
     collapsed: &Row,
     budget: Budget,
 ) -> Result<Proof, AllocError>
-    requires problem { IsProblem problem.now }
     requires space { closed.now.dependences.space ≡ problem.now.space }
     requires list { closed.now.dependences.list ≡ dependences_of problem.now }
     requires coordinates { closed.now.coordinates.items ≡ closed_places problem.now }
@@ -184,7 +182,6 @@ fn with_columns(
     mut rows: ClosedRows,
     budget: Budget,
 ) -> Result<Proof, AllocError>
-    requires problem { IsProblem problem.now }
     requires closed { IsClosedProblem problem.now closed.old }
     requires target { IsOver (size_of problem.now.space) target.now }
     requires columns { SameRows (closed.old.columns.items ++ rows.columns.items) (columns (closed_generators problem.now)) }
@@ -209,7 +206,6 @@ impl ClosedProblem {
         target: &Row,
         pivots: Option<u32>,
     ) -> Result<Proof, AllocError>
-        requires problem { IsProblem problem.now }
         requires closed { IsClosedProblem problem.now self.old }
         requires target { IsOver (size_of problem.now.space) target.now }
         ensures ends { IfOk result (λ proof. EndsByRun problem.now target.now pivots (proof_view proof)) }

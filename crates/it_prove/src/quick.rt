@@ -3,7 +3,6 @@ ghost use Rattle.std.specs.Prelude.{◌≡◌, ◌≢◌, ◌≤◌, All, IfOk, 
 ghost use Rattle.std.specs.Bool.{OnTrue};
 ghost use Rattle.std.specs.Option.{IfSome};
 ghost use Rattle.it_number.specs.Limit.{IsWithin};
-ghost use Rattle.it_space.specs.Problems.{IsProblem};
 ghost use Rattle.it_space.specs.Rows.{Ascends, IsOver};
 ghost use Rattle.it_space.specs.Spaces.{size_of};
 ghost use Rattle.it_prove.specs.ProofViews.{IsSettled, proof_view};
@@ -41,12 +40,12 @@ fn ascends(weights: &[(u32, i128)], from: u32) -> bool
 
 /// The proof that a certificate whose weights ascend is, where the check finds it valid.
 fn judged_yes(problem: &Problem, target: &Row, certificate: Certificate) -> Option<Proof>
-    requires problem { IsProblem problem.now }
     requires target { IsOver (size_of problem.now.space) target.now }
     requires canonical { Ascends 0 certificate.weights.items }
     requires scale { IsWithin certificate.scale }
     ensures { IfSome result (λ proof. IsSettled problem.now target.now (proof_view proof)) }
 {
+    problem.facts();
     match check_yes(problem, target, &certificate) {
         Verdict::Valid => Some(Proof::Yes(certificate)),
         _ => None,
@@ -55,7 +54,6 @@ fn judged_yes(problem: &Problem, target: &Row, certificate: Certificate) -> Opti
 
 /// The same of any certificate.
 fn checked_yes(problem: &Problem, target: &Row, certificate: Certificate) -> Option<Proof>
-    requires problem { IsProblem problem.now }
     requires target { IsOver (size_of problem.now.space) target.now }
     ensures { IfSome result (λ proof. IsSettled problem.now target.now (proof_view proof)) }
 {
@@ -68,12 +66,12 @@ fn checked_yes(problem: &Problem, target: &Row, certificate: Certificate) -> Opt
 
 /// The refutation that a point with a value for each coordinate is, where the check finds it valid.
 fn judged_no(problem: &Problem, target: &Row, point: Point) -> Option<Proof>
-    requires problem { IsProblem problem.now }
     requires target { IsOver (size_of problem.now.space) target.now }
     requires complete { length point ≡ size_of problem.now.space }
     requires within { All IsWithin point }
     ensures { IfSome result (λ proof. IsSettled problem.now target.now (proof_view proof)) }
 {
+    problem.facts();
     match check_no(problem, target, &point) {
         Verdict::Valid => Some(Proof::No(point)),
         _ => None,
@@ -82,7 +80,6 @@ fn judged_no(problem: &Problem, target: &Row, point: Point) -> Option<Proof>
 
 /// The same of any point.
 fn checked_no(problem: &Problem, target: &Row, point: Point) -> Option<Proof>
-    requires problem { IsProblem problem.now }
     requires target { IsOver (size_of problem.now.space) target.now }
     ensures { IfSome result (λ proof. IsSettled problem.now target.now (proof_view proof)) }
 {
@@ -95,7 +92,6 @@ fn checked_no(problem: &Problem, target: &Row, point: Point) -> Option<Proof>
 
 /// What a proposal settles.
 fn checked(problem: &Problem, target: &Row, proposal: Proposal) -> Option<Proof>
-    requires problem { IsProblem problem.now }
     requires target { IsOver (size_of problem.now.space) target.now }
     ensures { IfSome result (λ proof. IsSettled problem.now target.now (proof_view proof)) }
 {
@@ -114,7 +110,6 @@ pub fn settle(
     target: &Row,
     steps: u32,
 ) -> Result<Option<Proof>, AllocError>
-    requires problem { IsProblem problem.now }
     requires target { IsOver (size_of problem.now.space) target.now }
     ensures { IfOk result (λ o. IfSome o (λ proof. IsSettled problem.now target.now (proof_view proof))) }
 {

@@ -1,5 +1,4 @@
 //! The linear program about a target, over closed sets.
-ghost use Rattle.it_space.specs.Problems.{IsProblem};
 
 use crate::closures::{Closures, Companions, with, without};
 use crate::places::Places;
@@ -163,7 +162,6 @@ impl ClosedProgram {
         problem: &Problem,
         target: &Row,
     ) -> Result<bool, AllocError>
-        requires { IsProblem problem.now }
     {
         let is_posed = self.put_constraints(alloc, problem)? && self.put_right(alloc, target)?;
         if !is_posed {
@@ -175,7 +173,6 @@ impl ClosedProgram {
 
     /// Puts the columns of a problem's constraints in the place of those that are there. False where a number is large.
     fn put_constraints(&mut self, alloc: Global, problem: &Problem) -> Result<bool, AllocError>
-        requires { IsProblem problem.now }
     {
         self.program.put_costs_back();
         self.before = std::mem::replace(&mut self.program.others, Vec::new(alloc));

@@ -4,7 +4,6 @@
 //! sets as they are. What is left over at a set then moves to its closure by the dependences.
 ghost use Rattle.std.specs.Prelude.{◌≡◌, ◌<◌, ◌≤◌, ◌^◌, bit_and};
 ghost use Rattle.std.specs.Bool.{OnTrue};
-ghost use Rattle.it_space.specs.Problems.{IsProblem};
 
 use crate::closed::ClosedProgram;
 use crate::closures::{Closures, with, without};
@@ -291,7 +290,6 @@ fn excesses(
     scale: i128,
     weights: &Totals,
 ) -> Result<Totals, RowFault>
-    requires { IsProblem problem.now }
 {
     let n = problem.space().variables;
     let mut left = Totals::zeros(alloc, 1usize << n)?;
@@ -344,7 +342,6 @@ fn generator_weights(
     weights: &[ColumnWeight],
     scale: u64,
 ) -> Result<Totals, RowFault>
-    requires { IsProblem problem.now }
 {
     let mut all = Totals::zeros(alloc, generator_count(problem) as usize)?;
     for weight in weights {
@@ -366,7 +363,6 @@ pub fn certificate(
     target: &Row,
     weights: &[ColumnWeight],
 ) -> Result<Certificate, RowFault>
-    requires { IsProblem problem.now }
 {
     let Some(scale) = common_denominator(weights) else {
         return Err(RowFault::Wide);

@@ -1,6 +1,5 @@
 //! Reduced elimination.
 ghost use Rattle.std.specs.Prelude.{◌≡◌, ◌<◌, ◌≤◌, [], length, map, All, IfOk};
-ghost use Rattle.it_space.specs.Problems.{IsProblem};
 ghost use Rattle.it_space.specs.Spaces.{size_of};
 ghost use Rattle.it_redundant.specs.ProjectionSteps.{HasRowsUpTo, IsAfterRate, IsNext};
 ghost use Rattle.it_redundant.specs.Reduction.{IsSystemUnder};
@@ -71,12 +70,12 @@ fn next_end(
 ) -> Result<Projected, AllocError>
     requires end { HasRowsUpTo (size_of givens.now.space) (projected_view end) }
     requires rate { rate < givens.now.space.rates }
-    requires givens { IsProblem givens.now }
     requires few_rows { rows ≤ 65535 }
     requires few_givens { length givens.now.constraints ≤ 65535 }
     ensures next { IfOk result (λ e. IsNext givens.now effort rows rate (projected_view end) (projected_view e)) }
     ensures rows { IfOk result (λ e. HasRowsUpTo (size_of givens.now.space) (projected_view e)) }
 {
+    givens.facts();
     match end {
         Projected::Region(reduced) => {
             let system = kept_system(alloc, givens.space(), &reduced)?;

@@ -1,7 +1,6 @@
 //! Reduction of a list of rows.
 ghost use Rattle.std.specs.Prelude.{◌≡◌, [], ◌∷◌, ◌++◌, ◌+◌, ◌<◌, ◌≤◌, length, map, OnOk, IfOk};
 ghost use Rattle.it_space.specs.Answers.{certificate_view};
-ghost use Rattle.it_space.specs.Problems.{IsProblem};
 ghost use Rattle.it_space.specs.Rows.{IsOver};
 ghost use Rattle.it_space.specs.Spaces.{size_of};
 ghost use Rattle.it_prove.specs.ClosedProblems.{IsClosedProblem};
@@ -44,7 +43,6 @@ fn reduced_rows(
     givens: &Problem,
     effort: Effort,
 ) -> Result<Reduced, AllocError>
-    requires givens { IsProblem givens.now }
     requires rows { AreRowsUpTo (size_of givens.now.space) rows.now }
     requires few_rows { length rows.now ≤ 65535 }
     requires few_givens { length givens.now.constraints ≤ 65535 }
@@ -83,7 +81,6 @@ fn visit(
     after: &[Row],
     effort: Effort,
 ) -> Result<(), AllocError>
-    requires givens { IsProblem givens.now }
     requires few_givens { length givens.now.constraints ≤ 65535 }
     requires few { length reduced.old.kept.items + length after.now < 65535 }
     requires row { IsOver (size_of givens.now.space) row.now }
@@ -95,6 +92,7 @@ fn visit(
     ensures closed { OnOk result (IsClosedProblem givens.now closed.new) }
     ensures problem { OnOk result (problem.new ≡ with_rows givens.now (map (λ k. k.0) reduced.new.kept.items ++ after.now)) }
 {
+    givens.facts();
     let line = reduced.kept.len() + 1;
     let place = givens.constraints().len() + reduced.kept.len();
     remove_row(&mut problem.constraints, place, line);

@@ -1,7 +1,6 @@
 //! The verdict on what is said of factors, by the rows of both sides of the relation under a problem.
 ghost use Rattle.std.specs.Prelude.{◌≡◌, ◌+◌, ◌++◌, ℕ, length, pos, IfErr, IfOk, OkIff, OnOk, Some};
 ghost use Rattle.it_space.specs.Answers.{certificate_view};
-ghost use Rattle.it_space.specs.Problems.{IsProblem};
 ghost use Rattle.it_space.specs.Rows.{IsOver, point_of, single_term};
 ghost use Rattle.it_space.specs.Spaces.{size_of};
 ghost use Rattle.it_elemental.specs.Generators.{generators};
@@ -113,12 +112,12 @@ fn side_row(
 
 /// Whether the row is 0 at the point.
 fn zero_verdict(problem: &Problem, row: &Row, point: &Point) -> FactorVerdict
-    requires problem { IsProblem problem.now }
     requires row { IsOver (size_of problem.now.space) row.now }
     requires complete { length point.now ≡ size_of problem.now.space }
     ensures verdict { result ≡ zero_verdict (length (generators problem.now) + 1) (sum_within (pos 0) row.now (point_of point.now)) }
     ensures over { IsFactorVerdictOver (size_of problem.now.space + 1) result }
 {
+    problem.facts();
     let Ok(value) = value(row, point) else {
         let place = generator_count(problem) + 1;
         return FactorVerdict::Checked(Verdict::Width { place });
@@ -132,7 +131,6 @@ fn zero_verdict(problem: &Problem, row: &Row, point: &Point) -> FactorVerdict
 
 /// Whether the point meets the problem with `below` at most -1 there, and `zero` 0.
 fn tight_verdict(problem: &Problem, below: &Row, zero: &Row, point: &Point) -> FactorVerdict
-    requires problem { IsProblem problem.now }
     requires below { IsOver (size_of problem.now.space) below.now }
     requires zero { IsOver (size_of problem.now.space) zero.now }
     requires complete { length point.now ≡ size_of problem.now.space }
@@ -155,7 +153,6 @@ fn factor_verdict(
     proof: &Certificate,
     point: &Point,
 ) -> FactorVerdict
-    requires problem { IsProblem problem.now }
     requires factor { IsOver (size_of problem.now.space) factor.now }
     requires turned { IsOver (size_of problem.now.space) turned.now }
     requires complete { length point.now ≡ size_of problem.now.space }
@@ -178,7 +175,6 @@ fn both_verdict(
     proof: &Certificate,
     below: &Certificate,
 ) -> FactorVerdict
-    requires problem { IsProblem problem.now }
     requires factor { IsOver (size_of problem.now.space) factor.now }
     requires turned { IsOver (size_of problem.now.space) turned.now }
     ensures verdict { result ≡ first_wrong (proof_verdict problem.now factor.now (certificate_view proof.now)) (Checked (proof_verdict problem.now turned.now (certificate_view below.now))) }

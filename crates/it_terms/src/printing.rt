@@ -1,6 +1,5 @@
 //! Proofs as papers print them: over closed sets, with constraints by the names of their lines.
 ghost use Rattle.std.specs.Prelude.{◌≡◌, ◌≤◌, IfOk, IfSome, [], false, length};
-ghost use Rattle.it_space.specs.Problems.{IsProblem};
 ghost use Rattle.it_space.specs.Rows.{IsOver, value};
 ghost use Rattle.it_space.specs.Spaces.{size_of};
 ghost use Rattle.it_demand.specs.QuestionSpaces.{space_of};
@@ -215,7 +214,6 @@ fn without(alloc: Global, lines: &[u32], line: u32) -> Result<Vec<u32>, AllocErr
 
 /// Whether a row is 0 where the functions hold that the constraints of these numbers say.
 fn is_nothing_by(alloc: Global, problem: &Problem, lines: &[u32], row: &Row) -> Result<bool, Untold>
-    requires problem { IsProblem problem.now }
     requires row { IsOver (size_of problem.now.space) row.now }
 {
     match functions_of(alloc, problem, lines)? {
@@ -246,7 +244,6 @@ fn needed_lines(
     lines: &[u32],
     row: &Row,
 ) -> Result<Vec<u32>, Untold>
-    requires problem { IsProblem problem.now }
     requires row { IsOver (size_of problem.now.space) row.now }
 {
     let mut needed = Vec::from_slice(alloc, lines)?;
@@ -269,7 +266,6 @@ fn printed_by(
     summands: &Summands,
 ) -> Result<Option<PrintedProof>, Untold>
     requires some { 1 ≤ length asked.now.names.now.variables }
-    requires problem { IsProblem problem.now }
     requires space { problem.now.space ≡ record { variables = length asked.now.names.now.variables; rates = length asked.now.names.now.rates } }
     ensures { IfOk result (λ o. IfSome o (λ t. ArePrintedFrom asked.now.names.now (value asked.now.target.now) problem.now.constraints t.text.items t.whole.items t.by.items)) }
 {
@@ -300,7 +296,6 @@ fn any_printed(
     short: bool,
 ) -> Result<Option<PrintedProof>, Untold>
     requires question { IsQuestion (question_body question.now) }
-    requires problem { IsProblem problem.now }
     requires space { problem.now.space ≡ space_of (problem_names (question_body question.now)) }
     ensures { IfOk result (λ o. IfSome o (λ t. ArePrintedFrom (problem_names (question_body question.now)) (value target.now) problem.now.constraints t.text.items t.whole.items t.by.items)) }
 {

@@ -1,7 +1,6 @@
 //! Whether texts tell a proof where functions hold.
 ghost use Rattle.std.specs.Prelude.{◌≡◌, ◌<◌, ◌≤◌, ◌^◌, All, IfOk, IfSome, length, map};
 ghost use Rattle.std.specs.Bool.{OnTrue};
-ghost use Rattle.it_space.specs.Problems.{IsProblem};
 ghost use Rattle.it_space.specs.Rows.{IsOver, value};
 ghost use Rattle.it_space.specs.Spaces.{size_of};
 ghost use Rattle.it_elemental.specs.Generators.{forms_of, of_constraint};
@@ -81,7 +80,6 @@ fn is_proof_under(
     target: &Row,
     sides: &Sides,
 ) -> Result<bool, AllocError>
-    requires problem { IsProblem problem.now }
     requires within { IsRelationOf problem.now.space.variables problem.now.space.rates (relation_view relation.now) }
     requires space { functions.now.space ≡ problem.now.space }
     requires there { All (λ l. l < (forms_of (map of_constraint problem.now.constraints)).count) lines.now }
@@ -133,7 +131,6 @@ pub fn judged_under(
     sides: &Sides,
 ) -> Result<Option<Vec<u8>>, AllocError>
     requires some { 1 ≤ length names.now.variables }
-    requires problem { IsProblem problem.now }
     requires space { problem.now.space ≡ record { variables = length names.now.variables; rates = length names.now.rates } }
     ensures { IfOk result (λ o. IfSome o (λ t. TellsProofUnder names.now (origins_of problem.now.constraints) lines.now sides.now.named.items (value target.now) (forms_of (map of_constraint problem.now.constraints)) t.items)) }
 {

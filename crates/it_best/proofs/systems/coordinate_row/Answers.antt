@@ -11,7 +11,7 @@ use Rattle.it_best.proofs.systems.coordinate_row.Goals as goal
 use Rattle.it_best.proofs.systems.coordinate_row.Goals.{In_ok-push_some-2}
 
 pub coordinate_terms-requires : goal.coordinate_terms-requires
-coordinate_terms-requires c = omega (arith, c.size.ensures, ap length c.requires.rows, length-map (generators c.args.problem.now) (λ (g : Generator). g.row), few_equations c.args.problem.now c.requires.problem)
+coordinate_terms-requires c = omega (arith, c.size.ensures, ap length c.requires.rows, length-map (generators c.args.problem.now) (λ (g : Generator). g.row), few_equations c.args.problem.now c.facts.ensures)
 
 row_is : (c : In_ok-push_some-2) → c.push_some-2.new.terms.items ≡ coordinate_row (size_of c.args.problem.now.space) (generators c.args.problem.now) c.args.left.now c.args.right.now c.args.coordinate
 row_is c =

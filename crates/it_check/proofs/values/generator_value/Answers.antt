@@ -12,7 +12,7 @@ pub value-requires : goal.value-requires
 value-requires c =
     let q = c.args.problem.now in
     let below : c.args.index - c.count-elementals.result < length q.constraints = omega (arith, length-listed q.space.variables q.constraints) in
-    let row : IsOver (size_of q.space) c.index.result.now.row = rw (ap (λ k. k.row) c.index.ensures) (c.requires.problem.rows (c.args.index - c.count-elementals.result) c.index.result.now below) in
+    let row : IsOver (size_of q.space) c.index.result.now.row = rw (ap (λ k. k.row) c.index.ensures) (c.facts.ensures.rows (c.args.index - c.count-elementals.result) c.index.result.now below) in
     subst (λ (n : ℕ). IsOver n c.index.result.now.row) (sym c.requires.complete) row
 
 pub returns-then-index-elementals : goal.returns-then-index-elementals

@@ -38,7 +38,7 @@ returns-in_err-add_all-clause-wide c =
 pub weights-requires : goal.weights-requires
 weights-requires c =
     let len : c.len.result ≡ length c.args.problem.now.constraints = omega (arith, c.len.ensures, c.args.problem.now.constraints.ok.0) in
-    omega (arith, c.in_ok-add_all.ensures.added.complete, c.in_ok-sums.ensures.complete, c.count.ensures, c.requires.problem.few, few_elementals c.args.problem.now.space.variables c.requires.problem.space.few)
+    omega (arith, c.in_ok-add_all.ensures.added.complete, c.in_ok-sums.ensures.complete, c.count.ensures, c.facts.ensures.few, few_elementals c.args.problem.now.space.variables c.facts.ensures.space.few)
 
 pub returns-clause-fits : goal.returns-clause-fits
 returns-clause-fits c =
@@ -51,7 +51,7 @@ returns-clause-lifted c =
     let f : FitsSigned w128 c.args.collapsed.now.scale = search rules in
     let len : c.len.result ≡ length c.args.problem.now.constraints = omega (arith, c.len.ensures, c.args.problem.now.constraints.ok.0) in
     let is = c.in_ok-sums.ensures.weights ∙ ap coefficient c.as_slice.ensures.value in
-    rw (to_z-of_z f, c.in_ok-weights.ensures) (is_lift c.args.problem.now c.args.dependences.now c.args.target.now (certificate_view c.args.collapsed.now) c.in_ok-sums.sums c.add_all.new.sums c.requires.problem
+    rw (to_z-of_z f, c.in_ok-weights.ensures) (is_lift c.args.problem.now c.args.dependences.now c.args.target.now (certificate_view c.args.collapsed.now) c.in_ok-sums.sums c.add_all.new.sums c.facts.ensures
     c.requires.dependences c.requires.target c.requires.sums (c.in_ok-sums.ensures.complete ∙ count_is c.args.problem.now c.count.result c.len.result c.count.ensures len) is c.in_ok-add_all.ensures.added)
 
 pub returns-clause-nonzero : goal.returns-clause-nonzero

@@ -14,7 +14,7 @@ scale_is c = c.in_ok-scale.ensures.value.1 ∙ ap scale_of (c.as_slice.ensures.v
 pub terms-requires-clause-columns : goal.terms-requires-clause-columns
 terms-requires-clause-columns c =
     let n = length (columns (generators c.args.problem.now)) in
-    columns_below (2 ^ 32) n 0 c.args.weights.now (omega (arith, few_columns (generators c.args.problem.now), few_generators c.args.problem.now c.requires.problem)) c.requires.ordered
+    columns_below (2 ^ 32) n 0 c.args.weights.now (omega (arith, few_columns (generators c.args.problem.now), few_generators c.args.problem.now c.facts.ensures)) c.requires.ordered
 
 pub new-row-requires : goal.new-row-requires
 new-row-requires c =

@@ -7,10 +7,10 @@ use Rattle.it_prove.proofs.certificates.generator_weights.Goals as goal
 use mir.Syntax.{w128}
 
 pub weight_of-requires-clause-few : goal.weight_of-requires-clause-few
-weight_of-requires-clause-few c = omega (arith, c.loop-index.invariant.0, c.generator_count-index-end.ensures, few_generators c.args.problem.now c.requires.problem)
+weight_of-requires-clause-few c = omega (arith, c.loop-index.invariant.0, c.generator_count-index-end.ensures, few_generators c.args.problem.now c.facts.ensures)
 
 pub overflow_add-column : goal.overflow_add-column
-overflow_add-column c = omega (arith, c.loop-index.invariant.0, c.generator_count-index-end.ensures, few_generators c.args.problem.now c.requires.problem, c.column_count-column.ensures.value, c.column_count-column.ensures.few)
+overflow_add-column c = omega (arith, c.loop-index.invariant.0, c.generator_count-index-end.ensures, few_generators c.args.problem.now c.facts.ensures, c.column_count-column.ensures.value, c.column_count-column.ensures.few)
 
 pub loop-index-preserved : goal.loop-index-preserved
 loop-index-preserved c = (

@@ -5,7 +5,7 @@ use Rattle.it_prove.proofs.PointLemmas.{places_rise, point_spread, spread_length
 use Rattle.it_prove.proofs.points.whole_point.Goals as goal
 
 pub whole_row-requires-clause-rise : goal.whole_row-requires-clause-rise
-whole_row-requires-clause-rise c = places_rise c.args.problem.now c.args.coordinates.now c.requires.problem c.requires.coordinates
+whole_row-requires-clause-rise c = places_rise c.args.problem.now c.args.coordinates.now c.facts.ensures c.requires.coordinates
 
 pub new-requires-clause-complete : goal.new-requires-clause-complete
 new-requires-clause-complete c = rw c.in_ok-values.ensures (spread_length c.args.dependences.now.space.variables c.args.dependences.now.list (size_of c.args.dependences.now.space) c.in_ok-row.row ∙ ap size_of c.requires.space)

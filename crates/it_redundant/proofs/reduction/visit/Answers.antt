@@ -17,7 +17,7 @@ pub prove-requires-clause-problem : goal.prove-requires-clause-problem
 prove-requires-clause-problem c = visit_limits c.args.givens.now _ c.args.reduced.now.kept.items c.args.after.now
     (taken_out c.args.givens.now c.args.reduced.now.kept.items (c.len-line.result + 1) (c.len.result + c.len-2.result) (search rules) (search rules)
     c.args.problem.now c.args.row.now c.args.after.now c.remove_row.new.constraints.items c.requires.problem c.remove_row.ensures)
-    c.requires.givens c.requires.few_givens (let few = c.requires.few in omega (arith, few)) c.requires.kept c.requires.after
+    c.facts.ensures c.requires.few_givens (let few = c.requires.few in omega (arith, few)) c.requires.kept c.requires.after
 
 pub prove-requires-clause-closed : goal.prove-requires-clause-closed
 prove-requires-clause-closed c = visit_closed c.args.givens.now _ c.args.reduced.now.kept.items c.args.after.now

@@ -13,8 +13,8 @@ pub overflow_add-place : goal.overflow_add-place
 overflow_add-place c = omega (
   arith,
   c.generator_count-place.ensures,
-  c.requires.problem.few,
-  few_elementals c.args.problem.now.space.variables c.requires.problem.space.few,
+  c.facts.ensures.few,
+  few_elementals c.args.problem.now.space.variables c.facts.ensures.space.few,
   length-listed c.args.problem.now.space.variables c.args.problem.now.constraints,
 )
 

@@ -4,7 +4,7 @@ use Rattle.it_closure.proofs.ReadLists.{read_of_space}
 use Rattle.it_closure.proofs.dependences.Dependences.read.Goals as goal
 
 pub invariant_of-result : goal.invariant_of-result
-invariant_of-result c = rw (c.in_ok-list.ensures, c.as_slice.ensures.value) (read_of_space c.args.problem.now c.count.result c.requires)
+invariant_of-result c = rw (c.in_ok-list.ensures, c.as_slice.ensures.value) (read_of_space c.args.problem.now c.count.result c.facts.ensures)
 
 pub read_all-requires-clause-count : goal.read_all-requires-clause-count
-read_all-requires-clause-count c = omega (arith, c.count.ensures, few_elementals c.args.problem.now.space.variables c.requires.space.few, c.requires.few, ap length c.as_slice.ensures.value)
+read_all-requires-clause-count c = omega (arith, c.count.ensures, few_elementals c.args.problem.now.space.variables c.facts.ensures.space.few, c.facts.ensures.few, ap length c.as_slice.ensures.value)
