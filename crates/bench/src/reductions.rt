@@ -116,7 +116,7 @@ fn is_problem(problem: &Problem) -> bool
     let size = space.size();
     problem.constraints().len() <= 65535
         && problem
-            .constraints
+            .constraints()
             .iter()
             .all(|constraint| is_up_to(&constraint.row, size))
 }

@@ -168,6 +168,7 @@ fn second_end(
     ensures ends { IfOk result (λ a. PhaseEnds (size_of problem.now.space) (unknown_views others.now) (negated_terms left.now) budget (end_of_answer a)) }
     ensures right { IfOk result (λ a. PhaseIsRight (size_of problem.now.space) (unknown_views others.now) (negated_terms left.now) a) }
 {
+    problem.facts();
     let target = opposite_row(alloc, left)?;
     phase_end(alloc, others, problem.size(), &target, budget)
 }

@@ -64,6 +64,7 @@ pub fn factor_row(
     ensures fits { OnOk result (RowFits (size_of problem.now.space) left.now right.now factor.now) }
     ensures wide { IfErr result (λ f. f ≡ RowFault.Wide → ¬ (RowFits (size_of problem.now.space) left.now right.now factor.now)) }
 {
+    problem.facts();
     let mut terms = Vec::new(alloc);
     for coordinate in 1..problem.size() + 1 {
         push_coefficient(&mut terms, left, right, factor, coordinate)?;

@@ -199,6 +199,7 @@ fn push_values(
     requires rows { rows.now ≡ map (λ g. g.row) (generators problem.now) }
     ensures { OnOk result (unknown_views unknowns.new.items ≡ unknown_views unknowns.old.items ++ all_values problem.now left.now right.now) }
 {
+    problem.facts();
     for coordinate in 1..problem.size() + 1 {
         let row = coordinate_row(alloc, problem, rows, left, right, coordinate)?;
         let kind = coordinate_kind(problem, coordinate);

@@ -13,7 +13,6 @@ use it_space::{Kind, Problem, VarSet};
 pub fn generator_count(problem: &Problem) -> u32
     ensures { result ≡ length (generators problem.now) }
 {
-    problem.facts();
     count(problem.space().variables) + problem.constraints().len() as u32
 }
 

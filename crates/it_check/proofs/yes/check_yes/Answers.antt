@@ -17,8 +17,8 @@ pub returns-in-Some-of_weights : goal.returns-in-Some-of_weights
 returns-in-Some-of_weights c = by_weights (generators c.args.problem.now) (size_of c.args.problem.now.space) c.args.target.now (certificate_view c.args.certificate.now) c.in-Some-of_weights.verdict c.in_default.ensures
     (c.in-Some-of_weights.ensures ∙ ap (of_weights (generators c.args.problem.now)) c.as_slice.ensures.value)
 
-pub of_coordinates-requires-clause-listed : goal.of_coordinates-requires-clause-listed
-of_coordinates-requires-clause-listed c = all_known (generators c.args.problem.now) c.args.certificate.now.weights.items (no_sum c)
+pub of_coordinates-requires : goal.of_coordinates-requires
+of_coordinates-requires c = record { listed = all_known (generators c.args.problem.now) c.args.certificate.now.weights.items (no_sum c) }
 
 pub returns-in-Some-of_coordinates : goal.returns-in-Some-of_coordinates
 returns-in-Some-of_coordinates c = by_coordinates (generators c.args.problem.now) (size_of c.args.problem.now.space) c.args.target.now (certificate_view c.args.certificate.now) (Some c.in-Some-of_coordinates.verdict) c.in_default.ensures

@@ -1,4 +1,4 @@
-use Rattle.std.proofs.Common.{rules, ◌^◌, ◌<◌, ◌≤◌, ℕ, ℤ, List, FitsSigned, to_z-of_z, ap, subst, arith}
+use Rattle.std.proofs.Common.{◌∙◌, sym, rules, ◌^◌, ◌<◌, ◌≤◌, ℕ, ℤ, List, FitsSigned, to_z-of_z, ap, subst, arith}
 use Rattle.it_space.specs.Answers.{certificate_view}
 use Rattle.it_space.specs.Rows.{value}
 use Rattle.it_closure.specs.declared.dependences.Dependence.{Dependence}
@@ -24,7 +24,7 @@ returns-in_err-add_moves-clause-wide c =
     let ds : List Dependence = c.args.dependences.now.list in
     let m : ℕ = c.loop-number.number in
     let e : ℕ → ℤ = excess (certificate_view c.args.collapsed.now) (value c.args.target.now) (generators_of c.args.problem.now) in
-    let below : m < 2 ^ n = number_below m c.args.problem.now.space.variables n c.loop-number-test.true c.facts.ensures.space.few (ap (λ s. s.variables) c.requires.space) in
+    let below : m < 2 ^ n = number_below m c.space.result.variables n c.loop-number-test.true (rw c.space.ensures.value c.facts.ensures.space.few) (ap (λ s. s.variables) (c.requires.space ∙ sym c.space.ensures.value)) in
     let f : FitsSigned w128 c.in_ok-left.left = search rules in
     let from : 1 ≤ m = omega arith in
     let is = moves_found n ds e m c.from_number-set.result c.in_ok-left.left from c.from_number-set.ensures c.in_ok-left.ensures.1 in

@@ -20,6 +20,6 @@ pub new-row-requires : goal.new-row-requires
 new-row-requires c =
     terms_canonical (length (columns (generators c.args.problem.now))) c.in_ok-scale.scale c.args.weights.now (scale_is (goal.at.new-row-requires c).In_ok-scale) c.requires.ordered c.in_ok-terms.field-0.items c.in_ok-terms.ensures.value c.in_ok-terms.ensures.fits
 
-pub generator_weights-requires-clause-positive : goal.generator_weights-requires-clause-positive
-generator_weights-requires-clause-positive c =
-    terms_positive (length (columns (generators c.args.problem.now))) c.in_ok-scale.scale c.args.weights.now (scale_is (goal.at.generator_weights-requires-clause-positive c).In_ok-scale) c.requires.ordered c.new-row.result (c.new-row.ensures ∙ c.in_ok-terms.ensures.value)
+pub generator_weights-requires : goal.generator_weights-requires
+generator_weights-requires c =
+    record { positive = terms_positive (length (columns (generators c.args.problem.now))) c.in_ok-scale.scale c.args.weights.now (scale_is (goal.at.generator_weights-requires c).In_ok-scale) c.requires.ordered c.new-row.result (c.new-row.ensures ∙ c.in_ok-terms.ensures.value) }

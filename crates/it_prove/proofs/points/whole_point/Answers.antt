@@ -8,7 +8,7 @@ pub whole_row-requires-clause-rise : goal.whole_row-requires-clause-rise
 whole_row-requires-clause-rise c = places_rise c.args.problem.now c.args.coordinates.now c.facts.ensures c.requires.coordinates
 
 pub new-requires-clause-complete : goal.new-requires-clause-complete
-new-requires-clause-complete c = rw c.in_ok-values.ensures (spread_length c.args.dependences.now.space.variables c.args.dependences.now.list (size_of c.args.dependences.now.space) c.in_ok-row.row ∙ ap size_of c.requires.space)
+new-requires-clause-complete c = rw (c.in_ok-values.ensures, c.space.ensures.value) (spread_length c.args.dependences.now.space.variables c.args.dependences.now.list (size_of c.args.dependences.now.space) c.in_ok-row.row ∙ ap size_of c.requires.space)
 
 pub new-requires-clause-within : goal.new-requires-clause-within
 new-requires-clause-within c = subst (λ (xs : List ℤ). All IsWithin xs) (sym c.in_ok-values.ensures) (spread_within c.args.dependences.now.space.variables c.args.dependences.now.list (size_of c.args.dependences.now.space) c.in_ok-row.row c.in_ok-row.ensures.canonical)

@@ -4,8 +4,9 @@ use Rattle.it_closure.specs.Reading.{dependences_of}
 use Rattle.it_prove.proofs.LiftLemmas.{read_is, are_dependences_of_so, ordered_so, lift_given, lift_is, lift_certifies}
 use Rattle.it_prove.proofs.proving.lifted_certificate.Goals as goal
 
-pub certificate-requires-clause-ordered : goal.certificate-requires-clause-ordered
-certificate-requires-clause-ordered c = ordered_so c.args.problem.now.space.variables (dependences_of c.args.problem.now) (generators c.args.problem.now) c.args.weights.now c.requires.sum.ordered
+pub certificate-requires : goal.certificate-requires
+certificate-requires c =
+    record { ordered = ordered_so c.args.problem.now.space.variables (dependences_of c.args.problem.now) (generators c.args.problem.now) c.args.weights.now c.requires.sum.ordered }
 
 pub lift-requires-clause-dependences : goal.lift-requires-clause-dependences
 lift-requires-clause-dependences c = are_dependences_of_so c.args.problem.now c.args.dependences.now c.facts.ensures (read_is c.args.problem.now c.args.dependences.now c.requires.space c.requires.list)
