@@ -9,10 +9,10 @@ use Rattle.it_factor.specs.QuickSteps.{IsQuickBest}
 use Rattle.it_factor.proofs.QuickLemmas.{answer_is_right}
 use Rattle.it_factor.proofs.quick.by_row.Goals as goal
 
-pub settle-requires-clause-target : goal.settle-requires-clause-target
-settle-requires-clause-target c =
+pub settle-requires : goal.settle-requires
+settle-requires c =
     let size = size_of c.args.problem.now.space in
-    subst (IsOver size) (sym c.requires.row) (row_up size c.args.left.now c.args.right.now c.args.trial.factor)
+    record { target = subst (IsOver size) (sym c.requires.row) (row_up size c.args.left.now c.args.right.now c.args.trial.factor) }
 
 pub returns-in-Some-Yes : goal.returns-in-Some-Yes
 returns-in-Some-Yes c =

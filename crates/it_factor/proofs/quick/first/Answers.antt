@@ -8,10 +8,10 @@ use Rattle.it_best.proofs.JudgeSteps.{turned_certifies}
 use Rattle.it_best.proofs.RowLemmas.{negated_up}
 use Rattle.it_factor.proofs.quick.first.Goals as goal
 
-pub settle-requires-clause-target : goal.settle-requires-clause-target
-settle-requires-clause-target c =
+pub settle-requires : goal.settle-requires
+settle-requires c =
     let size = size_of c.args.problem.now.space in
-    subst (IsOver size) (sym c.in_ok-row.ensures) (negated_up size c.args.left.now c.requires.sides.left)
+    record { target = subst (IsOver size) (sym c.in_ok-row.ensures) (negated_up size c.args.left.now c.requires.sides.left) }
 
 pub returns-in-Some-Yes : goal.returns-in-Some-Yes
 returns-in-Some-Yes c =
