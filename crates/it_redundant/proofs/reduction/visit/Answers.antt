@@ -6,43 +6,43 @@ use Rattle.it_redundant.proofs.VisitLemmas.{lines_within, put_back, room_for_row
 use Rattle.it_redundant.proofs.reduction.visit.Goals as goal
 
 pub remove_row-requires-clause-place : goal.remove_row-requires-clause-place
-remove_row-requires-clause-place c = row_within c.args.givens.now c.args.reduced.now.kept.items (c.len-line.result + 1) (c.len.result + c.len-2.result) (search rules) (search rules)
-    c.args.problem.now c.args.row.now c.args.after.now c.requires.problem
+remove_row-requires-clause-place c = row_within c.args.givens.now c.args.reduced.now.kept.items (c.len-line.result + 1) (length c.constraints.result.now + c.len.result) (search rules) (search rules)
+    (record { space = c.problem.inside.space; constraints = c.problem.inside.constraints.items }) c.args.row.now c.args.after.now (c.problem.view_is ∙ c.requires.problem)
 
 pub remove_row-requires-clause-few : goal.remove_row-requires-clause-few
-remove_row-requires-clause-few c = lines_within c.args.givens.now c.args.reduced.now.kept.items (c.len-line.result + 1) (c.len.result + c.len-2.result) (search rules) (search rules)
-    c.args.problem.now c.args.row.now c.args.after.now c.requires.problem c.requires.few
+remove_row-requires-clause-few c = lines_within c.args.givens.now c.args.reduced.now.kept.items (c.len-line.result + 1) (length c.constraints.result.now + c.len.result) (search rules) (search rules)
+    (record { space = c.problem.inside.space; constraints = c.problem.inside.constraints.items }) c.args.row.now c.args.after.now (c.problem.view_is ∙ c.requires.problem) c.requires.few
 
-pub prove-requires-clause-problem : goal.prove-requires-clause-problem
-prove-requires-clause-problem c = visit_limits c.args.givens.now _ c.args.reduced.now.kept.items c.args.after.now
-    (taken_out c.args.givens.now c.args.reduced.now.kept.items (c.len-line.result + 1) (c.len.result + c.len-2.result) (search rules) (search rules)
-    c.args.problem.now c.args.row.now c.args.after.now c.remove_row.new.constraints.items c.requires.problem c.remove_row.ensures)
+pub invariant_of-problem : goal.invariant_of-problem
+invariant_of-problem c = visit_limits c.args.givens.now _ c.args.reduced.now.kept.items c.args.after.now
+    (taken_out c.args.givens.now c.args.reduced.now.kept.items (c.len-line.result + 1) (length c.constraints.result.now + c.len.result) (search rules) (search rules)
+    (record { space = c.problem.inside.space; constraints = c.problem.inside.constraints.items }) c.args.row.now c.args.after.now c.remove_row.new.constraints.items (c.problem.view_is ∙ c.requires.problem) c.remove_row.ensures)
     c.facts.ensures c.requires.few_givens (let few = c.requires.few in omega (arith, few)) c.requires.kept c.requires.after
 
 pub prove-requires-clause-closed : goal.prove-requires-clause-closed
 prove-requires-clause-closed c = visit_closed c.args.givens.now _ c.args.reduced.now.kept.items c.args.after.now
-    (taken_out c.args.givens.now c.args.reduced.now.kept.items (c.len-line.result + 1) (c.len.result + c.len-2.result) (search rules) (search rules)
-    c.args.problem.now c.args.row.now c.args.after.now c.remove_row.new.constraints.items c.requires.problem c.remove_row.ensures)
+    (taken_out c.args.givens.now c.args.reduced.now.kept.items (c.len-line.result + 1) (length c.constraints.result.now + c.len.result) (search rules) (search rules)
+    (record { space = c.problem.inside.space; constraints = c.problem.inside.constraints.items }) c.args.row.now c.args.after.now c.remove_row.new.constraints.items (c.problem.view_is ∙ c.requires.problem) c.remove_row.ensures)
     c.args.closed.now c.requires.closed
 
 pub insert_row-requires-clause-place : goal.insert_row-requires-clause-place
-insert_row-requires-clause-place c = (room_for_row c.args.givens.now c.args.reduced.now.kept.items (c.len-line.result + 1) (c.len.result + c.len-2.result) (search rules) (search rules)
-    record { space = c.args.problem.now.space; constraints = c.remove_row.new.constraints.items } c.args.row.now c.args.after.now
-    (taken_out c.args.givens.now c.args.reduced.now.kept.items (c.len-line.result + 1) (c.len.result + c.len-2.result) (search rules) (search rules)
-    c.args.problem.now c.args.row.now c.args.after.now c.remove_row.new.constraints.items c.requires.problem c.remove_row.ensures)).0
+insert_row-requires-clause-place c = (room_for_row c.args.givens.now c.args.reduced.now.kept.items (c.len-line.result + 1) (length c.constraints.result.now + c.len.result) (search rules) (search rules)
+    record { space = c.problem.inside.space; constraints = c.remove_row.new.constraints.items } c.args.row.now c.args.after.now
+    (taken_out c.args.givens.now c.args.reduced.now.kept.items (c.len-line.result + 1) (length c.constraints.result.now + c.len.result) (search rules) (search rules)
+    (record { space = c.problem.inside.space; constraints = c.problem.inside.constraints.items }) c.args.row.now c.args.after.now c.remove_row.new.constraints.items (c.problem.view_is ∙ c.requires.problem) c.remove_row.ensures)).0
 
 pub insert_row-requires-clause-few : goal.insert_row-requires-clause-few
-insert_row-requires-clause-few c = (room_for_row c.args.givens.now c.args.reduced.now.kept.items (c.len-line.result + 1) (c.len.result + c.len-2.result) (search rules) (search rules)
-    record { space = c.args.problem.now.space; constraints = c.remove_row.new.constraints.items } c.args.row.now c.args.after.now
-    (taken_out c.args.givens.now c.args.reduced.now.kept.items (c.len-line.result + 1) (c.len.result + c.len-2.result) (search rules) (search rules)
-    c.args.problem.now c.args.row.now c.args.after.now c.remove_row.new.constraints.items c.requires.problem c.remove_row.ensures)).1 c.requires.few
+insert_row-requires-clause-few c = (room_for_row c.args.givens.now c.args.reduced.now.kept.items (c.len-line.result + 1) (length c.constraints.result.now + c.len.result) (search rules) (search rules)
+    record { space = c.problem.inside.space; constraints = c.remove_row.new.constraints.items } c.args.row.now c.args.after.now
+    (taken_out c.args.givens.now c.args.reduced.now.kept.items (c.len-line.result + 1) (length c.constraints.result.now + c.len.result) (search rules) (search rules)
+    (record { space = c.problem.inside.space; constraints = c.problem.inside.constraints.items }) c.args.row.now c.args.after.now c.remove_row.new.constraints.items (c.problem.view_is ∙ c.requires.problem) c.remove_row.ensures)).1 c.requires.few
 
 pub returns-in_ok-insert_row-clause-visited : goal.returns-in_ok-insert_row-clause-visited
 returns-in_ok-insert_row-clause-visited c = record {
   outcome = proof_view c.in_ok-proof.proof;
-  ends = visit_ends c.args.givens.now record { space = c.args.problem.now.space; constraints = c.remove_row.new.constraints.items } c.args.reduced.now.kept.items c.args.after.now
-      (taken_out c.args.givens.now c.args.reduced.now.kept.items (c.len-line.result + 1) (c.len.result + c.len-2.result) (search rules) (search rules)
-      c.args.problem.now c.args.row.now c.args.after.now c.remove_row.new.constraints.items c.requires.problem c.remove_row.ensures)
+  ends = visit_ends c.args.givens.now record { space = c.problem.inside.space; constraints = c.remove_row.new.constraints.items } c.args.reduced.now.kept.items c.args.after.now
+      (taken_out c.args.givens.now c.args.reduced.now.kept.items (c.len-line.result + 1) (length c.constraints.result.now + c.len.result) (search rules) (search rules)
+      (record { space = c.problem.inside.space; constraints = c.problem.inside.constraints.items }) c.args.row.now c.args.after.now c.remove_row.new.constraints.items (c.problem.view_is ∙ c.requires.problem) c.remove_row.ensures)
       c.args.effort c.args.row.now (proof_view c.in_ok-proof.proof) c.in_ok-proof.ensures.ends;
   kept = c.in_ok-put.ensures.kept;
   dropped = c.in_ok-put.ensures.dropped;
@@ -53,20 +53,20 @@ returns-in_ok-insert_row-clause-closed c = c.in_ok-proof.ensures.stays c.args.gi
 
 pub returns-in_ok-insert_row-clause-problem : goal.returns-in_ok-insert_row-clause-problem
 returns-in_ok-insert_row-clause-problem c =
-    put_back c.args.givens.now c.args.reduced.now.kept.items (c.len-line.result + 1) (c.len.result + c.len-2.result) (search rules) (search rules)
-    record { space = c.args.problem.now.space; constraints = c.remove_row.new.constraints.items } c.args.row.now c.args.after.now c.insert_row.new.constraints.items
-    (taken_out c.args.givens.now c.args.reduced.now.kept.items (c.len-line.result + 1) (c.len.result + c.len-2.result) (search rules) (search rules)
-    c.args.problem.now c.args.row.now c.args.after.now c.remove_row.new.constraints.items c.requires.problem c.remove_row.ensures)
-    c.in_ok-insert_row.ensures
+    put_back c.args.givens.now c.args.reduced.now.kept.items (c.len-line.result + 1) (length c.constraints.result.now + c.len.result) (search rules) (search rules)
+    record { space = c.problem.inside.space; constraints = c.remove_row.new.constraints.items } c.args.row.now c.args.after.now c.insert_row.new.constraints.items
+    (taken_out c.args.givens.now c.args.reduced.now.kept.items (c.len-line.result + 1) (length c.constraints.result.now + c.len.result) (search rules) (search rules)
+    (record { space = c.problem.inside.space; constraints = c.problem.inside.constraints.items }) c.args.row.now c.args.after.now c.remove_row.new.constraints.items (c.problem.view_is ∙ c.requires.problem) c.remove_row.ensures)
+    c.in_ok-insert_row.ensures.put
     ∙ ap (λ (rows : List Terms). with_rows c.args.givens.now (rows ++ c.args.after.now))
     (sym (row_stays c.args.reduced.now.kept.items c.put.new.reduced.kept.items c.args.row.now (proof_view c.in_ok-proof.proof) c.in_ok-put.ensures.kept (search rules)))
 
 pub returns-else-len-line-clause-visited : goal.returns-else-len-line-clause-visited
 returns-else-len-line-clause-visited c = record {
   outcome = proof_view c.in_ok-proof.proof;
-  ends = visit_ends c.args.givens.now record { space = c.args.problem.now.space; constraints = c.remove_row.new.constraints.items } c.args.reduced.now.kept.items c.args.after.now
-      (taken_out c.args.givens.now c.args.reduced.now.kept.items (c.len-line.result + 1) (c.len.result + c.len-2.result) (search rules) (search rules)
-      c.args.problem.now c.args.row.now c.args.after.now c.remove_row.new.constraints.items c.requires.problem c.remove_row.ensures)
+  ends = visit_ends c.args.givens.now record { space = c.problem.inside.space; constraints = c.remove_row.new.constraints.items } c.args.reduced.now.kept.items c.args.after.now
+      (taken_out c.args.givens.now c.args.reduced.now.kept.items (c.len-line.result + 1) (length c.constraints.result.now + c.len.result) (search rules) (search rules)
+      (record { space = c.problem.inside.space; constraints = c.problem.inside.constraints.items }) c.args.row.now c.args.after.now c.remove_row.new.constraints.items (c.problem.view_is ∙ c.requires.problem) c.remove_row.ensures)
       c.args.effort c.args.row.now (proof_view c.in_ok-proof.proof) c.in_ok-proof.ensures.ends;
   kept = c.in_ok-put.ensures.kept;
   dropped = c.in_ok-put.ensures.dropped;
@@ -77,7 +77,7 @@ returns-else-len-line-clause-closed c = c.in_ok-proof.ensures.stays c.args.given
 
 pub returns-else-len-line-clause-problem : goal.returns-else-len-line-clause-problem
 returns-else-len-line-clause-problem c =
-    (taken_out c.args.givens.now c.args.reduced.now.kept.items (c.len-line.result + 1) (c.len.result + c.len-2.result) (search rules) (search rules)
-    c.args.problem.now c.args.row.now c.args.after.now c.remove_row.new.constraints.items c.requires.problem c.remove_row.ensures)
+    (taken_out c.args.givens.now c.args.reduced.now.kept.items (c.len-line.result + 1) (length c.constraints.result.now + c.len.result) (search rules) (search rules)
+    (record { space = c.problem.inside.space; constraints = c.problem.inside.constraints.items }) c.args.row.now c.args.after.now c.remove_row.new.constraints.items (c.problem.view_is ∙ c.requires.problem) c.remove_row.ensures)
     ∙ ap (λ (rows : List Terms). with_rows c.args.givens.now (rows ++ c.args.after.now))
     (sym (row_goes c.args.reduced.now.kept.items c.put.new.reduced.kept.items c.args.row.now (proof_view c.in_ok-proof.proof) c.in_ok-put.ensures.kept (search rules)))
