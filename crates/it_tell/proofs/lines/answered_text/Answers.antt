@@ -9,16 +9,16 @@ pub head_line-requires-clause-printable : goal.head_line-requires-clause-printab
 head_line-requires-clause-printable c =
     let q = question_body c.args.question.now in
     let p = c.in_ok-problem.problem in
-    subst (λ (n : ℕ). IsPrintable q n c.args.answer.now) (sym (ap length c.as_slice-constraints.ensures.value ∙ few_constraints q p.space p.constraints c.in_ok-problem.ensures.poses.constraints)) c.requires.printable
+    subst (λ (n : ℕ). IsPrintable q n c.args.answer.now) (sym (ap length c.constraints-constraints.ensures.value ∙ few_constraints q p.space p.constraints c.in_ok-problem.ensures.poses.constraints)) c.requires.printable
 
 pub write_details-requires-clause-origins : goal.write_details-requires-clause-origins
 write_details-requires-clause-origins c =
     let q = question_body c.args.question.now in
     let p = c.in_ok-problem.problem in
-    ap origins_of c.as_slice-constraints.ensures.value ∙ origins_same (question_origins q) p.constraints c.in_ok-problem.ensures.poses.constraints.placed
+    ap origins_of c.constraints-constraints.ensures.value ∙ origins_same (question_origins q) p.constraints c.in_ok-problem.ensures.poses.constraints.placed
 
 pub write_details-requires-clause-printable : goal.write_details-requires-clause-printable
 write_details-requires-clause-printable c =
     let q = question_body c.args.question.now in
     let p = c.in_ok-problem.problem in
-    subst (λ (n : ℕ). IsPrintable q n c.args.answer.now) (sym (ap length c.as_slice-constraints.ensures.value ∙ few_constraints q p.space p.constraints c.in_ok-problem.ensures.poses.constraints)) c.requires.printable
+    subst (λ (n : ℕ). IsPrintable q n c.args.answer.now) (sym (ap length c.constraints-constraints.ensures.value ∙ few_constraints q p.space p.constraints c.in_ok-problem.ensures.poses.constraints)) c.requires.printable

@@ -20,7 +20,7 @@ returns c =
     let named = c.args.sides.now.named.items in
     let ds = c.args.functions.now.list in
     let row = c.in-Some.row in
-    let all = c.as_slice-constraints.ensures.value in
+    let all = c.constraints-constraints.ensures.value in
     let weights = c.as_slice-named.ensures.value in
     let whole = c.if-not-is_whole_equation.ensures in
     OnTrue_from c.in_ok-is_nothing.is_nothing (IsProofUnder s.variables c.args.lines.now r named (value c.args.target.now) (forms_of (map of_constraint cs))) (λ e.
