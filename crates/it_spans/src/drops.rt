@@ -2,7 +2,7 @@
 ghost use Rattle.std.specs.Prelude.{◌≡◌, ◌<◌, ◌≤◌, length, map, All, IfOk, IfNone, OnOk};
 ghost use Rattle.std.specs.List.{remove};
 ghost use Rattle.it_space.specs.Rows.{IsOver};
-ghost use Rattle.it_space.specs.Spaces.{IsSpace, size_of};
+ghost use Rattle.it_space.specs.Spaces.{size_of};
 ghost use Rattle.it_hull.specs.Constants.{constants};
 ghost use Rattle.it_spans.specs.Drops.{after_drops, drop_fault, drop_verdict, drop_view, fault_or, verdict_fault};
 
@@ -19,7 +19,6 @@ fn take_row(
     rows: &mut Vec<Row>,
     drop: &RowDrop,
 ) -> Result<Verdict, AllocError>
-    requires space { IsSpace givens.now.space }
     requires givens { givens.now ≡ constants givens.now.space }
     requires over { All (IsOver (size_of givens.now.space)) rows.old.items }
     requires few { length rows.old.items ≤ 65535 }
@@ -27,6 +26,7 @@ fn take_row(
     ensures verdict { IfOk result (λ v. v ≡ drop_verdict givens.now.space rows.old.items (drop_view drop.now)) }
     ensures rows { rows.new.items ≡ remove rows.old.items drop.now.row }
 {
+    givens.facts();
     let row = rows.remove(drop.row);
     let problem = problem_with(alloc, givens, rows.as_slice())?;
     Ok(check_yes(&problem, &row, &drop.proof))
@@ -55,7 +55,6 @@ fn drop_row(
     ray: usize,
     number: usize,
 ) -> Result<Option<Fault>, AllocError>
-    requires space { IsSpace givens.now.space }
     requires givens { givens.now ≡ constants givens.now.space }
     requires over { All (IsOver (size_of givens.now.space)) rows.old.items }
     requires few { length rows.old.items ≤ 65535 }
@@ -77,7 +76,6 @@ pub fn drop_rows(
     drops: &[RowDrop],
     ray: usize,
 ) -> Result<Option<Fault>, AllocError>
-    requires space { IsSpace givens.now.space }
     requires givens { givens.now ≡ constants givens.now.space }
     requires over { All (IsOver (size_of givens.now.space)) rows.old.items }
     requires few { length rows.old.items ≤ 65535 }

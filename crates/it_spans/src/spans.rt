@@ -1,7 +1,7 @@
 //! The hull of rays, a step after the other.
 ghost use Rattle.std.specs.Prelude.{◌≡◌, ◌≤◌, length, map, All, IfOk};
 ghost use Rattle.it_space.specs.Rows.{IsOver};
-ghost use Rattle.it_space.specs.Spaces.{IsSpace, size_of};
+ghost use Rattle.it_space.specs.Spaces.{size_of};
 ghost use Rattle.it_hull.specs.Constants.{constants};
 ghost use Rattle.it_spans.specs.Drops.{after_drops, drop_view};
 ghost use Rattle.it_spans.specs.HullRows.{AreHullRows};
@@ -31,7 +31,6 @@ fn after_drops(
     drops: &[RowDrop],
     ray: usize,
 ) -> Result<Spanned, AllocError>
-    requires space { IsSpace givens.now.space }
     requires givens { givens.now ≡ constants givens.now.space }
     requires over { All (IsOver (size_of givens.now.space)) system.rows.items }
     requires few { length system.rows.items ≤ 65535 }

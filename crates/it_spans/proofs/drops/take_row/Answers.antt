@@ -8,7 +8,7 @@ use Rattle.it_spans.proofs.drops.take_row.Goals as goal
 
 pub problem_with-requires-clause-few_givens : goal.problem_with-requires-clause-few_givens
 problem_with-requires-clause-few_givens c =
-    let few = few_constants c.args.givens.now.space c.requires.space in
+    let few = few_constants c.args.givens.now.space c.facts.ensures.space in
     subst (λ (q : ProblemView). length q.constraints ≤ 65535) (sym c.requires.givens) (omega (arith, few))
 
 pub problem_with-requires-clause-rows : goal.problem_with-requires-clause-rows
