@@ -13,7 +13,6 @@ use Rattle.it_eliminate.specs.Views.{eliminated_view}
 use Rattle.it_space.specs.declared.problems.System.{System}
 use Rattle.it_space.specs.declared.spaces.Space.{Space}
 use Rattle.it_space.specs.Problems.{ProblemView}
-use Rattle.it_space.specs.Spaces.{IsSpace}
 use Rattle.it_space.proofs.ListLemmas.{drop_item}
 use Rattle.it_hull.specs.Constants.{constants}
 use Rattle.it_hull.specs.Hulls.{IsHull, first_rows}
