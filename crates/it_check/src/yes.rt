@@ -104,6 +104,7 @@ fn of_coordinates(problem: &Problem, target: &Row, certificate: &Certificate) ->
     requires listed { All (λ w. w.0 < length (generators problem.now)) certificate.now.weights.items }
     ensures { result ≡ of_coordinates (generators problem.now) target.now (certificate_view certificate.now) 1 (size_of problem.now.space) }
 {
+    problem.facts();
     for coordinate in 1..problem.size() + 1 {
         if let Some(verdict) = of_coordinate(problem, target, certificate, coordinate) {
             return Some(verdict);
