@@ -161,8 +161,7 @@ impl ClosedProgram {
         alloc: Global,
         problem: &Problem,
         target: &Row,
-    ) -> Result<bool, AllocError>
-    {
+    ) -> Result<bool, AllocError> {
         let is_posed = self.put_constraints(alloc, problem)? && self.put_right(alloc, target)?;
         if !is_posed {
             // no run has these columns
@@ -172,8 +171,7 @@ impl ClosedProgram {
     }
 
     /// Puts the columns of a problem's constraints in the place of those that are there. False where a number is large.
-    fn put_constraints(&mut self, alloc: Global, problem: &Problem) -> Result<bool, AllocError>
-    {
+    fn put_constraints(&mut self, alloc: Global, problem: &Problem) -> Result<bool, AllocError> {
         self.program.put_costs_back();
         self.before = std::mem::replace(&mut self.program.others, Vec::new(alloc));
         let mut generator = count(problem.space().variables);

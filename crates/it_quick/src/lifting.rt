@@ -289,8 +289,7 @@ fn excesses(
     target: &Row,
     scale: i128,
     weights: &Totals,
-) -> Result<Totals, RowFault>
-{
+) -> Result<Totals, RowFault> {
     let n = problem.space().variables;
     let mut left = Totals::zeros(alloc, 1usize << n)?;
     left.add_row(target, scale)?;
@@ -341,8 +340,7 @@ fn generator_weights(
     closed: &ClosedProgram,
     weights: &[ColumnWeight],
     scale: u64,
-) -> Result<Totals, RowFault>
-{
+) -> Result<Totals, RowFault> {
     let mut all = Totals::zeros(alloc, generator_count(problem) as usize)?;
     for weight in weights {
         if weight.bottom != 0 {
@@ -362,8 +360,7 @@ pub fn certificate(
     closed: &ClosedProgram,
     target: &Row,
     weights: &[ColumnWeight],
-) -> Result<Certificate, RowFault>
-{
+) -> Result<Certificate, RowFault> {
     let Some(scale) = common_denominator(weights) else {
         return Err(RowFault::Wide);
     };

@@ -151,8 +151,7 @@ pub struct QuickProblem {
 
 impl QuickProblem {
     /// The problem before the first run.
-    pub fn read(alloc: Global, problem: &Problem) -> Result<QuickProblem, AllocError>
-    {
+    pub fn read(alloc: Global, problem: &Problem) -> Result<QuickProblem, AllocError> {
         Ok(QuickProblem {
             dependences: Dependences::read(alloc, problem)?,
             kept: None,
