@@ -1,4 +1,4 @@
-use Rattle.std.proofs.Common.{List, ◌++◌, ◌∙◌, rules, ap, sym, ◌+◌, arith}
+use Rattle.std.proofs.Common.{List, length, ◌++◌, ◌∙◌, rules, ap, sym, ◌+◌, arith}
 use Rattle.it_space.specs.Rows.{Terms}
 use Rattle.it_prove.specs.ProofViews.{proof_view}
 use Rattle.it_eliminate.specs.RowLines.{with_rows}
