@@ -1,8 +1,11 @@
-use Rattle.std.proofs.Common.{List, length, ◌++◌, ◌∙◌, rules, ap, sym, ◌+◌, arith}
+use Rattle.std.proofs.Common.{List, length, map, ◌++◌, ◌∙◌, rules, ap, sym, ◌+◌, arith}
+use Rattle.std.proofs.lemmas.List.{length-map}
+use Rattle.it_space.specs.declared.problems.Constraint.{Constraint}
+use Rattle.it_space.specs.Problems.{ProblemView}
 use Rattle.it_space.specs.Rows.{Terms}
 use Rattle.it_prove.specs.ProofViews.{proof_view}
 use Rattle.it_eliminate.specs.RowLines.{with_rows}
-use Rattle.it_redundant.proofs.VisitLemmas.{lines_within, put_back, room_for_row, row_goes, row_stays, row_within, taken_out, visit_closed, visit_ends, visit_limits}
+use Rattle.it_redundant.proofs.VisitLemmas.{limits_again, lines_within, put_back, room_for_row, row_goes, row_stays, row_within, taken_out, visit_closed, visit_ends, visit_limits}
 use Rattle.it_redundant.proofs.reduction.visit.Goals as goal
 
 pub remove_row-requires-clause-place : goal.remove_row-requires-clause-place
@@ -18,6 +21,40 @@ invariant_of-problem c = visit_limits c.args.givens.now _ c.args.reduced.now.kep
     (taken_out c.args.givens.now c.args.reduced.now.kept.items (c.len-line.result + 1) (length c.constraints.result.now + c.len.result) (search rules) (search rules)
     (record { space = c.problem.inside.space; constraints = c.problem.inside.constraints.items }) c.args.row.now c.args.after.now c.remove_row.new.constraints.items (c.problem.view_is ∙ c.requires.problem) c.remove_row.ensures)
     c.facts.ensures c.requires.few_givens (let few = c.requires.few in omega (arith, few)) c.requires.kept c.requires.after
+
+pub invariant_of-problem-in_err-proof : goal.invariant_of-problem-in_err-proof
+invariant_of-problem-in_err-proof c = visit_limits c.args.givens.now _ c.args.reduced.now.kept.items c.args.after.now
+    (taken_out c.args.givens.now c.args.reduced.now.kept.items (c.len-line.result + 1) (length c.constraints.result.now + c.len.result) (search rules) (search rules)
+    (record { space = c.problem.inside.space; constraints = c.problem.inside.constraints.items }) c.args.row.now c.args.after.now c.remove_row.new.constraints.items (c.problem.view_is ∙ c.requires.problem) c.remove_row.ensures)
+    c.facts.ensures c.requires.few_givens (let few = c.requires.few in omega (arith, few)) c.requires.kept c.requires.after
+
+pub invariant_of-problem-in_err-put : goal.invariant_of-problem-in_err-put
+invariant_of-problem-in_err-put c = visit_limits c.args.givens.now _ c.args.reduced.now.kept.items c.args.after.now
+    (taken_out c.args.givens.now c.args.reduced.now.kept.items (c.len-line.result + 1) (length c.constraints.result.now + c.len.result) (search rules) (search rules)
+    (record { space = c.problem.inside.space; constraints = c.problem.inside.constraints.items }) c.args.row.now c.args.after.now c.remove_row.new.constraints.items (c.problem.view_is ∙ c.requires.problem) c.remove_row.ensures)
+    c.facts.ensures c.requires.few_givens (let few = c.requires.few in omega (arith, few)) c.requires.kept c.requires.after
+
+pub invariant_of-problem-else-len-line : goal.invariant_of-problem-else-len-line
+invariant_of-problem-else-len-line c = visit_limits c.args.givens.now _ c.args.reduced.now.kept.items c.args.after.now
+    (taken_out c.args.givens.now c.args.reduced.now.kept.items (c.len-line.result + 1) (length c.constraints.result.now + c.len.result) (search rules) (search rules)
+    (record { space = c.problem.inside.space; constraints = c.problem.inside.constraints.items }) c.args.row.now c.args.after.now c.remove_row.new.constraints.items (c.problem.view_is ∙ c.requires.problem) c.remove_row.ensures)
+    c.facts.ensures c.requires.few_givens (let few = c.requires.few in omega (arith, few)) c.requires.kept c.requires.after
+
+pub invariant_of-problem-in_err-insert_row : goal.invariant_of-problem-in_err-insert_row
+invariant_of-problem-in_err-insert_row c = visit_limits c.args.givens.now _ c.args.reduced.now.kept.items c.args.after.now
+    (ap (λ (cs : List Constraint). let p : ProblemView = record { space = c.problem.inside.space; constraints = cs } in p) c.in_err-insert_row.ensures.stays
+    ∙ taken_out c.args.givens.now c.args.reduced.now.kept.items (c.len-line.result + 1) (length c.constraints.result.now + c.len.result) (search rules) (search rules)
+    (record { space = c.problem.inside.space; constraints = c.problem.inside.constraints.items }) c.args.row.now c.args.after.now c.remove_row.new.constraints.items (c.problem.view_is ∙ c.requires.problem) c.remove_row.ensures)
+    c.facts.ensures c.requires.few_givens (let few = c.requires.few in omega (arith, few)) c.requires.kept c.requires.after
+
+pub invariant_of-problem-in-Continue-branch-3 : goal.invariant_of-problem-in-Continue-branch-3
+invariant_of-problem-in-Continue-branch-3 c = limits_again c.args.givens.now _ (map (λ k. k.0) c.args.reduced.now.kept.items) c.args.row.now c.args.after.now
+    (put_back c.args.givens.now c.args.reduced.now.kept.items (c.len-line.result + 1) (length c.constraints.result.now + c.len.result) (search rules) (search rules)
+    record { space = c.problem.inside.space; constraints = c.remove_row.new.constraints.items } c.args.row.now c.args.after.now c.insert_row.new.constraints.items
+    (taken_out c.args.givens.now c.args.reduced.now.kept.items (c.len-line.result + 1) (length c.constraints.result.now + c.len.result) (search rules) (search rules)
+    (record { space = c.problem.inside.space; constraints = c.problem.inside.constraints.items }) c.args.row.now c.args.after.now c.remove_row.new.constraints.items (c.problem.view_is ∙ c.requires.problem) c.remove_row.ensures)
+    c.in_ok-insert_row.ensures.put)
+    c.facts.ensures c.requires.few_givens (omega (arith, c.requires.few, length-map c.args.reduced.now.kept.items (λ k. k.0))) c.requires.kept c.requires.row c.requires.after
 
 pub prove-requires-clause-closed : goal.prove-requires-clause-closed
 prove-requires-clause-closed c = visit_closed c.args.givens.now _ c.args.reduced.now.kept.items c.args.after.now
