@@ -14,6 +14,7 @@ from contain import Containment
 from copies import Misfit, extended, read_with_head
 from defined import LIMIT
 from hulls import hull_verdict
+from linear_codes import first_other
 from outer import kept_rates, with_all_lines
 from questions import Fault, read
 from sharing import TooMany, made
@@ -363,6 +364,33 @@ def best_words(value, answer):
     return f"invalid {found}" if found else "valid"
 
 
+def code_of(value, question):
+    """A code of the question's variables: the field's elements, what a symbol counts, and the functions of each variable."""
+    code = members(value["code"], "code")
+    elements, symbols = count(code.get("field"), "code"), count(code.get("symbols"), "code")
+    rule(elements in (2, 3) and symbols <= 12 and elements**symbols <= 4096, "code")
+    variables = []
+    for functions in items(code.get("functions"), "code", len(question.names)):
+        functions = [items(function, "code", symbols) for function in items(functions, "code")]
+        variables.append([[count(number, "code", elements - 1) for number in function] for function in functions])
+    times = count(code.get("times"), "code")
+    rule(times >= 1, "code")
+    return elements, times, variables
+
+
+def no_words(value, question):
+    """The words about a no: on its point, and then on the code that this is said to be of, where there is one."""
+    point = point_of(value, question)
+    side = text_at(value, "side")
+    rule(side == "forward" or side == "back" and len(question.targets) == 2, "side")
+    code = code_of(value, question) if "code" in value else None
+    found = point_verdict(question, question.targets[side == "back"], point)
+    if found:
+        return f"invalid {found}"
+    other = first_other(*code, point) if code else 0
+    return f"invalid code {question.coordinate_text(other)}" if other else "valid"
+
+
 def outer_words(value, question):
     """The words about an outer bound: on its certificates, then on the points of its rays, then on its rows as the hull of the rays."""
     rows = [row_of(row, question) for row in items(value.get("rows"), "rows")]
@@ -395,12 +423,7 @@ def verdict(line):
     if answer == "outer":
         return outer_words(value, question)
     if answer == "no":
-        point = point_of(value, question)
-        side = text_at(value, "side")
-        rule(side == "forward" or side == "back" and len(question.targets) == 2, "side")
-        target = question.targets[side == "back"]
-        found = point_verdict(question, target, point)
-        return f"invalid {found}" if found else "valid"
+        return no_words(value, question)
     if answer == "undecided":
         cause = text_at(value, "cause")
         rule(cause in ("pivots", "width", "scale", "rows"), "cause")

@@ -1,4 +1,5 @@
-"""LaTeX: of formulas, and of what is told. told.tex is what another program, a script in awk, once made of told.txt for `./ask --latex`."""
+"""LaTeX: of formulas, and of what is told. told.tex is what another program, a script in awk, once made of told.txt for `./ask --latex`,
+but for answers 13 and 14, which were compared by eye."""
 
 import doctest
 import hashlib

@@ -72,11 +72,11 @@ class Codes(Asks):
             report = [json.loads(line) for line in answers.decode().splitlines() if line.startswith('{"answer":"no"')]
             for line in report:
                 names = line["question"].partition("\n")[0].replace(",", " ").split()[1:]
-                said, ranks = itip.linear.told(line)
+                said, coded = itip.linear.told(line)
                 kinds.append(said[:11])
-                if ranks:
+                if coded:
                     self.judge(names, [int(value) for value in line["point"]], said)
-                    self.assertEqual(default().check([ranks]), ["valid"])
+                    self.assertEqual(default().check([coded]), ["valid"])
                 else:
                     self.assertTrue(said.startswith("no linear code: Ingleton"), (path.name, said))
         self.assertEqual([kinds.count(kind) for kind in ("over GF(2):", "over GF(3):", "no linear c")], [23, 1, 5])
@@ -97,12 +97,14 @@ class Codes(Asks):
         self.assertEqual((code_at(without, 7).elements, code_at(without, 7).ranks()), (3, without))
 
     def test_times(self):
-        """A point that is a multiple, with rates that are and that aren't."""
-        for rate, point in [("4", ["1", "0", "1", "2"]), ("3", ["2", "0", "2", "3"])]:
+        """A point that is a multiple, with rates that are and that aren't; and what is refused of it."""
+        for rate in ("4", "3"):
             line = {"answer": "no", "point": ["2", "0", "2", rate], "question": "vars X, Y\nrates R\nprove R <= H(X)\n", "side": "forward"}
-            said, ranks = itip.linear.told(line)
-            self.assertEqual((said, json.loads(ranks)["point"]), ("over GF(2): X = (a), Y constant; the point is 2 times its ranks", point))
-            self.assertEqual(default().check([ranks]), ["valid"])
+            said, coded = itip.linear.told(line)
+            code = {"field": 2, "functions": [[[1]], []], "symbols": 1, "times": 2}
+            self.assertEqual((said, json.loads(coded)), ("over GF(2): X = (a), Y constant; the point is 2 times its ranks", {**line, "code": code}))
+            forged = [json.dumps({**line, "code": {**code, **key}}) for key in ({"times": 1}, {"functions": [[[1]], [[1]]]}, {"field": 4})]
+            self.assertEqual(default().check([coded, *forged]), ["valid", "invalid code h(X)", "invalid code h(Y)", "invalid shape code"])
 
     def test_none(self):
         """Lines of a plane: seven have no code over so few elements."""
@@ -111,13 +113,13 @@ class Codes(Asks):
         large = [20 * bin(number).count("1") + (number == 1) for number in range(4)]
         self.assertIsNone(code_at(large, 2))
 
-    def test_wrong_ranks(self):
+    def test_wrong_codes(self):
         """What itip check refuses isn't told."""
         body = "if sys.argv[1] == 'check':\n    print('1 invalid mismatch')\n    sys.exit(1)\nsys.exit(honest())\n"
         path = self.file("vars X, Y\nprove H(X) >= H(Y)\n")
         status, told, said = self.ask("--code", path, prover=self.program(body).prover)
         self.assertEqual((status, told.splitlines()[2:]), (0, [f"  {NONE}"]))
-        self.assertEqual(said, f"ask: {path}, question 1: itip check finds of the code's ranks: invalid mismatch\n")
+        self.assertEqual(said, f"ask: {path}, question 1: itip check finds of the code: invalid mismatch\n")
 
     def test_words(self):
         path = self.file("copy R of X over Y\nvars X, Y\nprove H(X) >= 0\n")

@@ -13,5 +13,6 @@ pub mod ReportLemmas
 pub mod OneLemmas
 pub mod FitLemmas
 pub mod FactorFits
+pub mod CodeFits
 mod RoundLemmas
 mod RowsComputed

@@ -9,18 +9,21 @@ use Rattle.it_question.specs.declared.types.Question.{Question}
 use Rattle.it_certificate.specs.declared.keys.Refusal.{Refusal}
 use Rattle.it_certificate.specs.declared.keys.Refusal.TheVariants as refusals
 use Rattle.it_certificate.specs.declared.kinds.AnswerKind.{AnswerKind}
+use Rattle.it_certificate.specs.declared.kinds.AnswerKind.TheVariants as kinds
 use Rattle.it_certificate.specs.declared.keys.Key.{Key}
 use Rattle.it_certificate.specs.declared.keys.Key.TheVariants as keys
 use Rattle.it_certificate.specs.declared.keys.ReportFault.{ReportFault}
 use Rattle.it_certificate.specs.declared.keys.ReportFault.TheVariants as faults
 use Rattle.it_certificate.specs.declared.types.Reported.TheVariants as reported
 use Rattle.it_certificate.specs.declared.types.ReportedBounds.{ReportedBounds}
+use Rattle.it_certificate.specs.declared.types.ReportedCode.{ReportedCode}
+use Rattle.it_certificate.specs.CodeReading.{ReportedCodeView, names_code, reported_code_view, tells_code}
 use Rattle.it_certificate.specs.Parts.{answer_kind_at}
 use Rattle.it_ratio.specs.BestViews.{BestView, best_view}
 use Rattle.it_ratio.specs.declared.types.Best.{Best}
 use Rattle.it_certificate.specs.declared.kinds.FactorKind.{FactorKind}
 use Rattle.it_certificate.specs.FactorReading.{factor_kind_at, verb_best}
-use Rattle.it_certificate.specs.Reports.{Answered, Factored, Misfit, Reading, ReadsAs, answer_to, best_to, reading_by, report_of, tells_misfit, verb_answer, Bounded, bounded_of, bounds_to, tells_outer}
+use Rattle.it_certificate.specs.Reports.{Answered, Coded, Factored, Misfit, Reading, ReadsAs, answer_of, answer_to, best_to, code_to, coded_of, reading_by, report_of, tells_misfit, verb_answer, Bounded, bounded_of, bounds_to, tells_outer}
 use Rattle.it_certificate.specs.Bounds.{BoundsView, bounds_view, verb_bounds}
 use Rattle.it_certificate.specs.ReportSteps.{GivesAsked, GivesSource, ReadsValue}
 use Rattle.it_certificate.specs.Sources.{IsSourceOf, Source, asked, source_key}
@@ -77,12 +80,13 @@ module _ (d : Data) (told : false ≡ tells_misfit d) (outer : false ≡ tells_o
   by_kind : (o : Option Source) (kind : Option FactorKind) → kind ≡ factor_kind_at d → report_of o d ≡ reading_by o kind d
   by_kind o kind is = of_no_misfit d told o ∙ ap (reading_of o d) (sym outer) ∙ ap (λ k. reading_by o k d) (sym is)
 
-  -- ---- a line that isn't about factors
+  -- ---- a line that is about neither factors nor a code
 
-  module _ (other : None ≡ factor_kind_at d) where
+  module _ (other : None ≡ factor_kind_at d) (plain : false ≡ tells_code d) where
     by_answer : (o : Option Source) (kind : Option AnswerKind) → kind ≡ answer_kind_at d
         → report_of o d ≡ and_then (ok_or kind keys.Answer) (λ kind. and_then (ok_or o (source_key d)) (λ source. and_then (answer_to source kind d) (λ a. Ok (Answered source a))))
     by_answer o kind is = by_kind o None other
+        ∙ ap (λ b. cond b (coded_of o d) (answer_of o d)) (sym plain)
         ∙ ap (λ k. and_then (ok_or k keys.Answer) (λ kind. and_then (ok_or o (source_key d)) (λ source. and_then (answer_to source kind d) (λ a. Ok (Answered source a))))) (sym is)
 
     pub no_kind : None ≡ answer_kind_at d → ReadsAs d (Err keys.Answer)
@@ -111,6 +115,56 @@ module _ (d : Data) (told : false ≡ tells_misfit d) (outer : false ≡ tells_o
       answer_err q (faults.Shape key) gives by = answer_as gives.0 (Err key) gives.1 (as_asked gives.0 (question_view q) (Err key) gives.2 by)
       answer_err q faults.NotJson gives by = by
       answer_err q faults.Memory gives by = tt
+
+  -- ---- a no with a code
+
+  module _ (other : None ≡ factor_kind_at d) (code : true ≡ tells_code d) where
+    of_code : (o : Option Source) → report_of o d ≡ coded_of o d
+    of_code o = by_kind o None other ∙ ap (λ b. cond b (coded_of o d) (answer_of o d)) (sym code)
+
+    pub no_code_source : (f : ReportFault) → GivesAsked d (Err f) → ReadsValue d (Err f)
+    no_code_source (faults.Shape key) none = subst (λ k. ReadsAs d (Err k)) (sym none.0) (record { own = None; source = none.1; is = of_code None })
+    no_code_source faults.NotJson none = none
+    no_code_source faults.Memory none = tt
+
+    code_as : (source : Source) (r : Result AnswerView Key) (s : Result ReportedCodeView Key) → IsSourceOf d source → answer_to source kinds.No d ≡ r → code_to source d ≡ s
+        → ReadsAs d (and_then r (λ a. and_then s (λ c. Ok (Coded source a c))))
+    code_as source r s own answered coded = record {
+      own = Some source;
+      source = own;
+      is = of_code (Some source)
+          ∙ ap (λ z. and_then z (λ a. and_then (code_to source d) (λ c. Ok (Coded source a c)))) answered
+          ∙ ap (λ z. and_then r (λ a. and_then z (λ c. Ok (Coded source a c)))) coded;
+    }
+
+    -- the no and the code of the question that is asked
+    no_as_asked : (source : Source) (q : QuestionView) (r : Result AnswerView Key) → asked source ≡ q → verb_answer q.body.names q.body.verb kinds.No d ≡ r → answer_to source kinds.No d ≡ r
+    no_as_asked source q r e by = ap (λ (z : QuestionView). verb_answer z.body.names z.body.verb kinds.No d) e ∙ by
+
+    code_as_asked : (source : Source) (q : QuestionView) (s : Result ReportedCodeView Key) → asked source ≡ q → names_code q.body.names d ≡ s → code_to source d ≡ s
+    code_as_asked source q s e by = ap (λ (z : QuestionView). names_code z.body.names d) e ∙ by
+
+    module _ (q : Question) (gives : GivesSource d (Ok q)) where
+      pub no_err : (f : ReportFault) → GivesKeyed answer_view (Err f) (verb_answer (question_view q).body.names (question_view q).body.verb kinds.No d) → ReadsValue d (Err f)
+      no_err (faults.Shape key) by = code_as gives.0 (Err key) (code_to gives.0 d) gives.1 (no_as_asked gives.0 (question_view q) (Err key) gives.2 by) refl
+      no_err faults.NotJson by = by
+      no_err faults.Memory by = tt
+
+      pub code_ok : (a : Answer) (c : ReportedCode) → verb_answer (question_view q).body.names (question_view q).body.verb kinds.No d ≡ Ok (answer_view a)
+          → names_code (question_view q).body.names d ≡ Ok (reported_code_view c) → ReadsValue d (Ok (reported.Coded q a c))
+      code_ok a c answered coded = (
+        Coded gives.0 (answer_view a) (reported_code_view c),
+        (gives.2, refl, refl),
+        code_as gives.0 (Ok (answer_view a)) (Ok (reported_code_view c)) gives.1 (no_as_asked gives.0 (question_view q) (Ok (answer_view a)) gives.2 answered)
+            (code_as_asked gives.0 (question_view q) (Ok (reported_code_view c)) gives.2 coded),
+      )
+
+      pub code_err : (a : Answer) (f : ReportFault) → verb_answer (question_view q).body.names (question_view q).body.verb kinds.No d ≡ Ok (answer_view a)
+          → GivesKeyed reported_code_view (Err f) (names_code (question_view q).body.names d) → ReadsValue d (Err f)
+      code_err a (faults.Shape key) answered coded = code_as gives.0 (Ok (answer_view a)) (Err key) gives.1 (no_as_asked gives.0 (question_view q) (Ok (answer_view a)) gives.2 answered)
+          (code_as_asked gives.0 (question_view q) (Err key) gives.2 coded)
+      code_err a faults.NotJson answered coded = coded
+      code_err a faults.Memory answered coded = tt
 
   -- ---- a line about factors
 

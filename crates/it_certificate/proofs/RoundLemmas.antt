@@ -32,8 +32,9 @@ use Rattle.std.specs.Option.{option_or, option_zip}
 use Rattle.it_certificate.specs.Parts.{text_of, integer_at, count_at, pair_at, all_of, of_length, certificate_at, answer_kind_at, proofs_at, point_at, back_at, cause_kind_at, cause_of, cause_at, is_row_between, row_of, marked_row_at, rows_at, set_at, parts_at, list_at, unmarked_row_at}
 use Rattle.it_certificate.specs.AnswerReading.{and_then, no_at, undecided_at, contained_at}
 use Rattle.it_certificate.specs.Obligations.{obligation_count}
+use Rattle.it_certificate.specs.CodeReading.{tells_code}
 use Rattle.it_certificate.specs.FactorReading.{factor_kind_at}
-use Rattle.it_certificate.specs.Reports.{Answered, Misfit, bounded_of, reading_by, report_of, tells_misfit, tells_outer, verb_answer}
+use Rattle.it_certificate.specs.Reports.{Answered, Misfit, answer_of, bounded_of, coded_of, reading_by, report_of, tells_misfit, tells_outer, verb_answer}
 use Rattle.it_certificate.specs.Sources.{Text}
 use Rattle.it_certificate.specs.AnswerShapes.{IsNumberedAmount, IsNumbered, IsRowIn, IsCauseFor, HasContainmentShape, HasVerbShape, HasQuestionShape}
 use Rattle.it_certificate.specs.Laws.{without_zeros, written_answer, ReadsBack}
@@ -297,6 +298,16 @@ no_bounds text v (Region rows) = refl
 no_bounds text v (Contained parts proofs) = refl
 no_bounds text v (Open tried) = refl
 
+-- and no code
+no_code : (text : List ℕ) (v : NamesView) (a : AnswerView) → tells_code (answer_value text v a) ≡ false
+unfolding tells_code answer_value answer_members
+no_code text v (Yes proofs) = refl
+no_code text v (No back values) = refl
+no_code text v (Undecided cause) = refl
+no_code text v (Region rows) = refl
+no_code text v (Contained parts proofs) = refl
+no_code text v (Open tried) = refl
+
 -- the object has a key alone that an answer doesn't write
 other_key : (text : List ℕ) (v : NamesView) (a : AnswerView) → (get (codes "sharing") (answer_value text v a) ≡ None) × (get (codes "copies") (answer_value text v a) ≡ None)
 unfolding answer_value answer_members
@@ -318,6 +329,7 @@ reads_back q a short file fits =
       is = ap (λ b. cond b (Ok Misfit) (cond (tells_outer d) (bounded_of (Some (Text q)) d) (reading_by (Some (Text q)) (factor_kind_at d) d))) (no_misfit q.text q.body.names a)
           ∙ ap (λ b. cond b (bounded_of (Some (Text q)) d) (reading_by (Some (Text q)) (factor_kind_at d) d)) (no_bounds q.text q.body.names a)
           ∙ ap (λ k. reading_by (Some (Text q)) k d) (no_factor q.text q.body.names a)
+          ∙ ap (λ b. cond b (coded_of (Some (Text q)) d) (answer_of (Some (Text q)) d)) (no_code q.text q.body.names a)
           ∙ ap (λ k. and_then (ok_or k keys.Answer) (λ kind. and_then (verb_answer q.body.names q.body.verb kind d) (λ b. Ok (Answered (Text q) b)))) (answer_kind_back q.text q.body.names a)
           ∙ ap (λ r. and_then r (λ b. Ok (Answered (Text q) b))) (answer_back q a fits);
     }

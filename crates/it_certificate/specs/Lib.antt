@@ -11,6 +11,7 @@ pub mod Bounds
 pub mod Reports
 pub mod AnswerShapes
 pub mod FactorShapes
+pub mod CodeReading
 pub mod Laws
 pub mod Rows
 pub mod Steps

@@ -28,6 +28,7 @@ use Rattle.it_certificate.specs.AnswerReading.{and_then, no_at, undecided_at, co
 use Rattle.it_certificate.specs.AnswerShapes.{HasQuestionShape}
 use Rattle.it_certificate.specs.FactorReading.{factor_kind_at, verb_best}
 use Rattle.it_certificate.specs.FactorShapes.{HasFactorShape}
+use Rattle.it_certificate.specs.CodeReading.{HasCodedShape, ReportedCodeView, names_code, reported_code_view, tells_code}
 use Rattle.it_certificate.specs.Bounds.{BoundsView, HasBoundsShape, bounds_view, verb_bounds}
 use Rattle.it_certificate.specs.Obligations.{obligation_count}
 use Rattle.it_certificate.specs.Sources.{Source, IsSourceAt, asked, source_key}
@@ -48,10 +49,11 @@ verb_answer v verb kind d = Err keys.Answer
 
 -- ---- the report
 
--- what a line says: an answer to what it is about; what is found of the factors of its relation; an outer bound; or that a question can't
+-- what a line says: an answer to what it is about; a no with a code that its point is said to be of; what is found of the factors of its relation; an outer bound; or that a question can't
 -- have what is asked for, which claims nothing
 pub data Reading : Type 0 where
   Answered : (source : Source) (answer : AnswerView) → Reading
+  Coded : (source : Source) (answer : AnswerView) (code : ReportedCodeView) → Reading
   Factored : (source : Source) (best : BestView) → Reading
   Bounded : (source : Source) (bounds : BoundsView) → Reading
   Misfit : Reading
@@ -72,6 +74,10 @@ answer_to source kind d = verb_answer (asked source).body.names (asked source).b
 abbrev pub best_to : Source → FactorKind → Data → Result BestView Key
 best_to source kind d = verb_best (asked source).body.names (asked source).body.verb kind d
 
+-- the code of that question's variables
+abbrev pub code_to : Source → Data → Result ReportedCodeView Key
+code_to source d = names_code (asked source).body.names d
+
 -- the bounds of that question
 abbrev pub bounds_to : Source → Data → Result BoundsView Key
 bounds_to source d = verb_bounds (asked source).body.names (asked source).body.verb d
@@ -83,6 +89,13 @@ answer_of own d =
     and_then (ok_or (answer_kind_at d) keys.Answer) (λ kind.
     and_then (ok_or own (source_key d)) (λ source.
     and_then (answer_to source kind d) (λ answer. Ok (Answered source answer))))
+
+-- of a no with a code, in the same order, and then its code
+abbrev pub coded_of : Option Source → Data → Result Reading Key
+coded_of own d =
+    and_then (ok_or own (source_key d)) (λ source.
+    and_then (answer_to source No d) (λ answer.
+    and_then (code_to source d) (λ code. Ok (Coded source answer code))))
 
 -- of a line of this kind about factors, in the same order
 abbrev pub best_of : Option Source → FactorKind → Data → Result Reading Key
@@ -96,10 +109,10 @@ bounded_of own d =
     and_then (ok_or own (source_key d)) (λ source.
     and_then (bounds_to source d) (λ bounds. Ok (Bounded source bounds)))
 
--- by the kind, if the line is about factors
+-- by the kind, if the line is about factors; else by whether there is a code
 abbrev pub reading_by : Option Source → Option FactorKind → Data → Result Reading Key
 reading_by own (Some kind) d = best_of own kind d
-reading_by own None d = answer_of own d
+reading_by own None d = if tells_code d then coded_of own d else answer_of own d
 
 -- by the word of the answer; of a misfit nothing else is read
 unfoldable pub report_of : Option Source → Data → Result Reading Key
@@ -121,6 +134,7 @@ pub record ReadsReport (line : List ℕ) (r : Result Reading Key) : Type 0 where
 -- what was read of a line, by the question that is asked
 abbrev pub IsReported : Reading → Reported → Type 0
 IsReported (Answered source a) (reported.Answered question answer) = (asked source ≡ question_view question) × (a ≡ answer_view answer)
+IsReported (Coded source a c) (reported.Coded question answer code) = (asked source ≡ question_view question) × (a ≡ answer_view answer) × (c ≡ reported_code_view code)
 IsReported (Factored source b) (reported.Factored question best) = (asked source ≡ question_view question) × (b ≡ best_view best)
 IsReported (Bounded source b) (reported.Bounded question bounds) = (asked source ≡ question_view question) × (b ≡ bounds_view bounds)
 IsReported Misfit reported.Misfit = Unit {0}
@@ -133,9 +147,10 @@ Reports line (Err (faults.Shape key)) = ReadsReport line (Err key)
 Reports line (Err faults.NotJson) = IsUtf8 line → read line ≡ None
 Reports line (Err faults.Memory) = Unit {0}
 
--- the question that was read is within the limits, and its answer, what is found of its factors, or its bounds fit it
+-- the question that was read is within the limits, and its answer, that with its code, what is found of its factors, or its bounds fit it
 abbrev pub KeepsLimits : Reported → Type 0
 KeepsLimits (reported.Answered q a) = IsQuestion (question_body q) × HasQuestionShape (question_body q) (answer_view a)
+KeepsLimits (reported.Coded q a c) = IsQuestion (question_body q) × HasCodedShape (question_body q) (answer_view a) (reported_code_view c)
 KeepsLimits (reported.Factored q b) = IsQuestion (question_body q) × HasFactorShape (question_body q) (best_view b)
 KeepsLimits (reported.Bounded q b) = IsQuestion (question_body q) × HasBoundsShape (question_body q) (bounds_view b)
 KeepsLimits reported.Misfit = Unit {0}

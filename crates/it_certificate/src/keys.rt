@@ -21,6 +21,7 @@ pub enum Key {
     Parts,
     Tried,
     Rays,
+    Code,
 }
 
 /// Why a line isn't read: memory ran out, it has no JSON reading, or the first key that is missing or of another shape.

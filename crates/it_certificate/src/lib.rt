@@ -3,6 +3,7 @@
 
 mod answers;
 mod bounds;
+mod codes;
 mod factor_values;
 mod factors;
 pub mod keys;
@@ -30,5 +31,5 @@ pub use laws::{
     texts_read_as_said,
 };
 pub use reports::answer_from_json;
-pub use types::{Reported, ReportedBounds, SourceText};
+pub use types::{Reported, ReportedBounds, ReportedCode, SourceText};
 pub use writing::{answer_json, best_json, bounds_json, misfit_json, report_json};

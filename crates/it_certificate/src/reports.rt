@@ -3,15 +3,17 @@ ghost use Rattle.std.specs.Prelude.{◌≡◌, false, true, IfOk, None, Some};
 ghost use Rattle.serde_json.specs.View.{view};
 ghost use Rattle.it_question.specs.Limits.{IsQuestion};
 ghost use Rattle.it_question.specs.Questions.{question_body};
+ghost use Rattle.it_certificate.specs.CodeReading.{tells_code};
 ghost use Rattle.it_certificate.specs.FactorReading.{factor_kind_at};
 ghost use Rattle.it_certificate.specs.Reports.{KeepsLimits, Reports, tells_misfit, tells_outer};
 ghost use Rattle.it_certificate.specs.ReportSteps.{GivesAsked, ReadsValue};
 
 use crate::answers::fault;
 use crate::bounds::question_bounds;
+use crate::codes::{question_code, tells_code};
 use crate::factors::{factor_kind_at, question_best};
 use crate::keys::{Key, ReportFault};
-use crate::kinds::FactorKind;
+use crate::kinds::{AnswerKind, FactorKind};
 use crate::members::{answer_kind_at, tells_misfit, tells_outer};
 use crate::sources::{source_at, source_key};
 use crate::types::Reported;
@@ -54,6 +56,7 @@ fn answered(alloc: Global, value: &Value) -> Result<Reported, ReportFault>
     requires told { false ≡ tells_misfit (view value.now) }
     requires outer { false ≡ tells_outer (view value.now) }
     requires factors { None ≡ factor_kind_at (view value.now) }
+    requires code { false ≡ tells_code (view value.now) }
     ensures reading { ReadsValue (view value.now) result }
     ensures limits { IfOk result KeepsLimits }
 {
@@ -64,6 +67,32 @@ fn answered(alloc: Global, value: &Value) -> Result<Reported, ReportFault>
     // as above
     match question_answer(alloc, value, &question, kind) {
         Ok(answer) => Ok(Reported::Answered { question, answer }),
+        Err(fault) => Err(fault),
+    }
+}
+
+/// The reading of a line that tells a no with a code.
+#[tactic(auto, using(crate::proofs::ReportLemmas::no_code_source, crate::proofs::ReportLemmas::no_err))]
+fn coded(alloc: Global, value: &Value) -> Result<Reported, ReportFault>
+    requires told { false ≡ tells_misfit (view value.now) }
+    requires outer { false ≡ tells_outer (view value.now) }
+    requires factors { None ≡ factor_kind_at (view value.now) }
+    requires code { true ≡ tells_code (view value.now) }
+    ensures reading { ReadsValue (view value.now) result }
+    ensures limits { IfOk result KeepsLimits }
+{
+    let question = asked_question(alloc, value)?;
+    // as above
+    let answer = match question_answer(alloc, value, &question, AnswerKind::No) {
+        Ok(answer) => answer,
+        Err(fault) => return Err(fault),
+    };
+    match question_code(alloc, value, &question) {
+        Ok(code) => Ok(Reported::Coded {
+            question,
+            answer,
+            code,
+        }),
         Err(fault) => Err(fault),
     }
 }
@@ -99,7 +128,13 @@ fn report_of(alloc: Global, value: &Value) -> Result<Reported, ReportFault>
     }
     match factor_kind_at(value) {
         Some(kind) => factored(alloc, value, kind),
-        None => answered(alloc, value),
+        None => {
+            if tells_code(value) {
+                coded(alloc, value)
+            } else {
+                answered(alloc, value)
+            }
+        }
     }
 }
 
@@ -108,7 +143,7 @@ fn report_of(alloc: Global, value: &Value) -> Result<Reported, ReportFault>
 /// there is such a key. `NotJson` comes where the line is no UTF-8 or no JSON value, also one that is nested more than 127 deep.
 /// `Shape` names the first key that is missing or of another shape, in this order: `answer`; of `sharing`, `copies` and `question` the
 /// first that is there, where no question is asked, or `question` where none is there; `answer` again where the question's verb gives no
-/// such answer; and then for `yes` `proofs`, for `no` `point` and `side`, for `undecided` `cause` and `at`, for `region` `rows`, for
+/// such answer; and then for `yes` `proofs`, for `no` `point` and `side`, and `code` where there is such a key, for `undecided` `cause` and `at`, for `region` `rows`, for
 /// `contained` `parts` and `proofs`, for `open` `tried`, for `outer` `rows`, `proofs` and `rays`. What is said of factors is read for a
 /// question `prove E >= F`: for `best` `factor`, `proofs` and `point`, for `none` `point`, for `unbounded` `factor` and `proofs`, and for
 /// an `undecided` that has the key `phase` `cause`, `at` and `phase`. Of `misfit` no other key is read. Of doubled keys the last counts;

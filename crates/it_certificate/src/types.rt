@@ -1,4 +1,5 @@
 //! What a report says.
+use it_codes::LinearCode;
 use it_question::types::Question;
 use it_ratio::types::Best;
 use it_space::{Answer, Certificate, Row};
@@ -31,12 +32,30 @@ impl Drop for ReportedBounds {
     }
 }
 
-/// The question that is asked with an answer of the shape that it wants, with what is said of its factors, or with an outer bound, of
+/// A linear code that a point is said to be of, and what one symbol counts in the point's values.
+pub struct ReportedCode {
+    pub code: LinearCode,
+    pub times: u32,
+}
+
+// Written by hand, so that dropping a code takes one call and not a step for each field.
+impl Drop for ReportedCode {
+    fn drop(self) {
+        let ReportedCode { code: _, times: _ } = self;
+    }
+}
+
+/// The question that is asked with an answer of the shape that it wants, with a no and a code that its point is said to be of, with what is said of its factors, or with an outer bound, of
 /// which nothing says that it is right; or that a question can't have what is asked for.
 pub enum Reported {
     Answered {
         question: Question,
         answer: Answer,
+    },
+    Coded {
+        question: Question,
+        answer: Answer,
+        code: ReportedCode,
     },
     Factored {
         question: Question,
@@ -56,6 +75,11 @@ impl Drop for Reported {
             Reported::Answered {
                 question: _,
                 answer: _,
+            } => {}
+            Reported::Coded {
+                question: _,
+                answer: _,
+                code: _,
             } => {}
             Reported::Factored {
                 question: _,

@@ -1,10 +1,13 @@
 -- Sums of products modulo a number, and sets built digit by digit.
-use Rattle.std.proofs.Common.{◌≡◌, ◌<◌, ◌+◌, ◌*◌, ◌/◌, ◌%◌, ◌^◌, ◌∙◌, ℕ, ◌≤◌, cond, List, length, drop, get_or, subst, sym, ap, arith}
+use Rattle.std.proofs.Common.{◌≡◌, ◌<◌, ◌+◌, ◌*◌, ◌/◌, ◌%◌, ◌^◌, ◌∙◌, ℕ, ◌≤◌, cond, List, length, map, drop, get_or, subst, sym, ap, arith}
 use Rattle.std.proofs.Math.Nat.{mod-add-mod, mod-eq_of_lt, mod-lt, mul-add, mul_assoc, mul-zero, add_assoc, add-zero, pow-suc}
 use Rattle.std.proofs.Math.Numerals.{suc-eq-add-one}
 use Rattle.std.proofs.Math.Pow.{pow_mono}
-use Rattle.std.proofs.lemmas.List.{at_drop_more, drop_all}
-use Rattle.it_codes.specs.Codes.{value_at, zero_set, vanishes}
+use Rattle.std.proofs.lemmas.List.{at_drop_more, drop_all, get_or-map, length-map}
+use Rattle.std.proofs.lemmas.List.Folds.{list_all-map}
+use Rattle.std.specs.List.{list_all}
+use Rattle.it_codes.specs.Codes.{IsCode, code_view, functions_of, is_zero_at, value_at, zero_set, vanishes}
+use Rattle.it_codes.specs.declared.codes.LinearCode.{LinearCode}
 use Rattle.it_codes.specs.declared.codes.Variable.{Variable}
 
 -- one coefficient more was added to a sum, which was then reduced
@@ -32,8 +35,12 @@ value_end q function i sum left total le below inv =
     ∙ ap (λ cs. (sum + value_at q cs left) % q) (sym (drop_all i function le))
     ∙ inv
 
+-- a variable vanishes where each function does
+pub all_vanish : (q m : ℕ) (v : Variable) → list_all (λ f. is_zero_at q m f.items) v.functions.items ≡ vanishes q m (functions_of v)
+all_vanish q m v = sym (list_all-map (is_zero_at q m) (λ f. f.items) v.functions.items)
+
 -- one variable more was looked at
-pub set_step : (q m : ℕ) (variables : List Variable) (i : ℕ) (v : Variable) (set place total : ℕ) → i < length variables → v ≡ get_or variables i v
+pub set_step : (q m : ℕ) (variables : List (List (List ℕ))) (i : ℕ) (v : List (List ℕ)) (set place total : ℕ) → i < length variables → v ≡ get_or variables i v
     → set + place * zero_set q m (drop i variables) ≡ total
     → set + place * cond (vanishes q m v) 1 0 + place * 2 * zero_set q m (drop (i + 1) variables) ≡ total
 set_step q m variables i v set place total lt is inv =
@@ -47,8 +54,16 @@ set_step q m variables i v set place total lt is inv =
     ∙ ap (λ n. set + place * n) (sym (at_drop_more (λ vs. zero_set q m vs) variables i v lt))
     ∙ inv
 
+-- the functions of the variable at a place
+pub item_functions : (variables : List Variable) (i : ℕ) (v : Variable) → i < length variables → v ≡ get_or variables i v → functions_of v ≡ get_or (map functions_of variables) i (functions_of v)
+item_functions variables i v lt is = ap functions_of is ∙ sym (get_or-map functions_of variables i v (functions_of v) lt)
+
+-- a code has at most ten
+pub few_items : (code : LinearCode) → IsCode (code_view code) → length code.variables.items ≤ 10
+few_items code is = subst (λ n. n ≤ 10) (length-map code.variables.items functions_of) is.few
+
 -- and no variable is left
-pub set_end : (q m : ℕ) (variables : List Variable) (i set place total : ℕ) → length variables ≤ i
+pub set_end : (q m : ℕ) (variables : List (List (List ℕ))) (i set place total : ℕ) → length variables ≤ i
     → set + place * zero_set q m (drop i variables) ≡ total → set ≡ total
 set_end q m variables i set place total le inv =
     sym (ap (λ n. set + n) (mul-zero place) ∙ add-zero set)

@@ -7,15 +7,13 @@ use Rattle.std.proofs.Math.ListN.{get_or-append}
 use Rattle.std.proofs.lemmas.List.{length-map, get_or_push}
 use Rattle.std.proofs.lemmas.List.FromFn.{length-range_with_len}
 use Rattle.std.specs.List.{range_with_len}
-use Rattle.it_codes.specs.Codes.{size, zero_set, zero_sets, kernel_size, IsEntropy, HasEntropy}
+use Rattle.it_codes.specs.Codes.{CodeView, size, zero_set, zero_sets, kernel_size, IsEntropy, HasEntropy}
 use Rattle.it_space.specs.Rows.{point_of}
-use Rattle.it_codes.specs.declared.codes.LinearCode.{LinearCode}
 use Rattle.it_codes.specs.declared.codes.Field.{Field}
 use Rattle.it_codes.specs.declared.codes.Field.TheVariants.{Two, Three}
-use Rattle.it_codes.specs.declared.codes.Variable.{Variable}
 
 -- a later power is no smaller
-pub grows : (count size h j : ℕ) → 2 ≤ size → h ≤ j → count * size ^ h ≤ count * size ^ j
+grows : (count size h j : ℕ) → 2 ≤ size → h ≤ j → count * size ^ h ≤ count * size ^ j
 grows count size h j some le = let positive : 0 < size = omega arith in mul-le-mul_left count (pow-le-pow_right positive le)
 
 -- the next power
@@ -75,11 +73,11 @@ pub some_message : (f : Field) (k : ℕ) → 1 ≤ size f ^ k
 some_message f k = one-le-pow k (size f) (let two : 2 ≤ size f = two_elements f in omega arith)
 
 -- there is a set for each message
-pub zero_set_count : (q k : ℕ) (variables : List Variable) → length (zero_sets q k variables) ≡ q ^ k
+pub zero_set_count : (q k : ℕ) (variables : List (List (List ℕ))) → length (zero_sets q k variables) ≡ q ^ k
 zero_set_count q k variables = length-map (range_with_len 0 (q ^ k)) (λ m. zero_set q m variables) ∙ length-range_with_len 0 (q ^ k)
 
 -- a set of variables has one entropy at most
-pub one_entropy : (code : LinearCode) (s h j : ℕ) → IsEntropy code s h → IsEntropy code s j → h ≡ j
+pub one_entropy : (code : CodeView) (s h j : ℕ) → IsEntropy code s h → IsEntropy code s j → h ≡ j
 one_entropy code s h j e f = one_power (kernel_size code s) (size code.field) (size code.field ^ code.symbols) h j (two_elements code.field) (some_message code.field code.symbols) e f
 
 -- what is true of all sets below one and of that is true of all up to it
@@ -92,7 +90,7 @@ one_more_set P n before here s from below = by_order (cases_order s n)
     by_order (inr (inr more)) = absurd (omega arith)
 
 -- the entropy of one set more is pushed behind those before it
-pub more_entropies : (code : LinearCode) (values : List ℤ) (n h : ℕ) → length values + 1 ≡ n → ((s : ℕ) → 1 ≤ s → s < n → HasEntropy code 1 values s) → IsEntropy code n h
+pub more_entropies : (code : CodeView) (values : List ℤ) (n h : ℕ) → length values + 1 ≡ n → ((s : ℕ) → 1 ≤ s → s < n → HasEntropy code 1 values s) → IsEntropy code n h
     → (s : ℕ) → 1 ≤ s → s < n + 1 → HasEntropy code 1 (values ++ pos h ∷ []) s
 more_entropies code values n h len before is = one_more_set (HasEntropy code 1 (values ++ pos h ∷ [])) n (λ s from below. kept s from below (before s from below)) (here n len is)
   where
@@ -105,6 +103,6 @@ more_entropies code values n h len before is = one_more_set (HasEntropy code 1 (
     here (suc c) e holds = (h, get_or_push values (pos h) (pos 0) c (omega arith) ∙ ap pos (sym (one-mul h)), holds)
 
 -- a value that is no multiple of a set's entropy
-pub other_value : (code : LinearCode) (times : ℕ) (values : List ℤ) (s h : ℕ) (value : ℤ) → value ≡ point_of values s → IsEntropy code s h → (value ≡ pos (times * h) → ⊥) → HasEntropy code times values s → ⊥
+pub other_value : (code : CodeView) (times : ℕ) (values : List ℤ) (s h : ℕ) (value : ℤ) → value ≡ point_of values s → IsEntropy code s h → (value ≡ pos (times * h) → ⊥) → HasEntropy code times values s → ⊥
 other_value code times values s h value at holds differs has =
     differs (at ∙ has.1 ∙ ap (λ j. pos (times * j)) (sym (one_entropy code s h has.0 holds has.2)))

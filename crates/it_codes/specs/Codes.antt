@@ -1,12 +1,26 @@
 -- Linear codes: variables that are linear functions of a uniform message over a finite field, and their entropies
 -- (R. W. Yeung, "Information Theory and Network Coding", 2008).
-use Rattle.std.specs.Prelude.{◌≡◌, ℕ, ◌+◌, ◌*◌, ◌/◌, ◌%◌, ◌^◌, ◌≤◌, ◌<◌, Bool, cond, nat_eq, bit_and, pos, ℤ, List, [], ◌∷◌, map, length}
+use Rattle.std.specs.Prelude.{◌≡◌, ℕ, ◌+◌, ◌*◌, ◌/◌, ◌%◌, ◌^◌, ◌≤◌, ◌<◌, Bool, cond, nat_eq, bit_and, pos, ℤ, List, [], ◌∷◌, map, length, Option, Some, None}
 use Rattle.std.specs.List.{list_all, count_by, range_with_len}
 use Rattle.it_space.specs.Rows.{point_of}
 use Rattle.it_codes.specs.declared.codes.LinearCode.{LinearCode}
 use Rattle.it_codes.specs.declared.codes.Field.{Field}
 use Rattle.it_codes.specs.declared.codes.Field.TheVariants.{Two, Three}
 use Rattle.it_codes.specs.declared.codes.Variable.{Variable}
+
+-- a linear code as contracts see it: its field, how many symbols a message has, and of each variable the coefficients of its functions
+pub record CodeView : Type 0 where
+  pub field : Field
+  pub symbols : ℕ
+  pub variables : List (List (List ℕ))
+
+-- a variable's functions
+abbrev pub functions_of : Variable → List (List ℕ)
+functions_of v = map (λ f. f.items) v.functions.items
+
+-- a code as contracts see it
+abbrev pub code_view : LinearCode → CodeView
+code_view c = record { field = c.field; symbols = c.symbols; variables = map functions_of c.variables.items }
 
 -- how many elements a field has: they are the remainders by this number
 abbrev pub size : Field → ℕ
@@ -23,45 +37,61 @@ value_at q (c ∷ cs) message = c * (message % q) + value_at q cs (message / q)
 abbrev pub is_zero_at : ℕ → ℕ → List ℕ → Bool
 is_zero_at q message function = nat_eq (value_at q function message % q) 0
 
--- whether all functions of a variable are
-abbrev pub vanishes : ℕ → ℕ → Variable → Bool
-vanishes q message variable = list_all (λ f. is_zero_at q message f.items) variable.functions.items
+-- whether all of some functions are
+abbrev pub vanishes : ℕ → ℕ → List (List ℕ) → Bool
+vanishes q message functions = list_all (is_zero_at q message) functions
 
 -- the set of those variables that are 0 at a message
-abbrev pub zero_set : ℕ → ℕ → List Variable → ℕ
+abbrev pub zero_set : ℕ → ℕ → List (List (List ℕ)) → ℕ
 zero_set q message [] = 0
 zero_set q message (v ∷ vs) = cond (vanishes q message v) 1 0 + 2 * zero_set q message vs
 
 -- these sets at all messages of k symbols
-abbrev pub zero_sets : ℕ → ℕ → List Variable → List ℕ
+abbrev pub zero_sets : ℕ → ℕ → List (List (List ℕ)) → List ℕ
 zero_sets q k variables = map (λ message. zero_set q message variables) (range_with_len 0 (q ^ k))
+
+-- those of a code
+abbrev pub code_sets : CodeView → List ℕ
+code_sets code = zero_sets (size code.field) code.symbols code.variables
 
 -- how many of some sets hold all members of a set
 abbrev pub count_around : ℕ → List ℕ → ℕ
 count_around s sets = count_by (λ t. nat_eq (bit_and s t) s) sets
 
 -- at how many messages all functions of a set of variables are 0
-abbrev pub kernel_size : LinearCode → ℕ → ℕ
-kernel_size code s = count_around s (zero_sets (size code.field) code.symbols code.variables.items)
+abbrev pub kernel_size : CodeView → ℕ → ℕ
+kernel_size code s = count_around s (code_sets code)
 
 -- h is the entropy of a set of variables, in units of log q: together they take q ^ h values, each at as many messages as 0
-abbrev pub IsEntropy : LinearCode → ℕ → ℕ → Type 0
+abbrev pub IsEntropy : CodeView → ℕ → ℕ → Type 0
 IsEntropy code s h = kernel_size code s * size code.field ^ h ≡ size code.field ^ code.symbols
 
 -- how many variables there are
-abbrev pub variables_of : LinearCode → ℕ
-variables_of code = length code.variables.items
+abbrev pub variables_of : CodeView → ℕ
+variables_of code = length code.variables
 
 -- the value of a set at a point is so many times its entropy
-abbrev pub HasEntropy : LinearCode → ℕ → List ℤ → ℕ → Type 0
+abbrev pub HasEntropy : CodeView → ℕ → List ℤ → ℕ → Type 0
 HasEntropy code times values s = (h : ℕ) × (point_of values s ≡ pos (times * h)) × IsEntropy code s h
 
 -- the values of all sets are
-abbrev pub AreEntropies : LinearCode → ℕ → List ℤ → Type 0
+abbrev pub AreEntropies : CodeView → ℕ → List ℤ → Type 0
 AreEntropies code times values = (s : ℕ) → 1 ≤ s → s < 2 ^ variables_of code → HasEntropy code times values s
 
+-- s is the first set whose value isn't
+pub record IsFirstOther (code : CodeView) (times : ℕ) (values : List ℤ) (s : ℕ) : Type 0 where
+  pub from_one : 1 ≤ s
+  pub within : s < 2 ^ variables_of code
+  pub before : (t : ℕ) → 1 ≤ t → t < s → HasEntropy code times values t
+  pub other : ¬ HasEntropy code times values s
+
+-- the first set whose value isn't; none where all are
+abbrev pub FirstOtherIs : CodeView → ℕ → List ℤ → Option ℕ → Type 0
+FirstOtherIs code times values (Some s) = IsFirstOther code times values s
+FirstOtherIs code times values None = AreEntropies code times values
+
 -- some set of variables has no such entropy
-abbrev pub LackEntropy : LinearCode → Type 0
+abbrev pub LackEntropy : CodeView → Type 0
 LackEntropy code = (s : ℕ) × (1 ≤ s) × (s < 2 ^ variables_of code) × ((h : ℕ) → ¬ IsEntropy code s h)
 
 -- the most messages of a code that calls take
@@ -69,7 +99,7 @@ abbrev pub most_messages : ℕ
 most_messages = 4096
 
 -- the codes that calls take: of 1 to 10 variables, with at most so many messages
-pub record IsCode (code : LinearCode) : Type 0 where
+pub record IsCode (code : CodeView) : Type 0 where
   pub some : 1 ≤ variables_of code
   pub few : variables_of code ≤ 10
   pub messages : size code.field ^ code.symbols ≤ most_messages

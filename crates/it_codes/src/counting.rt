@@ -1,6 +1,7 @@
 //! The messages at which functions are 0, by counting.
-ghost use Rattle.std.specs.Prelude.{◌≡◌, ◌+◌, ◌*◌, ◌≤◌, ◌^◌, ◌<◌, cond, length, IfOk};
-ghost use Rattle.it_codes.specs.Codes.{size, IsCode, count_around, is_zero_at, vanishes, zero_set, zero_sets};
+ghost use Rattle.std.specs.Prelude.{◌≡◌, ◌+◌, ◌*◌, ◌≤◌, ◌^◌, ◌<◌, cond, length, map, IfOk};
+ghost use Rattle.std.specs.List.{list_all, range_with_len};
+ghost use Rattle.it_codes.specs.Codes.{IsCode, code_sets, code_view, count_around, functions_of, is_zero_at, size, vanishes, zero_set};
 
 use crate::codes::{LinearCode, Variable};
 use std::alloc::{AllocError, Global};
@@ -20,16 +21,24 @@ fn is_zero_at(size: u32, message: u32, function: &[u8]) -> bool
     sum == 0
 }
 
+/// Whether all of some functions are 0 at a message.
+fn are_zero_at(size: u32, message: u32, functions: &[Vec<u8>]) -> bool
+    requires some { 1 ≤ size }
+    requires few { size ≤ 3 }
+    ensures { result ≡ list_all (λ f. is_zero_at size message f.items) functions.now }
+{
+    functions
+        .iter()
+        .all(|function| is_zero_at(size, message, function.as_slice()))
+}
+
 /// Whether all functions of a variable are 0 at a message.
 fn vanishes(size: u32, message: u32, variable: &Variable) -> bool
     requires some { 1 ≤ size }
     requires few { size ≤ 3 }
-    ensures { result ≡ vanishes size message variable.now }
+    ensures { result ≡ vanishes size message (functions_of variable.now) }
 {
-    variable
-        .functions
-        .iter()
-        .all(|function| is_zero_at(size, message, function.as_slice()))
+    are_zero_at(size, message, variable.functions.as_slice())
 }
 
 /// A number with a place added, or without.
@@ -47,7 +56,7 @@ fn zero_set(size: u32, message: u32, variables: &[Variable]) -> u16
     requires some { 1 ≤ size }
     requires few { size ≤ 3 }
     requires variables { length variables.now ≤ 10 }
-    ensures { result ≡ zero_set size message variables.now }
+    ensures { result ≡ zero_set size message (map functions_of variables.now) }
 {
     let mut set = 0;
     let mut place = 1;
@@ -60,21 +69,41 @@ fn zero_set(size: u32, message: u32, variables: &[Variable]) -> u16
 
 /// How many messages there are.
 pub fn message_count(code: &LinearCode) -> u32
-    requires { IsCode code.now }
+    requires { IsCode (code_view code.now) }
     ensures { result ≡ size code.now.field ^ code.now.symbols }
 {
     code.field.size().pow(code.symbols as u32)
 }
 
-/// The sets of variables that are 0, at each message.
-pub fn zero_sets(alloc: Global, code: &LinearCode) -> Result<Vec<u16>, AllocError>
-    requires { IsCode code.now }
-    ensures { IfOk result (λ v. v.items ≡ zero_sets (size code.now.field) code.now.symbols code.now.variables.items) }
+/// The sets of variables that are 0, at each of so many messages.
+fn sets_at(
+    alloc: Global,
+    size: u32,
+    count: u32,
+    variables: &[Variable],
+) -> Result<Vec<u16>, AllocError>
+    requires some { 1 ≤ size }
+    requires few { size ≤ 3 }
+    requires variables { length variables.now ≤ 10 }
+    ensures { IfOk result (λ v. v.items ≡ map (λ message. zero_set size message (map functions_of variables.now)) (range_with_len 0 count)) }
 {
-    let size = code.field.size();
-    (0..message_count(code))
-        .map(|message| zero_set(size, message, code.variables.as_slice()))
+    (0..count)
+        .map(|message| zero_set(size, message, variables))
         .collect(alloc)
+}
+
+/// The sets of variables that are 0, at each message.
+#[tactic(auto, using(crate::proofs::CountingLemmas::few_items))]
+pub fn zero_sets(alloc: Global, code: &LinearCode) -> Result<Vec<u16>, AllocError>
+    requires { IsCode (code_view code.now) }
+    ensures { IfOk result (λ v. v.items ≡ code_sets (code_view code.now)) }
+{
+    sets_at(
+        alloc,
+        code.field.size(),
+        message_count(code),
+        code.variables.as_slice(),
+    )
 }
 
 /// How many of some sets hold all members of a set.

@@ -1,7 +1,7 @@
 //! The entropies of a code's variables.
-ghost use Rattle.std.specs.Prelude.{◌≡◌, ◌≤◌, ◌<◌, ◌*◌, ◌-◌, ◌^◌, ◌↔◌, ℕ, pos, length, IsTrue, IfSome, IfNone, IfOk};
+ghost use Rattle.std.specs.Prelude.{◌≡◌, ◌≤◌, ◌<◌, ◌*◌, ◌-◌, ◌^◌, ℕ, pos, length, IfSome, IfNone, IfOk};
 ghost use Rattle.std.specs.Bool.{OnFalse, OnTrue};
-ghost use Rattle.it_codes.specs.Codes.{size, variables_of, zero_sets, AreEntropies, HasEntropy, IsCode, IsEntropy, LackEntropy};
+ghost use Rattle.it_codes.specs.Codes.{code_sets, code_view, variables_of, AreEntropies, FirstOtherIs, HasEntropy, IsCode, IsEntropy, LackEntropy};
 
 use crate::codes::LinearCode;
 use crate::counting::{count_around, message_count, zero_sets};
@@ -33,11 +33,11 @@ fn exponent(count: u32, size: u32, total: u32) -> Option<u32>
 /// The entropy of a set of variables. The sets are those of the variables that are 0, at each message.
 #[tactic(auto, using(crate::proofs::EntropyLemmas::zero_set_count, crate::proofs::EntropyLemmas::some_message, crate::proofs::EntropyLemmas::two_elements, crate::proofs::EntropyLemmas::three_elements))]
 fn entropy(code: &LinearCode, sets: &[u16], set: u16) -> Option<u32>
-    requires code { IsCode code.now }
-    requires sets { sets.now ≡ zero_sets (size code.now.field) code.now.symbols code.now.variables.items }
-    ensures found { IfSome result (λ h. IsEntropy code.now set h) }
+    requires code { IsCode (code_view code.now) }
+    requires sets { sets.now ≡ code_sets (code_view code.now) }
+    ensures found { IfSome result (λ h. IsEntropy (code_view code.now) set h) }
     ensures small { IfSome result (λ h. h ≤ 4096) }
-    ensures none { IfNone result ((h : ℕ) → ¬ IsEntropy code.now set h) }
+    ensures none { IfNone result ((h : ℕ) → ¬ IsEntropy (code_view code.now) set h) }
 {
     exponent(
         count_around(set, sets),
@@ -62,12 +62,12 @@ fn is_product(value: i128, times: u64, entropy: u32) -> bool
 /// Whether the value of a set at a point is so many times its entropy.
 #[tactic(auto, using(crate::proofs::EntropyLemmas::one_entropy))]
 fn has_entropy(code: &LinearCode, sets: &[u16], times: u64, point: &Point, set: u16) -> bool
-    requires code { IsCode code.now }
-    requires sets { sets.now ≡ zero_sets (size code.now.field) code.now.symbols code.now.variables.items }
+    requires code { IsCode (code_view code.now) }
+    requires sets { sets.now ≡ code_sets (code_view code.now) }
     requires from_one { 1 ≤ set }
     requires within { set ≤ length point.now }
-    ensures yes { OnTrue result (HasEntropy code.now times point.now set) }
-    ensures no { OnFalse result (¬ HasEntropy code.now times point.now set) }
+    ensures yes { OnTrue result (HasEntropy (code_view code.now) times point.now set) }
+    ensures no { OnFalse result (¬ HasEntropy (code_view code.now) times point.now set) }
 {
     match entropy(code, sets, set) {
         Some(h) => is_product(point.at(set as u32), times, h),
@@ -75,44 +75,44 @@ fn has_entropy(code: &LinearCode, sets: &[u16], times: u64, point: &Point, set: 
     }
 }
 
-/// Whether the values of all sets are.
-fn have_entropies(code: &LinearCode, sets: &[u16], times: u64, point: &Point) -> bool
-    requires code { IsCode code.now }
-    requires sets { sets.now ≡ zero_sets (size code.now.field) code.now.symbols code.now.variables.items }
-    requires complete { 2 ^ variables_of code.now - 1 ≤ length point.now }
-    ensures yes { OnTrue result (AreEntropies code.now times point.now) }
-    ensures no { OnFalse result (¬ AreEntropies code.now times point.now) }
+/// The first set whose value isn't.
+fn first_other_of(code: &LinearCode, sets: &[u16], times: u64, point: &Point) -> Option<u16>
+    requires code { IsCode (code_view code.now) }
+    requires sets { sets.now ≡ code_sets (code_view code.now) }
+    requires complete { 2 ^ variables_of (code_view code.now) - 1 ≤ length point.now }
+    ensures { FirstOtherIs (code_view code.now) times point.now result }
 {
     for set in 1..1u16 << code.variables.len() {
         if !has_entropy(code, sets, times, point, set) {
-            return false;
+            return Some(set);
         }
     }
-    true
+    None
 }
 
-/// Whether the values of all sets of a code's variables at a point are so many times their entropies. Rates count nothing.
-pub fn are_entropies(
+/// The first set of a code's variables whose value at a point isn't so many times its entropy; none where all values are. Sets are in
+/// the order of their numbers. Rates count nothing.
+pub fn first_other(
     alloc: Global,
     code: &LinearCode,
     times: u64,
     point: &Point,
-) -> Result<bool, AllocError>
-    requires code { IsCode code.now }
-    requires complete { 2 ^ variables_of code.now - 1 ≤ length point.now }
-    ensures { IfOk result (λ yes. IsTrue yes ↔ AreEntropies code.now times point.now) }
+) -> Result<Option<u16>, AllocError>
+    requires code { IsCode (code_view code.now) }
+    requires complete { 2 ^ variables_of (code_view code.now) - 1 ≤ length point.now }
+    ensures { IfOk result (FirstOtherIs (code_view code.now) times point.now) }
 {
     let sets = zero_sets(alloc, code)?;
-    let are = have_entropies(code, sets.as_slice(), times, point);
-    Ok(are)
+    let other = first_other_of(code, sets.as_slice(), times, point);
+    Ok(other)
 }
 
 /// The entropies of all sets of a code's variables, by number, in units of one symbol; none where one has none.
 pub fn entropies_of(alloc: Global, code: &LinearCode) -> Result<Option<Point>, AllocError>
-    requires { IsCode code.now }
-    ensures complete { IfOk result (λ o. IfSome o (λ p. length p ≡ 2 ^ variables_of code.now - 1)) }
-    ensures values { IfOk result (λ o. IfSome o (AreEntropies code.now 1)) }
-    ensures none { IfOk result (λ o. IfNone o (LackEntropy code.now)) }
+    requires { IsCode (code_view code.now) }
+    ensures complete { IfOk result (λ o. IfSome o (λ p. length p ≡ 2 ^ variables_of (code_view code.now) - 1)) }
+    ensures values { IfOk result (λ o. IfSome o (AreEntropies (code_view code.now) 1)) }
+    ensures none { IfOk result (λ o. IfNone o (LackEntropy (code_view code.now))) }
 {
     let sets = zero_sets(alloc, code)?;
     let space = Space {

@@ -1,4 +1,4 @@
-//! Linear codes over the fields of two and three elements, and whether a point's values are their entropies.
+//! Linear codes over the fields of two and three elements, and where a point's values are other than their entropies.
 #![tactic(auto)]
 
 mod codes;
@@ -6,4 +6,4 @@ mod counting;
 mod entropies;
 
 pub use codes::{Field, LinearCode, Variable};
-pub use entropies::{are_entropies, entropies_of};
+pub use entropies::{entropies_of, first_other};

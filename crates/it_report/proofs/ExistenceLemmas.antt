@@ -1,5 +1,5 @@
 -- Each line of a report has a verdict, and so a line about it.
-use Rattle.std.proofs.Common.{◌≡◌, ℕ, Bool, true, false, List, Option, Some, None, Result, Ok, Err, IsUtf8, refl, sym, ◌∙◌}
+use Rattle.std.proofs.Common.{◌≡◌, ℕ, Bool, true, false, List, Option, Some, None, Result, Ok, Err, IsUtf8, refl, sym, ap, ◌∙◌}
 use Rattle.std.specs.Str.{is_utf8}
 use Rattle.std.proofs.lemmas.Bool.{true≢false}
 use Rattle.std.proofs.lemmas.Str.{IsUtf8-from_is_utf8, is_utf8-from_IsUtf8}
@@ -10,18 +10,23 @@ use Rattle.it_question.specs.Questions.{BodyView}
 use Rattle.it_question.specs.ProblemLines.{problem_names}
 use Rattle.it_certificate.specs.declared.keys.Key.{Key}
 use Rattle.it_certificate.specs.Bounds.{BoundsView}
-use Rattle.it_certificate.specs.Reports.{Answered, Bounded, Factored, Misfit, ReadsReport, Reading, report_of}
+use Rattle.it_certificate.specs.CodeReading.{IsNo, ReportedCodeView}
+use Rattle.it_codes.specs.Codes.{FirstOtherIs}
+use Rattle.it_codes.proofs.ExistenceLemmas.{first_other_there}
+use Rattle.it_certificate.specs.Reports.{Answered, Bounded, Coded, Factored, Misfit, ReadsReport, Reading, report_of}
 use Rattle.it_certificate.specs.Sources.{asked}
 use Rattle.it_certificate.proofs.SourceLemmas.{source_there}
 use Rattle.it_check.specs.declared.verdicts.Verdict.{Verdict}
+use Rattle.it_check.specs.declared.verdicts.Verdict.TheVariants.{Valid}
 use Rattle.it_rates.specs.Asked.{gone_rates, kept_rates}
 use Rattle.it_spans.proofs.ExistenceLemmas.{hull_verdict_there}
 use Rattle.it_report.specs.BoundsVerdicts.{bounds_verdict, judged_frame}
 use Rattle.it_report.specs.RowVerdicts.{is_valid}
-use Rattle.it_report.specs.LineVerdicts.{LineVerdict, NotJson, Shape, Skipped, Judged, Hulled, verdict_line, is_invalid}
-use Rattle.it_report.specs.Judging.{factor_line_verdict, verdict_of, IsAnswerVerdict, IsBoundsVerdict, IsVerdict}
+use Rattle.it_report.specs.LineVerdicts.{LineVerdict, NotJson, Shape, Skipped, Judged, OtherCode, Hulled, verdict_line, is_invalid}
+use Rattle.it_report.specs.Judging.{factor_line_verdict, values_of, verdict_of, IsAnswerVerdict, IsBoundsVerdict, IsCodedVerdict, IsVerdict}
 use Rattle.it_report.specs.Meaning.{EachLineIsJudged}
-use Rattle.it_report.proofs.JudgingLemmas.{read_verdict}
+use Rattle.it_report.proofs.JudgingLemmas.{has_a_verdict, read_verdict}
+use Rattle.it_report.proofs.ReadingLemmas.{coded_is}
 use Rattle.it_report.proofs.VerdictLemmas.{only_valid}
 
 -- ---- the verdict on an answer
@@ -32,6 +37,23 @@ answer_verdict_there q a = by_option (verdict_of q a) refl
     by_option : (o : Option Verdict) → verdict_of q a ≡ o → (v : LineVerdict) × IsAnswerVerdict q a v
     by_option (Some v) e = (Judged (problem_names q) v, (refl, e))
     by_option None e = (Skipped, e)
+
+-- ---- the verdict on a no with a code
+
+coded_verdict_there : (q : BodyView) (a : AnswerView) (c : ReportedCodeView) → IsNo a → (v : LineVerdict) × IsCodedVerdict q a c v
+coded_verdict_there q a c is_no = by_option (verdict_of q a) refl
+  where
+    by_first : verdict_of q a ≡ Some Valid → (o : Option ℕ) → FirstOtherIs c.code c.times (values_of a) o → (v : LineVerdict) × IsCodedVerdict q a c v
+    by_first e (Some s) first = (OtherCode (problem_names q) s, (refl, e, first))
+    by_first e None all = (Judged (problem_names q) Valid, (refl, e, λ valid. all))
+
+    by_valid : (v : Verdict) (is : Bool) → is_valid v ≡ is → verdict_of q a ≡ Some v → (v : LineVerdict) × IsCodedVerdict q a c v
+    by_valid v true valid e = let first = first_other_there c.code c.times (values_of a) in by_first (e ∙ ap Some (only_valid v valid)) first.0 first.1
+    by_valid v false invalid e = (Judged (problem_names q) v, (refl, e, λ valid. absurd (true≢false (sym (ap is_valid valid) ∙ invalid))))
+
+    by_option : (o : Option Verdict) → verdict_of q a ≡ o → (v : LineVerdict) × IsCodedVerdict q a c v
+    by_option (Some v) e = by_valid v (is_valid v) refl e
+    by_option None e = absurd (has_a_verdict q a is_no e)
 
 -- ---- the verdict on an outer bound
 
@@ -57,6 +79,9 @@ verdict_read line (Err key) h = (Shape key, h)
 verdict_read line (Ok (Answered source a)) h =
     let v = answer_verdict_there (asked source).body a in
     (v.0, read_verdict line (Answered source a) v.0 h v.1)
+verdict_read line (Ok (Coded source a c)) h =
+    let v = coded_verdict_there (asked source).body a c (coded_is h.reads.own h.value source a c h.reads.is).1.no in
+    (v.0, read_verdict line (Coded source a c) v.0 h v.1)
 verdict_read line (Ok (Factored source b)) h = let v = factor_line_verdict (asked source).body b in (v, read_verdict line (Factored source b) v h refl)
 verdict_read line (Ok (Bounded source b)) h =
     let v = bounds_verdict_there (asked source).body b in

@@ -1,11 +1,12 @@
 -- The line about a report's line, step by step as the code forms it.
-use Rattle.std.proofs.Common.{◌≡◌, ℕ, ℤ, lit<, ◌+◌, ◌^◌, ◌<◌, ◌≤◌, List, length, take, Bool, true, false, Option, Some, None, option_and_then, Result, Ok, Err, IfOk, refl, sym, ap, ap₂, ◌∙◌, subst, arith, map}
-use Rattle.std.specs.Prelude.{is_some}
+use Rattle.std.proofs.Common.{◌≡◌, ℕ, ℤ, lit<, ◌+◌, ◌-◌, ◌^◌, ◌<◌, ◌≤◌, List, length, take, Bool, true, false, Option, Some, None, option_and_then, Result, Ok, Err, IfOk, refl, sym, ap, ap₂, ◌∙◌, subst, arith, map}
+use Rattle.std.specs.Prelude.{is_some, not}
+use Rattle.std.proofs.lemmas.Bool.{true≢false}
 use Rattle.std.proofs.lemmas.List.Elements.{All-weaker}
 use Rattle.std.proofs.lemmas.Nat.{pow_pos}
 use Rattle.it_space.specs.declared.spaces.Space.{Space}
 use Rattle.it_space.specs.Answers.{AnswerView, CertificateView, answer_view}
-use Rattle.it_space.specs.Answers.AnswerView.{Yes, No, Contained}
+use Rattle.it_space.specs.Answers.AnswerView.{Yes, No, Undecided, Region, Contained, Open}
 use Rattle.it_space.specs.Problems.{ProblemView, problem_view}
 use Rattle.it_space.specs.Rows.{Terms}
 use Rattle.it_space.specs.Spaces.{size_of}
@@ -14,6 +15,7 @@ use Rattle.it_syntax.specs.Meaning.{RelationView}
 use Rattle.it_syntax.specs.NamesViews.{NamesView}
 use Rattle.it_syntax.specs.declared.types.Sign.{Sign}
 use Rattle.it_syntax.specs.declared.types.Sign.TheVariants.{AtLeast, AtMost, Equal}
+use Rattle.it_question.specs.Limits.{IsQuestion}
 use Rattle.it_question.specs.Questions.{BodyView, QuestionView, RegionView, VerbView, Prove, Eliminate, Contain, question_body}
 use Rattle.it_demand.specs.Canonical.{IsRowOf, form_of}
 use Rattle.it_elemental.specs.Generators.{is_equation}
@@ -23,7 +25,7 @@ use Rattle.it_demand.specs.Targets.{targets, inequalities_of}
 use Rattle.it_demand.specs.SystemForms.{AreRowsOf}
 use Rattle.it_demand.specs.QuestionSpaces.{space_of}
 use Rattle.it_question.specs.ProblemLines.{problem_names, names_under}
-use Rattle.it_canon.specs.QuestionDemands.{question_demands, question_origins, IsProblemOf, terms_in}
+use Rattle.it_canon.specs.QuestionDemands.{problem_of, question_demands, question_origins, IsProblemOf, terms_in}
 use Rattle.it_region.specs.declared.types.Candidate.{Candidate}
 use Rattle.it_region.specs.declared.types.Pair.{Pair}
 use Rattle.it_region.specs.Obligations.{obligations, IsSubstitution, ArePulledRows}
@@ -31,22 +33,26 @@ use Rattle.it_region.specs.Pairs.{IsPair, IsPairOf, Pairs, IsContainment, FitsPa
 use Rattle.it_region.proofs.TextLemmas.{text_rows, parts_fit, rows_as_pulled, pulled_rows_are}
 use Rattle.it_certificate.specs.AnswerShapes.{HasQuestionShape, HasVerbShape, HasContainmentShape}
 use Rattle.it_certificate.specs.Bounds.{BoundsView, bounds_view}
+use Rattle.it_certificate.specs.CodeReading.{HasCodedShape, IsNo, ReportedCodeView, reported_code_view}
+use Rattle.it_codes.specs.Codes.{AreEntropies, IsCode, IsFirstOther, variables_of}
 use Rattle.it_certificate.specs.declared.keys.Key.{Key}
 use Rattle.it_certificate.specs.declared.keys.ReportFault.{ReportFault}
-use Rattle.it_certificate.specs.Reports.{Answered, Bounded, Factored, IsReported, Misfit, ReadsReport, Reading, Reports}
+use Rattle.it_certificate.specs.Reports.{Answered, Bounded, Coded, Factored, IsReported, Misfit, ReadsReport, Reading, Reports}
 use Rattle.it_certificate.specs.Sources.{asked}
 use Rattle.it_certificate.specs.declared.types.Reported.{Reported}
 use Rattle.it_certificate.specs.declared.types.Reported.TheVariants as variants
 use Rattle.it_check.specs.declared.verdicts.Verdict.{Verdict}
+use Rattle.it_check.specs.declared.verdicts.Verdict.TheVariants.{Valid}
 use Rattle.it_region.proofs.PairLemmas.{pair_of_verb}
-use Rattle.it_report.specs.RowVerdicts.{place_named}
-use Rattle.it_report.specs.LineVerdicts.{LineVerdict, NotJson, Shape, Skipped, Judged, Weighed, Hulled, IsLineOf}
+use Rattle.it_report.specs.RowVerdicts.{is_valid, place_named, point_verdict}
+use Rattle.it_report.proofs.VerdictLemmas.{only_valid}
+use Rattle.it_report.specs.LineVerdicts.{LineVerdict, NotJson, Shape, Skipped, Judged, Weighed, OtherCode, Hulled, IsLineOf}
 use Rattle.it_ratio.specs.BestViews.{BestView, best_view}
 use Rattle.it_ratio.specs.Truth.{asked_by, at_least}
 use Rattle.it_report.specs.declared.factors.FactorVerdict.{FactorVerdict}
-use Rattle.it_report.specs.Judging.{answer_verdict, factor_line_verdict, factor_verdict_of, weighed_by, IsAnswerVerdict, IsBoundsVerdict, IsReadingVerdict, IsVerdict, IsJudgedLine}
+use Rattle.it_report.specs.Judging.{answer_verdict, factor_line_verdict, factor_verdict_of, values_of, verdict_of, weighed_by, IsAnswerVerdict, IsBoundsVerdict, IsCodedVerdict, IsReadingVerdict, IsVerdict, IsJudgedLine}
 use Rattle.it_report.specs.FactorVerdicts.{best_verdict}
-use Rattle.it_report.specs.Steps.{IsAboutRelation, IsFaultLine, IsJudgedAnswer, IsJudgedBounds, IsJudgedReport}
+use Rattle.it_report.specs.Steps.{IsAboutRelation, IsFaultLine, IsJudgedAnswer, IsJudgedBounds, IsJudgedCoded, IsJudgedReport}
 use Rattle.it_demand.specs.RowsOfForms.{terms_of_form}
 use Rattle.it_demand.proofs.FormRows.{row_is_terms_of_form}
 use Rattle.it_canon.specs.Sides.{left_form, right_form}
@@ -68,6 +74,8 @@ no_shape key q (Some v) e = cc
 pub read_verdict : (line : List ℕ) (reading : Reading) (v : LineVerdict) → ReadsReport line (Ok reading) → IsReadingVerdict reading v → IsVerdict line v
 read_verdict line (Answered source a) NotJson h is = absurd is
 read_verdict line (Answered source a) (Shape key) h is = absurd is
+read_verdict line (Coded source a c) NotJson h is = absurd is
+read_verdict line (Coded source a c) (Shape key) h is = absurd is
 read_verdict line (Factored source b) NotJson h is = absurd (not_json (asked source).body (option_and_then (λ r. factor_verdict_of (asked source).body r b) (asked_by (asked source).body.verb)) is)
 read_verdict line (Factored source b) (Shape key) h is = absurd (no_shape key (asked source).body (option_and_then (λ r. factor_verdict_of (asked source).body r b) (asked_by (asked source).body.verb)) is)
 read_verdict line (Bounded source b) NotJson h is = absurd is
@@ -77,7 +85,68 @@ read_verdict line Misfit (Shape key) h is = absurd cc
 read_verdict line reading Skipped h is = record { reading = reading; reads = h; verdict = is }
 read_verdict line reading (Judged names v) h is = record { reading = reading; reads = h; verdict = is }
 read_verdict line reading (Weighed names v) h is = record { reading = reading; reads = h; verdict = is }
+read_verdict line reading (OtherCode names s) h is = record { reading = reading; reads = h; verdict = is }
 read_verdict line reading (Hulled v) h is = record { reading = reading; reads = h; verdict = is }
+
+-- ---- a no with a code
+
+not_invalid : (b : Bool) → not b ≡ false → b ≡ true
+not_invalid true e = refl
+not_invalid false e = absurd (true≢false e)
+
+not_valid : (v : Verdict) → v ≡ Valid → not (is_valid v) ≡ true → ⊥
+not_valid v valid invalid = true≢false (sym invalid ∙ ap (λ w. not (is_valid w)) valid)
+
+none_is_some : (v : Verdict) → Some v ≡ None → ⊥
+none_is_some v e = cc
+
+-- a no is judged
+pub has_a_verdict : (q : BodyView) (a : AnswerView) → IsNo a → verdict_of q a ≡ None → ⊥
+has_a_verdict q (Yes ws) is_no none = absurd is_no
+has_a_verdict q (No back values) is_no none = none_is_some (point_verdict (problem_of q) (map (terms_in q) (answer_forms q (No back values))) back values) none
+has_a_verdict q (Undecided cause) is_no none = absurd is_no
+has_a_verdict q (Region rows) is_no none = absurd is_no
+has_a_verdict q (Contained parts ws) is_no none = absurd is_no
+has_a_verdict q (Open tried) is_no none = absurd is_no
+
+-- where nothing is said to be invalid, it is valid
+is_valid_no : (k : ℕ) (q : BodyView) (a : AnswerView) (t : List ℕ) (i : Bool) → IsNo a → i ≡ false → IsJudgedAnswer k q a t i → verdict_of q a ≡ Some Valid
+is_valid_no k q a t i is_no valid judged = by_verdict judged.verdict judged.is judged.told
+  where
+    by_verdict : (v : LineVerdict) → IsAnswerVerdict q a v → IsLineOf k v t i → verdict_of q a ≡ Some Valid
+    by_verdict (Judged names v) is told = is.1 ∙ ap Some (only_valid v (not_invalid (is_valid v) (sym told.1 ∙ valid)))
+    by_verdict Skipped is told = absurd (has_a_verdict q a is_no is)
+    by_verdict NotJson is told = absurd is
+    by_verdict (Shape key) is told = absurd is
+    by_verdict (Weighed names v) is told = absurd is
+    by_verdict (OtherCode names s) is told = absurd is
+    by_verdict (Hulled v) is told = absurd is
+
+-- a no that isn't valid has the same verdict with a code
+pub invalid_coded : (k : ℕ) (q : BodyView) (a : AnswerView) (c : ReportedCodeView) (t : List ℕ) (i : Bool) → IsNo a → i ≡ true → IsJudgedAnswer k q a t i → IsJudgedCoded k q a c t i
+invalid_coded k q a c t i is_no invalid judged = by_verdict judged.verdict judged.is judged.told
+  where
+    by_verdict : (v : LineVerdict) → IsAnswerVerdict q a v → IsLineOf k v t i → IsJudgedCoded k q a c t i
+    by_verdict (Judged names v) is told = record { verdict = Judged names v; is = (is.0, is.1, λ valid. absurd (not_valid v valid (sym told.1 ∙ invalid))); told = told }
+    by_verdict Skipped is told = absurd (true≢false (sym invalid ∙ told.1))
+    by_verdict NotJson is told = absurd is
+    by_verdict (Shape key) is told = absurd is
+    by_verdict (Weighed names v) is told = absurd is
+    by_verdict (OtherCode names s) is told = absurd is
+    by_verdict (Hulled v) is told = absurd is
+
+-- one that is valid and of the code is so with it
+pub valid_coded : (k : ℕ) (q : BodyView) (a : AnswerView) (c : ReportedCodeView) (t : List ℕ) (i : Bool) → IsNo a → i ≡ false → IsJudgedAnswer k q a t i → AreEntropies c.code c.times (values_of a) → IsJudgedCoded k q a c t i
+valid_coded k q a c t i is_no valid judged all = by_verdict judged.verdict judged.is judged.told
+  where
+    by_verdict : (v : LineVerdict) → IsAnswerVerdict q a v → IsLineOf k v t i → IsJudgedCoded k q a c t i
+    by_verdict (Judged names v) is told = record { verdict = Judged names v; is = (is.0, is.1, λ valid. all); told = told }
+    by_verdict Skipped is told = absurd (has_a_verdict q a is_no is)
+    by_verdict NotJson is told = absurd is
+    by_verdict (Shape key) is told = absurd is
+    by_verdict (Weighed names v) is told = absurd is
+    by_verdict (OtherCode names s) is told = absurd is
+    by_verdict (Hulled v) is told = absurd is
 
 module _ {L E : Type 0} (text : L → List ℕ) (invalid : L → Bool) (k : ℕ) where
   pub fault_is_judged : (line : List ℕ) (fault : ReportFault) (r : Result L E) → Reports line (Err fault) → IfOk r (λ j. IsFaultLine k fault (text j) (invalid j)) → IfOk r (λ j. IsJudgedLine k line (text j) (invalid j))
@@ -94,10 +163,22 @@ module _ {L E : Type 0} (text : L → List ℕ) (invalid : L → Bool) (k : ℕ)
           let verdict : IsAnswerVerdict (asked source).body a judged.verdict =
           subst (λ b. IsAnswerVerdict (asked source).body b judged.verdict) (sym same.1) (subst (λ (q : QuestionView). IsAnswerVerdict q.body (answer_view answer) judged.verdict) (sym same.0) judged.is) in
           record { verdict = judged.verdict; is = read_verdict line (Answered source a) judged.verdict h verdict; told = judged.told }
+      by_reading (Answered source a) (variants.Coded question answer code) same h judged = absurd same
       by_reading (Answered source a) (variants.Factored question best) same h judged = absurd same
       by_reading (Answered source a) (variants.Bounded question bounds) same h judged = absurd same
       by_reading (Answered source a) variants.Misfit same h judged = absurd same
+      by_reading (Coded source a c) (variants.Answered question answer) same h judged = absurd same
+      by_reading (Coded source a c) (variants.Coded question answer code) same h judged =
+          let verdict : IsCodedVerdict (asked source).body a c judged.verdict =
+          subst (λ x. IsCodedVerdict (asked source).body a x judged.verdict) (sym same.2)
+          (subst (λ x. IsCodedVerdict (asked source).body x (reported_code_view code) judged.verdict) (sym same.1)
+          (subst (λ (q : QuestionView). IsCodedVerdict q.body (answer_view answer) (reported_code_view code) judged.verdict) (sym same.0) judged.is)) in
+          record { verdict = judged.verdict; is = read_verdict line (Coded source a c) judged.verdict h verdict; told = judged.told }
+      by_reading (Coded source a c) (variants.Factored question best) same h judged = absurd same
+      by_reading (Coded source a c) (variants.Bounded question bounds) same h judged = absurd same
+      by_reading (Coded source a c) variants.Misfit same h judged = absurd same
       by_reading (Factored source b) (variants.Answered question answer) same h judged = absurd same
+      by_reading (Factored source b) (variants.Coded question answer code) same h judged = absurd same
       by_reading (Factored source b) (variants.Factored question best) same h judged =
           let v = factor_line_verdict (question_body question) (best_view best) in
           let told : v ≡ factor_line_verdict (asked source).body b = ap₂ (λ (q : QuestionView) (x : BestView). factor_line_verdict q.body x) (sym same.0) (sym same.1) in
@@ -105,6 +186,7 @@ module _ {L E : Type 0} (text : L → List ℕ) (invalid : L → Bool) (k : ℕ)
       by_reading (Factored source b) (variants.Bounded question bounds) same h judged = absurd same
       by_reading (Factored source b) variants.Misfit same h judged = absurd same
       by_reading (Bounded source b) (variants.Answered question answer) same h judged = absurd same
+      by_reading (Bounded source b) (variants.Coded question answer code) same h judged = absurd same
       by_reading (Bounded source b) (variants.Factored question best) same h judged = absurd same
       by_reading (Bounded source b) (variants.Bounded question bounds) same h judged =
           let verdict : IsBoundsVerdict (asked source).body b judged.verdict =
@@ -112,6 +194,7 @@ module _ {L E : Type 0} (text : L → List ℕ) (invalid : L → Bool) (k : ℕ)
           record { verdict = judged.verdict; is = read_verdict line (Bounded source b) judged.verdict h verdict; told = judged.told }
       by_reading (Bounded source b) variants.Misfit same h judged = absurd same
       by_reading Misfit (variants.Answered question answer) same h judged = absurd same
+      by_reading Misfit (variants.Coded question answer code) same h judged = absurd same
       by_reading Misfit (variants.Factored question best) same h judged = absurd same
       by_reading Misfit (variants.Bounded question bounds) same h judged = absurd same
       by_reading Misfit variants.Misfit same h judged = record { verdict = Skipped; is = read_verdict line Misfit Skipped h refl; told = judged }
@@ -120,6 +203,17 @@ module _ {L E : Type 0} (text : L → List ℕ) (invalid : L → Bool) (k : ℕ)
   pub verdict_is_told : (q : BodyView) (a : AnswerView) (names : NamesView) (v : Verdict) (r : Result L E) → IsAnswerVerdict q a (Judged names v) → IfOk r (λ j. IsLineOf k (Judged names v) (text j) (invalid j)) → IfOk r (λ j. IsJudgedAnswer k q a (text j) (invalid j))
   verdict_is_told q a names v (Ok j) h told = record { verdict = Judged names v; is = h; told = told }
   verdict_is_told q a names v (Err e) h told = tt
+
+  -- of an answer without a verdict that is told
+  pub skipped_is_told : (q : BodyView) (a : AnswerView) (r : Result L E) → verdict_of q a ≡ None → IfOk r (λ j. IsLineOf k Skipped (text j) (invalid j)) → IfOk r (λ j. IsJudgedAnswer k q a (text j) (invalid j))
+  skipped_is_told q a (Ok j) none told = record { verdict = Skipped; is = none; told = told }
+  skipped_is_told q a (Err e) none told = tt
+
+  -- of a no that is valid the first set whose value is another by the code is told
+  pub other_coded : (q : BodyView) (a : AnswerView) (c : ReportedCodeView) (t : List ℕ) (i : Bool) (names : NamesView) (s : ℕ) (r : Result L E) → IsNo a → i ≡ false → IsJudgedAnswer k q a t i → names ≡ problem_names q
+      → IsFirstOther c.code c.times (values_of a) s → IfOk r (λ j. IsLineOf k (OtherCode names s) (text j) (invalid j)) → IfOk r (λ j. IsJudgedCoded k q a c (text j) (invalid j))
+  other_coded q a c t i names s (Ok j) is_no valid judged own first told = record { verdict = OtherCode names s; is = (own, is_valid_no k q a t i is_no valid judged, first); told = told }
+  other_coded q a c t i names s (Err e) is_no valid judged own first told = tt
 
   pub bounds_told : (q : BodyView) (b : BoundsView) (v : LineVerdict) (r : Result L E) → IsBoundsVerdict q b v → IfOk r (λ j. IsLineOf k v (text j) (invalid j)) → IfOk r (λ j. IsJudgedBounds k q b (text j) (invalid j))
   bounds_told q b v (Ok j) is told = record { verdict = v; is = is; told = told }
@@ -268,3 +362,51 @@ module _ (q : BodyView) (p : Pair) (parts : List ℕ) (ws : List CertificateView
   pub obligation_rows_are : (c : Candidate) (ts : List Terms) → take c.count c.parts ≡ parts → ArePulledRows p.first.space (pair_obligations p c) ts → ArePulledRows p.first.space (answer_forms q (Contained parts ws)) ts
   obligation_rows_are c ts same are = of_pair (ArePulledRows p.first.space (answer_forms q (Contained parts ws)) ts) (λ first second tries e o h.
       subst (λ fs. ArePulledRows p.first.space fs ts) (ap (obligations q first second) same ∙ sym (ap (λ v. answer_forms_by q v (Contained parts ws)) e)) (text_rows q first second p o c ts are))
+
+-- ---- a code
+
+-- a code of the question's variables is one that calls take
+pub code_is : (q : BodyView) (a : AnswerView) (c : ReportedCodeView) → IsQuestion q → HasCodedShape q a c → IsCode c.code
+code_is q a c k h = record {
+  some = subst (λ n. 1 ≤ n) (sym h.code.variables) k.some;
+  few = subst (λ n. n ≤ 10) (sym h.code.variables) k.few;
+  messages = h.code.messages;
+}
+
+-- the values of the point are those of all sets
+pub values_complete : (q : BodyView) (a : AnswerView) (c : ReportedCodeView) → HasCodedShape q a c → 2 ^ variables_of c.code - 1 ≤ length (values_of a)
+values_complete q a c h = by_answer a h.no h.answered
+  where
+    by_verb : (verb : VerbView) (back : Bool) (values : List ℤ) → HasVerbShape q.names verb (No back values) → length values ≡ size_of (space_of q.names)
+    by_verb (Prove r) back values fits = fits.0
+    by_verb (Eliminate rates) back values fits = absurd fits
+    by_verb (Contain first second tries) back values fits = absurd fits
+
+    by_answer : (a : AnswerView) → IsNo a → HasQuestionShape q a → 2 ^ variables_of c.code - 1 ≤ length (values_of a)
+    by_answer (No back values) is_no fits =
+        let size : length values ≡ size_of (space_of q.names) = by_verb q.verb back values (verb_fits q (No back values) q.verb refl fits) in
+        let sets : 2 ^ variables_of c.code ≡ 2 ^ length q.names.variables = ap (λ n. 2 ^ n) h.code.variables in
+        omega (arith, size, sets, pow_pos (length q.names.variables))
+    by_answer (Yes ws) is_no fits = absurd is_no
+    by_answer (Undecided cause) is_no fits = absurd is_no
+    by_answer (Region rows) is_no fits = absurd is_no
+    by_answer (Contained parts ws) is_no fits = absurd is_no
+    by_answer (Open tried) is_no fits = absurd is_no
+
+-- a set of the code's variables is one of the names'
+pub set_named : (q : BodyView) (a : AnswerView) (c : ReportedCodeView) (names : NamesView) (s : ℕ) → HasCodedShape q a c → names ≡ problem_names q → IsFirstOther c.code c.times (values_of a) s → s < 2 ^ length names.variables
+set_named q a c names s h own first =
+    subst (λ (n : ℕ). s < 2 ^ n) (h.code.variables ∙ ap (λ (v : NamesView). length v.variables) (sym (own ∙ by_answer a h.no h.answered))) first.within
+  where
+    by_verb : (verb : VerbView) (back : Bool) (values : List ℤ) → q.verb ≡ verb → HasVerbShape q.names verb (No back values) → problem_names q ≡ q.names
+    by_verb (Prove r) back values e fits = relation_names q r e
+    by_verb (Eliminate rates) back values e fits = absurd fits
+    by_verb (Contain first second tries) back values e fits = absurd fits
+
+    by_answer : (a : AnswerView) → IsNo a → HasQuestionShape q a → problem_names q ≡ q.names
+    by_answer (No back values) is_no fits = by_verb q.verb back values refl (verb_fits q (No back values) q.verb refl fits)
+    by_answer (Yes ws) is_no fits = absurd is_no
+    by_answer (Undecided cause) is_no fits = absurd is_no
+    by_answer (Region rows) is_no fits = absurd is_no
+    by_answer (Contained parts ws) is_no fits = absurd is_no
+    by_answer (Open tried) is_no fits = absurd is_no

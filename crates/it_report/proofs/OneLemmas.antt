@@ -8,7 +8,9 @@ use Rattle.it_space.proofs.OptionLemmas.{some_same}
 use Rattle.it_question.specs.Questions.{BodyView}
 use Rattle.it_certificate.specs.declared.keys.Key.{Key}
 use Rattle.it_certificate.specs.Bounds.{BoundsView}
-use Rattle.it_certificate.specs.Reports.{Answered, Bounded, Factored, Misfit, ReadsReport, Reading}
+use Rattle.it_certificate.specs.CodeReading.{ReportedCodeView}
+use Rattle.it_codes.proofs.ExistenceLemmas.{no_first_other, one_first_other}
+use Rattle.it_certificate.specs.Reports.{Answered, Bounded, Coded, Factored, Misfit, ReadsReport, Reading}
 use Rattle.it_certificate.specs.Sources.{asked}
 use Rattle.it_certificate.proofs.OneLemmas.{one_reading}
 use Rattle.it_check.specs.declared.verdicts.Verdict.{Verdict}
@@ -18,10 +20,10 @@ use Rattle.it_spans.specs.declared.types.HullVerdict.{HullVerdict}
 use Rattle.it_spans.specs.Verdicts.{rows_verdict}
 use Rattle.it_spans.proofs.SpanLemmas.{one_span_end}
 use Rattle.it_rates.specs.Asked.{gone_rates, kept_rates}
-use Rattle.it_report.specs.LineVerdicts.{LineVerdict, NotJson, Shape, Skipped, Judged, Weighed, Hulled}
+use Rattle.it_report.specs.LineVerdicts.{LineVerdict, NotJson, Shape, Skipped, Judged, Weighed, OtherCode, Hulled}
 use Rattle.it_report.specs.BoundsVerdicts.{HullVerdictIs, bounds_verdict, judged_frame}
 use Rattle.it_report.specs.RowVerdicts.{is_valid}
-use Rattle.it_report.specs.Judging.{IsAnswerVerdict, IsBoundsVerdict, IsReadingVerdict, HasReading}
+use Rattle.it_report.specs.Judging.{IsAnswerVerdict, IsBoundsVerdict, IsCodedVerdict, IsReadingVerdict, HasReading, values_of}
 use Rattle.it_report.specs.Meaning.{OneVerdict}
 
 abbrev pub as_read : Reading → Result Reading Key
@@ -59,13 +61,38 @@ answer_once q a Skipped Skipped h k = refl
 answer_once q a Skipped (Judged n w) h k = absurd (none_judged w (sym h ∙ k.1))
 answer_once q a Skipped (Weighed n w) h k = absurd k
 answer_once q a Skipped (Hulled w) h k = absurd k
+answer_once q a Skipped (OtherCode n s) h k = absurd k
 answer_once q a (Judged m v) NotJson h k = absurd k
 answer_once q a (Judged m v) (Shape j) h k = absurd k
 answer_once q a (Judged m v) Skipped h k = absurd (none_judged v (sym k ∙ h.1))
 answer_once q a (Judged m v) (Weighed n w) h k = absurd k
 answer_once q a (Judged m v) (Judged n w) h k = ap₂ Judged (h.0 ∙ sym k.0) (some_same v w (sym h.1 ∙ k.1))
 answer_once q a (Judged m v) (Hulled w) h k = absurd k
+answer_once q a (Judged m v) (OtherCode n s) h k = absurd k
 answer_once q a (Hulled v) w h k = absurd h
+answer_once q a (OtherCode m s) w h k = absurd h
+
+-- of a no with a code one thing is told
+coded_once : (q : BodyView) (a : AnswerView) (c : ReportedCodeView) (v w : LineVerdict) → IsCodedVerdict q a c v → IsCodedVerdict q a c w → v ≡ w
+coded_once q a c NotJson w h k = absurd h
+coded_once q a c (Shape j) w h k = absurd h
+coded_once q a c Skipped w h k = absurd h
+coded_once q a c (Weighed n v) w h k = absurd h
+coded_once q a c (Hulled v) w h k = absurd h
+coded_once q a c (Judged m v) NotJson h k = absurd k
+coded_once q a c (Judged m v) (Shape j) h k = absurd k
+coded_once q a c (Judged m v) Skipped h k = absurd k
+coded_once q a c (Judged m v) (Judged n w) h k = ap₂ Judged (h.0 ∙ sym k.0) (some_same v w (sym h.1 ∙ k.1))
+coded_once q a c (Judged m v) (Weighed n w) h k = absurd k
+coded_once q a c (Judged m v) (OtherCode n s) h k = absurd (no_first_other c.code c.times (values_of a) s (h.2 (some_same v Valid (sym h.1 ∙ k.1))) k.2)
+coded_once q a c (Judged m v) (Hulled w) h k = absurd k
+coded_once q a c (OtherCode m s) NotJson h k = absurd k
+coded_once q a c (OtherCode m s) (Shape j) h k = absurd k
+coded_once q a c (OtherCode m s) Skipped h k = absurd k
+coded_once q a c (OtherCode m s) (Judged n w) h k = absurd (no_first_other c.code c.times (values_of a) s (k.2 (some_same w Valid (sym k.1 ∙ h.1))) h.2)
+coded_once q a c (OtherCode m s) (Weighed n w) h k = absurd k
+coded_once q a c (OtherCode m s) (OtherCode n t) h k = ap₂ OtherCode (h.0 ∙ sym k.0) (one_first_other c.code c.times (values_of a) s t h.2 k.2)
+coded_once q a c (OtherCode m s) (Hulled w) h k = absurd k
 
 -- of bounds one thing is told
 hull_once : (q : BodyView) (b : BoundsView) (v w : HullVerdict) → HullVerdictIs q b v → HullVerdictIs q b w → v ≡ w
@@ -80,21 +107,25 @@ bounds_once q b NotJson w h k = absurd h
 bounds_once q b (Shape j) w h k = absurd h
 bounds_once q b Skipped w h k = absurd h
 bounds_once q b (Weighed m v) w h k = absurd h
+bounds_once q b (OtherCode m s) w h k = absurd h
 bounds_once q b (Judged m v) NotJson h k = absurd k
 bounds_once q b (Judged m v) (Shape j) h k = absurd k
 bounds_once q b (Judged m v) Skipped h k = absurd k
 bounds_once q b (Judged m v) (Judged n w) h k = ap₂ Judged (h.0 ∙ sym k.0) (sym h.1 ∙ k.1)
 bounds_once q b (Judged m v) (Weighed n w) h k = absurd k
+bounds_once q b (Judged m v) (OtherCode n s) h k = absurd k
 bounds_once q b (Judged m v) (Hulled w) h k = absurd (not_both (bounds_verdict q b) v h.1 h.2 k.0)
 bounds_once q b (Hulled v) NotJson h k = absurd k
 bounds_once q b (Hulled v) (Shape j) h k = absurd k
 bounds_once q b (Hulled v) Skipped h k = absurd k
 bounds_once q b (Hulled v) (Judged n w) h k = absurd (not_both (bounds_verdict q b) w k.1 k.2 h.0)
 bounds_once q b (Hulled v) (Weighed n w) h k = absurd k
+bounds_once q b (Hulled v) (OtherCode n s) h k = absurd k
 bounds_once q b (Hulled v) (Hulled w) h k = ap Hulled (hull_once q b v w h.1 k.1)
 
 told_once : (x : Reading) (v w : LineVerdict) → IsReadingVerdict x v → IsReadingVerdict x w → v ≡ w
 told_once (Answered source a) v w h k = answer_once (asked source).body a v w h k
+told_once (Coded source a c) v w h k = coded_once (asked source).body a c v w h k
 told_once (Factored source b) v w h k = h ∙ sym k
 told_once (Bounded source b) v w h k = bounds_once (asked source).body b v w h k
 told_once Misfit v w h k = h ∙ sym k
@@ -110,34 +141,47 @@ one_verdict line NotJson (Shape j) a b = absurd (has_json line (Err j) b a)
 one_verdict line NotJson Skipped a b = absurd (has_json line (Ok b.reading) b.reads a)
 one_verdict line NotJson (Judged n w) a b = absurd (has_json line (Ok b.reading) b.reads a)
 one_verdict line NotJson (Weighed n w) a b = absurd (has_json line (Ok b.reading) b.reads a)
+one_verdict line NotJson (OtherCode n s) a b = absurd (has_json line (Ok b.reading) b.reads a)
 one_verdict line NotJson (Hulled w) a b = absurd (has_json line (Ok b.reading) b.reads a)
 one_verdict line (Shape k) NotJson a b = absurd (has_json line (Err k) a b)
 one_verdict line (Shape k) (Shape j) a b = ap Shape (one_key k j (one_reading line (Err k) (Err j) a b))
 one_verdict line (Shape k) Skipped a b = absurd (no_key k b.reading (one_reading line (Err k) (Ok b.reading) a b.reads))
 one_verdict line (Shape k) (Judged n w) a b = absurd (no_key k b.reading (one_reading line (Err k) (Ok b.reading) a b.reads))
 one_verdict line (Shape k) (Weighed n w) a b = absurd (no_key k b.reading (one_reading line (Err k) (Ok b.reading) a b.reads))
+one_verdict line (Shape k) (OtherCode n s) a b = absurd (no_key k b.reading (one_reading line (Err k) (Ok b.reading) a b.reads))
 one_verdict line (Shape k) (Hulled w) a b = absurd (no_key k b.reading (one_reading line (Err k) (Ok b.reading) a b.reads))
 one_verdict line Skipped NotJson a b = absurd (has_json line (Ok a.reading) a.reads b)
 one_verdict line Skipped (Shape j) a b = absurd (no_key j a.reading (one_reading line (Err j) (Ok a.reading) b a.reads))
 one_verdict line Skipped Skipped a b = refl
 one_verdict line Skipped (Judged n w) a b = once line Skipped (Judged n w) a b
 one_verdict line Skipped (Weighed n w) a b = once line Skipped (Weighed n w) a b
+one_verdict line Skipped (OtherCode n s) a b = once line Skipped (OtherCode n s) a b
 one_verdict line Skipped (Hulled w) a b = once line Skipped (Hulled w) a b
 one_verdict line (Judged m v) NotJson a b = absurd (has_json line (Ok a.reading) a.reads b)
 one_verdict line (Judged m v) (Shape j) a b = absurd (no_key j a.reading (one_reading line (Err j) (Ok a.reading) b a.reads))
 one_verdict line (Judged m v) Skipped a b = once line (Judged m v) Skipped a b
 one_verdict line (Judged m v) (Judged n w) a b = once line (Judged m v) (Judged n w) a b
 one_verdict line (Judged m v) (Weighed n w) a b = once line (Judged m v) (Weighed n w) a b
+one_verdict line (Judged m v) (OtherCode n s) a b = once line (Judged m v) (OtherCode n s) a b
 one_verdict line (Judged m v) (Hulled w) a b = once line (Judged m v) (Hulled w) a b
 one_verdict line (Weighed m v) NotJson a b = absurd (has_json line (Ok a.reading) a.reads b)
 one_verdict line (Weighed m v) (Shape j) a b = absurd (no_key j a.reading (one_reading line (Err j) (Ok a.reading) b a.reads))
 one_verdict line (Weighed m v) Skipped a b = once line (Weighed m v) Skipped a b
 one_verdict line (Weighed m v) (Judged n w) a b = once line (Weighed m v) (Judged n w) a b
 one_verdict line (Weighed m v) (Weighed n w) a b = once line (Weighed m v) (Weighed n w) a b
+one_verdict line (Weighed m v) (OtherCode n s) a b = once line (Weighed m v) (OtherCode n s) a b
 one_verdict line (Weighed m v) (Hulled w) a b = once line (Weighed m v) (Hulled w) a b
 one_verdict line (Hulled v) NotJson a b = absurd (has_json line (Ok a.reading) a.reads b)
 one_verdict line (Hulled v) (Shape j) a b = absurd (no_key j a.reading (one_reading line (Err j) (Ok a.reading) b a.reads))
 one_verdict line (Hulled v) Skipped a b = once line (Hulled v) Skipped a b
 one_verdict line (Hulled v) (Judged n w) a b = once line (Hulled v) (Judged n w) a b
 one_verdict line (Hulled v) (Weighed n w) a b = once line (Hulled v) (Weighed n w) a b
+one_verdict line (Hulled v) (OtherCode n s) a b = once line (Hulled v) (OtherCode n s) a b
 one_verdict line (Hulled v) (Hulled w) a b = once line (Hulled v) (Hulled w) a b
+one_verdict line (OtherCode m v) NotJson a b = absurd (has_json line (Ok a.reading) a.reads b)
+one_verdict line (OtherCode m v) (Shape j) a b = absurd (no_key j a.reading (one_reading line (Err j) (Ok a.reading) b a.reads))
+one_verdict line (OtherCode m v) Skipped a b = once line (OtherCode m v) Skipped a b
+one_verdict line (OtherCode m v) (Judged n w) a b = once line (OtherCode m v) (Judged n w) a b
+one_verdict line (OtherCode m v) (Weighed n w) a b = once line (OtherCode m v) (Weighed n w) a b
+one_verdict line (OtherCode m v) (OtherCode n s) a b = once line (OtherCode m v) (OtherCode n s) a b
+one_verdict line (OtherCode m v) (Hulled w) a b = once line (OtherCode m v) (Hulled w) a b

@@ -30,7 +30,8 @@ use Rattle.it_region.proofs.ExistenceLemmas.{obligation_rows_there}
 use Rattle.it_region.proofs.RegionLemmas.{obligations_contain}
 use Rattle.it_region.proofs.TextLemmas.{rows_as_pulled}
 use Rattle.it_certificate.specs.AnswerShapes.{HasQuestionShape, HasContainmentShape}
-use Rattle.it_certificate.specs.Reports.{Answered, ReadsReport}
+use Rattle.it_certificate.specs.CodeReading.{ReportedCodeView}
+use Rattle.it_certificate.specs.Reports.{Answered, Coded, ReadsReport}
 use Rattle.it_certificate.specs.Sources.{IsSourceAt, IsSourceOf, Source, asked}
 use Rattle.it_certificate.proofs.OneLemmas.{one_reading}
 use Rattle.it_certificate.proofs.SourceNumbers.{source_limits, source_numbers}
@@ -39,13 +40,13 @@ use Rattle.it_check.specs.declared.verdicts.Verdict.TheVariants.{Valid}
 use Rattle.it_check.proofs.Truth.{valid_yes_is, valid_no_is, yes_is_true}
 use Rattle.it_report.specs.RowVerdicts.{proof_verdict, proofs_verdict, point_verdict, place_named}
 use Rattle.it_report.specs.LineVerdicts.{Judged}
-use Rattle.it_report.specs.Judging.{answer_verdict, verdict_of, IsAnswerVerdict, IsReadingVerdict}
+use Rattle.it_report.specs.Judging.{answer_verdict, verdict_of, IsAnswerVerdict, IsCodedVerdict, IsReadingVerdict}
 use Rattle.it_region.specs.AnswerForms.{answer_forms_by}
-use Rattle.it_report.specs.Meaning.{IsClaimTrueBy, ValidIsTrue}
+use Rattle.it_report.specs.Meaning.{IsClaimTrueBy, ValidCodeIsTrue, ValidIsTrue}
 use Rattle.it_report.proofs.JudgingLemmas.{verb_fits, target_is_there, point_is_complete, parts_as_named}
 use Rattle.it_report.proofs.CountLemmas.{obligations_counted, targets_counted}
 use Rattle.it_report.proofs.OneLemmas.{same_read}
-use Rattle.it_report.proofs.ReadingLemmas.{answer_is}
+use Rattle.it_report.proofs.ReadingLemmas.{answer_is, coded_is}
 use Rattle.it_report.proofs.VerdictLemmas.{both_valid}
 
 -- ---- the question that an answer is about
@@ -63,6 +64,9 @@ limits_question line source a h = source_limits h.value source (source_read line
 
 pub small_numbers : (line : List ℕ) (source : Source) (a : AnswerView) → ReadsReport line (Ok (Answered source a)) → QuestionHasSmallNumbers (asked source).body
 small_numbers line source a h = source_numbers h.value source (source_read line source a h)
+
+pub coded_numbers : (line : List ℕ) (source : Source) (a : AnswerView) (c : ReportedCodeView) → ReadsReport line (Ok (Coded source a c)) → QuestionHasSmallNumbers (asked source).body
+coded_numbers line source a c h = source_numbers h.value source (subst (IsSourceAt h.value) (coded_is h.reads.own h.value source a c h.reads.is).0 h.reads.source)
 
 -- ---- valid certificates
 
@@ -171,3 +175,16 @@ valid_is_true line names source a h reads =
     let e : h.reading ≡ Answered source a = same_read h.reading (Answered source a) (one_reading line (Ok h.reading) (Ok (Answered source a)) h.reads reads) in
     let judged : IsAnswerVerdict (asked source).body a (Judged names Valid) = subst (λ x. IsReadingVerdict x (Judged names Valid)) e h.verdict in
     judged_true (asked source).body (asked source).body.verb a refl (limits_question line source a reads) (small_numbers line source a reads) (fits_question line source a reads) judged.1
+
+-- a valid no with a code
+pub valid_code_is_true : ValidCodeIsTrue
+valid_code_is_true line names source back values c h reads =
+    let e : h.reading ≡ Coded source (No back values) c = same_read h.reading (Coded source (No back values) c) (one_reading line (Ok h.reading) (Ok (Coded source (No back values) c)) h.reads reads) in
+    let judged : IsCodedVerdict (asked source).body (No back values) c (Judged names Valid) = subst (λ y. IsReadingVerdict y (Judged names Valid)) e h.verdict in
+    let read = coded_is reads.reads.own reads.value source (No back values) c reads.reads.is in
+    let own : IsSourceOf reads.value source = subst (IsSourceAt reads.value) read.0 reads.reads.source in (
+      judged_true (asked source).body (asked source).body.verb (No back values) refl (source_limits reads.value source own) (source_numbers reads.value source own) read.1.answered judged.1,
+      read.1.code.variables,
+      read.1.code.times,
+      judged.2 refl,
+    )

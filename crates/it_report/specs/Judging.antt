@@ -1,6 +1,6 @@
 -- The verdict on each line of a report: what its answer says of its question, against the problem that the question poses and the
 -- rows of the forms that the answer speaks of.
-use Rattle.std.specs.Prelude.{◌≡◌, ℕ, List, map, Bool, false, Option, Some, None, option_and_then, Ok, Err, IsUtf8}
+use Rattle.std.specs.Prelude.{◌≡◌, ℕ, ℤ, List, [], map, Bool, false, Option, Some, None, option_and_then, Ok, Err, IsUtf8}
 use Rattle.serde_json.specs.Read.{read}
 use Rattle.it_space.specs.Answers.{AnswerView}
 use Rattle.it_space.specs.Answers.AnswerView.{Yes, No, Contained}
@@ -15,8 +15,10 @@ use Rattle.it_canon.specs.TrueLines.{variable_count}
 use Rattle.it_ratio.specs.BestViews.{BestView}
 use Rattle.it_ratio.specs.Truth.{asked_by}
 use Rattle.it_region.specs.AnswerForms.{answer_forms}
-use Rattle.it_certificate.specs.Reports.{Answered, Factored, Bounded, Misfit, ReadsReport, Reading}
+use Rattle.it_certificate.specs.Reports.{Answered, Coded, Factored, Bounded, Misfit, ReadsReport, Reading}
 use Rattle.it_certificate.specs.Bounds.{BoundsView}
+use Rattle.it_certificate.specs.CodeReading.{ReportedCodeView}
+use Rattle.it_codes.specs.Codes.{AreEntropies, IsFirstOther}
 use Rattle.it_certificate.specs.Sources.{asked}
 use Rattle.it_check.specs.declared.verdicts.Verdict.{Verdict}
 use Rattle.it_check.specs.declared.verdicts.Verdict.TheVariants.{Valid}
@@ -24,7 +26,7 @@ use Rattle.it_report.specs.BoundsVerdicts.{HullVerdictIs, bounds_verdict}
 use Rattle.it_report.specs.RowVerdicts.{is_valid, proofs_verdict, point_verdict}
 use Rattle.it_report.specs.declared.factors.FactorVerdict.{FactorVerdict}
 use Rattle.it_report.specs.FactorVerdicts.{best_verdict}
-use Rattle.it_report.specs.LineVerdicts.{LineVerdict, NotJson, Shape, Skipped, Judged, Weighed, Hulled, IsLineOf}
+use Rattle.it_report.specs.LineVerdicts.{LineVerdict, NotJson, Shape, Skipped, Judged, Weighed, OtherCode, Hulled, IsLineOf}
 
 -- the verdict on an answer, by the problem and the rows of these forms; where it claims something of all polymatroids, or of one
 abbrev pub answer_verdict : ProblemView → List Terms → AnswerView → Option Verdict
@@ -58,6 +60,20 @@ weighed_by q (Some v) = Weighed (problem_names q) v
 abbrev pub factor_line_verdict : BodyView → BestView → LineVerdict
 factor_line_verdict q best = weighed_by q (option_and_then (λ r. factor_verdict_of q r best) (asked_by q.verb))
 
+-- ---- of codes
+
+-- the values of the point of a no
+abbrev pub values_of : AnswerView → List ℤ
+values_of (No back values) = values
+values_of answer = []
+
+-- what is told of a no with a code: the verdict on the no; where that is valid, the first set whose value isn't the code's entropy, in
+-- units of the point, if there is one
+abbrev pub IsCodedVerdict : BodyView → AnswerView → ReportedCodeView → LineVerdict → Type 0
+IsCodedVerdict q answer c (Judged names v) = (names ≡ problem_names q) × (verdict_of q answer ≡ Some v) × (v ≡ Valid → AreEntropies c.code c.times (values_of answer))
+IsCodedVerdict q answer c (OtherCode names s) = (names ≡ problem_names q) × (verdict_of q answer ≡ Some Valid) × IsFirstOther c.code c.times (values_of answer) s
+IsCodedVerdict q answer c verdict = ⊥
+
 -- ---- of bounds
 
 -- what is told of an outer bound: what is wrong with a certificate or a point, with the names of the question; where nothing is, the
@@ -69,10 +85,11 @@ IsBoundsVerdict q b verdict = ⊥
 
 -- ---- of lines
 
--- what is told of what a line says: the verdict on an answer to the question that is asked, on what is found of its factors, or on its
+-- what is told of what a line says: the verdict on an answer to the question that is asked, on a no with its code, on what is found of its factors, or on its
 -- bounds; and that a misfit isn't judged
 abbrev pub IsReadingVerdict : Reading → LineVerdict → Type 0
 IsReadingVerdict (Answered source answer) v = IsAnswerVerdict (asked source).body answer v
+IsReadingVerdict (Coded source answer c) v = IsCodedVerdict (asked source).body answer c v
 IsReadingVerdict (Factored source best) v = v ≡ factor_line_verdict (asked source).body best
 IsReadingVerdict (Bounded source b) v = IsBoundsVerdict (asked source).body b v
 IsReadingVerdict Misfit v = v ≡ Skipped

@@ -17,14 +17,16 @@ use Rattle.it_report.specs.declared.factors.FactorVerdict.{FactorVerdict}
 use Rattle.it_report.specs.declared.factors.FactorVerdict.TheVariants.{BelowOne, Checked, NotZero}
 
 -- The line has no reading as JSON; a key of it is missing or of another shape; its answer isn't judged; or it is, or what it says of
--- factors is, with this verdict, and these are the names of its question; or it has an outer bound, of which rows and rays are right by
--- themselves, with this verdict on the rows as the hull of the rays.
+-- factors is, with this verdict, and these are the names of its question; or it is a no that is valid by itself, with a code by which the
+-- value of this set is another; or it has an outer bound, of which rows and rays are right by themselves, with this verdict on the rows as
+-- the hull of the rays.
 pub data LineVerdict : Type 0 where
   NotJson : LineVerdict
   Shape : (key : Key) → LineVerdict
   Skipped : LineVerdict
   Judged : (names : NamesView) (verdict : Verdict) → LineVerdict
   Weighed : (names : NamesView) (verdict : FactorVerdict) → LineVerdict
+  OtherCode : (names : NamesView) (set : ℕ) → LineVerdict
   Hulled : (verdict : HullVerdict) → LineVerdict
 
 -- nothing is wrong with what is said of factors
@@ -57,6 +59,7 @@ key_text keys.Rows = codes "rows"
 key_text keys.Parts = codes "parts"
 key_text keys.Tried = codes "tried"
 key_text keys.Rays = codes "rays"
+key_text keys.Code = codes "code"
 
 -- a coordinate by the name of its set or rate, and the two numbers that differ there
 abbrev pub mismatch_text : NamesView → ℕ → ℤ → ℤ → List ℕ
@@ -80,6 +83,10 @@ factor_verdict_text names (BelowOne den) = codes "invalid factor " ++ signed_dec
 factor_verdict_text names (Checked verdict) = verdict_text names verdict
 factor_verdict_text names (NotZero x) = codes "invalid zero " ++ signed_decimal x
 
+-- the first set whose value is another by a code
+unfoldable pub other_text : NamesView → ℕ → List ℕ
+other_text names set = codes "invalid code " ++ coordinate_text names set
+
 -- what is wrong with the steps of a hull: with a ray, or with a row that goes after it, both by number from 0
 abbrev pub fault_text : Fault → List ℕ
 fault_text (TooMany ray) = codes "many " ++ decimal ray
@@ -100,6 +107,7 @@ words_of (Shape key) = codes "invalid shape " ++ key_text key
 words_of Skipped = codes "skipped"
 words_of (Judged names verdict) = verdict_text names verdict
 words_of (Weighed names verdict) = factor_verdict_text names verdict
+words_of (OtherCode names set) = other_text names set
 words_of (Hulled verdict) = hull_text verdict
 
 -- a line of words about line k, which are counted from 1

@@ -1,5 +1,5 @@
 -- What the verdicts mean: each line has one and no other, and the claim of a valid one is true.
-use Rattle.std.specs.Prelude.{◌≡◌, ℕ, ℤ, pos, neg_ℤ, ◌≤ℤ◌, List, length, Bool, get_or, Some, Ok}
+use Rattle.std.specs.Prelude.{◌≡◌, ℕ, ℤ, pos, neg_ℤ, ◌≤ℤ◌, ◌≤◌, List, length, Bool, get_or, Some, Ok}
 use Rattle.it_space.specs.Answers.{AnswerView, CertificateView}
 use Rattle.it_space.specs.Answers.AnswerView.{Yes, No, Contained}
 use Rattle.it_space.specs.Rows.{point_of}
@@ -21,7 +21,9 @@ use Rattle.it_spans.specs.Spans.{rays_of}
 use Rattle.it_rates.specs.Asked.{gone_rates}
 use Rattle.it_rates.specs.Bounds.{AreExactBounds}
 use Rattle.it_certificate.specs.Bounds.{BoundsView}
-use Rattle.it_certificate.specs.Reports.{Answered, Bounded, Factored, ReadsReport}
+use Rattle.it_certificate.specs.CodeReading.{ReportedCodeView}
+use Rattle.it_codes.specs.Codes.{AreEntropies, variables_of}
+use Rattle.it_certificate.specs.Reports.{Answered, Bounded, Coded, Factored, ReadsReport}
 use Rattle.it_certificate.specs.Sources.{Source, Copies, Sharing, asked}
 use Rattle.it_check.specs.declared.verdicts.Verdict.TheVariants.{Valid}
 use Rattle.it_report.specs.declared.factors.FactorVerdict.TheVariants.{Checked}
@@ -55,6 +57,13 @@ IsClaimTrue q answer = IsClaimTrueBy q q.verb answer
 abbrev pub ValidIsTrue : Type 0
 ValidIsTrue = (line : List ℕ) (names : NamesView) (source : Source) (answer : AnswerView)
     → IsVerdict line (Judged names Valid) → ReadsReport line (Ok (Answered source answer)) → IsClaimTrue (asked source).body answer
+
+-- Where a valid no has a code, its relation fails at random variables: the point is such a place, and the value of each set of variables is
+-- the entropy of those of the code, as many times as the line says.
+abbrev pub ValidCodeIsTrue : Type 0
+ValidCodeIsTrue = (line : List ℕ) (names : NamesView) (source : Source) (back : Bool) (values : List ℤ) (c : ReportedCodeView)
+    → IsVerdict line (Judged names Valid) → ReadsReport line (Ok (Coded source (No back values) c))
+    → IsClaimTrue (asked source).body (No back values) × (variables_of c.code ≡ length (asked source).body.names.variables) × (1 ≤ c.times) × AreEntropies c.code c.times values
 
 -- What a valid line says of factors is true of those of the relation that the question asks about: the least one holds wherever a
 -- polymatroid and rates make the question's lines true, and no smaller one does; where there is none, none holds; where there is no least

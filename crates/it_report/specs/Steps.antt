@@ -8,11 +8,12 @@ use Rattle.it_certificate.specs.declared.keys.ReportFault.TheVariants as faults
 use Rattle.it_certificate.specs.declared.types.Reported.{Reported}
 use Rattle.it_certificate.specs.declared.types.Reported.TheVariants as reported
 use Rattle.it_certificate.specs.Bounds.{BoundsView, bounds_view}
+use Rattle.it_certificate.specs.CodeReading.{ReportedCodeView, reported_code_view}
 use Rattle.it_check.specs.declared.verdicts.Verdict.{Verdict}
 use Rattle.it_check.specs.declared.verdicts.Verdict.TheVariants.{Mismatch}
 use Rattle.it_report.specs.LineVerdicts.{LineVerdict, NotJson, Shape, Skipped, IsLineOf}
 use Rattle.it_ratio.specs.BestViews.{best_view}
-use Rattle.it_report.specs.Judging.{IsAnswerVerdict, IsBoundsVerdict, factor_line_verdict}
+use Rattle.it_report.specs.Judging.{IsAnswerVerdict, IsBoundsVerdict, IsCodedVerdict, factor_line_verdict}
 
 -- the question is about a relation
 abbrev pub IsAboutRelation : VerbView → Type 0
@@ -32,6 +33,12 @@ pub record IsJudgedAnswer (k : ℕ) (q : BodyView) (answer : AnswerView) (text :
   pub is : IsAnswerVerdict q answer verdict
   pub told : IsLineOf k verdict text invalid
 
+-- the line about a no with a code
+pub record IsJudgedCoded (k : ℕ) (q : BodyView) (answer : AnswerView) (c : ReportedCodeView) (text : List ℕ) (invalid : Bool) : Type 0 where
+  pub verdict : LineVerdict
+  pub is : IsCodedVerdict q answer c verdict
+  pub told : IsLineOf k verdict text invalid
+
 -- the line about an outer bound
 pub record IsJudgedBounds (k : ℕ) (q : BodyView) (b : BoundsView) (text : List ℕ) (invalid : Bool) : Type 0 where
   pub verdict : LineVerdict
@@ -41,6 +48,7 @@ pub record IsJudgedBounds (k : ℕ) (q : BodyView) (b : BoundsView) (text : List
 -- the line about what was read
 abbrev pub IsJudgedReport : ℕ → Reported → List ℕ → Bool → Type 0
 IsJudgedReport k (reported.Answered question answer) text invalid = IsJudgedAnswer k (question_body question) (answer_view answer) text invalid
+IsJudgedReport k (reported.Coded question answer code) text invalid = IsJudgedCoded k (question_body question) (answer_view answer) (reported_code_view code) text invalid
 IsJudgedReport k (reported.Factored question best) text invalid = IsLineOf k (factor_line_verdict (question_body question) (best_view best)) text invalid
 IsJudgedReport k (reported.Bounded question bounds) text invalid = IsJudgedBounds k (question_body question) (bounds_view bounds) text invalid
 IsJudgedReport k reported.Misfit text invalid = IsLineOf k Skipped text invalid

@@ -8,19 +8,21 @@ ghost use Rattle.it_question.specs.Questions.{Prove, question_body};
 ghost use Rattle.it_certificate.specs.AnswerShapes.{HasQuestionShape};
 ghost use Rattle.it_ratio.specs.BestViews.{best_view};
 ghost use Rattle.it_certificate.specs.FactorShapes.{HasFactorShape};
-ghost use Rattle.it_report.specs.Judging.{IsJudgedLine, factor_line_verdict};
+ghost use Rattle.it_certificate.specs.CodeReading.{HasCodedShape, IsNo, reported_code_view};
+ghost use Rattle.it_report.specs.Judging.{IsJudgedLine, factor_line_verdict, values_of};
 ghost use Rattle.it_report.specs.LineVerdicts.{IsLineOf};
 ghost use Rattle.it_certificate.specs.Reports.{KeepsLimits};
-ghost use Rattle.it_report.specs.Steps.{IsAboutRelation, IsFaultLine, IsJudgedAnswer, IsJudgedReport};
+ghost use Rattle.it_report.specs.Steps.{IsAboutRelation, IsFaultLine, IsJudgedAnswer, IsJudgedCoded, IsJudgedReport};
 
 use crate::bounds::bounds_line;
 use crate::factors::best_verdict;
 use crate::lines::{
-    JudgedLine, factor_line, not_json_line, shape_line, skipped_line, verdict_line,
+    JudgedLine, factor_line, not_json_line, other_line, shape_line, skipped_line, verdict_line,
 };
 use crate::rows::{point_verdict, proofs_verdict};
 use it_canon::{problem, problem_names, sides, target_rows};
-use it_certificate::{ReportFault, Reported, answer_from_json};
+use it_certificate::{ReportFault, Reported, ReportedCode, answer_from_json};
+use it_codes::first_other;
 use it_question::types::{Question, Verb};
 use it_ratio::types::Best;
 use it_region::{candidate, obligations, pair};
@@ -30,7 +32,7 @@ use std::alloc::{AllocError, Global};
 
 /// The line about line k of a report; lines are counted from 1, and `line` comes without its end. A yes and a containment
 /// have the verdict of the first of their certificates that isn't valid, a no that of its point against the target on its
-/// side. A least factor has the verdict of its certificate and then of its point, at which the left side is at least 1 and the factor holds
+/// side; one that has a code, where that is valid, the first set whose value is another by the code. A least factor has the verdict of its certificate and then of its point, at which the left side is at least 1 and the factor holds
 /// with equality; no factor that of its point, at which the left side is 0; no least one that of its two certificates. An outer bound has
 /// that of its rows, its rays and their hull. Answers that claim nothing of polymatroids, or whose claim isn't judged, are skipped:
 /// undecided, regions, open questions and misfits.
@@ -61,6 +63,11 @@ fn report_line(alloc: Global, k: usize, reported: &Reported) -> Result<JudgedLin
 {
     match reported {
         Reported::Answered { question, answer } => answer_line(alloc, k, question, answer),
+        Reported::Coded {
+            question,
+            answer,
+            code,
+        } => coded_line(alloc, k, question, answer, code),
         Reported::Factored { question, best } => best_line(alloc, k, question, best),
         Reported::Bounded { question, bounds } => bounds_line(alloc, k, question, bounds),
         Reported::Misfit => skipped_line(alloc, k),
@@ -134,6 +141,41 @@ fn no_line(
     let rows = target_rows(alloc, relation_of(question), problem.space)?;
     let verdict = point_verdict(&problem, rows.as_slice(), back, point);
     verdict_line(alloc, k, problem_names(question), &verdict)
+}
+
+/// The point of a no.
+fn point_of(answer: &Answer) -> &Point
+    requires { IsNo (answer_view answer.now) }
+    ensures { values_of (answer_view answer.now) ≡ result.now }
+{
+    let Answer::No { back: _, point } = answer else {
+        unreachable!()
+    };
+    point
+}
+
+/// The line about a no with a code: what is wrong with the no; where nothing is, the first set whose value is another by the code.
+fn coded_line(
+    alloc: Global,
+    k: usize,
+    question: &Question,
+    answer: &Answer,
+    code: &ReportedCode,
+) -> Result<JudgedLine, AllocError>
+    requires limits { IsQuestion (question_body question.now) }
+    requires fits { HasCodedShape (question_body question.now) (answer_view answer.now) (reported_code_view code.now) }
+    ensures { IfOk result (λ j. IsJudgedCoded k (question_body question.now) (answer_view answer.now) (reported_code_view code.now) j.text.items j.invalid) }
+{
+    let judged = answer_line(alloc, k, question, answer)?;
+    if judged.invalid {
+        return Ok(judged);
+    }
+    let point = point_of(answer);
+    let other = first_other(alloc, &code.code, code.times as u64, point)?;
+    match other {
+        Some(set) => other_line(alloc, k, problem_names(question), set),
+        None => Ok(judged),
+    }
 }
 
 /// The line about a containment: its certificates against the obligations of its parts, under the first region's problem.

@@ -10,5 +10,7 @@ mod rows;
 mod words;
 
 pub use judging::judge;
-pub use laws::{each_line_is_judged, valid_factor_is_true, valid_is_true, verdict_is_one};
+pub use laws::{
+    each_line_is_judged, valid_code_is_true, valid_factor_is_true, valid_is_true, verdict_is_one,
+};
 pub use lines::JudgedLine;

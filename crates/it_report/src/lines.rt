@@ -1,12 +1,14 @@
 //! The lines of verdicts.
 ghost use Rattle.std.specs.Prelude.{◌≡◌, ◌<◌, ◌+◌, ◌^◌, length, true, false, IfOk};
-ghost use Rattle.it_report.specs.LineVerdicts.{is_right, numbered_line, IsLineOf, NotJson, Shape, Skipped, Judged, Weighed, Hulled};
+ghost use Rattle.it_report.specs.LineVerdicts.{is_right, numbered_line, IsLineOf, NotJson, Shape, Skipped, Judged, Weighed, OtherCode, Hulled};
 ghost use Rattle.it_report.specs.FactorSteps.{IsFactorVerdictOver};
 ghost use Rattle.it_report.specs.Steps.{IsVerdictOver};
 
 use crate::factors::FactorVerdict;
 use crate::rows::is_valid;
-use crate::words::{is_hull, key_name, write_factor_verdict, write_hull_verdict, write_verdict};
+use crate::words::{
+    is_hull, key_name, write_factor_verdict, write_hull_verdict, write_other, write_verdict,
+};
 use it_certificate::Key;
 use it_check::Verdict;
 use it_print::write_number;
@@ -115,6 +117,25 @@ pub fn factor_line(
     Ok(JudgedLine {
         text,
         invalid: !is_right(verdict),
+    })
+}
+
+/// The line about a no with a code by which the value of this set is another.
+pub fn other_line(
+    alloc: Global,
+    k: usize,
+    names: &Names,
+    set: u16,
+) -> Result<JudgedLine, AllocError>
+    requires { set < 2 ^ length names.now.variables }
+    ensures { IfOk result (λ j. IsLineOf k (OtherCode names.now set) j.text.items j.invalid) }
+{
+    let mut words = Vec::new(alloc);
+    write_other(&mut words, names, set)?;
+    let text = numbered_line(alloc, k, words.as_slice())?;
+    Ok(JudgedLine {
+        text,
+        invalid: true,
     })
 }
 

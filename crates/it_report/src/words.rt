@@ -2,7 +2,7 @@
 ghost use Rattle.std.specs.Prelude.{◌≡◌, ◌<◌, ◌+◌, ◌^◌, ◌++◌, length, OnOk, codes, decimal};
 ghost use Rattle.std.specs.Fmt.{signed_decimal};
 ghost use Rattle.it_report.specs.BoundsVerdicts.{is_hull};
-ghost use Rattle.it_report.specs.LineVerdicts.{factor_verdict_text, fault_text, hull_text, key_text, verdict_text, mismatch_text};
+ghost use Rattle.it_report.specs.LineVerdicts.{factor_verdict_text, fault_text, hull_text, key_text, mismatch_text, other_text, verdict_text};
 ghost use Rattle.it_report.specs.FactorSteps.{IsFactorVerdictOver};
 ghost use Rattle.it_report.specs.Steps.{IsVerdictOver};
 
@@ -34,6 +34,7 @@ pub fn key_name(key: Key) -> &'static str
         Key::Parts => "parts",
         Key::Tried => "tried",
         Key::Rays => "rays",
+        Key::Code => "code",
     }
 }
 
@@ -134,6 +135,16 @@ pub fn write_factor_verdict(
         FactorVerdict::Checked(verdict) => write_verdict(out, names, verdict),
         FactorVerdict::NotZero { value } => write_value(out, b"invalid zero ", value),
     }
+}
+
+/// Appends that a set is the first whose value is another by a code.
+#[tactic(auto, unfolding(crate::specs::LineVerdicts::other_text))]
+pub fn write_other(out: &mut Vec<u8>, names: &Names, set: u16) -> Result<(), AllocError>
+    requires { set < 2 ^ length names.now.variables }
+    ensures { OnOk result (out.new.items ≡ out.old.items ++ other_text names.now set) }
+{
+    out.extend_from_slice(b"invalid code ")?;
+    write_coordinate(out, names, set as u32)
 }
 
 /// Appends words, and the number of a ray with that of a row that goes after it.

@@ -13,7 +13,8 @@ use Rattle.it_question.specs.Questions.{BodyView}
 use Rattle.it_question.specs.ProblemLines.{problem_names}
 use Rattle.it_terms.specs.ProofSteps.{TellsSteps}
 use Rattle.it_terms.specs.FunctionProofs.{ArePrinted}
-use Rattle.it_tell.specs.Tellings.{AreDetails, AreProofTexts, IsMarkedRowText, IsPointText, IsPrintedProof, IsProofText, indented_line, proof_lines, step_line}
+use Rattle.it_tell.specs.Tellings.{AreDetails, AreProofTexts, IsMarkedRowText, IsPointText, IsPrintedProof, IsProofText, indented_line, proof_lines, step_line, told_rows}
+use Rattle.it_canon.specs.TrueLines.{variable_count}
 use Rattle.it_tell.specs.Steps.{AppendsDetails, AppendsEach, AppendsPoint, AppendsProof, IsStyledText}
 use Rattle.it_tell.specs.declared.settings.Options.{Options}
 use Rattle.it_tell.specs.declared.settings.Style.{Style}
@@ -57,7 +58,7 @@ point_appended v values old new text is then = (text, (is, then))
 
 -- ---- each answer
 
-pub region_details : (q : BodyView) (options : Options) (rows : List (Mark × Terms)) (old new : List ℕ) → AppendsEach indented_line (IsMarkedRowText (problem_names q)) rows old new → AppendsDetails q options (Region rows) old new
+pub region_details : (q : BodyView) (options : Options) (rows : List (Mark × Terms)) (old new : List ℕ) → AppendsEach indented_line (IsMarkedRowText q options.style) (told_rows options.style (variable_count q) rows) old new → AppendsDetails q options (Region rows) old new
 unfolding AppendsDetails AppendsEach AreDetails
 region_details q options rows old new h = h
 

@@ -1,5 +1,5 @@
 -- What a call that is done has written, that each line has a telling, and that what is told is true.
-use Rattle.std.proofs.Common.{◌≡◌, ℕ, ℤ, ◌+◌, inl, inr, List, [], ◌∷◌, ◌++◌, Bool, true, false, Option, Some, None, Ok, option_and_then, codes, refl, ap, sym, subst, ◌∙◌}
+use Rattle.std.proofs.Common.{◌≡◌, ℕ, ℤ, ◌+◌, inl, inr, List, [], ◌∷◌, ◌++◌, Bool, true, false, Option, Some, None, Ok, option_and_then, codes, length, ◌==◌, refl, ap, sym, subst, ◌∙◌}
 use Rattle.std.specs.List.{zip}
 use Rattle.std.proofs.lemmas.Bool.{true≢false}
 use Rattle.it_outside.specs.Groups.{Groups}
@@ -11,33 +11,37 @@ use Rattle.it_space.specs.Answers.{AnswerView, CertificateView}
 use Rattle.it_space.specs.Answers.AnswerView.{Yes, No, Undecided, Region, Contained, Open}
 use Rattle.it_space.specs.Rows.{Terms}
 use Rattle.it_polymatroid.specs.Certificates.{Form}
-use Rattle.it_syntax.specs.NamesViews.{NamesView}
 use Rattle.it_question.specs.Questions.{BodyView, VerbView, Prove, Eliminate, Contain}
 use Rattle.it_question.specs.ProblemLines.{problem_names}
 use Rattle.it_check.specs.declared.verdicts.Verdict.{Verdict}
 use Rattle.it_print.specs.Lines.{certificate_text, row_text, values_text}
-use Rattle.it_report.specs.Judging.{IsReadingVerdict, IsVerdict, verdict_of}
+use Rattle.it_report.specs.Judging.{HasReading, IsCodedVerdict, IsReadingVerdict, IsVerdict, verdict_of}
 use Rattle.it_region.specs.AnswerForms.{answer_forms}
-use Rattle.it_report.specs.LineVerdicts.{LineVerdict, NotJson, Shape, Skipped, Judged, Weighed, Hulled, is_invalid}
-use Rattle.it_report.specs.Meaning.{IsClaimTrueBy}
+use Rattle.it_report.specs.LineVerdicts.{LineVerdict, NotJson, Shape, Skipped, Judged, Weighed, OtherCode, Hulled, is_invalid}
+use Rattle.it_report.specs.Meaning.{IsClaimTrue, IsClaimTrueBy}
 use Rattle.it_report.proofs.ExistenceLemmas.{each_line_is_judged}
 use Rattle.it_report.proofs.OneLemmas.{same_read}
-use Rattle.it_report.proofs.TruthLemmas.{valid_is_true}
+use Rattle.it_report.proofs.TruthLemmas.{valid_code_is_true, valid_is_true}
 use Rattle.it_certificate.proofs.OneLemmas.{one_reading}
+use Rattle.it_codes.specs.Codes.{AreEntropies}
 use Rattle.it_certificate.specs.Reports as reports
 use Rattle.it_certificate.specs.Reports.{ReadsReport, Reading}
 use Rattle.it_certificate.specs.Sources.{asked}
 use Rattle.it_cli.specs.Ends.{Call}
 use Rattle.it_cli.specs.Modes.{WholeOutput}
 use Rattle.it_canon.specs.QuestionDemands.{question_origins}
+use Rattle.it_canon.specs.TrueLines.{variable_count}
 use Rattle.it_cli.specs.declared.status.Status.{Status}
 use Rattle.it_cli.specs.declared.status.Status.TheVariants.{Done, Invalid}
-use Rattle.it_tell.specs.Tellings.{Answered, AreDetails, AreProofTexts, Each, IsMarkedRowText, IsPointText, IsProofText, IsRowText, IsTelling, ProofTexts, Telling, indented_line, mark_comment, proof_lines}
+use Rattle.it_tell.specs.Tellings.{Answered, AreContainedLines, AreDetails, AreOwnLineTexts, AreProofTexts, Each, IsMarkedRowText, IsPointText, IsProofText, IsRowText, IsTelling, ProofTexts, Telling, TellsObligation, indented_line, mark_comment, obligation_lines, proof_lines, told_rows}
+use Rattle.it_tell.specs.OwnLines.{OwnLine, own_line_comment, own_lines}
+use Rattle.it_tell.specs.declared.settings.Style.{Style}
+use Rattle.it_tell.specs.declared.settings.Style.TheVariants.{Plain, Named, Whole}
 use Rattle.it_tell.specs.Tellings as tellings
 use Rattle.it_tell.specs.declared.settings.Options.{Options}
 use Rattle.it_tell.specs.declared.settings.Settings.TheVariants.{Tell}
 use Rattle.it_tell.specs.Ends.{AsksForText, AsksToTell, Ends, HasTold, shown_by, tell_mode}
-use Rattle.it_tell.specs.Laws.{EachLineIsTold, Headline, ToldAnswersAreTrue}
+use Rattle.it_tell.specs.Laws.{EachLineIsTold, Headline, ToldAnswersAreTrue, ToldCodesAreTrue}
 use Rattle.it_tell.proofs.PrintableLemmas.{not_invalid_is_valid}
 
 -- ---- what is written
@@ -80,9 +84,9 @@ module _ {X A : Type 0} (shown : A → List ℕ) (tells : X → A → Type 0) (e
   lines_there : (items : List X) → (out : List ℕ) × Each shown tells items out
   lines_there items = lines_from 1 items
 
-row_there : (v : NamesView) (row : Mark × Terms) → (text : List ℕ) × IsMarkedRowText v row text
+row_there : (q : BodyView) (style : Style) (row : Mark × Terms) → (text : List ℕ) × IsMarkedRowText q style row text
 unfolding IsMarkedRowText IsRowText
-row_there v row = let own = codes "as row " ++ row_text v Inequality row.1 in (own ++ mark_comment row.0, (own, (inr refl, refl)))
+row_there q style row = let own = codes "as row " ++ row_text (problem_names q) Inequality row.1 in (own ++ mark_comment row.0, (own, (inr (inr refl), refl)))
 
 proof_there : (q : BodyView) (options : Options) (proof : Form × CertificateView) → (t : ProofTexts) × AreProofTexts q options proof t
 unfolding AreProofTexts IsProofText
@@ -92,19 +96,38 @@ point_there : (q : BodyView) (values : List ℤ) → (text : List ℕ) × IsPoin
 unfolding IsPointText
 point_there q values = (codes "as point " ++ values_text (problem_names q) values, inr refl)
 
+obligation_there : (q : BodyView) (options : Options) (proof : Form × CertificateView) → (t : Option ProofTexts) × TellsObligation q options proof t
+obligation_there q options proof = let t = proof_there q options proof in (Some t.0, t.1)
+
+own_line_there : (q : BodyView) (options : Options) (parts : List ℕ) (line : OwnLine) → (out : List ℕ) × AreOwnLineTexts q options parts line out
+own_line_there q options parts line =
+    let below = lines_there obligation_lines (TellsObligation q options) (obligation_there q options) (zip line.forms line.proofs) in (
+      indented_line (own_line_comment q parts line.origin [] (length below.0 == 0)) ++ below.0,
+      record { relation = []; proofs = below.0; says = inr refl; are = below.1; out_is = refl },
+    )
+
+contained_there : (q : BodyView) (options : Options) (style : Style) (parts : List ℕ) (ws : List CertificateView) → (out : List ℕ) × AreContainedLines q options style parts ws out
+unfolding AreContainedLines
+contained_there q options Plain parts ws = lines_there proof_lines (AreProofTexts q options) (proof_there q options) (zip (answer_forms q (Contained parts ws)) ws)
+contained_there q options Named parts ws = lines_there (λ lines. lines) (AreOwnLineTexts q options parts) (own_line_there q options parts) (own_lines q parts ws)
+contained_there q options Whole parts ws = lines_there (λ lines. lines) (AreOwnLineTexts q options parts) (own_line_there q options parts) (own_lines q parts ws)
+
 details_there : (q : BodyView) (options : Options) (a : AnswerView) → (out : List ℕ) × AreDetails q options a out
 unfolding AreDetails
 details_there q options (Yes proofs) = lines_there proof_lines (AreProofTexts q options) (proof_there q options) (zip (answer_forms q (Yes proofs)) proofs)
 details_there q options (No back values) = let point = point_there q values in (indented_line point.0, (point.0, (point.1, refl)))
 details_there q options (Undecided cause) = ([], refl)
-details_there q options (Region rows) = lines_there indented_line (IsMarkedRowText (problem_names q)) (row_there (problem_names q)) rows
-details_there q options (Contained parts proofs) = lines_there proof_lines (AreProofTexts q options) (proof_there q options) (zip (answer_forms q (Contained parts proofs)) proofs)
+details_there q options (Region rows) = lines_there indented_line (IsMarkedRowText q options.style) (row_there q options.style) (told_rows options.style (variable_count q) rows)
+details_there q options (Contained parts proofs) = contained_there q options options.style parts proofs
 details_there q options (Open tried) = ([], refl)
 
 reading_there : (options : Options) (line : List ℕ) (v : LineVerdict) → IsVerdict line v → is_invalid v ≡ false → (x : Reading) → ReadsReport line (Ok x) → (telling : Telling) × IsTelling options line telling
 reading_there options line v is accepted (reports.Answered source a) reads =
     let details = details_there (asked source).body options a in
     (Answered source a details.0, (record { verdict = v; is = is; accepted = accepted; reads = reads }, details.1))
+reading_there options line v is accepted (reports.Coded source a c) reads =
+    let details = details_there (asked source).body options a in
+    (tellings.Coded source a c details.0, (record { verdict = v; is = is; accepted = accepted; reads = reads }, details.1))
 reading_there options line v is accepted (reports.Factored source best) reads = (tellings.Factored source best, record { verdict = v; is = is; accepted = accepted; reads = reads })
 reading_there options line v is accepted (reports.Bounded source b) reads = (tellings.Bounded source b, record { verdict = v; is = is; accepted = accepted; reads = reads })
 reading_there options line v is accepted reports.Misfit reads = (tellings.Misfit, reads)
@@ -126,6 +149,7 @@ each_line_is_told options line = let judged = (each_line_is_judged 1 line).2 in 
         by_test : (b : Bool) → is_invalid (Weighed names v) ≡ b → (telling : Telling) × IsTelling options line telling
         by_test true e = (tellings.Invalid (Weighed names v), (is, e))
         by_test false e = reading_there options line (Weighed names v) is e is.reading is.reads
+    by_verdict (OtherCode names s) is = (tellings.Invalid (OtherCode names s), (is, refl))
     by_verdict (Hulled v) is = by_test (is_invalid (Hulled v)) refl
       where
         by_test : (b : Bool) → is_invalid (Hulled v) ≡ b → (telling : Telling) × IsTelling options line telling
@@ -160,8 +184,29 @@ told_answers_are_true options line source a details (h, lines) = by_verdict h.ve
     by_verdict (Weighed names v) is accepted =
         let same = same_read is.reading (reports.Answered source a) (one_reading line (Ok is.reading) (Ok (reports.Answered source a)) is.reads h.reads) in
         absurd (subst (λ (x : Reading). IsReadingVerdict x (Weighed names v)) same is.verdict)
+    by_verdict (OtherCode names s) is accepted = absurd (true≢false accepted)
     by_verdict (Judged names v) is accepted =
         valid_is_true line names source a (subst (λ (w : Verdict). IsVerdict line (Judged names w)) (not_invalid_is_valid v accepted) is) h.reads
     by_verdict (Hulled v) is accepted =
         let same = same_read is.reading (reports.Answered source a) (one_reading line (Ok is.reading) (Ok (reports.Answered source a)) is.reads h.reads) in
         absurd (subst (λ (x : Reading). IsReadingVerdict x (Hulled v)) same is.verdict)
+
+-- of a no with a code
+pub told_codes_are_true : ToldCodesAreTrue
+told_codes_are_true options line source back values code details (h, lines) = by_verdict h.verdict h.is h.accepted
+  where
+    on_code : (v : LineVerdict) (r : HasReading line v) → IsCodedVerdict (asked source).body (No back values) code v
+    on_code v r =
+        let same = same_read r.reading (reports.Coded source (No back values) code) (one_reading line (Ok r.reading) (Ok (reports.Coded source (No back values) code)) r.reads h.reads) in
+        subst (λ (x : Reading). IsReadingVerdict x v) same r.verdict
+
+    by_verdict : (v : LineVerdict) → IsVerdict line v → is_invalid v ≡ false → IsClaimTrue (asked source).body (No back values) × AreEntropies code.code code.times values
+    by_verdict NotJson is accepted = absurd (true≢false accepted)
+    by_verdict (Shape key) is accepted = absurd (true≢false accepted)
+    by_verdict (OtherCode names s) is accepted = absurd (true≢false accepted)
+    by_verdict Skipped is accepted = absurd (on_code Skipped is)
+    by_verdict (Weighed names v) is accepted = absurd (on_code (Weighed names v) is)
+    by_verdict (Hulled v) is accepted = absurd (on_code (Hulled v) is)
+    by_verdict (Judged names v) is accepted =
+        let true_code = valid_code_is_true line names source back values code (subst (λ (w : Verdict). IsVerdict line (Judged names w)) (not_invalid_is_valid v accepted) is) h.reads in
+        (true_code.0, true_code.3)

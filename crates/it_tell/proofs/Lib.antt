@@ -5,3 +5,6 @@ pub mod EndLemmas
 pub mod DetailLemmas
 pub mod LawLemmas
 pub mod ProofLemmas
+pub mod OrderLemmas
+pub mod OwnLineLemmas
+mod CodeLemmas

@@ -38,7 +38,7 @@ use Rattle.it_check.proofs.Truth.{valid_yes_is}
 use Rattle.it_print.specs.Lines.{AreListed, IsCauseOf, IsPrintable, IsRowOver, auxiliary_names}
 use Rattle.it_print.proofs.RowLemmas.{row_over}
 use Rattle.it_report.specs.Judging.{IsAnswerVerdict, verdict_of}
-use Rattle.it_report.specs.LineVerdicts.{LineVerdict, NotJson, Shape, Skipped, Judged, Weighed, Hulled, is_invalid}
+use Rattle.it_report.specs.LineVerdicts.{LineVerdict, NotJson, Shape, Skipped, Judged, Weighed, OtherCode, Hulled, is_invalid}
 use Rattle.it_report.specs.RowVerdicts.{is_valid, proof_verdict, proofs_verdict}
 use Rattle.it_report.proofs.CountLemmas.{obligations_counted, targets_counted}
 use Rattle.it_report.proofs.JudgingLemmas.{verb_fits}
@@ -75,6 +75,7 @@ judged_valid q a NotJson w judged is e = absurd is
 judged_valid q a (Shape key) w judged is e = absurd is
 judged_valid q a Skipped w judged is e = let none : Some w ≡ None = sym judged ∙ is in absurd cc
 judged_valid q a (Weighed names u) w judged is e = absurd is
+judged_valid q a (OtherCode names set) w judged is e = absurd is
 judged_valid q a (Hulled u) w judged is e = absurd is
 judged_valid q a (Judged names u) w judged is e = some_same w u (sym judged ∙ is.1) ∙ not_invalid_is_valid u e
 

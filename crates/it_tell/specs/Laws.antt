@@ -1,13 +1,16 @@
 -- What follows from how a call of `tell` ends and from what may be told.
-use Rattle.std.specs.Prelude.{◌≡◌, ℕ, List, ◌++◌, ◌⊎◌, Some}
+use Rattle.std.specs.Prelude.{◌≡◌, ℕ, ℤ, List, Bool, ◌++◌, ◌⊎◌, Some}
 use Rattle.it_space.specs.Answers.{AnswerView}
+use Rattle.it_space.specs.Answers.AnswerView.{No}
+use Rattle.it_codes.specs.Codes.{AreEntropies}
+use Rattle.it_certificate.specs.CodeReading.{ReportedCodeView}
 use Rattle.it_certificate.specs.Sources.{Source, asked}
 use Rattle.it_report.specs.Meaning.{IsClaimTrue}
 use Rattle.it_cli.specs.Ends.{Call}
 use Rattle.it_cli.specs.Modes.{WholeOutput}
 use Rattle.it_cli.specs.declared.status.Status.{Status}
 use Rattle.it_cli.specs.declared.status.Status.TheVariants.{Done, Invalid}
-use Rattle.it_tell.specs.Tellings.{Answered, IsTelling, Telling}
+use Rattle.it_tell.specs.Tellings.{Answered, Coded, IsTelling, Telling}
 use Rattle.it_tell.specs.declared.settings.Options.{Options}
 use Rattle.it_tell.specs.Ends.{AsksToTell, Ends, tell_mode}
 
@@ -24,3 +27,8 @@ EachLineIsTold = (options : Options) (line : List ℕ) → (telling : Telling) �
 -- What an answer claims that is told is true.
 abbrev pub ToldAnswersAreTrue : Type 0
 ToldAnswersAreTrue = (options : Options) (line : List ℕ) (source : Source) (answer : AnswerView) (details : List ℕ) → IsTelling options line (Answered source answer details) → IsClaimTrue (asked source).body answer
+
+-- And of a no with a code that is told, the relation fails at the entropies of the code's variables.
+abbrev pub ToldCodesAreTrue : Type 0
+ToldCodesAreTrue = (options : Options) (line : List ℕ) (source : Source) (back : Bool) (values : List ℤ) (code : ReportedCodeView) (details : List ℕ) → IsTelling options line (Coded source (No back values) code details)
+    → IsClaimTrue (asked source).body (No back values) × AreEntropies code.code code.times values

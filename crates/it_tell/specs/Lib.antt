@@ -1,3 +1,6 @@
+pub mod CodeTexts
+pub mod SortedRows
+pub mod OwnLines
 pub mod Tellings
 pub mod Settings
 pub mod Ends

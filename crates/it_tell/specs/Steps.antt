@@ -1,14 +1,28 @@
 -- No public clause cites this module: what the calls inside `tell` give.
-use Rattle.std.specs.Prelude.{◌≡◌, ℕ, ℤ, List, ◌++◌, length, Bool, [], map, codes, Option, Some}
+use Rattle.std.specs.Prelude.{◌≡◌, ◌≤◌, ℕ, ◌-◌, ℤ, List, ◌∷◌, ◌++◌, length, Bool, [], map, codes, ◌⊎◌, Option, Some}
 use Rattle.std.specs.List.{zip}
 use Rattle.std.specs.Borrow.{Bor}
 use Rattle.it_space.specs.declared.spaces.Space.{Space}
 use Rattle.it_space.specs.Rows.{Terms, value}
-use Rattle.it_region.specs.Obligations.{ArePulledRows}
+use Rattle.it_region.specs.Obligations.{ArePulledRows, demand_obligations}
+use Rattle.it_space.specs.declared.problems.Constraint.{Constraint}
+use Rattle.it_space.specs.declared.problems.Kind.{Kind}
+use Rattle.it_space.specs.declared.problems.Problem.{Problem}
+use Rattle.it_space.specs.Problems.{IsProblem, problem_view}
+use Rattle.it_space.specs.declared.problems.Kind.TheVariants.{Inequality, Equation}
+use Rattle.it_space.specs.declared.problems.Origin.{Origin}
+use Rattle.it_demand.specs.Demands.{Demand}
+use Rattle.it_demand.specs.Origins.{AreStated}
+use Rattle.it_demand.specs.QuestionSpaces.{space_of}
+use Rattle.it_question.specs.LineDemands.{line_demands}
+use Rattle.it_question.specs.LineOrigins.{line_origins}
+use Rattle.it_question.specs.ProblemLines.{problem_names}
+use Rattle.it_terms.specs.Tells.{TellsForms}
+use Rattle.it_tell.specs.OwnLines.{own_line, own_lines_by}
 use Rattle.it_space.specs.Answers.{AnswerView, CertificateView, answer_view, certificate_view}
 use Rattle.it_polymatroid.specs.Certificates.{Form}
 use Rattle.it_syntax.specs.NamesViews.{NamesView}
-use Rattle.it_question.specs.Questions.{BodyView, question_body}
+use Rattle.it_question.specs.Questions.{BodyView, VerbView, Contain, question_body}
 use Rattle.it_canon.specs.QuestionDemands.{question_demands}
 use Rattle.it_certificate.specs.declared.types.Reported.{Reported}
 use Rattle.it_certificate.specs.declared.types.Reported.TheVariants as variants
@@ -17,7 +31,9 @@ use Rattle.it_report.specs.LineVerdicts.{numbered_line}
 use Rattle.it_region.specs.AnswerForms.{answer_forms}
 use Rattle.it_ratio.specs.BestViews.{best_view}
 use Rattle.it_certificate.specs.Bounds.{bounds_view}
-use Rattle.it_tell.specs.Tellings.{AreDetails, AreProofTexts, Each, IsPointText, IsTelling, ProofTexts, Telling, best_words, bounds_words, head_line, indented_line, proof_lines, tells_invalid, telling_text}
+use Rattle.it_tell.specs.Tellings.{AreDetails, AreProofTexts, Each, IsPointText, IsTelling, ProofTexts, Telling, best_words, bounds_words, head_line, indented_line, proof_lines, tells_invalid, telling_text, AreOwnLineTexts, TellsObligation, obligation_lines}
+use Rattle.it_certificate.specs.CodeReading.{ReportedCodeView, reported_code_view}
+use Rattle.it_tell.specs.CodeTexts.{code_text}
 use Rattle.it_space.specs.Answers.AnswerView.{Contained}
 use Rattle.it_space.specs.declared.answers.Certificate.{Certificate}
 use Rattle.it_cli.specs.Ends.{call_of}
@@ -40,9 +56,15 @@ pub record IsToldLine (options : Options) (k : ℕ) (line text : List ℕ) (inva
 unfoldable pub IsAnsweredText : Options → ℕ → BodyView → AnswerView → List ℕ → Type 0
 IsAnsweredText options k q answer text = (details : List ℕ) × (AreDetails q options answer details × (text ≡ head_line k q answer ++ details))
 
+-- the lines about a no with a code
+unfoldable pub IsCodedText : Options → ℕ → BodyView → AnswerView → ReportedCodeView → List ℕ → Type 0
+IsCodedText options k q answer code text =
+    (details : List ℕ) × (AreDetails q options answer details × (text ≡ head_line k q answer ++ details ++ indented_line (code_text q.names.variables code)))
+
 -- the lines about what was read
 abbrev pub IsReportedText : Options → ℕ → Reported → List ℕ → Type 0
 IsReportedText options k (variants.Answered question answer) text = IsAnsweredText options k (question_body question) (answer_view answer) text
+IsReportedText options k (variants.Coded question answer code) text = IsCodedText options k (question_body question) (answer_view answer) (reported_code_view code) text
 IsReportedText options k (variants.Factored question best) text = text ≡ numbered_line k (best_words (best_view best))
 IsReportedText options k (variants.Bounded question bounds) text = text ≡ numbered_line k (bounds_words (bounds_view bounds))
 IsReportedText options k variants.Misfit text = text ≡ numbered_line k (codes "misfit")
@@ -50,6 +72,7 @@ IsReportedText options k variants.Misfit text = text ≡ numbered_line k (codes 
 -- the answer that was read can be printed
 abbrev pub CanBePrinted : Reported → Type 0
 CanBePrinted (variants.Answered question answer) = IsPrintable (question_body question) (length (question_demands (question_body question))) answer
+CanBePrinted (variants.Coded question answer code) = IsPrintable (question_body question) (length (question_demands (question_body question))) answer
 CanBePrinted (variants.Factored question best) = Unit {0}
 CanBePrinted (variants.Bounded question bounds) = Unit {0}
 CanBePrinted variants.Misfit = Unit {0}
@@ -80,14 +103,71 @@ pub record AppendsProof (q : BodyView) (options : Options) (proof : Form × Cert
   pub are : AreProofTexts q options proof texts
   pub new_is : new ≡ old ++ proof_lines texts
 
--- these are rows of the forms that an answer speaks of, in order
-unfoldable pub AreFormRows : BodyView → AnswerView → List Terms → Type 0
-AreFormRows q answer rows = (s : Space) × ArePulledRows s (answer_forms q answer) rows
+-- these are rows of forms, in order
+unfoldable pub AreRowsFor : List Form → List Terms → Type 0
+AreRowsFor forms rows = (s : Space) × ArePulledRows s forms rows
 
--- the lines of each proof of a row were appended, whichever answer the rows are of
+-- these are rows of the forms that an answer speaks of, in order
+abbrev pub AreFormRows : BodyView → AnswerView → List Terms → Type 0
+AreFormRows q answer rows = AreRowsFor (answer_forms q answer) rows
+
+-- the lines of each proof of a row were appended, whichever forms the rows are of
 unfoldable pub AppendsProofs : BodyView → Options → List Terms → List CertificateView → List ℕ → List ℕ → Type 0
-AppendsProofs q options rows ws old new =
-    (answer : AnswerView) → AreFormRows q answer rows → AppendsEach proof_lines (AreProofTexts q options) (zip (answer_forms q answer) ws) old new
+AppendsProofs q options rows ws old new = (forms : List Form) → AreRowsFor forms rows → AppendsEach proof_lines (AreProofTexts q options) (zip forms ws) old new
+
+-- ---- a containment
+
+-- the obligations' rows, over the coordinates of the question's problem
+abbrev pub AreObligations : BodyView → AnswerView → List Terms → Type 0
+AreObligations q answer rows = ArePulledRows (space_of (problem_names q)) (answer_forms q answer) rows
+
+-- the constraints state what the second region's own lines demand, by their numbers among these
+abbrev pub AreOwnConstraintsBy : VerbView → List Constraint → Type 0
+AreOwnConstraintsBy (Contain a b tries) cs =
+    AreStated (space_of b.names) (line_origins (length b.names.variables) b.lines) (line_demands (length b.names.variables) b.lines) cs
+AreOwnConstraintsBy verb cs = ⊥
+
+abbrev pub AreOwnConstraints : BodyView → List Constraint → Type 0
+AreOwnConstraints q cs = AreOwnConstraintsBy q.verb cs
+
+-- the problem has the coordinates of the question's and no constraints
+pub record IsFreeProblem (q : BodyView) (p : Problem) : Type 0 where
+  pub problem : IsProblem (problem_view p)
+  pub space : p.space ≡ space_of (problem_names q)
+  pub none : p.constraints.items ≡ []
+
+-- how many forms a constraint of this kind obliges to
+abbrev pub obliged : Kind → ℕ
+obliged Inequality = 1
+obliged Equation = 2
+
+-- the constraints oblige to so many forms in all
+abbrev pub HasObligations : List Constraint → ℕ → Type 0
+HasObligations [] count = count ≡ 0
+HasObligations (c ∷ cs) count = (obliged c.kind ≤ count) × HasObligations cs (count - obliged c.kind)
+
+-- a text that says these forms to be at least 0, or none
+unfoldable pub SaysOrNothing : NamesView → List Form → List ℕ → Type 0
+SaysOrNothing v forms text = TellsForms v forms text ⊎ (text ≡ [])
+
+-- the lines about a line of the second region were appended, whichever forms the rows are of
+unfoldable pub AppendsOwnLine : BodyView → Options → List ℕ → Origin → List Terms → List CertificateView → List ℕ → List ℕ → Type 0
+AppendsOwnLine q options parts origin rows ws old new =
+    (forms : List Form) → AreRowsFor forms rows → (out : List ℕ) × (AreOwnLineTexts q options parts (own_line origin forms ws) out × (new ≡ old ++ out))
+
+-- the lines of what a line of the second region obliges to were appended, whichever forms the rows are of
+unfoldable pub AppendsOwnProofs : BodyView → Options → List Terms → List CertificateView → List ℕ → List ℕ → Type 0
+AppendsOwnProofs q options rows ws old new = (forms : List Form) → AreRowsFor forms rows → AppendsEach obligation_lines (TellsObligation q options) (zip forms ws) old new
+
+-- those of one obligation
+unfoldable pub AppendsObligation : BodyView → Options → Form × CertificateView → List ℕ → List ℕ → Type 0
+AppendsObligation q options proof old new = (texts : Option ProofTexts) × (TellsObligation q options proof texts × (new ≡ old ++ obligation_lines texts))
+
+-- the lines about all of them, whichever demands the constraints state and the rows are of
+unfoldable pub AppendsEachOwnLine : BodyView → Options → List ℕ → List Constraint → List Terms → List CertificateView → List ℕ → List ℕ → Type 0
+AppendsEachOwnLine q options parts cs rows ws old new =
+    (s t : Space) (f : ℕ → ℕ) (os : List Origin) (ds : List Demand) → AreStated s os ds cs → ArePulledRows t (demand_obligations f ds) rows
+    → AppendsEach (λ lines. lines) (AreOwnLineTexts q options parts) (own_lines_by f os ds ws) old new
 
 -- how a call ends whichever words ask for a telling, by the meanings of a source and a sink and their states before and after
 abbrev pub EndsForTelling : {S K : Type 0} → (S → Option (List ℕ)) → (S → ℕ) → (K → Option (List ℕ)) → (K → ℕ) → Options → S → S → K → K → Status → Type 0

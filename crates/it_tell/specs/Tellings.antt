@@ -1,6 +1,7 @@
 -- What is told of a line of a report: the verdict's own line where that is invalid, else the first line of its answer and below it, line by
--- line, the answer's rows, its proofs, with their steps where these are asked for, or its point.
-use Rattle.std.specs.Prelude.{◌≡◌, ℕ, ℤ, List, [], ◌++◌, length, Bool, true, false, ◌⊎◌, Ok, codes, decimal}
+-- line, the answer's rows, its proofs, with their steps where these are asked for, or its point with the code that it is of. Where proofs are
+-- asked for in which functions hold, rows stand in order, and what a containment obliges to stands under the line of the second region that does.
+use Rattle.std.specs.Prelude.{◌≡◌, ℕ, ℤ, List, [], ◌++◌, length, Bool, true, false, ◌⊎◌, Ok, codes, decimal, pos, ◌≤ℤ◌, if◌then◌else◌, ◌==◌, Option, Some, None}
 use Rattle.std.specs.Fmt.{signed_decimal}
 use Rattle.std.specs.List.{flat_map, zip}
 use Rattle.it_outside.specs.Groups.{Groups}
@@ -12,17 +13,19 @@ use Rattle.it_space.specs.Answers.{AnswerView, CertificateView}
 use Rattle.it_space.specs.Answers.AnswerView.{Yes, No, Undecided, Region, Contained, Open}
 use Rattle.it_space.specs.Rows.{Terms}
 use Rattle.it_polymatroid.specs.Certificates.{Form}
+use Rattle.it_polymatroid.specs.Polymatroid.{IsPolymatroid}
 use Rattle.it_syntax.specs.NamesViews.{NamesView}
 use Rattle.it_question.specs.Questions.{BodyView}
 use Rattle.it_question.specs.ProblemLines.{problem_names}
 use Rattle.it_certificate.specs.Bounds.{BoundsView}
+use Rattle.it_certificate.specs.CodeReading.{ReportedCodeView}
 use Rattle.it_certificate.specs.Reports as reports
 use Rattle.it_certificate.specs.Reports.{ReadsReport}
 use Rattle.it_certificate.specs.Sources.{Source, asked}
 use Rattle.it_print.specs.Lines.{certificate_text, contained_line, open_line, row_text, undecided_line, values_text, variable_names}
-use Rattle.it_ratio.specs.BestViews.{BestView, Least, Never, Unbounded}
-use Rattle.it_ratio.specs.BestViews.{BestView as bests}
-use Rattle.it_terms.specs.Tells.{TellsRow}
+use Rattle.it_ratio.specs.BestViews.{BestView, Least, Never, Unbounded, BestView as bests}
+use Rattle.it_terms.specs.RowsUnder.{IsPrintedRow}
+use Rattle.it_terms.specs.Tells.{TellsForms, TellsRow}
 use Rattle.it_terms.specs.Proofs.{TellsForm}
 use Rattle.it_terms.specs.FunctionProofs.{TellsFormUnder, by_comment}
 use Rattle.it_facts.specs.Points.{TellsPoint}
@@ -31,6 +34,11 @@ use Rattle.it_report.specs.Judging.{IsVerdict}
 use Rattle.it_region.specs.AnswerForms.{answer_forms}
 use Rattle.it_report.specs.LineVerdicts.{LineVerdict, is_invalid, numbered_line, verdict_line}
 use Rattle.it_canon.specs.QuestionDemands.{question_origins}
+use Rattle.it_canon.specs.TrueLines.{variable_count}
+use Rattle.it_tell.specs.OwnLines.{OwnLine, own_line_comment, own_lines}
+use Rattle.it_tell.specs.Settings.{is_plain}
+use Rattle.it_tell.specs.SortedRows.{rows_by_rates}
+use Rattle.it_tell.specs.CodeTexts.{code_text}
 use Rattle.it_tell.specs.declared.settings.Options.{Options}
 use Rattle.it_tell.specs.declared.settings.Style.{Style}
 use Rattle.it_tell.specs.declared.settings.Style.TheVariants.{Plain, Named, Whole}
@@ -49,9 +57,13 @@ step_line text = codes "    " ++ text ++ codes "\n"
 abbrev pub Each : {X A : Type 0} → (A → List ℕ) → (X → A → Type 0) → List X → List ℕ → Type 0
 Each {X} {A} shown tells items out = Groups (λ (s : Unit {0}) (x : X) (a : A). tells x a) (λ (s : Unit {0}) (x : X) (a : A). s) (λ (k : ℕ) (x : X) (a : A). shown a) 1 tt items tt out
 
--- a row in the question's own terms, or as reports have it and said to be that
-unfoldable pub IsRowText : NamesView → Terms → List ℕ → Type 0
-IsRowText v row text = TellsRow v row text ⊎ (text ≡ codes "as row " ++ row_text v Inequality row)
+-- a row told in the terms of an equal one where the question's functions hold, and behind it the lines that say these; plain ones aren't
+unfoldable pub IsPrintedRowText : BodyView → Style → Terms → List ℕ → Type 0
+IsPrintedRowText q style row text = (is_plain style ≡ false) × ((own : List ℕ) × (by : List ℕ) × (IsPrintedRow q row own by × (text ≡ own ++ by)))
+
+-- a row in the question's own terms, for all maps or where functions hold, or as reports have it and said to be that
+unfoldable pub IsRowText : BodyView → Style → Terms → List ℕ → Type 0
+IsRowText q style row text = TellsRow (problem_names q) row text ⊎ (IsPrintedRowText q style row text ⊎ (text ≡ codes "as row " ++ row_text (problem_names q) Inequality row))
 
 -- what is said of a row that isn't known to be needed, as a comment
 abbrev pub mark_comment : Mark → List ℕ
@@ -60,8 +72,12 @@ mark_comment Needed = []
 mark_comment Unsettled = codes "  # unsettled"
 
 -- a row of a region
-unfoldable pub IsMarkedRowText : NamesView → Mark × Terms → List ℕ → Type 0
-IsMarkedRowText v row text = (own : List ℕ) × (IsRowText v row.1 own × (text ≡ own ++ mark_comment row.0))
+unfoldable pub IsMarkedRowText : BodyView → Style → Mark × Terms → List ℕ → Type 0
+IsMarkedRowText q style row text = (own : List ℕ) × (IsRowText q style row.1 own × (text ≡ own ++ mark_comment row.0))
+
+-- the rows of a region in the order in which they are told: plain ones as they are
+abbrev pub told_rows : Style → ℕ → List (Mark × Terms) → List (Mark × Terms)
+told_rows style n rows = if is_plain style then rows else rows_by_rates n rows
 
 -- the weights of a certificate as answers have them, and said to be that
 abbrev pub weights_text : BodyView → List Origin → CertificateView → List ℕ
@@ -107,13 +123,42 @@ AreProofSteps q options proof steps = (steps ≡ []) ⊎ ((options.steps ≡ tru
 unfoldable pub AreProofTexts : BodyView → Options → Form × CertificateView → ProofTexts → Type 0
 AreProofTexts q options proof t = IsProofText q options.style proof t.proof × AreProofSteps q options t.proof t.steps
 
+-- Shannon's inequalities alone say that the form is at least 0: it is so at each polymatroid of n variables.
+abbrev pub IsByShannon : ℕ → Form → Type 0
+IsByShannon n form = (p : ℕ → ℤ) → IsPolymatroid n p → pos 0 ≤ℤ form p
+
+-- how an obligation is told: by nothing where Shannon's inequalities alone say it, else by texts of its proof
+abbrev pub TellsObligation : BodyView → Options → Form × CertificateView → Option ProofTexts → Type 0
+TellsObligation q options proof None = IsByShannon (variable_count q) proof.0
+TellsObligation q options proof (Some texts) = AreProofTexts q options proof texts
+
+-- its lines
+abbrev pub obligation_lines : Option ProofTexts → List ℕ
+obligation_lines None = []
+obligation_lines (Some texts) = proof_lines texts
+
+-- A line of the second region with sets put in for its auxiliary variables, as a relation that says what it obliges to or without one, and
+-- below it how that is proved. Where nothing stands below it, it says that Shannon's inequalities are enough.
+pub record AreOwnLineTexts (q : BodyView) (options : Options) (parts : List ℕ) (line : OwnLine) (out : List ℕ) : Type 0 where
+  pub relation : List ℕ
+  pub proofs : List ℕ
+  pub says : TellsForms (problem_names q) line.forms relation ⊎ (relation ≡ [])
+  pub are : Each obligation_lines (TellsObligation q options) (zip line.forms line.proofs) proofs
+  pub out_is : out ≡ indented_line (own_line_comment q parts line.origin relation (length proofs == 0)) ++ proofs
+
+-- the lines of a containment: the proofs of its obligations one after the other, or each under its line of the second region
+unfoldable pub AreContainedLines : BodyView → Options → Style → List ℕ → List CertificateView → List ℕ → Type 0
+AreContainedLines q options Plain parts ws out = Each proof_lines (AreProofTexts q options) (zip (answer_forms q (Contained parts ws)) ws) out
+AreContainedLines q options Named parts ws out = Each (λ lines. lines) (AreOwnLineTexts q options parts) (own_lines q parts ws) out
+AreContainedLines q options Whole parts ws out = Each (λ lines. lines) (AreOwnLineTexts q options parts) (own_lines q parts ws) out
+
 -- the lines below the first one: of the proofs of what the answer says, of its rows, or of its point
 unfoldable pub AreDetails : BodyView → Options → AnswerView → List ℕ → Type 0
 AreDetails q options (Yes proofs) out = Each proof_lines (AreProofTexts q options) (zip (answer_forms q (Yes proofs)) proofs) out
 AreDetails q options (No back values) out = (text : List ℕ) × (IsPointText (problem_names q) values text × (out ≡ indented_line text))
 AreDetails q options (Undecided cause) out = out ≡ []
-AreDetails q options (Region rows) out = Each indented_line (IsMarkedRowText (problem_names q)) rows out
-AreDetails q options (Contained parts proofs) out = Each proof_lines (AreProofTexts q options) (zip (answer_forms q (Contained parts proofs)) proofs) out
+AreDetails q options (Region rows) out = Each indented_line (IsMarkedRowText q options.style) (told_rows options.style (variable_count q) rows) out
+AreDetails q options (Contained parts proofs) out = AreContainedLines q options options.style parts proofs out
 AreDetails q options (Open tried) out = out ≡ []
 
 -- ---- the first line
@@ -129,11 +174,13 @@ head_line k q (Open tried) = open_line k tried
 
 -- ---- a line of a report
 
--- that it is invalid, with this verdict; its answer to the question that is asked, with these lines below the first one; its outer bound;
+-- that it is invalid, with this verdict; its answer to the question that is asked, with these lines below the first one; a no with these
+-- and its code; its outer bound;
 -- or that a question can't have what is asked for
 pub data Telling : Type 0 where
   Invalid : (verdict : LineVerdict) → Telling
   Answered : (source : Source) (answer : AnswerView) (details : List ℕ) → Telling
+  Coded : (source : Source) (answer : AnswerView) (code : ReportedCodeView) (details : List ℕ) → Telling
   Factored : (source : Source) (best : BestView) → Telling
   Bounded : (source : Source) (bounds : BoundsView) → Telling
   Misfit : Telling
@@ -144,6 +191,13 @@ pub record IsAccepted (line : List ℕ) (source : Source) (answer : AnswerView) 
   pub is : IsVerdict line verdict
   pub accepted : is_invalid verdict ≡ false
   pub reads : ReadsReport line (Ok (reports.Answered source answer))
+
+-- the line reads as this no with this code, and its verdict isn't an invalid one
+pub record IsAcceptedCode (line : List ℕ) (source : Source) (answer : AnswerView) (code : ReportedCodeView) : Type 0 where
+  pub verdict : LineVerdict
+  pub is : IsVerdict line verdict
+  pub accepted : is_invalid verdict ≡ false
+  pub reads : ReadsReport line (Ok (reports.Coded source answer code))
 
 -- the line reads as this of the factors that this asks for, and its verdict isn't an invalid one
 pub record IsAcceptedBest (line : List ℕ) (source : Source) (best : BestView) : Type 0 where
@@ -178,6 +232,7 @@ bounds_words b = codes "outer " ++ decimal (length b.rows) ++ codes " " ++ decim
 abbrev pub IsTelling : Options → List ℕ → Telling → Type 0
 IsTelling options line (Invalid v) = IsVerdict line v × (is_invalid v ≡ true)
 IsTelling options line (Answered source answer details) = IsAccepted line source answer × AreDetails (asked source).body options answer details
+IsTelling options line (Coded source answer code details) = IsAcceptedCode line source answer code × AreDetails (asked source).body options answer details
 IsTelling options line (Factored source best) = IsAcceptedBest line source best
 IsTelling options line (Bounded source bounds) = IsAcceptedBound line source bounds
 IsTelling options line Misfit = ReadsReport line (Ok reports.Misfit)
@@ -186,6 +241,7 @@ IsTelling options line Misfit = ReadsReport line (Ok reports.Misfit)
 abbrev pub tells_invalid : Telling → Bool
 tells_invalid (Invalid v) = true
 tells_invalid (Answered source answer details) = false
+tells_invalid (Coded source answer code details) = false
 tells_invalid (Factored source best) = false
 tells_invalid (Bounded source bounds) = false
 tells_invalid Misfit = false
@@ -194,6 +250,7 @@ tells_invalid Misfit = false
 abbrev pub telling_text : ℕ → Telling → List ℕ
 telling_text k (Invalid v) = verdict_line k v
 telling_text k (Answered source answer details) = head_line k (asked source).body answer ++ details
+telling_text k (Coded source answer code details) = head_line k (asked source).body answer ++ details ++ indented_line (code_text (asked source).body.names.variables code)
 telling_text k (Factored source best) = numbered_line k (best_words best)
 telling_text k (Bounded source bounds) = numbered_line k (bounds_words bounds)
 telling_text k Misfit = numbered_line k (codes "misfit")

@@ -1,10 +1,9 @@
-//! The lines below the first one of an answer: rows, proofs and points.
+//! The lines below the first one of an answer: proofs and points, and those of regions and containments.
 ghost use Rattle.std.specs.Prelude.{◌≡◌, ◌≤◌, ◌<◌, ◌+◌, ◌^◌, ◌++◌, length, map, codes, All, IfOk, IfSome, OnOk};
 ghost use Rattle.std.specs.List.{flat_map};
 ghost use Rattle.it_space.specs.Answers.{answer_view, certificate_view};
 ghost use Rattle.it_space.specs.Rows.{value};
 ghost use Rattle.it_space.specs.Answers.AnswerView.{Yes};
-ghost use Rattle.it_space.specs.declared.problems.Kind.TheVariants.{Inequality};
 ghost use Rattle.it_polymatroid.specs.Elementals.{elementals};
 ghost use Rattle.it_question.specs.Limits.{IsQuestion};
 ghost use Rattle.it_syntax.specs.Meaning.{relation_view};
@@ -13,96 +12,31 @@ ghost use Rattle.it_question.specs.ProblemLines.{problem_names};
 ghost use Rattle.it_canon.specs.TrueLines.{variable_count};
 ghost use Rattle.it_canon.specs.QuestionDemands.{question_origins};
 ghost use Rattle.it_certificate.specs.AnswerShapes.{HasQuestionShape};
-ghost use Rattle.it_print.specs.Lines.{AreListed, IsPrintable, IsRowOver, origins_of, row_text, values_text};
+ghost use Rattle.it_print.specs.Lines.{AreListed, IsPrintable, origins_of, values_text};
 ghost use Rattle.it_report.specs.Steps.{IsAboutRelation};
-ghost use Rattle.it_tell.specs.Tellings.{IsMarkedRowText, IsPointText, IsPrintedProof, IsProofText, IsRowText, indented_line, mark_comment, step_line, AreProofSteps, weights_text};
-ghost use Rattle.it_tell.specs.Steps.{AppendsDetails, AppendsEach, AppendsPoint, AppendsProof, AppendsProofs, AreFormRows, IsStyledText, contained_by, form_with_proof};
+ghost use Rattle.it_tell.specs.Tellings.{IsPointText, IsPrintedProof, IsProofText, indented_line, step_line, AreProofSteps, weights_text};
+ghost use Rattle.it_tell.specs.Steps.{AppendsDetails, AppendsPoint, AppendsProof, AppendsProofs, AreFormRows, IsStyledText, form_with_proof};
 
+use crate::containments::{Containment, write_contained};
+use crate::regions::write_rows;
 use crate::settings::{Options, Style, is_plain};
 use it_canon::{problem_names, target_rows};
 use it_facts::told_point;
-use it_print::{row_text, sum_text, values_text, write_signed};
+use it_print::{sum_text, values_text, write_signed};
 use it_question::types::{Question, Verb};
-use it_region::{candidate, obligations, pair};
-use it_space::{Answer, Certificate, Constraint, Kind, Mark, Point, Row, VarSet};
+use it_space::{Answer, Certificate, Constraint, Point, Row};
 use it_syntax::types::Relation;
-use it_terms::{PrintedProof, printed_form, told_form, told_row, told_steps};
+use it_terms::{PrintedProof, printed_form, told_form, told_steps};
 use std::alloc::{AllocError, Global};
 
 /// Appends a text as a line below the first one.
 #[tactic(auto, unfolding(crate::specs::Tellings::indented_line))]
-fn write_indented(out: &mut Vec<u8>, text: &[u8]) -> Result<(), AllocError>
+pub fn write_indented(out: &mut Vec<u8>, text: &[u8]) -> Result<(), AllocError>
     ensures { OnOk result (out.new.items ≡ out.old.items ++ indented_line text.now) }
 {
     out.extend_from_slice(b"  ")?;
     out.extend_from_slice(text)?;
     out.extend_from_slice(b"\n")
-}
-
-/// A row as reports have it.
-fn reported_row(alloc: Global, question: &Question, row: &Row) -> Result<Vec<u8>, AllocError>
-    requires { IsRowOver (problem_names (question_body question.now)) row.now }
-    ensures { IfOk result (λ t. t.items ≡ codes "as row " ++ row_text (problem_names (question_body question.now)) Inequality row.now) }
-{
-    let own = row_text(alloc, row, Kind::Inequality, problem_names(question))?;
-    let mut out = Vec::new(alloc);
-    out.extend_from_slice(b"as row ")?;
-    out.extend_from_slice(own.as_slice())?;
-    Ok(out)
-}
-
-/// A row in the question's own terms, or as reports have it.
-#[tactic(auto, unfolding(crate::specs::Tellings::IsRowText))]
-fn any_row(alloc: Global, question: &Question, row: &Row) -> Result<Vec<u8>, AllocError>
-    requires question { IsQuestion (question_body question.now) }
-    requires over { IsRowOver (problem_names (question_body question.now)) row.now }
-    ensures { IfOk result (λ t. IsRowText (problem_names (question_body question.now)) row.now t.items) }
-{
-    match told_row(alloc, question, row)? {
-        Some(text) => Ok(text),
-        None => reported_row(alloc, question, row),
-    }
-}
-
-/// What is said of a row by its mark, as a comment.
-fn mark_comment(mark: Mark) -> &'static [u8]
-    ensures { result.now ≡ mark_comment mark }
-{
-    match mark {
-        Mark::Plain => b"  # plain",
-        Mark::Needed => b"",
-        Mark::Unsettled => b"  # unsettled",
-    }
-}
-
-/// A row of a region.
-#[tactic(auto, unfolding(crate::specs::Tellings::IsMarkedRowText))]
-fn marked_row(alloc: Global, question: &Question, row: &(Mark, Row)) -> Result<Vec<u8>, AllocError>
-    requires question { IsQuestion (question_body question.now) }
-    requires over { IsRowOver (problem_names (question_body question.now)) row.now.1 }
-    ensures { IfOk result (λ t. IsMarkedRowText (problem_names (question_body question.now)) row.now t.items) }
-{
-    let mut text = any_row(alloc, question, &row.1)?;
-    text.extend_from_slice(mark_comment(row.0))?;
-    Ok(text)
-}
-
-/// Appends a line for each row of a region.
-fn write_rows(
-    alloc: Global,
-    out: &mut Vec<u8>,
-    question: &Question,
-    rows: &[(Mark, Row)],
-) -> Result<(), AllocError>
-    requires question { IsQuestion (question_body question.now) }
-    requires over { All (λ row. IsRowOver (problem_names (question_body question.now)) row.1) rows.now }
-    ensures { OnOk result (AppendsEach indented_line (IsMarkedRowText (problem_names (question_body question.now))) rows.now out.old.items out.new.items) }
-{
-    for row in rows {
-        let text = marked_row(alloc, question, row)?;
-        write_indented(out, text.as_slice())?;
-    }
-    Ok(())
 }
 
 /// The weights of a certificate as answers have them.
@@ -154,24 +88,6 @@ fn relation_rows(
     Ok(rows)
 }
 
-/// The rows of what a containment's parts oblige to, in order.
-fn obligation_rows(
-    alloc: Global,
-    question: &Question,
-    parts: &[VarSet],
-    proofs: &[Certificate],
-) -> Result<Vec<Row>, AllocError>
-    requires question { IsQuestion (question_body question.now) }
-    requires fits { HasQuestionShape (question_body question.now) (contained_by parts.now proofs.now) }
-    ensures { IfOk result (λ rows. AreFormRows (question_body question.now) (contained_by parts.now proofs.now) rows.items) }
-{
-    // the proofs are named in the clauses alone
-    let _proofs = proofs;
-    let pair = pair(alloc, question)?;
-    let rows = obligations(alloc, &pair, &candidate(parts))?;
-    Ok(rows)
-}
-
 /// A proof in a style where functions hold, and behind it the lines that say these; None in the style without.
 fn styled(proof: PrintedProof, style: Style) -> Result<Option<Vec<u8>>, AllocError>
     ensures { IfOk result (λ o. IfSome o (λ t. IsStyledText style proof.text.items proof.whole.items proof.by.items t.items)) }
@@ -196,6 +112,7 @@ fn printed_proof(
     question: &Question,
     row: &Row,
     certificate: &Certificate,
+    line: Option<&[u8]>,
     options: Options,
 ) -> Result<Option<Vec<u8>>, AllocError>
     requires { IsQuestion (question_body question.now) }
@@ -204,7 +121,7 @@ fn printed_proof(
     if options.steps || is_plain(options.style) {
         return Ok(None);
     }
-    let Some(proof) = printed_form(alloc, question, row, certificate, options.short)? else {
+    let Some(proof) = printed_form(alloc, question, row, certificate, line, options.short)? else {
         return Ok(None);
     };
     let text = styled(proof, options.style)?;
@@ -219,6 +136,7 @@ fn plain_proof(
     constraints: &[Constraint],
     row: &Row,
     certificate: &Certificate,
+    line: Option<&[u8]>,
     options: Options,
 ) -> Result<Vec<u8>, AllocError>
     requires question { IsQuestion (question_body question.now) }
@@ -227,7 +145,7 @@ fn plain_proof(
     requires there { All (λ w. w.0 < length (elementals (variable_count (question_body question.now))) + length constraints.now) certificate.now.weights.items }
     ensures { IfOk result (λ t. IsProofText (question_body question.now) options.style (form_with_proof row.now certificate.now) t.items) }
 {
-    match told_form(alloc, question, row, certificate, options.short)? {
+    match told_form(alloc, question, row, certificate, line, options.short)? {
         Some(text) => Ok(text),
         None => weights_text(alloc, question, constraints, certificate),
     }
@@ -241,6 +159,7 @@ fn row_proof(
     constraints: &[Constraint],
     row: &Row,
     certificate: &Certificate,
+    line: Option<&[u8]>,
     options: Options,
 ) -> Result<Vec<u8>, AllocError>
     requires question { IsQuestion (question_body question.now) }
@@ -249,9 +168,17 @@ fn row_proof(
     requires there { All (λ w. w.0 < length (elementals (variable_count (question_body question.now))) + length constraints.now) certificate.now.weights.items }
     ensures { IfOk result (λ t. IsProofText (question_body question.now) options.style (form_with_proof row.now certificate.now) t.items) }
 {
-    match printed_proof(alloc, question, row, certificate, options)? {
+    match printed_proof(alloc, question, row, certificate, line, options)? {
         Some(text) => Ok(text),
-        None => plain_proof(alloc, question, constraints, row, certificate, options),
+        None => plain_proof(
+            alloc,
+            question,
+            constraints,
+            row,
+            certificate,
+            line,
+            options,
+        ),
     }
 }
 
@@ -294,8 +221,8 @@ fn write_steps(out: &mut Vec<u8>, steps: &[Vec<u8>]) -> Result<(), AllocError>
     Ok(())
 }
 
-/// Appends the lines of the proof of a row.
-fn write_proof(
+/// Appends the lines of the proof of a row; where the row is a target of a line, in its terms on the left.
+pub fn write_proof(
     alloc: Global,
     out: &mut Vec<u8>,
     question: &Question,
@@ -303,6 +230,7 @@ fn write_proof(
     constraints: &[Constraint],
     row: &Row,
     certificate: &Certificate,
+    line: Option<&[u8]>,
 ) -> Result<(), AllocError>
     requires question { IsQuestion (question_body question.now) }
     requires some { 1 ≤ variable_count (question_body question.now) }
@@ -310,14 +238,22 @@ fn write_proof(
     requires there { All (λ w. w.0 < length (elementals (variable_count (question_body question.now))) + length constraints.now) certificate.now.weights.items }
     ensures { OnOk result (AppendsProof (question_body question.now) options (form_with_proof row.now certificate.now) out.old.items out.new.items) }
 {
-    let text = row_proof(alloc, question, constraints, row, certificate, options)?;
+    let text = row_proof(
+        alloc,
+        question,
+        constraints,
+        row,
+        certificate,
+        line,
+        options,
+    )?;
     let steps = steps_of(alloc, question, options, text.as_slice())?;
     write_indented(out, text.as_slice())?;
     write_steps(out, steps.as_slice())
 }
 
 /// Appends the lines of each proof of a row, in order.
-fn write_proofs(
+pub fn write_proofs(
     alloc: Global,
     out: &mut Vec<u8>,
     question: &Question,
@@ -335,7 +271,16 @@ fn write_proofs(
 {
     for (i, certificate) in proofs.iter().enumerate() {
         let row = &rows[i];
-        write_proof(alloc, out, question, options, constraints, row, certificate)?;
+        write_proof(
+            alloc,
+            out,
+            question,
+            options,
+            constraints,
+            row,
+            certificate,
+            None,
+        )?;
     }
     Ok(())
 }
@@ -357,35 +302,6 @@ fn write_relation_proofs(
     ensures { OnOk result (AppendsDetails (question_body question.now) options (Yes (map certificate_view proofs.now)) out.old.items out.new.items) }
 {
     let rows = relation_rows(alloc, question, proofs)?;
-    write_proofs(
-        alloc,
-        out,
-        question,
-        options,
-        constraints,
-        rows.as_slice(),
-        proofs,
-    )
-}
-
-/// Appends the lines of the proofs of a containment's obligations.
-fn write_obligations(
-    alloc: Global,
-    out: &mut Vec<u8>,
-    question: &Question,
-    options: Options,
-    constraints: &[Constraint],
-    parts: &[VarSet],
-    proofs: &[Certificate],
-) -> Result<(), AllocError>
-    requires question { IsQuestion (question_body question.now) }
-    requires some { 1 ≤ variable_count (question_body question.now) }
-    requires origins { origins_of constraints.now ≡ question_origins (question_body question.now) }
-    requires there { AreListed (variable_count (question_body question.now)) (length constraints.now) proofs.now }
-    requires fits { HasQuestionShape (question_body question.now) (contained_by parts.now proofs.now) }
-    ensures { OnOk result (AppendsDetails (question_body question.now) options (contained_by parts.now proofs.now) out.old.items out.new.items) }
-{
-    let rows = obligation_rows(alloc, question, parts, proofs)?;
     write_proofs(
         alloc,
         out,
@@ -468,16 +384,16 @@ pub fn write_details(
         ),
         Answer::No { point, .. } => write_point(alloc, out, question, point),
         Answer::Undecided(_) => Ok(()),
-        Answer::Region(rows) => write_rows(alloc, out, question, rows.as_slice()),
-        Answer::Contained { parts, proofs } => write_obligations(
-            alloc,
-            out,
-            question,
-            options,
-            constraints,
-            parts.as_slice(),
-            proofs.as_slice(),
-        ),
+        Answer::Region(rows) => write_rows(alloc, out, question, options, rows.as_slice()),
+        Answer::Contained { parts, proofs } => {
+            let asked = Containment {
+                question,
+                options,
+                constraints,
+                parts: parts.as_slice(),
+            };
+            write_contained(alloc, out, &asked, proofs.as_slice())
+        }
         Answer::Open { .. } => Ok(()),
     }
 }

@@ -1,5 +1,5 @@
 //! What follows from how a call ends and from what may be told, each theorem as the contract of a function.
-ghost use Rattle.it_tell.specs.Laws.{EachLineIsTold, Headline, ToldAnswersAreTrue};
+ghost use Rattle.it_tell.specs.Laws.{EachLineIsTold, Headline, ToldAnswersAreTrue, ToldCodesAreTrue};
 
 /// What a call that is done has written: what is told of each line of all that the source had.
 #[tactic(auto, using(crate::proofs::LawLemmas::headline))]
@@ -17,4 +17,9 @@ pub fn each_line_is_told()
 /// region lies in the second.
 pub fn told_answers_are_true()
     ensures { ToldAnswersAreTrue }
+{}
+
+/// Of a no with a code that is told, the relation fails at random variables: the values of the point are the entropies of the code's.
+pub fn told_codes_are_true()
+    ensures { ToldCodesAreTrue }
 {}

@@ -1,11 +1,14 @@
 //! What is told of a report: the answers of its lines in the field's own notation.
 #![tactic(auto)]
 
+mod codes;
+mod containments;
 mod details;
 mod factors;
 mod heads;
 pub mod laws;
 mod lines;
+mod regions;
 mod reports;
 pub mod settings;
 mod top;

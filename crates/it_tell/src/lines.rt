@@ -7,17 +7,19 @@ ghost use Rattle.it_canon.specs.QuestionDemands.{question_demands};
 ghost use Rattle.it_certificate.specs.AnswerShapes.{HasQuestionShape};
 ghost use Rattle.it_print.specs.Lines.{IsPrintable};
 ghost use Rattle.it_certificate.specs.Bounds.{bounds_view};
+ghost use Rattle.it_certificate.specs.CodeReading.{HasCodedShape, reported_code_view};
 ghost use Rattle.it_certificate.specs.Reports.{KeepsLimits};
 ghost use Rattle.it_report.specs.LineVerdicts.{numbered_line};
 ghost use Rattle.it_tell.specs.Tellings.{bounds_words};
-ghost use Rattle.it_tell.specs.Steps.{CanBePrinted, IsAnsweredText, IsReportedText, IsToldLine};
+ghost use Rattle.it_tell.specs.Steps.{CanBePrinted, IsAnsweredText, IsCodedText, IsReportedText, IsToldLine};
 
-use crate::details::write_details;
+use crate::codes::code_text;
+use crate::details::{write_details, write_indented};
 use crate::factors::best_line;
 use crate::heads::{head_line, numbered_line};
 use crate::settings::Options;
 use it_canon::problem;
-use it_certificate::{ReportFault, Reported, ReportedBounds, answer_from_json};
+use it_certificate::{ReportFault, Reported, ReportedBounds, ReportedCode, answer_from_json};
 use it_print::write_number;
 use it_question::types::Question;
 use it_report::judge;
@@ -52,6 +54,27 @@ fn answered_text(
     Ok(text)
 }
 
+/// The lines about a no with a code: those of the no, and below them the code.
+#[tactic(auto, using(crate::proofs::CodeLemmas::coded_appended))]
+fn coded_text(
+    alloc: Global,
+    options: Options,
+    k: usize,
+    question: &Question,
+    answer: &Answer,
+    code: &ReportedCode,
+) -> Result<Vec<u8>, AllocError>
+    requires question { IsQuestion (question_body question.now) }
+    requires fits { HasCodedShape (question_body question.now) (answer_view answer.now) (reported_code_view code.now) }
+    requires printable { IsPrintable (question_body question.now) (length (question_demands (question_body question.now))) answer.now }
+    ensures { IfOk result (λ t. IsCodedText options k (question_body question.now) (answer_view answer.now) (reported_code_view code.now) t.items) }
+{
+    let mut text = answered_text(alloc, options, k, question, answer)?;
+    let code_line = code_text(alloc, &question.names, code)?;
+    write_indented(&mut text, code_line.as_slice())?;
+    Ok(text)
+}
+
 /// The line about an outer bound: how many rows and rays it has.
 #[tactic(auto, unfolding(crate::specs::Tellings::bounds_words))]
 fn bounds_line(alloc: Global, k: usize, bounds: &ReportedBounds) -> Result<Vec<u8>, AllocError>
@@ -80,6 +103,11 @@ fn reported_text(
         Reported::Answered { question, answer } => {
             answered_text(alloc, options, k, question, answer)
         }
+        Reported::Coded {
+            question,
+            answer,
+            code,
+        } => coded_text(alloc, options, k, question, answer, code),
         Reported::Factored { question: _, best } => best_line(alloc, k, best),
         Reported::Bounded {
             question: _,

@@ -16,7 +16,7 @@ use Rattle.it_terms.specs.Tells.{IsRelationText, SaysRow, TellsRow}
 pub space_of_names : (v : NamesView) (s : Space) → s ≡ record { variables = length v.variables; rates = length v.rates } → AreNames v → 1 ≤ length v.variables → IsSpace s
 space_of_names v s e names some = subst IsSpace (sym e) (record { some = some; few = names.few_variables; few_rates = names.few_rates })
 
-compares_by_difference : (s : Sign) (x y : ℤ) → s ≢ Equal → Relates s x y ↔ (pos 0 ≤ℤ signed_difference s (x -ℤ y))
+pub compares_by_difference : (s : Sign) (x y : ℤ) → s ≢ Equal → Relates s x y ↔ (pos 0 ≤ℤ signed_difference s (x -ℤ y))
 compares_by_difference AtLeast x y h = (λ a. omega (arith, ints, a), λ a. omega (arith, ints, a))
 compares_by_difference AtMost x y h = (λ a. omega (arith, ints, a), λ a. omega (arith, ints, a))
 compares_by_difference Equal x y h = absurd (h refl)

@@ -9,3 +9,5 @@ pub mod StepLemmas
 pub mod SaidLemmas
 pub mod UnderLemmas
 pub mod ToldUnder
+pub mod SignLemmas
+pub mod RowLemmas

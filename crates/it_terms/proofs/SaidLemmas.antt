@@ -30,7 +30,7 @@ row_says false zero (suc t) p z e = omega (arith, ints, z, e)
 row_says false (suc f) zero p z e = omega (arith, ints, z, e)
 row_says false (suc f) (suc t) p z e = omega (arith, ints, z, e)
 
-constraint_at : (cs : List Constraint) (i : ℕ) (c : Constraint) → i < length cs → generator_at (map of_constraint cs) i ≡ of_constraint (get_or cs i c)
+pub constraint_at : (cs : List Constraint) (i : ℕ) (c : Constraint) → i < length cs → generator_at (map of_constraint cs) i ≡ of_constraint (get_or cs i c)
 constraint_at [] i c h = absurd (omega arith)
 constraint_at (x ∷ cs) zero c h = refl
 constraint_at (x ∷ cs) (suc i) c h = constraint_at cs i c (omega arith)

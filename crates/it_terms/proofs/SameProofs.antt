@@ -111,7 +111,7 @@ proof_under_of_same n lines r named target g k s u = record {
 }
 
 -- constraints with these origins have them in order
-placed_origins : (places : List Origin) (cs : List Constraint) → AllZip ComesFrom places cs → origins_of cs ≡ places
+pub placed_origins : (places : List Origin) (cs : List Constraint) → AllZip ComesFrom places cs → origins_of cs ≡ places
 placed_origins [] [] a = refl
 placed_origins [] (c ∷ cs) a = absurd a
 placed_origins (x ∷ places) [] a = absurd a

@@ -82,7 +82,7 @@ proof_by_excess s lines r named target cs ds row equal one proves allowed there 
     nothing_more left right rest row e f = omega (arith, ints, e, f)
 
 -- what the functions are that constraints say
-said_are_dependences : (n : ℕ) (g : Generators) (lines : List ℕ) (ds : List Dependence) → All (IsSaid n g lines) ds → AreDependences n ds
+pub said_are_dependences : (n : ℕ) (g : Generators) (lines : List ℕ) (ds : List Dependence) → All (IsSaid n g lines) ds → AreDependences n ds
 said_are_dependences n g lines ds s = record {
   inside = All-weaker (IsSaid n g lines) (λ d. IsInside d.from d.to) (λ d t. t.inside) ds s;
   below = All-weaker (IsSaid n g lines) (λ d. d.to < 2 ^ n) (λ d t. t.below) ds s;

@@ -4,3 +4,5 @@ pub mod ProofSteps
 pub mod Sums
 pub mod Proposals
 pub mod FunctionProofs
+pub mod RowsUnder
+pub mod Signs

@@ -87,7 +87,7 @@ fn put_atom(out: &mut Vec<Term>, atom: Atom, times: i128) -> Result<(), Untold> 
 }
 
 /// The union of some sets.
-fn union_of(sets: &[VarSet]) -> VarSet {
+pub fn union_of(sets: &[VarSet]) -> VarSet {
     let mut union = VarSet::empty();
     for set in sets {
         union = union.union(*set);
@@ -97,7 +97,7 @@ fn union_of(sets: &[VarSet]) -> VarSet {
 
 /// The link of a chain at its member of this number, counted from 0: that those before it and the one after it are
 /// independent given it.
-fn link(sets: &[VarSet], at: usize) -> Result<Atom, Untold> {
+pub fn link(sets: &[VarSet], at: usize) -> Result<Atom, Untold> {
     if at >= sets.len() || sets.len() - at < 2 {
         return Err(Untold::NotFound);
     }
@@ -139,7 +139,7 @@ fn put_given(out: &mut Vec<Term>, given: &Given, part: u16, times: i128) -> Resu
 }
 
 /// The item of a number, counted from 1, of two lists one after the other.
-fn item_of<'a, T>(own: &'a [T], more: &'a [T], number: u16) -> Result<&'a T, Untold> {
+pub fn item_of<'a, T>(own: &'a [T], more: &'a [T], number: u16) -> Result<&'a T, Untold> {
     if number == 0 {
         return Err(Untold::NotFound);
     }

@@ -123,7 +123,7 @@ fn put_in_order(summands: &mut Vec<Summand>, summand: Summand) -> Result<(), All
 }
 
 /// A term as an atom: the author's own measure where that is the same over closed sets, else one of few names.
-fn atom_of(closures: &Closures, measures: &[Measure], term: &ClosedTerm) -> Atom {
+pub fn atom_of(closures: &Closures, measures: &[Measure], term: &ClosedTerm) -> Atom {
     for measure in measures {
         if closures.fold(&measure.atom) == Some(*term) {
             return measure.atom;

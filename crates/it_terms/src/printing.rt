@@ -297,6 +297,7 @@ fn any_printed(
     problem: &Problem,
     target: &Row,
     certificate: &Certificate,
+    line: Option<&[u8]>,
     short: bool,
 ) -> Result<Option<PrintedProof>, Untold>
     requires question { IsQuestion (question_body question.now) }
@@ -306,7 +307,7 @@ fn any_printed(
 {
     let names = names_of(question);
     let measures = measures(alloc, question.source.as_slice(), names)?;
-    let goal = goal_of(alloc, question, measures.as_slice(), names, target)?;
+    let goal = goal_of(alloc, question, measures.as_slice(), names, target, line)?;
     let asked = Asked {
         question,
         measures: measures.as_slice(),
@@ -329,20 +330,21 @@ fn any_printed(
 
 /// The proof of a row from the lines of a question, by a certificate, as papers print it; None where none was found. Over sets that
 /// are closed under the functions that the question's `given` lines say, terms that these make 0 are left out, and others are
-/// joined by the chain rules; constraints stand behind them by the names of their lines. Where a short one is asked for, one with
-/// the least sum of terms is looked for as well, which may take long.
+/// joined by the chain rules; constraints stand behind them by the names of their lines. The left side is that of `told_form`. Where
+/// a short one is asked for, one with the least sum of terms is looked for as well, which may take long.
 pub fn printed_form(
     alloc: Global,
     question: &Question,
     target: &Row,
     certificate: &Certificate,
+    line: Option<&[u8]>,
     short: bool,
 ) -> Result<Option<PrintedProof>, AllocError>
     requires { IsQuestion (question_body question.now) }
     ensures { IfOk result (λ o. IfSome o (λ t. ArePrinted (question_body question.now) (value target.now) t.text.items t.whole.items t.by.items)) }
 {
     let posed = problem(alloc, question)?;
-    match any_printed(alloc, question, &posed, target, certificate, short) {
+    match any_printed(alloc, question, &posed, target, certificate, line, short) {
         Ok(proof) => Ok(proof),
         Err(Untold::NotFound) => Ok(None),
         Err(Untold::Memory) => Err(AllocError),

@@ -14,6 +14,7 @@ use crate::joining::{add_term, joined_terms};
 use crate::judging::is_same;
 use crate::measures::{Measure, measures};
 use crate::proof_judging::{Proposal, Split, tells_proof};
+use crate::reading::relation_text;
 use crate::shortest::shortest;
 use crate::telling::names_of;
 use crate::untold::Untold;
@@ -313,20 +314,42 @@ fn place_of(rows: &[Row], row: &Row) -> Option<usize> {
     None
 }
 
-/// A row as a goal: in the own terms of the relation that the question asks for, where it is the row of one of its targets.
+/// A row as a goal in the terms of a line, None where the line isn't read as a relation of which the row is a target's.
+fn line_goal(alloc: Global, line: &[u8], names: &Names, row: &Row) -> Result<Option<Goal>, Untold>
+    requires { 1 ≤ length names.now.variables }
+{
+    let Some(relation) = relation_text(alloc, line, names)? else {
+        return Ok(None);
+    };
+    let targets = target_rows(alloc, &relation, names.space())?;
+    match place_of(targets.as_slice(), row) {
+        Some(place) => Ok(Some(relation_goal(alloc, &relation, place)?)),
+        None => Ok(None),
+    }
+}
+
+/// A row as a goal: in the own terms of the relation that the question asks for, where it is the row of one of its targets, or in
+/// those of a line that says it.
 pub fn goal_of(
     alloc: Global,
     question: &Question,
     measures: &[Measure],
     names: &Names,
     row: &Row,
+    line: Option<&[u8]>,
 ) -> Result<Goal, Untold>
-    requires { IsQuestion (question_body question.now) }
+    requires question { IsQuestion (question_body question.now) }
+    requires some { 1 ≤ length names.now.variables }
 {
     if let Verb::Prove(relation) = &question.verb {
         let targets = target_rows(alloc, relation, question.names.space())?;
         if let Some(place) = place_of(targets.as_slice(), row) {
             return relation_goal(alloc, relation, place);
+        }
+    }
+    if let Some(line) = line {
+        if let Some(goal) = line_goal(alloc, line, names, row)? {
+            return Ok(goal);
         }
     }
     row_goal(alloc, measures, names, row)
@@ -340,6 +363,7 @@ fn any_proof(
     target: &Row,
     constraints: &[Constraint],
     certificate: &Certificate,
+    line: Option<&[u8]>,
     short: bool,
 ) -> Result<Option<Vec<u8>>, Untold>
     requires question { IsQuestion (question_body question.now) }
@@ -347,7 +371,7 @@ fn any_proof(
     ensures { IfOk result (MayProve names.now target.now constraints.now) }
 {
     let measures = measures(alloc, question.source.as_slice(), names)?;
-    let goal = goal_of(alloc, question, measures.as_slice(), names, target)?;
+    let goal = goal_of(alloc, question, measures.as_slice(), names, target, line)?;
     let asked = Asked {
         question,
         measures: measures.as_slice(),
@@ -367,13 +391,15 @@ fn any_proof(
 }
 
 /// The text of the proof of a row from the lines of a question, by a certificate: an equation between a multiple of the row
-/// and a sum of terms over sets and of multiples of the question's constraints; None where none was found. Where a short one
-/// is asked for, one with the least sum of terms over sets is looked for first, which may take long.
+/// and a sum of terms over sets and of multiples of the question's constraints; None where none was found. On its left are the terms
+/// of the question's relation or of the line, a text, where the row is that of one of their targets. Where a short one is asked for,
+/// one with the least sum of terms over sets is looked for first, which may take long.
 pub fn told_form(
     alloc: Global,
     question: &Question,
     target: &Row,
     certificate: &Certificate,
+    line: Option<&[u8]>,
     short: bool,
 ) -> Result<Option<Vec<u8>>, AllocError>
     requires { IsQuestion (question_body question.now) }
@@ -389,6 +415,7 @@ pub fn told_form(
         target,
         constraints,
         certificate,
+        line,
         short,
     ) {
         Ok(text) => Ok(text),

@@ -28,7 +28,7 @@ pub fn names_of(question: &Question) -> &Names
 }
 
 /// The text that a sum for a row's part over sets makes.
-fn written(
+pub fn written(
     alloc: Global,
     measures: &[Measure],
     names: &Names,

@@ -1,9 +1,9 @@
 //! Tests: entropies of linear codes.
 
 ghost use Rattle.std.specs.Prelude.{◌≡◌, length, IfOk};
-ghost use Rattle.it_codes.specs.Codes.{IsCode};
+ghost use Rattle.it_codes.specs.Codes.{IsCode, code_view};
 
-use it_codes::{Field, LinearCode, Variable, are_entropies, entropies_of};
+use it_codes::{Field, LinearCode, Variable, entropies_of, first_other};
 use it_space::{Point, Space};
 use std::alloc::{AllocError, Global};
 
@@ -16,7 +16,7 @@ fn variable(alloc: Global, first: u8, second: u8) -> Result<Variable, AllocError
 
 /// Of two symbols a and b: a, b, a + b, a + 2 b.
 fn code(alloc: Global, field: Field) -> Result<LinearCode, AllocError>
-    ensures code { IfOk result IsCode }
+    ensures code { IfOk result (λ c. IsCode (code_view c)) }
     ensures four { IfOk result (λ c. length c.variables.items ≡ 4) }
 {
     let variables = vec![in alloc;
@@ -44,11 +44,12 @@ fn twice_any_two(alloc: Global) -> Result<Point, AllocError>
     Ok(Point::new(space, values))
 }
 
-/// Whether any two of the four determine the message.
-fn are_any_two(alloc: Global, field: Field) -> Result<bool, AllocError> {
+/// The first set whose entropy isn't that of any two of the four, 0 where there is none.
+fn first_of_other_entropy(alloc: Global, field: Field) -> Result<u16, AllocError> {
     let code = code(alloc, field)?;
     let point = twice_any_two(alloc)?;
-    are_entropies(alloc, &code, 2, &point)
+    let other = first_other(alloc, &code, 2, &point)?;
+    Ok(other.unwrap_or(0))
 }
 
 /// The entropy of a and a + 2 b together, 0 where there is none.
@@ -62,8 +63,8 @@ fn outer_two(alloc: Global, field: Field) -> Result<i128, AllocError> {
 
 /// Whether any two determine the message over the field of three elements, and over that of two the first and last are one.
 fn are_by_hand(alloc: Global) -> bool {
-    matches!(are_any_two(alloc, Field::Three), Ok(true))
-        && matches!(are_any_two(alloc, Field::Two), Ok(false))
+    matches!(first_of_other_entropy(alloc, Field::Three), Ok(0))
+        && matches!(first_of_other_entropy(alloc, Field::Two), Ok(9))
         && matches!(outer_two(alloc, Field::Three), Ok(2))
         && matches!(outer_two(alloc, Field::Two), Ok(1))
 }

@@ -23,7 +23,7 @@ Answers question files in the field's own notation (docs/ask.md); - is standard 
 --needs      behind each needed row of a region a point at which it alone fails
 --if         below each no the weakest independences and functions that make a yes of it, on up to six variables
 --copies     below each no the first copy, or pair of copies, with which it is a yes
---code       below each no a linear code over GF(2) or GF(3) whose ranks are the point's entropies
+--code       below each no a linear code over GF(2) or GF(3) whose ranks are the point's entropies, judged by itip check
 --latex      for LaTeX; with --document as a whole document
 --copy       a file with a head of copies, which a file that begins with `copy` is without this word
 --sharing    a sharing file, which a file that begins with `secret` is without this word
@@ -246,10 +246,10 @@ class Asker:
         from . import linear
 
         found = decoded(line)
-        said, ranks = linear.told(found)
-        verdict = run([self.prover, "check"], ranks + "\n")[1] if ranks else "1 valid\n"
+        said, coded = linear.told(found)
+        verdict = run([self.prover, "check"], coded + "\n")[1] if coded else "1 valid\n"
         if verdict != "1 valid\n":
-            say(f"{name}, question {number}: itip check finds of the code's ranks: {verdict.partition(' ')[2].strip()}")
+            say(f"{name}, question {number}: itip check finds of the code: {verdict.partition(' ')[2].strip()}")
             return [linear.NONE]
         return [said]
 

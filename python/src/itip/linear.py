@@ -23,6 +23,7 @@ if TYPE_CHECKING:
 SECONDS = 2.0  # for one point
 FIELDS = (2, 3)
 MOST_MESSAGES = 4096
+MOST_TIMES = 2**32 - 1  # that a line of a report has
 NONE = "no linear code over GF(2) or GF(3) was found"
 LETTERS = "abcdefghijklmnopqrstuvwxyz"
 
@@ -42,35 +43,40 @@ class Code:
         sets = range(1 << len(self.spaces))
         return [rank([vector for place, space in enumerate(self.spaces) if number >> place & 1 for vector in space], self.elements) for number in sets]
 
+    def functions(self) -> list[list[Vector]]:
+        """Those that are told of each variable."""
+        return [fewest(space, self.elements) for space in self.spaces]
+
+    def value(self) -> dict[str, Any]:
+        """The `code` of a report's line (docs/answers.md)."""
+        functions = self.functions()
+        symbols = max((len(vector) for of in functions for vector in of), default=0)
+        return {"field": self.elements, "functions": functions, "symbols": symbols, "times": self.times}
+
     def text(self, names: Sequence[str], taken: Sequence[str]) -> str:
         """`over GF(2): X = (a), Y = (b), Z = (a + b)`, with letters for the symbols that are no names."""
         letters = [letter for letter in (*LETTERS, *(2 * letter for letter in LETTERS)) if letter not in taken]
         parts = []
-        for name, space in zip(names, self.spaces):
-            functions = ", ".join(written(vector, letters) for vector in fewest(space, self.elements))
+        for name, of in zip(names, self.functions()):
+            functions = ", ".join(written(vector, letters) for vector in of)
             parts.append(f"{name} = ({functions})" if functions else f"{name} constant")
         return f"over GF({self.elements}): {', '.join(parts)}" + (f"; the point is {self.times} times its ranks" if self.times > 1 else "")
 
 
 def told(answer: dict[str, Any]) -> tuple[str, str]:
-    """What is said of the point of a no; and where that is a code a no of its own, a line of a report, with the code's ranks in the point's place."""
+    """What is said of the point of a no; and where that is a code the no with it, a line of a report that is to be judged."""
     lines = [line.replace(",", " ").split() for line in answer["question"].splitlines()]
     names = lines[0][1:]
     rates = [name for word, *listed in lines if word == "rates" for name in listed]
-    sets = (1 << len(names)) - 1
-    values = [int(value) for value in answer["point"]]
-    entropies = [0, *values[:sets]]
+    entropies = [0, *(int(value) for value in answer["point"][: (1 << len(names)) - 1])]
     four = without_code(entropies, len(names))
     if four:
         first, second, third, fourth = (names[place] for place in four)
         return f"no linear code: Ingleton's inequality fails for {first}, {second}; {third}, {fourth}", ""
     code = code_at(entropies, len(names))
-    if not code:
+    if not code or code.times > MOST_TIMES:
         return NONE, ""
-    # the point's rates go with a multiple of the ranks where so many ranks have no whole rates
-    unit = code.times if all(rate % code.times == 0 for rate in values[sets:]) else 1
-    ranks = [code.times // unit * value for value in code.ranks()[1:]] + [rate // unit for rate in values[sets:]]
-    return code.text(names, [*names, *rates]), json.dumps({**answer, "point": [str(value) for value in ranks]})
+    return code.text(names, [*names, *rates]), json.dumps({**answer, "code": code.value()})
 
 
 def without_code(h: Ranks, variables: int) -> tuple[int, ...]:

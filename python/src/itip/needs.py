@@ -33,7 +33,7 @@ def with_points(rows: Sequence[str], answers: Sequence[Sequence[str]]) -> list[s
 
 
 def _is_needed(row: str) -> bool:
-    return "#" not in row and not row.startswith("as ")
+    return not row.endswith(("# unsettled", "# plain")) and not row.startswith("as ")
 
 
 def _with_point(row: str, answer: Sequence[str]) -> str:

@@ -164,10 +164,24 @@ class Paper:
         right = formula(f"({chosen})" if "," in chosen else chosen, self.names)
         return left + " := " + (r"\emptyset" if chosen == "0" else right)
 
+    def _own_line(self, line: str) -> str:
+        """A line of a containment's second region with its sets put in, as a sentence."""
+        found = re.fullmatch(r"# ((?:given|row) [0-9.]+)(?: with (.*?))?(?:: (.*?))?(, by Shannon's inequalities)?", line)
+        if not found:
+            return rf"\par\texttt{{{escaped(line)}}}"
+        name, chosen, relation, by = found.groups()
+        sets = " with " + ", ".join(f"${self._substitution(part)}$" for part in chosen.split(", ")) if chosen else ""
+        said = f": ${formula(relation, self.names)}$" if relation else ""
+        return rf"\par {name.capitalize()}{sets}{said}{by or ''}."
+
     def _put_line(self, line: str) -> None:
-        """A relation, which waits for more; a point; its facts; or what is no formula."""
-        text, *comments = re.split(" *# ", line.lstrip(" "), maxsplit=1)
-        comment = "".join(comments)
+        """A relation, which waits for more; a line that it proves; a point; its facts; or what is no formula."""
+        if line.startswith(("# given ", "# row ")):
+            self._close_relations()
+            self.parts.append(self._own_line(line))
+            return
+        text, *comments = re.split(" *# ", line.lstrip(" "))
+        comment = "; ".join(comments)
         if text.startswith("as row "):
             text = text[len("as row ") :]
             comment = "as the report has it" + (", " + comment if comment else "")

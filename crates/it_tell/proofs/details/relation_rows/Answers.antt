@@ -7,7 +7,7 @@ use Rattle.it_question.specs.Limits.{IsVerbOver}
 use Rattle.it_question.specs.Questions.{VerbView, question_body}
 use Rattle.it_question.specs.ProblemLines.{names_under}
 use Rattle.it_report.proofs.JudgingLemmas.{target_rows_are, yes_is_about_relation}
-use Rattle.it_tell.specs.Steps.{AreFormRows}
+use Rattle.it_tell.specs.Steps.{AreRowsFor}
 use Rattle.it_tell.proofs.details.relation_rows.Goals as goal
 
 pub relation_of-relation-requires : goal.relation_of-relation-requires
@@ -17,7 +17,7 @@ pub target_rows-requires-clause-within : goal.target_rows-requires-clause-within
 target_rows-requires-clause-within c = rw c.space.ensures.counts (subst (λ (v : VerbView). IsVerbOver (question_body c.args.question.now).names v) c.relation_of-relation.ensures c.requires.question.verb)
 
 pub returns : goal.returns
-unfolding AreFormRows
+unfolding AreRowsFor
 returns c =
     let q = question_body c.args.question.now in (
       c.space.result,

@@ -13,7 +13,7 @@ pub returns-in-Region : goal.returns-in-Region
 returns-in-Region c = rw c.in-Region.is (on_ok_weaker c.write_rows.result (region_details (question_body c.args.question.now) c.args.options c.in-Region.rows.items c.args.out.now.items c.write_rows.new.out.items) (rw c.as_slice-in-Region.ensures.value at c.write_rows.ensures))
 
 pub returns-in-Contained : goal.returns-in-Contained
-returns-in-Contained c = rw c.in-Contained.is (rw c.as_slice-in-Contained-2.ensures.value at (rw c.as_slice-in-Contained.ensures.value at c.write_obligations.ensures))
+returns-in-Contained c = rw c.in-Contained.is (rw c.as_slice-in-Contained-2.ensures.value at (rw c.as_slice-in-Contained.ensures.value at c.write_contained.ensures))
 
 pub returns-in-Undecided : goal.returns-in-Undecided
 returns-in-Undecided c = rw c.in-Undecided.is (undecided_details (question_body c.args.question.now) c.args.options _ c.args.out.now.items)

@@ -1,0 +1,272 @@
+//! The linear code of a report: what its point is said to be of.
+ghost use Rattle.std.specs.Prelude.{◌≡◌, ◌≤◌, map, option_and_then, option_map};
+ghost use Rattle.serde_json.specs.View.{items_view, view};
+ghost use Rattle.it_codes.specs.Codes.{functions_of, size};
+ghost use Rattle.it_question.specs.Limits.{IsQuestion};
+ghost use Rattle.it_question.specs.Questions.{question_body};
+ghost use Rattle.it_certificate.specs.CodeReading.{code_in, coefficient_at, field_at, field_of, function_at, most_symbols, names_code, reported_code_view, some_of, symbols_at, tells_code, times_at, variable_at, variables_at};
+ghost use Rattle.it_certificate.specs.Numerals.{below};
+ghost use Rattle.it_certificate.specs.Parts.{all_of};
+ghost use Rattle.it_certificate.specs.Steps.{GivesKeyed, Yields};
+
+use crate::answers::fault;
+use crate::keys::{Key, Refusal, ReportFault};
+use crate::lists::array_of;
+use crate::members::text_of_member;
+use crate::numbers::count_at;
+use crate::types::ReportedCode;
+use it_codes::{Field, LinearCode, Variable};
+use it_question::types::Question;
+use serde_json::Value;
+use std::alloc::Global;
+
+/// Whether the word of the answer is `no` and there is a code.
+#[tactic(auto, unfolding(crate::specs::CodeReading::tells_code))]
+pub fn tells_code(value: &Value) -> bool
+    ensures { result ≡ tells_code (view value.now) }
+{
+    match text_of_member(value.get("answer")) {
+        Some(text) => text == "no" && value.get("code").is_some(),
+        None => false,
+    }
+}
+
+// ---- numbers
+
+/// The field of so many elements.
+fn field_of(elements: u32) -> Option<Field>
+    ensures { result ≡ field_of elements }
+{
+    match elements {
+        2 => Some(Field::Two),
+        3 => Some(Field::Three),
+        _ => None,
+    }
+}
+
+/// The field.
+fn field_at(value: &Value) -> Option<Field>
+    ensures { result ≡ field_at (view value.now) }
+{
+    field_of(count_at(value.get("field")?)?)
+}
+
+/// The most symbols of a message, so that there are at most 4,096 messages.
+fn most_symbols(field: Field) -> u32
+    ensures value { result ≡ most_symbols field }
+    ensures few { result ≤ 12 }
+{
+    match field {
+        Field::Two => 12,
+        Field::Three => 7,
+    }
+}
+
+/// The number, if it is below a bound.
+fn number_below(bound: u32, number: u32) -> Option<u8>
+    requires { bound ≤ 256 }
+    ensures { result ≡ below bound number }
+{
+    if number < bound {
+        Some(number as u8)
+    } else {
+        None
+    }
+}
+
+/// How many symbols a message has.
+fn symbols_at(field: Field, value: &Value) -> Option<u8>
+    ensures { result ≡ symbols_at field (view value.now) }
+{
+    number_below(most_symbols(field) + 1, count_at(value.get("symbols")?)?)
+}
+
+/// The number, unless it is 0.
+fn some_of(number: u32) -> Option<u32>
+    ensures { result ≡ some_of number }
+{
+    if number >= 1 { Some(number) } else { None }
+}
+
+/// What a symbol counts in the point's values.
+fn times_at(value: &Value) -> Option<u32>
+    ensures { result ≡ times_at (view value.now) }
+{
+    some_of(count_at(value.get("times")?)?)
+}
+
+// ---- functions
+
+/// An element of a field of so many elements.
+#[tactic(auto, unfolding(crate::specs::CodeReading::coefficient_at))]
+fn coefficient_at(elements: u32, value: &Value) -> Option<u8>
+    requires { elements ≤ 3 }
+    ensures { result ≡ coefficient_at elements (view value.now) }
+{
+    number_below(elements, count_at(value)?)
+}
+
+/// Elements in order.
+fn coefficients(alloc: Global, elements: u32, values: &[Value]) -> Result<Vec<u8>, Refusal>
+    requires { elements ≤ 3 }
+    ensures { Yields (λ v. v.items) result (all_of (coefficient_at elements) (items_view values.now)) }
+{
+    let mut out = Vec::new(alloc);
+    for value in values {
+        let Some(coefficient) = coefficient_at(elements, value) else {
+            return Err(Refusal::Shape);
+        };
+        out.push(coefficient)?;
+    }
+    Ok(out)
+}
+
+/// A linear function of so many symbols.
+#[tactic(auto, unfolding(crate::specs::CodeReading::function_at))]
+fn function_at(alloc: Global, elements: u32, symbols: u8, value: &Value) -> Result<Vec<u8>, Refusal>
+    requires { elements ≤ 3 }
+    ensures { Yields (λ v. v.items) result (function_at elements symbols (view value.now)) }
+{
+    let Some(values) = array_of(Some(value)) else {
+        return Err(Refusal::Shape);
+    };
+    let function = coefficients(alloc, elements, values)?;
+    if function.len() == symbols as usize {
+        Ok(function)
+    } else {
+        Err(Refusal::Shape)
+    }
+}
+
+/// Functions in order.
+fn functions(
+    alloc: Global,
+    elements: u32,
+    symbols: u8,
+    values: &[Value],
+) -> Result<Vec<Vec<u8>>, Refusal>
+    requires { elements ≤ 3 }
+    ensures { Yields (λ v. map (λ f. f.items) v.items) result (all_of (function_at elements symbols) (items_view values.now)) }
+{
+    let mut out = Vec::new(alloc);
+    for value in values {
+        let function = function_at(alloc, elements, symbols, value)?;
+        out.push(function)?;
+    }
+    Ok(out)
+}
+
+/// A variable, by its functions.
+#[tactic(auto, unfolding(crate::specs::CodeReading::variable_at))]
+fn variable_at(
+    alloc: Global,
+    elements: u32,
+    symbols: u8,
+    value: &Value,
+) -> Result<Variable, Refusal>
+    requires { elements ≤ 3 }
+    ensures { Yields functions_of result (variable_at elements symbols (view value.now)) }
+{
+    let Some(values) = array_of(Some(value)) else {
+        return Err(Refusal::Shape);
+    };
+    let functions = functions(alloc, elements, symbols, values)?;
+    Ok(Variable { functions })
+}
+
+/// Variables in order.
+fn variables(
+    alloc: Global,
+    elements: u32,
+    symbols: u8,
+    values: &[Value],
+) -> Result<Vec<Variable>, Refusal>
+    requires { elements ≤ 3 }
+    ensures { Yields (λ v. map functions_of v.items) result (all_of (variable_at elements symbols) (items_view values.now)) }
+{
+    let mut out = Vec::new(alloc);
+    for value in values {
+        let variable = variable_at(alloc, elements, symbols, value)?;
+        out.push(variable)?;
+    }
+    Ok(out)
+}
+
+/// So many variables.
+#[tactic(auto, unfolding(crate::specs::CodeReading::variables_at))]
+fn variables_at(
+    alloc: Global,
+    elements: u32,
+    symbols: u8,
+    count: usize,
+    value: &Value,
+) -> Result<Vec<Variable>, Refusal>
+    requires { elements ≤ 3 }
+    ensures { Yields (λ v. map functions_of v.items) result (variables_at elements symbols count (view value.now)) }
+{
+    let Some(values) = array_of(value.get("functions")) else {
+        return Err(Refusal::Shape);
+    };
+    let variables = variables(alloc, elements, symbols, values)?;
+    if variables.len() == count {
+        Ok(variables)
+    } else {
+        Err(Refusal::Shape)
+    }
+}
+
+// ---- a code
+
+/// A code of so many variables.
+#[tactic(auto, unfolding(crate::specs::CodeReading::code_in), using(it_codes::proofs::EntropyLemmas::three_elements))]
+fn code_in(alloc: Global, count: usize, value: &Value) -> Result<ReportedCode, Refusal>
+    ensures { Yields reported_code_view result (code_in count (view value.now)) }
+{
+    let Some(field) = field_at(value) else {
+        return Err(Refusal::Shape);
+    };
+    let Some(symbols) = symbols_at(field, value) else {
+        return Err(Refusal::Shape);
+    };
+    let variables = variables_at(alloc, field.size(), symbols, count, value)?;
+    let Some(times) = times_at(value) else {
+        return Err(Refusal::Shape);
+    };
+    let code = LinearCode {
+        field,
+        symbols,
+        variables,
+    };
+    Ok(ReportedCode { code, times })
+}
+
+/// The code of a member.
+fn code_of_member(
+    alloc: Global,
+    count: usize,
+    value: Option<&Value>,
+) -> Result<ReportedCode, Refusal>
+    ensures { Yields reported_code_view result (option_and_then (code_in count) (option_map (λ v. view v.now) value.entry)) }
+{
+    match value {
+        Some(value) => code_in(alloc, count, value),
+        None => Err(Refusal::Shape),
+    }
+}
+
+/// The code of a question's variables.
+#[tactic(auto, unfolding(crate::specs::CodeReading::names_code))]
+pub fn question_code(
+    alloc: Global,
+    value: &Value,
+    question: &Question,
+) -> Result<ReportedCode, ReportFault>
+    requires { IsQuestion (question_body question.now) }
+    ensures { GivesKeyed reported_code_view result (names_code question.now.names (view value.now)) }
+{
+    let count = question.names.space().variables as usize;
+    match code_of_member(alloc, count, value.get("code")) {
+        Ok(code) => Ok(code),
+        Err(refusal) => Err(fault(refusal, Key::Code)),
+    }
+}

@@ -1,0 +1,408 @@
+//! The lines below the first one of a containment: the proofs of what it obliges to, each under its line of the second region.
+ghost use Rattle.std.specs.Prelude.{◌≡◌, ◌≤◌, ◌<◌, ◌+◌, ◌++◌, length, map, codes, All, IfOk, OnOk, [], drop, slice_index_or, true, if◌then◌else◌, ◌==◌};
+ghost use Rattle.std.specs.Bool.{OnTrue};
+ghost use Rattle.it_space.specs.Answers.{certificate_view};
+ghost use Rattle.it_space.specs.Rows.{IsOver, value};
+ghost use Rattle.it_space.specs.Problems.{IsProblem, problem_view};
+ghost use Rattle.it_space.specs.Spaces.{size_of};
+ghost use Rattle.it_polymatroid.specs.Elementals.{elementals};
+ghost use Rattle.it_question.specs.Limits.{IsQuestion};
+ghost use Rattle.it_question.specs.Questions.{question_body};
+ghost use Rattle.it_question.specs.ProblemLines.{problem_names};
+ghost use Rattle.it_canon.specs.TrueLines.{variable_count};
+ghost use Rattle.it_canon.specs.QuestionDemands.{question_origins};
+ghost use Rattle.it_certificate.specs.AnswerShapes.{HasQuestionShape};
+ghost use Rattle.it_print.specs.Lines.{AreListed, auxiliary_names, origins_of, part_for, set_text};
+ghost use Rattle.it_region.specs.Pairs.{IsContainment};
+ghost use Rattle.it_tell.specs.OwnLines.{own_line_comment, relation_part, sets_with, with_text};
+ghost use Rattle.it_tell.specs.Steps.{AppendsDetails, AppendsEachOwnLine, AppendsObligation, AppendsOwnLine, AppendsOwnProofs, AreObligations, AreOwnConstraints, HasObligations, IsFreeProblem, SaysOrNothing, contained_by, form_with_proof, obliged};
+ghost use Rattle.it_tell.specs.Tellings.{IsByShannon};
+
+use crate::details::{write_indented, write_proof, write_proofs};
+use crate::settings::{Options, is_plain};
+use it_canon::{problem_names, region_lines};
+use it_check::{Verdict, check_yes};
+use it_print::{write_origin, write_set};
+use it_question::types::{Question, Verb};
+use it_region::{candidate, obligations, pair};
+use it_space::{Certificate, Constraint, Kind, Origin, Problem, Row, VarSet};
+use it_syntax::Names;
+use it_terms::told_line;
+use std::alloc::{AllocError, Global};
+
+/// A containment question, how it is told, the constraints of its problem, and the sets of the second region's auxiliary variables.
+#[derive(Clone, Copy)]
+pub struct Containment<'a> {
+    pub question: &'a Question,
+    pub options: Options,
+    pub constraints: &'a [Constraint],
+    pub parts: &'a [VarSet],
+}
+
+/// What the second region's own lines demand, by their numbers among these.
+fn own_constraints(alloc: Global, question: &Question) -> Result<Vec<Constraint>, AllocError>
+    requires question { IsQuestion (question_body question.now) }
+    requires contains { IsContainment (question_body question.now).verb }
+    ensures { IfOk result (λ cs. AreOwnConstraints (question_body question.now) cs.items) }
+{
+    let Verb::Contain { second, .. } = &question.verb else {
+        unreachable!()
+    };
+    let space = second.names.space();
+    let own = region_lines(alloc, second, 1, 1, space)?;
+    Ok(own)
+}
+
+/// The rows of what a containment's parts oblige to, in order.
+fn obligation_rows(
+    alloc: Global,
+    asked: &Containment<'_>,
+    proofs: &[Certificate],
+) -> Result<Vec<Row>, AllocError>
+    requires question { IsQuestion (question_body asked.now.question.now) }
+    requires fits { HasQuestionShape (question_body asked.now.question.now) (contained_by asked.now.parts.now proofs.now) }
+    ensures { IfOk result (λ rows. AreObligations (question_body asked.now.question.now) (contained_by asked.now.parts.now proofs.now) rows.items) }
+{
+    // the proofs are named in the clauses alone
+    let _proofs = proofs;
+    let pair = pair(alloc, asked.question)?;
+    let rows = obligations(alloc, &pair, &candidate(asked.parts))?;
+    Ok(rows)
+}
+
+// ---- the comment of a line
+
+/// A set, or `0` where it is empty.
+fn write_set_or_zero(out: &mut Vec<u8>, names: &Names, set: VarSet) -> Result<(), AllocError>
+    ensures { OnOk result (out.new.items ≡ out.old.items ++ (if set == 0 then codes "0" else set_text names.now.variables set)) }
+{
+    if set.number() == 0 {
+        out.extend_from_slice(b"0")
+    } else {
+        write_set(out, names, set)
+    }
+}
+
+/// The name of a variable, by its number.
+fn name_of(names: &Names, variable: u8) -> &[u8]
+    requires { variable < length names.now.variables }
+    ensures { result.now ≡ slice_index_or names.now.variables variable [] }
+{
+    names.variable_name(variable)
+}
+
+/// A variable of the second region, and the set that it stands for.
+#[tactic(auto, unfolding(it_print::specs::Lines::part_for))]
+fn write_choice(
+    out: &mut Vec<u8>,
+    names: &Names,
+    second: &Names,
+    variable: u8,
+    set: VarSet,
+) -> Result<(), AllocError>
+    requires { variable < length second.now.variables }
+    ensures { OnOk result (out.new.items ≡ out.old.items ++ part_for names.now.variables (slice_index_or second.now.variables variable []) set) }
+{
+    out.extend_from_slice(b" ")?;
+    out.extend_from_slice(name_of(second, variable))?;
+    out.extend_from_slice(b":=")?;
+    write_set_or_zero(out, names, set)
+}
+
+/// What stands before the first auxiliary variable, or before a later one.
+fn before_choice(is_first: bool) -> &'static [u8]
+    ensures { result.now ≡ (if is_first then codes " with" else codes ",") }
+{
+    if is_first { b" with" } else { b"," }
+}
+
+/// The sets for the variables of the second region from one on, by the names of the first one.
+fn write_choices(
+    out: &mut Vec<u8>,
+    names: &Names,
+    second: &Names,
+    from: u8,
+    sets: &[VarSet],
+) -> Result<(), AllocError>
+    requires { length sets.now ≡ length (drop from second.now.variables) }
+    ensures { OnOk result (out.new.items ≡ out.old.items ++ sets_with true names.now.variables (drop from second.now.variables) sets.now) }
+{
+    // asked for its clause, that there are at most ten variables
+    let _space = second.space();
+    for (i, set) in sets.iter().enumerate() {
+        out.extend_from_slice(before_choice(i == 0))?;
+        write_choice(out, names, second, from + i as u8, *set)?;
+    }
+    Ok(())
+}
+
+/// The sets for the auxiliary variables of the second region.
+fn write_parts(out: &mut Vec<u8>, asked: &Containment<'_>) -> Result<(), AllocError>
+    requires contains { IsContainment (question_body asked.now.question.now).verb }
+    requires counted { length asked.now.parts.now ≡ length (auxiliary_names (question_body asked.now.question.now).names (question_body asked.now.question.now).verb) }
+    ensures { OnOk result (out.new.items ≡ out.old.items ++ with_text (question_body asked.now.question.now) asked.now.parts.now) }
+{
+    let Verb::Contain { second, .. } = &asked.question.verb else {
+        unreachable!()
+    };
+    let common = asked.question.names.space().variables;
+    let names = problem_names(asked.question);
+    write_choices(out, names, &second.names, common, asked.parts)
+}
+
+/// A relation after a colon, where there is one.
+fn write_relation(out: &mut Vec<u8>, relation: &[u8]) -> Result<(), AllocError>
+    ensures { OnOk result (out.new.items ≡ out.old.items ++ relation_part relation.now) }
+{
+    if relation.is_empty() {
+        return Ok(());
+    }
+    out.extend_from_slice(b": ")?;
+    out.extend_from_slice(relation)
+}
+
+/// What is said of a line by how it is proved.
+fn by_shannon_text(is_by_shannon: bool) -> &'static [u8]
+    ensures { result.now ≡ (if is_by_shannon then codes ", by Shannon's inequalities" else []) }
+{
+    if is_by_shannon {
+        b", by Shannon's inequalities"
+    } else {
+        b""
+    }
+}
+
+/// The comment of a line of the second region: its name, the sets, the relation that it then is, and whether it needs no proof.
+#[tactic(auto, unfolding(crate::specs::OwnLines::own_line_comment))]
+fn own_line_comment(
+    alloc: Global,
+    asked: &Containment<'_>,
+    origin: Origin,
+    relation: &[u8],
+    is_by_shannon: bool,
+) -> Result<Vec<u8>, AllocError>
+    requires contains { IsContainment (question_body asked.now.question.now).verb }
+    requires counted { length asked.now.parts.now ≡ length (auxiliary_names (question_body asked.now.question.now).names (question_body asked.now.question.now).verb) }
+    ensures { IfOk result (λ t. t.items ≡ own_line_comment (question_body asked.now.question.now) asked.now.parts.now origin relation.now is_by_shannon) }
+{
+    let mut out = Vec::new(alloc);
+    out.extend_from_slice(b"# ")?;
+    write_origin(&mut out, origin)?;
+    write_parts(&mut out, asked)?;
+    write_relation(&mut out, relation)?;
+    out.extend_from_slice(by_shannon_text(is_by_shannon))?;
+    Ok(out)
+}
+
+// ---- the lines
+
+/// The problem of a question without its constraints.
+#[tactic(auto, using(crate::proofs::OwnLineLemmas::free_problem))]
+fn free_problem(alloc: Global, question: &Question) -> Problem
+    requires { IsQuestion (question_body question.now) }
+    ensures { IsFreeProblem (question_body question.now) result }
+{
+    let space = problem_names(question).space();
+    let constraints = Vec::new(alloc);
+    Problem { space, constraints }
+}
+
+/// Whether Shannon's inequalities alone say a row to be at least 0, by its certificate.
+#[tactic(auto, using(crate::proofs::OwnLineLemmas::valid_is_by_shannon))]
+fn is_by_shannon(problem: &Problem, row: &Row, proof: &Certificate) -> bool
+    requires problem { IsProblem (problem_view problem.now) }
+    requires none { problem.now.constraints.items ≡ [] }
+    requires over { IsOver (size_of problem.now.space) row.now }
+    ensures { OnTrue result (IsByShannon problem.now.space.variables (value row.now)) }
+{
+    check_yes(problem, row, proof) == Verdict::Valid
+}
+
+/// The text of a line of the second region with sets put in, empty where there is none.
+#[tactic(auto, unfolding(crate::specs::Steps::SaysOrNothing))]
+fn line_text(
+    alloc: Global,
+    asked: &Containment<'_>,
+    origin: Origin,
+    rows: &[Row],
+) -> Result<Vec<u8>, AllocError>
+    requires { IsQuestion (question_body asked.now.question.now) }
+    ensures { IfOk result (λ t. SaysOrNothing (problem_names (question_body asked.now.question.now)) (map value rows.now) t.items) }
+{
+    match told_line(alloc, asked.question, asked.parts, origin, rows)? {
+        Some(text) => Ok(text),
+        None => Ok(Vec::new(alloc)),
+    }
+}
+
+/// Appends the lines of the proof of an obligation, unless Shannon's inequalities alone say it: those of a problem without constraints.
+#[tactic(auto, using(crate::proofs::OwnLineLemmas::obligation_free, crate::proofs::OwnLineLemmas::obligation_proved))]
+fn write_obligation(
+    alloc: Global,
+    out: &mut Vec<u8>,
+    asked: &Containment<'_>,
+    free: &Problem,
+    relation: &[u8],
+    row: &Row,
+    proof: &Certificate,
+) -> Result<(), AllocError>
+    requires question { IsQuestion (question_body asked.now.question.now) }
+    requires some { 1 ≤ variable_count (question_body asked.now.question.now) }
+    requires origins { origins_of asked.now.constraints.now ≡ question_origins (question_body asked.now.question.now) }
+    requires there { All (λ w. w.0 < length (elementals (variable_count (question_body asked.now.question.now))) + length asked.now.constraints.now) proof.now.weights.items }
+    requires free { IsFreeProblem (question_body asked.now.question.now) free.now }
+    requires over { IsOver (size_of free.now.space) row.now }
+    ensures { OnOk result (AppendsObligation (question_body asked.now.question.now) asked.now.options (form_with_proof row.now proof.now) out.old.items out.new.items) }
+{
+    if is_by_shannon(free, row, proof) {
+        return Ok(());
+    }
+    write_proof(
+        alloc,
+        out,
+        asked.question,
+        asked.options,
+        asked.constraints,
+        row,
+        proof,
+        Some(relation),
+    )?;
+    Ok(())
+}
+
+/// The lines of the proofs of what a line of the second region obliges to, without those that Shannon's inequalities alone say.
+fn own_proofs(
+    alloc: Global,
+    asked: &Containment<'_>,
+    free: &Problem,
+    relation: &[u8],
+    rows: &[Row],
+    proofs: &[Certificate],
+) -> Result<Vec<u8>, AllocError>
+    requires question { IsQuestion (question_body asked.now.question.now) }
+    requires some { 1 ≤ variable_count (question_body asked.now.question.now) }
+    requires origins { origins_of asked.now.constraints.now ≡ question_origins (question_body asked.now.question.now) }
+    requires there { AreListed (variable_count (question_body asked.now.question.now)) (length asked.now.constraints.now) proofs.now }
+    requires free { IsFreeProblem (question_body asked.now.question.now) free.now }
+    requires over { All (IsOver (size_of free.now.space)) rows.now }
+    requires as_many { length rows.now ≡ length proofs.now }
+    ensures { IfOk result (λ v. AppendsOwnProofs (question_body asked.now.question.now) asked.now.options rows.now (map certificate_view proofs.now) [] v.items) }
+{
+    let mut out = Vec::new(alloc);
+    for (i, row) in rows.iter().enumerate() {
+        write_obligation(alloc, &mut out, asked, free, relation, row, &proofs[i])?;
+    }
+    Ok(out)
+}
+
+/// Appends a line of the second region as a comment, and below it the proofs of what it obliges to.
+fn write_own_line(
+    alloc: Global,
+    out: &mut Vec<u8>,
+    asked: &Containment<'_>,
+    free: &Problem,
+    origin: Origin,
+    rows: &[Row],
+    proofs: &[Certificate],
+) -> Result<(), AllocError>
+    requires question { IsQuestion (question_body asked.now.question.now) }
+    requires some { 1 ≤ variable_count (question_body asked.now.question.now) }
+    requires origins { origins_of asked.now.constraints.now ≡ question_origins (question_body asked.now.question.now) }
+    requires contains { IsContainment (question_body asked.now.question.now).verb }
+    requires counted { length asked.now.parts.now ≡ length (auxiliary_names (question_body asked.now.question.now).names (question_body asked.now.question.now).verb) }
+    requires there { AreListed (variable_count (question_body asked.now.question.now)) (length asked.now.constraints.now) proofs.now }
+    requires free { IsFreeProblem (question_body asked.now.question.now) free.now }
+    requires over { All (IsOver (size_of free.now.space)) rows.now }
+    requires as_many { length rows.now ≡ length proofs.now }
+    ensures { OnOk result (AppendsOwnLine (question_body asked.now.question.now) asked.now.options asked.now.parts.now origin rows.now (map certificate_view proofs.now) out.old.items out.new.items) }
+{
+    let relation = line_text(alloc, asked, origin, rows)?;
+    let relation = relation.as_slice();
+    let below = own_proofs(alloc, asked, free, relation, rows, proofs)?;
+    let below = below.as_slice();
+    let comment = own_line_comment(alloc, asked, origin, relation, below.is_empty())?;
+    write_indented(out, comment.as_slice())?;
+    out.extend_from_slice(below)?;
+    Ok(())
+}
+
+/// How many rows a constraint of this kind obliges to.
+fn obliged(kind: Kind) -> usize
+    ensures { result ≡ obliged kind }
+{
+    match kind {
+        Kind::Inequality => 1,
+        Kind::Equation => 2,
+    }
+}
+
+/// Appends each line of the second region so, in order: `own` is what its lines demand, and the rows are what each obliges to, one after
+/// the other.
+fn write_own_lines(
+    alloc: Global,
+    out: &mut Vec<u8>,
+    asked: &Containment<'_>,
+    free: &Problem,
+    own: &[Constraint],
+    rows: &[Row],
+    proofs: &[Certificate],
+) -> Result<(), AllocError>
+    requires question { IsQuestion (question_body asked.now.question.now) }
+    requires some { 1 ≤ variable_count (question_body asked.now.question.now) }
+    requires contains { IsContainment (question_body asked.now.question.now).verb }
+    requires counted { length asked.now.parts.now ≡ length (auxiliary_names (question_body asked.now.question.now).names (question_body asked.now.question.now).verb) }
+    requires origins { origins_of asked.now.constraints.now ≡ question_origins (question_body asked.now.question.now) }
+    requires there { AreListed (variable_count (question_body asked.now.question.now)) (length asked.now.constraints.now) proofs.now }
+    requires free { IsFreeProblem (question_body asked.now.question.now) free.now }
+    requires over { All (IsOver (size_of free.now.space)) rows.now }
+    requires as_many { length rows.now ≡ length proofs.now }
+    requires all { HasObligations own.now (length rows.now) }
+    ensures { OnOk result (AppendsEachOwnLine (question_body asked.now.question.now) asked.now.options asked.now.parts.now own.now rows.now (map certificate_view proofs.now) out.old.items out.new.items) }
+{
+    let mut rows_left = rows;
+    let mut proofs_left = proofs;
+    for constraint in own {
+        let count = obliged(constraint.kind);
+        let (own_rows, later_rows) = rows_left.split_at(count);
+        let (own_proofs, later_proofs) = proofs_left.split_at(count);
+        let origin = constraint.origin;
+        write_own_line(alloc, out, asked, free, origin, own_rows, own_proofs)?;
+        rows_left = later_rows;
+        proofs_left = later_proofs;
+    }
+    Ok(())
+}
+
+/// Appends the lines of a containment: plain proofs of its obligations one after the other, or each under its line of the second region.
+#[tactic(auto, unfolding(crate::specs::Tellings::AreContainedLines))]
+pub fn write_contained(
+    alloc: Global,
+    out: &mut Vec<u8>,
+    asked: &Containment<'_>,
+    proofs: &[Certificate],
+) -> Result<(), AllocError>
+    requires question { IsQuestion (question_body asked.now.question.now) }
+    requires some { 1 ≤ variable_count (question_body asked.now.question.now) }
+    requires origins { origins_of asked.now.constraints.now ≡ question_origins (question_body asked.now.question.now) }
+    requires there { AreListed (variable_count (question_body asked.now.question.now)) (length asked.now.constraints.now) proofs.now }
+    requires counted { length asked.now.parts.now ≡ length (auxiliary_names (question_body asked.now.question.now).names (question_body asked.now.question.now).verb) }
+    requires fits { HasQuestionShape (question_body asked.now.question.now) (contained_by asked.now.parts.now proofs.now) }
+    ensures { OnOk result (AppendsDetails (question_body asked.now.question.now) asked.now.options (contained_by asked.now.parts.now proofs.now) out.old.items out.new.items) }
+{
+    let rows = obligation_rows(alloc, asked, proofs)?;
+    let rows = rows.as_slice();
+    if is_plain(asked.options.style) {
+        return write_proofs(
+            alloc,
+            out,
+            asked.question,
+            asked.options,
+            asked.constraints,
+            rows,
+            proofs,
+        );
+    }
+    let free = free_problem(alloc, asked.question);
+    let own = own_constraints(alloc, asked.question)?;
+    write_own_lines(alloc, out, asked, &free, own.as_slice(), rows, proofs)
+}

@@ -1,0 +1,128 @@
+//! The line of a containment's second region with sets put in, judged before it is handed out.
+ghost use Rattle.std.specs.Prelude.{◌≡◌, ◌≤◌, IfOk, IfSome, length, map};
+ghost use Rattle.std.specs.Bool.{OnTrue};
+ghost use Rattle.std.specs.List.{AllZip};
+ghost use Rattle.it_space.specs.Spaces.{IsSpace};
+ghost use Rattle.it_space.specs.Rows.{value};
+ghost use Rattle.it_syntax.specs.Givens.{IsRelationOf};
+ghost use Rattle.it_syntax.specs.Meaning.{relation_view};
+ghost use Rattle.it_question.specs.Limits.{IsQuestion};
+ghost use Rattle.it_question.specs.Questions.{question_body};
+ghost use Rattle.it_question.specs.ProblemLines.{problem_names};
+ghost use Rattle.it_terms.specs.Signs.{AreLeastTogether};
+ghost use Rattle.it_terms.specs.Tells.{SaysForms, TellsForms};
+
+use crate::judging::is_same;
+use crate::measures::measures;
+use crate::reading::relation_text;
+use crate::substituting::substituted;
+use crate::telling::names_of;
+use crate::untold::Untold;
+use crate::writing::sums_text;
+use it_canon::target_rows;
+use it_question::types::Question;
+use it_space::{Origin, Row, Space, VarSet, normal};
+use it_syntax::Names;
+use it_syntax::types::Relation;
+use std::alloc::{AllocError, Global};
+
+/// Whether two rows are at least 0 at the same maps: they are the same in lowest terms.
+#[tactic(auto, using(crate::proofs::SignLemmas::least_together))]
+fn are_least_together(alloc: Global, row: &Row, other: &Row) -> Result<bool, AllocError>
+    ensures { IfOk result (λ b. OnTrue b (AreLeastTogether row.now other.now)) }
+{
+    let low = normal(row.copy(alloc)?);
+    let other_low = normal(other.copy(alloc)?);
+    Ok(is_same(&low, &other_low))
+}
+
+/// Whether rows are as many as others, and in order at least 0 at the same maps.
+fn are_all_least_together(alloc: Global, rows: &[Row], others: &[Row]) -> Result<bool, AllocError>
+    ensures { IfOk result (λ b. OnTrue b (AllZip AreLeastTogether rows.now others.now)) }
+{
+    if rows.len() != others.len() {
+        return Ok(false);
+    }
+    for (i, row) in rows.iter().enumerate() {
+        let together = are_least_together(alloc, row, &others[i])?;
+        if !together {
+            return Ok(false);
+        }
+    }
+    Ok(true)
+}
+
+/// Whether a relation says just that these rows are at least 0: an equation two of them, its own and the one turned.
+fn says_rows(
+    alloc: Global,
+    relation: &Relation,
+    rows: &[Row],
+    space: Space,
+) -> Result<bool, AllocError>
+    requires space { IsSpace space }
+    requires within { IsRelationOf space.variables space.rates (relation_view relation.now) }
+    ensures { IfOk result (λ b. OnTrue b (SaysForms space.variables (relation_view relation.now) (map value rows.now))) }
+{
+    let targets = target_rows(alloc, relation, space)?;
+    let together = are_all_least_together(alloc, targets.as_slice(), rows)?;
+    Ok(together)
+}
+
+/// Whether a text, read as what stands after the word of a `row` or `prove` line, says that these rows are at least 0.
+fn tells_rows(alloc: Global, text: &[u8], names: &Names, rows: &[Row]) -> Result<bool, AllocError>
+    requires some { 1 ≤ length names.now.variables }
+    ensures { IfOk result (λ b. OnTrue b (TellsForms names.now (map value rows.now) text.now)) }
+{
+    match relation_text(alloc, text, names)? {
+        Some(relation) => says_rows(alloc, &relation, rows, names.space()),
+        None => Ok(false),
+    }
+}
+
+/// The text of a line of a containment's second region with these parts put in.
+fn line_text(
+    alloc: Global,
+    question: &Question,
+    names: &Names,
+    parts: &[VarSet],
+    origin: Origin,
+) -> Result<Vec<u8>, Untold>
+    requires { 1 ≤ length names.now.variables }
+{
+    let relation = substituted(alloc, question, parts, origin)?;
+    let measures = measures(alloc, question.source.as_slice(), names)?;
+    Ok(sums_text(
+        alloc,
+        measures.as_slice(),
+        names,
+        relation.left.terms.as_slice(),
+        relation.sign,
+        relation.right.terms.as_slice(),
+    )?)
+}
+
+/// The text of a line of a containment's second region, by its number among the region's own lines, with a set put in for each auxiliary
+/// variable: as its author wrote it, without the terms of which nothing is left. None where it isn't read as a relation that says just
+/// these rows to be at least 0.
+pub fn told_line(
+    alloc: Global,
+    question: &Question,
+    parts: &[VarSet],
+    origin: Origin,
+    rows: &[Row],
+) -> Result<Option<Vec<u8>>, AllocError>
+    requires { IsQuestion (question_body question.now) }
+    ensures { IfOk result (λ o. IfSome o (λ text. TellsForms (problem_names (question_body question.now)) (map value rows.now) text.items)) }
+{
+    let names = names_of(question);
+    let text = match line_text(alloc, question, names, parts, origin) {
+        Ok(text) => text,
+        Err(Untold::Memory) => return Err(AllocError),
+        Err(Untold::NotFound) => return Ok(None),
+    };
+    if tells_rows(alloc, text.as_slice(), names, rows)? {
+        Ok(Some(text))
+    } else {
+        Ok(None)
+    }
+}
