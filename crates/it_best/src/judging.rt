@@ -14,9 +14,9 @@ ghost use Rattle.it_best.specs.PhaseSteps.{AreSides, CertifyBelow, CertifyFactor
 
 use crate::numbers::{certificate, turned_point, whole_point};
 use it_check::{Verdict, check_no, check_yes};
-use it_columns::{opposite_row, push_some};
+use it_columns::opposite_row;
 use it_fraction::{Fraction, Wide, difference, signed_product};
-use it_space::{Certificate, Point, Problem, Row, RowFault, value};
+use it_space::{Certificate, Point, Problem, Row, RowFault, push_some, value};
 use std::alloc::Global;
 
 /// A coefficient of a factor's numerator times the left side less its denominator times the right one.

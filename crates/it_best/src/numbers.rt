@@ -16,9 +16,9 @@ ghost use Rattle.it_tableau.specs.Operations.{rationals};
 
 use crate::unknowns::Unknown;
 use it_closure::column_count;
-use it_columns::{common_scale, push_some, scaled_values};
+use it_columns::{common_scale, scaled_values};
 use it_fraction::{Fraction, Wide};
-use it_space::{Certificate, Kind, Point, RowFault, Space};
+use it_space::{Certificate, Kind, Point, RowFault, Space, push_some};
 use std::alloc::{AllocError, Global};
 
 /// The weight of a column, 0 where it has none.

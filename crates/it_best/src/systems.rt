@@ -10,9 +10,9 @@ ghost use Rattle.it_best.specs.PhaseSteps.{IsCoordinateKind, all_slacks, all_val
 ghost use Rattle.it_best.specs.Phases.{coordinate_row, coordinate_terms, counterweight, first_phase, left_equation, right_equation, slack_by, unknown_view, unknown_views};
 
 use crate::unknowns::Unknown;
-use it_columns::{generator_row, opposite_row, push_some};
+use it_columns::{generator_row, opposite_row};
 use it_elemental::{generator_count, kind_at};
-use it_space::{Kind, Problem, Row};
+use it_space::{Kind, Problem, Row, push_some};
 use std::alloc::{AllocError, Global};
 
 /// A generator as an unknown: its weight.

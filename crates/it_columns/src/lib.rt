@@ -7,5 +7,5 @@ mod rows;
 mod scaling;
 
 pub use columns::push_row;
-pub use rows::{generator_row, opposite_row, push_some};
+pub use rows::{generator_row, opposite_row};
 pub use scaling::{common_scale, scaled_number, scaled_values};

@@ -1,23 +1,13 @@
-//! Rows term by term, turned, and by the number of their generator.
-ghost use Rattle.std.specs.Prelude.{◌≡◌, ◌<◌, ◌++◌, neg_ℤ, length, IfOk, OnOk};
+//! Rows turned, and by the number of their generator.
+ghost use Rattle.std.specs.Prelude.{◌≡◌, ◌<◌, neg_ℤ, length, IfOk};
 ghost use Rattle.it_number.specs.Limit.{IsWithin};
 ghost use Rattle.it_space.specs.Problems.{IsProblem, problem_view};
-ghost use Rattle.it_space.specs.Rows.{IsCanonical, negated_terms, single_term};
+ghost use Rattle.it_space.specs.Rows.{IsCanonical, negated_terms};
 ghost use Rattle.it_elemental.specs.Generators.{generators, generator_at};
 
 use it_elemental::{count, row};
 use it_space::{Problem, Row};
 use std::alloc::{AllocError, Global};
-
-/// Puts a term after the others, unless its number is 0.
-pub fn push_some(terms: &mut Vec<(u32, i128)>, index: u32, number: i128) -> Result<(), AllocError>
-    ensures { OnOk result (terms.new.items ≡ terms.old.items ++ single_term index number) }
-{
-    if number != 0 {
-        terms.push((index, number))?;
-    }
-    Ok(())
-}
 
 /// The term with its sign turned.
 fn opposite_term(term: &(u32, i128)) -> (u32, i128)

@@ -1,10 +1,10 @@
 //! The rays with which the second pass begins.
-ghost use Rattle.std.specs.Prelude.{◌≡◌, ◌++◌, ◌≤◌, pos, All, IfOk, IfErr, OnOk, length, map, not, false, get_or, if◌then◌else◌};
+ghost use Rattle.std.specs.Prelude.{◌≡◌, ◌≤◌, pos, All, IfOk, IfErr, OnOk, length, map, not, false, get_or, if◌then◌else◌};
 ghost use Rattle.std.specs.Ordering.{int_eq};
 ghost use Rattle.std.specs.Int.Signed.{lt_z};
 ghost use Rattle.std.specs.List.{insert, list_any};
 ghost use Rattle.it_number.specs.Limit.{IsWithin};
-ghost use Rattle.it_space.specs.Rows.{IsOver, coefficient, point_of, single_term};
+ghost use Rattle.it_space.specs.Rows.{IsOver, coefficient, point_of};
 ghost use Rattle.it_space.specs.Spaces.{IsSpace, size_of};
 ghost use Rattle.it_space.specs.declared.faults.RowFault.TheVariants.{Wide as IsTooWide};
 ghost use Rattle.it_hull.specs.Rays.{ValuesFit};
@@ -12,18 +12,8 @@ ghost use Rattle.it_outer.specs.Extremes.{direction, extreme_rays, is_greater, i
 ghost use Rattle.it_outer.specs.Rounds.{ArePlaces, lists_of};
 ghost use Rattle.it_outer.specs.Search.{AllFit};
 
-use it_space::{Point, Row, RowFault, Space, normal, value};
+use it_space::{Point, Row, RowFault, Space, normal, push_some, value};
 use std::alloc::{AllocError, Global};
-
-/// Puts a term after the others, unless its number is 0.
-fn push_some(terms: &mut Vec<(u32, i128)>, at: u32, number: i128) -> Result<(), AllocError>
-    ensures { OnOk result (terms.new.items ≡ terms.old.items ++ single_term at number) }
-{
-    if number != 0 {
-        terms.push((at, number))?;
-    }
-    Ok(())
-}
 
 /// A point's value at a coordinate.
 fn number_at(point: &Point, at: u32) -> i128

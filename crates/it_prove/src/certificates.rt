@@ -13,10 +13,10 @@ ghost use Rattle.it_tableau.specs.Operations.{rationals};
 
 use crate::scaling::{numbers, terms};
 use it_closure::column_count;
-use it_columns::{common_scale, push_some};
+use it_columns::common_scale;
 use it_elemental::{generator_count, kind_at};
 use it_fraction::Fraction;
-use it_space::{Certificate, Kind, Problem, Row, RowFault};
+use it_space::{Certificate, Kind, Problem, Row, RowFault, push_some};
 use std::alloc::{AllocError, Global};
 
 /// The weight of a generator whose first column is given. The second one of an equation counts against the first.

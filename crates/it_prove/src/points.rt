@@ -11,9 +11,9 @@ ghost use Rattle.it_prove.specs.Steps.{spread_value, terms_of_places};
 ghost use Rattle.it_columns.specs.Scaling.{NumbersFit, scaled_point};
 
 use it_closure::Dependences;
-use it_columns::{common_scale, push_some, scaled_values};
+use it_columns::{common_scale, scaled_values};
 use it_fraction::Fraction;
-use it_space::{Point, Problem, Row, RowFault};
+use it_space::{Point, Problem, Row, RowFault, push_some};
 use std::alloc::{AllocError, Global};
 
 /// Puts a coordinate with its value after the others, unless the value is 0.

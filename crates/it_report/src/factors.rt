@@ -17,7 +17,7 @@ use it_check::{Verdict, check_no};
 use it_elemental::generator_count;
 use it_fraction::{Wide, difference, signed_product};
 use it_ratio::types::Best;
-use it_space::{Certificate, Point, Problem, Row, value};
+use it_space::{Certificate, Point, Problem, Row, push_some, value};
 use std::alloc::{AllocError, Global};
 
 /// What is wrong with what is said of factors, or that nothing is.
@@ -58,16 +58,6 @@ fn side_number(left: &Row, right: &Row, num: &i128, den: &i128, at: u32) -> Resu
     let above = signed_product(*num, left.coefficient(at))?;
     let below = signed_product(*den, right.coefficient(at))?;
     difference(above, below)
-}
-
-/// Puts a number with its place after the others, unless it is 0.
-fn push_some(terms: &mut Vec<(u32, i128)>, place: u32, number: i128) -> Result<(), AllocError>
-    ensures { OnOk result (terms.new.items ≡ terms.old.items ++ single_term place number) }
-{
-    if number != 0 {
-        terms.push((place, number))?;
-    }
-    Ok(())
 }
 
 /// Puts a coefficient of the row after the others.

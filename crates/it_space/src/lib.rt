@@ -20,7 +20,7 @@ pub use divisors::normal;
 pub use faults::RowFault;
 pub use points::Point;
 pub use problems::{Constraint, Kind, Origin, Problem, System};
-pub use rows::Row;
+pub use rows::{Row, push_some};
 pub use sets::VarSet;
 pub use spaces::Space;
 pub use sums::Sums;
