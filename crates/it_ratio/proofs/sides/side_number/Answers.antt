@@ -1,7 +1,7 @@
 use Rattle.std.proofs.Common.{rules, FitsSigned, to_z-of_z, ap, subst, ◌*ℤ◌, ◌∙◌, ℤ}
 use Rattle.it_number.specs.Limit.{IsWithin}
-use Rattle.it_report.proofs.SideSteps.{number_ok}
-use Rattle.it_report.proofs.factors.side_number.Goals as goal
+use Rattle.it_ratio.proofs.SideSteps.{number_ok}
+use Rattle.it_ratio.proofs.sides.side_number.Goals as goal
 use mir.Syntax.{w128}
 
 pub returns : goal.returns

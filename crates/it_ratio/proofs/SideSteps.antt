@@ -1,26 +1,25 @@
 -- The row of both sides, step by step as the code forms it.
-use Rattle.std.proofs.Common.{◌≡◌, ℕ, zero, suc, ◌+◌, ◌-◌, ◌<◌, ◌≤◌, ◌⊎◌, inl, inr, ℤ, ◌-ℤ◌, ◌*ℤ◌, List, [], ◌++◌, append_assoc, append-nil, map, not, ◌&&◌, cond, Some, Result, Ok, Err, sym, ap, ap₂, subst, subst₂, ◌∙◌, arith}
+use Rattle.std.proofs.Common.{◌≡◌, ℕ, zero, suc, ◌+◌, ◌-◌, ◌<◌, ◌≤◌, ◌⊎◌, inl, inr, ℤ, pos, ◌-ℤ◌, ◌*ℤ◌, List, [], ◌++◌, append_assoc, append-nil, map, not, ◌&&◌, cond, Some, Result, Ok, Err, sym, ap, ap₂, subst, subst₂, ◌∙◌, arith}
 use Rattle.std.specs.Bool.{Decides}
 use Rattle.std.specs.List.{find}
 use Rattle.std.specs.Result.{IsErrAnd, OkIff}
 use Rattle.std.proofs.lemmas.Bool.{cases_lt}
 use Rattle.std.proofs.lemmas.Bool.Decides.{Decides-and, Decides-not}
-use Rattle.std.proofs.lemmas.List.{length-map}
+use Rattle.std.proofs.lemmas.List.{get_or-map, length-map}
 use Rattle.it_number.specs.Limit.{IsWithin}
 use Rattle.it_fraction.proofs.Results.{OkIff-same}
 use Rattle.it_space.specs.Rows.{Terms, Ascends, IsOver, coefficient, single_term}
 use Rattle.it_space.specs.Sums.{terms_from}
 use Rattle.it_space.proofs.EveryLemmas.{all_of, every-map}
-use Rattle.it_space.proofs.SumLemmas.{terms_ascend, terms_up_to}
+use Rattle.it_space.proofs.SumLemmas.{terms_ascend, terms_at, terms_up_to}
 use Rattle.it_space.proofs.TermLemmas.{ascends_lower}
 use Rattle.it_polymatroid.specs.Elementals.{span}
-use Rattle.it_polymatroid.proofs.Spans.{every-span, length-span}
+use Rattle.it_polymatroid.proofs.Spans.{every-span, get_or-span, length-span}
 use Rattle.it_check.specs.Sums.{is_within}
 use Rattle.it_check.proofs.SumLemmas.{decides_within}
-use Rattle.it_report.specs.declared.factors.RowStop.{RowStop}
-use Rattle.it_report.specs.declared.factors.RowStop.TheVariants as stops
-use Rattle.it_report.specs.FactorSteps.{NumberFits, RowForms}
-use Rattle.it_report.specs.FactorVerdicts.{is_formed, row_unless, side_number, side_row, unformed}
+use Rattle.it_ratio.specs.declared.sides.RowStop.{RowStop}
+use Rattle.it_ratio.specs.declared.sides.RowStop.TheVariants as stops
+use Rattle.it_ratio.specs.Sides.{NumberFits, RowForms, SideFits, is_formed, row_unless, side_number, side_row, unformed}
 
 -- a row so far, before coordinate c: with what is left it is the whole row, and no number so far is wide
 pub record IsUnderWay (size : ℕ) (num den : ℤ) (left right : Terms) (c : ℕ) (terms : Terms) : Type 0 where
@@ -40,6 +39,18 @@ number_ok r num den left right c above below f e g d k = OkIff-same r (IsWithin 
 pub row_over : (size : ℕ) (num den : ℤ) (left right : Terms) → IsOver size (side_row size num den left right)
 unfolding side_row
 row_over size num den left right = terms_up_to size 1 (map (side_number num den left right) (span 1 size)) (omega arith) (omega (arith, length-map (span 1 size) (side_number num den left right), length-span 1 size))
+
+-- its coefficients
+pub number_at : (size : ℕ) (num den : ℤ) (left right : Terms) (c : ℕ) → 1 ≤ c → c ≤ size → coefficient (side_row size num den left right) c ≡ side_number num den left right c
+unfolding side_row
+number_at size num den left right c h l =
+    ap (coefficient (terms_from 1 (map (side_number num den left right) (span 1 size)))) (sym (from_one c h))
+    ∙ terms_at 1 (map (side_number num den left right) (span 1 size)) (c - 1)
+    ∙ get_or-map (side_number num den left right) (span 1 size) (c - 1) 0 (pos 0) (omega (arith, length-span 1 size))
+    ∙ ap (side_number num den left right) (get_or-span 1 size (c - 1) 0 (omega arith) ∙ from_one c h)
+  where
+    from_one : (c : ℕ) → 1 ≤ c → 1 + (c - 1) ≡ c
+    from_one c h = omega arith
 
 module _ (size : ℕ) (num den : ℤ) (left right : Terms) where
   decides_formed : (c : ℕ) → Decides (is_formed num den left right c) (NumberFits num den left right c)
@@ -105,6 +116,9 @@ module _ (size : ℕ) (num den : ℤ) (left right : Terms) where
 
     row_is : terms ≡ side_row size num den left right
     row_is = sym (append-nil terms) ∙ ap (λ n. terms ++ terms_from c (map (side_number num den left right) (span c n))) (sym none) ∙ a.same
+
+    pub row_fits : SideFits size num den left right
+    row_fits d k l = a.fits d k (omega arith)
 
     pub row_done : RowForms size num den left right (Ok terms)
     row_done = (
