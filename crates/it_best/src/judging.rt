@@ -34,7 +34,14 @@ pub fn factor_row(
     ensures fits { OnOk result (RowFits (size_of problem.now.space) left.now right.now factor.now) }
     ensures wide { IfErr result (λ f. f ≡ RowFault.Wide → ¬ (RowFits (size_of problem.now.space) left.now right.now factor.now)) }
 {
-    match side_row(alloc, problem.space, left, right, &factor.num(), &factor.den()) {
+    match side_row(
+        alloc,
+        problem.space,
+        left,
+        right,
+        &factor.num(),
+        &factor.den(),
+    ) {
         Ok(row) => Ok(row),
         Err(RowStop::Memory) => Err(RowFault::Memory),
         Err(RowStop::Wide { .. }) => Err(RowFault::Wide),
