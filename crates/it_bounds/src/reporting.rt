@@ -8,11 +8,12 @@ ghost use Rattle.it_certificate.specs.Values.{source_texts};
 ghost use Rattle.it_question.specs.Limits.{IsQuestion};
 ghost use Rattle.it_question.specs.Questions.{question_body, question_view};
 ghost use Rattle.it_rates.specs.Asked.{gone_rates, kept_rates};
+ghost use Rattle.it_rates.specs.Frames.{hull_frame};
 ghost use Rattle.it_hull.specs.Hulls.{first_rows};
 ghost use Rattle.it_spans.specs.Spans.{step_views};
 ghost use Rattle.it_bounds.specs.HullSteps.{AreMade};
 ghost use Rattle.it_bounds.specs.Replies.{reply_view};
-ghost use Rattle.it_bounds.specs.Reports.{AreToldSteps, IsToldReply, IsToldReport, made_frame, unreported};
+ghost use Rattle.it_bounds.specs.Reports.{AreToldSteps, IsToldReply, IsToldReport, unreported};
 ghost use Rattle.it_bounds.specs.ReportViews.{IsBounded, IsBoundsReport, IsToldCause};
 
 use crate::lines::write_cause;
@@ -109,7 +110,7 @@ fn steps_of(
     requires few_rows { limits.rows ≤ 65535 }
     requires asked { 1 ≤ length (gone_rates (question_body question.now).verb) }
     requires rays { All (λ ray. length ray ≡ size_of (space_of (question_body question.now).names)) rays.now }
-    ensures { IfOk result (λ s. AreMade (made_frame limits (question_body question.now)) limits.effort (first_rows (kept_rates (question_body question.now) (gone_rates (question_body question.now).verb))) rays.now (option_map (λ v. step_views v.items) s)) }
+    ensures { IfOk result (λ s. AreMade (hull_frame limits.rows (question_body question.now)) limits.effort (first_rows (kept_rates (question_body question.now) (gone_rates (question_body question.now).verb))) rays.now (option_map (λ v. step_views v.items) s)) }
 {
     let space = question.names.space();
     let gone = gone_rates(&question.verb);

@@ -19,8 +19,9 @@ use Rattle.it_certificate.proofs.SourceLemmas.{source_there}
 use Rattle.it_check.specs.declared.verdicts.Verdict.{Verdict}
 use Rattle.it_check.specs.declared.verdicts.Verdict.TheVariants.{Valid}
 use Rattle.it_rates.specs.Asked.{gone_rates, kept_rates}
+use Rattle.it_rates.specs.Frames.{hull_frame}
 use Rattle.it_spans.proofs.ExistenceLemmas.{hull_verdict_there}
-use Rattle.it_report.specs.BoundsVerdicts.{bounds_verdict, judged_frame}
+use Rattle.it_report.specs.BoundsVerdicts.{bounds_verdict, most_rows}
 use Rattle.it_report.specs.RowVerdicts.{is_valid}
 use Rattle.it_report.specs.LineVerdicts.{LineVerdict, NotJson, Shape, Skipped, Judged, OtherCode, Hulled, verdict_line, is_invalid}
 use Rattle.it_report.specs.Judging.{factor_line_verdict, values_of, verdict_of, IsAnswerVerdict, IsBoundsVerdict, IsCodedVerdict, IsVerdict}
@@ -62,7 +63,7 @@ bounds_verdict_there q b = by_parts (bounds_verdict q b) refl
   where
     by_valid : (v : Verdict) (is : Bool) → is_valid v ≡ is → bounds_verdict q b ≡ v → (v : LineVerdict) × IsBoundsVerdict q b v
     by_valid v true valid e =
-        let hull = hull_verdict_there (judged_frame q (gone_rates q.verb)) (kept_rates q (gone_rates q.verb)) b.steps b.rows in
+        let hull = hull_verdict_there (hull_frame most_rows q) (kept_rates q (gone_rates q.verb)) b.steps b.rows in
         (Hulled hull.0, (e ∙ only_valid v valid, hull.1))
     by_valid v false invalid e = (Judged q.names v, (refl, e, invalid))
 
