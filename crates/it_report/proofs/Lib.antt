@@ -11,3 +11,4 @@ pub mod ZeroLemmas
 pub mod FactorTruth
 pub mod FrameLemmas
 pub mod BoundsTruth
+pub mod OriginTruth
