@@ -14,5 +14,6 @@ pub mod OneLemmas
 pub mod FitLemmas
 pub mod FactorFits
 pub mod CodeFits
+pub mod OriginFits
 mod RoundLemmas
 mod RowsComputed

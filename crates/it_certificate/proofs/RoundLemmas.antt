@@ -34,7 +34,8 @@ use Rattle.it_certificate.specs.AnswerReading.{and_then, no_at, undecided_at, co
 use Rattle.it_certificate.specs.Obligations.{obligation_count}
 use Rattle.it_certificate.specs.CodeReading.{tells_code}
 use Rattle.it_certificate.specs.FactorReading.{factor_kind_at}
-use Rattle.it_certificate.specs.Reports.{Answered, Misfit, answer_of, bounded_of, coded_of, reading_by, report_of, tells_misfit, tells_outer, verb_answer}
+use Rattle.it_certificate.specs.OriginReading.{tells_origins}
+use Rattle.it_certificate.specs.Reports.{Answered, Misfit, answer_of, bounded_of, coded_of, derived_of, reading_by, report_of, tells_misfit, tells_outer, verb_answer}
 use Rattle.it_certificate.specs.Sources.{Text}
 use Rattle.it_certificate.specs.AnswerShapes.{IsNumberedAmount, IsNumbered, IsRowIn, IsCauseFor, HasContainmentShape, HasVerbShape, HasQuestionShape}
 use Rattle.it_certificate.specs.Laws.{without_zeros, written_answer, ReadsBack}
@@ -308,6 +309,16 @@ no_code text v (Region rows) = refl
 no_code text v (Contained parts proofs) = refl
 no_code text v (Open tried) = refl
 
+-- and no origins
+no_origins : (text : List ℕ) (v : NamesView) (a : AnswerView) → tells_origins (answer_value text v a) ≡ false
+unfolding tells_origins answer_value answer_members
+no_origins text v (Yes proofs) = refl
+no_origins text v (No back values) = refl
+no_origins text v (Undecided cause) = refl
+no_origins text v (Region rows) = refl
+no_origins text v (Contained parts proofs) = refl
+no_origins text v (Open tried) = refl
+
 -- the object has a key alone that an answer doesn't write
 other_key : (text : List ℕ) (v : NamesView) (a : AnswerView) → (get (codes "sharing") (answer_value text v a) ≡ None) × (get (codes "copies") (answer_value text v a) ≡ None)
 unfolding answer_value answer_members
@@ -329,7 +340,8 @@ reads_back q a short file fits =
       is = ap (λ b. cond b (Ok Misfit) (cond (tells_outer d) (bounded_of (Some (Text q)) d) (reading_by (Some (Text q)) (factor_kind_at d) d))) (no_misfit q.text q.body.names a)
           ∙ ap (λ b. cond b (bounded_of (Some (Text q)) d) (reading_by (Some (Text q)) (factor_kind_at d) d)) (no_bounds q.text q.body.names a)
           ∙ ap (λ k. reading_by (Some (Text q)) k d) (no_factor q.text q.body.names a)
-          ∙ ap (λ b. cond b (coded_of (Some (Text q)) d) (answer_of (Some (Text q)) d)) (no_code q.text q.body.names a)
+          ∙ ap (λ b. cond b (coded_of (Some (Text q)) d) (cond (tells_origins d) (derived_of (Some (Text q)) d) (answer_of (Some (Text q)) d))) (no_code q.text q.body.names a)
+          ∙ ap (λ b. cond b (derived_of (Some (Text q)) d) (answer_of (Some (Text q)) d)) (no_origins q.text q.body.names a)
           ∙ ap (λ k. and_then (ok_or k keys.Answer) (λ kind. and_then (verb_answer q.body.names q.body.verb kind d) (λ b. Ok (Answered (Text q) b)))) (answer_kind_back q.text q.body.names a)
           ∙ ap (λ r. and_then r (λ b. Ok (Answered (Text q) b))) (answer_back q a fits);
     }

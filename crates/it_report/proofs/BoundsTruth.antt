@@ -43,7 +43,7 @@ use Rattle.it_report.proofs.VerdictLemmas.{both_valid}
 -- ---- valid rows and rays
 
 module _ (p : ProblemView) (k : IsProblem p) where
-  rows_hold : (rows : List Terms) (ws : List CertificateView) → Every (IsOver (size_of p.space)) rows → length ws ≡ length rows → proofs_verdict p rows ws ≡ Valid
+  pub rows_hold : (rows : List Terms) (ws : List CertificateView) → Every (IsOver (size_of p.space)) rows → length ws ≡ length rows → proofs_verdict p rows ws ≡ Valid
       → Every (λ row. (x : ℕ → ℤ) → MeetsProblem p x → pos 0 ≤ℤ value row x) rows
   unfolding proofs_verdict
   rows_hold [] ws o l e = tt

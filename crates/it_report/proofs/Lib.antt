@@ -10,3 +10,4 @@ pub mod ZeroLemmas
 pub mod FactorTruth
 pub mod FrameLemmas
 pub mod BoundsTruth
+pub mod OriginTruth

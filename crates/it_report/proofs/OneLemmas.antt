@@ -10,7 +10,7 @@ use Rattle.it_certificate.specs.declared.keys.Key.{Key}
 use Rattle.it_certificate.specs.Bounds.{BoundsView}
 use Rattle.it_certificate.specs.CodeReading.{ReportedCodeView}
 use Rattle.it_codes.proofs.ExistenceLemmas.{no_first_other, one_first_other}
-use Rattle.it_certificate.specs.Reports.{Answered, Bounded, Coded, Factored, Misfit, ReadsReport, Reading}
+use Rattle.it_certificate.specs.Reports.{Answered, Bounded, Coded, Derived, Factored, Misfit, ReadsReport, Reading}
 use Rattle.it_certificate.specs.Sources.{asked}
 use Rattle.it_certificate.proofs.OneLemmas.{one_reading}
 use Rattle.it_check.specs.declared.verdicts.Verdict.{Verdict}
@@ -127,6 +127,7 @@ bounds_once q b (Hulled v) (Hulled w) h k = ap Hulled (hull_once q b v w h.1 k.1
 told_once : (x : Reading) (v w : LineVerdict) → IsReadingVerdict x v → IsReadingVerdict x w → v ≡ w
 told_once (Answered source a) v w h k = answer_once (asked source).body a v w h k
 told_once (Coded source a c) v w h k = coded_once (asked source).body a c v w h k
+told_once (Derived source a ws) v w h k = h ∙ sym k
 told_once (Factored source b) v w h k = h ∙ sym k
 told_once (Bounded source b) v w h k = bounds_once (asked source).body b v w h k
 told_once Misfit v w h k = h ∙ sym k

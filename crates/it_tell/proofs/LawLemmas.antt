@@ -128,6 +128,9 @@ reading_there options line v is accepted (reports.Answered source a) reads =
 reading_there options line v is accepted (reports.Coded source a c) reads =
     let details = details_there (asked source).body options a in
     (tellings.Coded source a c details.0, (record { verdict = v; is = is; accepted = accepted; reads = reads }, details.1))
+reading_there options line v is accepted (reports.Derived source a ws) reads =
+    let details = details_there (asked source).body options a in
+    (tellings.Derived source a ws details.0, (record { verdict = v; is = is; accepted = accepted; reads = reads }, details.1))
 reading_there options line v is accepted (reports.Factored source best) reads = (tellings.Factored source best, record { verdict = v; is = is; accepted = accepted; reads = reads })
 reading_there options line v is accepted (reports.Bounded source b) reads = (tellings.Bounded source b, record { verdict = v; is = is; accepted = accepted; reads = reads })
 reading_there options line v is accepted reports.Misfit reads = (tellings.Misfit, reads)

@@ -175,12 +175,13 @@ head_line k q (Open tried) = open_line k tried
 -- ---- a line of a report
 
 -- that it is invalid, with this verdict; its answer to the question that is asked, with these lines below the first one; a no with these
--- and its code; its outer bound;
+-- and its code; a region with these, of which origins are not told; its outer bound;
 -- or that a question can't have what is asked for
 pub data Telling : Type 0 where
   Invalid : (verdict : LineVerdict) → Telling
   Answered : (source : Source) (answer : AnswerView) (details : List ℕ) → Telling
   Coded : (source : Source) (answer : AnswerView) (code : ReportedCodeView) (details : List ℕ) → Telling
+  Derived : (source : Source) (answer : AnswerView) (origins : List CertificateView) (details : List ℕ) → Telling
   Factored : (source : Source) (best : BestView) → Telling
   Bounded : (source : Source) (bounds : BoundsView) → Telling
   Misfit : Telling
@@ -198,6 +199,13 @@ pub record IsAcceptedCode (line : List ℕ) (source : Source) (answer : AnswerVi
   pub is : IsVerdict line verdict
   pub accepted : is_invalid verdict ≡ false
   pub reads : ReadsReport line (Ok (reports.Coded source answer code))
+
+-- the line reads as this region with these origins, and its verdict isn't an invalid one
+pub record IsAcceptedRegion (line : List ℕ) (source : Source) (answer : AnswerView) (origins : List CertificateView) : Type 0 where
+  pub verdict : LineVerdict
+  pub is : IsVerdict line verdict
+  pub accepted : is_invalid verdict ≡ false
+  pub reads : ReadsReport line (Ok (reports.Derived source answer origins))
 
 -- the line reads as this of the factors that this asks for, and its verdict isn't an invalid one
 pub record IsAcceptedBest (line : List ℕ) (source : Source) (best : BestView) : Type 0 where
@@ -233,6 +241,7 @@ abbrev pub IsTelling : Options → List ℕ → Telling → Type 0
 IsTelling options line (Invalid v) = IsVerdict line v × (is_invalid v ≡ true)
 IsTelling options line (Answered source answer details) = IsAccepted line source answer × AreDetails (asked source).body options answer details
 IsTelling options line (Coded source answer code details) = IsAcceptedCode line source answer code × AreDetails (asked source).body options answer details
+IsTelling options line (Derived source answer origins details) = IsAcceptedRegion line source answer origins × AreDetails (asked source).body options answer details
 IsTelling options line (Factored source best) = IsAcceptedBest line source best
 IsTelling options line (Bounded source bounds) = IsAcceptedBound line source bounds
 IsTelling options line Misfit = ReadsReport line (Ok reports.Misfit)
@@ -242,6 +251,7 @@ abbrev pub tells_invalid : Telling → Bool
 tells_invalid (Invalid v) = true
 tells_invalid (Answered source answer details) = false
 tells_invalid (Coded source answer code details) = false
+tells_invalid (Derived source answer origins details) = false
 tells_invalid (Factored source best) = false
 tells_invalid (Bounded source bounds) = false
 tells_invalid Misfit = false
@@ -251,6 +261,7 @@ abbrev pub telling_text : ℕ → Telling → List ℕ
 telling_text k (Invalid v) = verdict_line k v
 telling_text k (Answered source answer details) = head_line k (asked source).body answer ++ details
 telling_text k (Coded source answer code details) = head_line k (asked source).body answer ++ details ++ indented_line (code_text (asked source).body.names.variables code)
+telling_text k (Derived source answer origins details) = head_line k (asked source).body answer ++ details
 telling_text k (Factored source best) = numbered_line k (best_words best)
 telling_text k (Bounded source bounds) = numbered_line k (bounds_words bounds)
 telling_text k Misfit = numbered_line k (codes "misfit")
