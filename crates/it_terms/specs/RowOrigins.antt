@@ -1,5 +1,5 @@
 -- Where a row comes from: the lines of the question whose sum it is, up to a positive factor, as the comment behind it names them.
-use Rattle.std.specs.Prelude.{◌≡◌, ◌≢◌, ℕ, ℤ, pos, int_lt, unsigned_abs, ◌*ℤ◌, ◌≤ℤ◌, Bool, true, false, List, [], ◌∷◌, ◌++◌, ◌⊎◌, All, codes}
+use Rattle.std.specs.Prelude.{◌≡◌, ◌≢◌, ℕ, ℤ, pos, int_lt, unsigned_abs, ◌*ℤ◌, ◌≤ℤ◌, Bool, true, false, List, [], ◌∷◌, ◌++◌, ◌⊎◌, All, codes, filter, not}
 use Rattle.it_space.specs.declared.problems.Origin.{Origin}
 use Rattle.it_space.specs.Rows.{Terms, value}
 use Rattle.it_polymatroid.specs.Certificates.{Form, Generators, IsAllowed, combination}
@@ -31,7 +31,11 @@ abbrev pub line_weights : List Origin → Bool → List (ℕ × ℤ) → List �
 line_weights origins is_first [] = []
 line_weights origins is_first (w ∷ ws) = line_weight origins is_first w ++ line_weights origins false ws
 
+-- the weights above 0, and then those below it
+abbrev pub plus_first : List (ℕ × ℤ) → List (ℕ × ℤ)
+plus_first weights = filter (λ w. not (int_lt w.1 (pos 0))) weights ++ filter (λ w. int_lt w.1 (pos 0)) weights
+
 -- the lines that a row comes from, and those that say the functions by which it is told, as a comment: `  # row 4 + 2 row 6, by given 1`
 abbrev pub row_comment : List Origin → List (ℕ × ℤ) → List ℕ → List ℕ
 row_comment origins [] lines = by_comment origins lines
-row_comment origins (w ∷ ws) lines = codes "  # " ++ line_weights origins true (w ∷ ws) ++ listed_names (codes ", by ") origins true lines
+row_comment origins (w ∷ ws) lines = codes "  # " ++ line_weights origins true (plus_first (w ∷ ws)) ++ listed_names (codes ", by ") origins true lines

@@ -1,9 +1,9 @@
 //! Constraints by the names of their lines.
-ghost use Rattle.std.specs.Prelude.{◌≡◌, ◌++◌, codes, int_lt, length, map, pos, slice_index_or, true, ◌==◌, if◌then◌else◌, IfOk, OnOk};
+ghost use Rattle.std.specs.Prelude.{◌≡◌, ◌++◌, codes, filter, int_lt, not, length, map, pos, slice_index_or, true, ◌==◌, if◌then◌else◌, IfOk, OnOk};
 ghost use Rattle.it_space.specs.declared.problems.Origin.TheVariants.{Rate};
 ghost use Rattle.it_print.specs.Lines.{origins_of};
 ghost use Rattle.it_terms.specs.FunctionProofs.{by_comment, line_name, listed_names, named_weight, named_weights, times_text, weight_sign};
-ghost use Rattle.it_terms.specs.RowOrigins.{line_weight, line_weights, row_comment};
+ghost use Rattle.it_terms.specs.RowOrigins.{line_weight, line_weights, plus_first, row_comment};
 
 use it_print::write_origin;
 use it_space::{Constraint, Origin};
@@ -133,6 +133,38 @@ fn write_line_weights(
     Ok(())
 }
 
+/// The weights that aren't below 0.
+fn positive(alloc: Global, weights: &[(u32, i128)]) -> Result<Vec<(u32, i128)>, AllocError>
+    ensures { IfOk result (λ ws. ws.items ≡ filter (λ w. not (int_lt w.1 (pos 0))) weights.now) }
+{
+    weights
+        .iter()
+        .copied()
+        .filter(|weight| !is_below_zero(weight.1))
+        .collect(alloc)
+}
+
+/// The weights below 0.
+fn negative(alloc: Global, weights: &[(u32, i128)]) -> Result<Vec<(u32, i128)>, AllocError>
+    ensures { IfOk result (λ ws. ws.items ≡ filter (λ w. int_lt w.1 (pos 0)) weights.now) }
+{
+    weights
+        .iter()
+        .copied()
+        .filter(|weight| is_below_zero(weight.1))
+        .collect(alloc)
+}
+
+/// The weights above 0, and then those below it.
+fn plus_first(alloc: Global, weights: &[(u32, i128)]) -> Result<Vec<(u32, i128)>, AllocError>
+    ensures { IfOk result (λ ws. ws.items ≡ plus_first weights.now) }
+{
+    let mut ordered = positive(alloc, weights)?;
+    let others = negative(alloc, weights)?;
+    ordered.extend_from_slice(others.as_slice())?;
+    Ok(ordered)
+}
+
 /// The comment behind a row: the lines that it comes from, with these weights, and the lines that say the functions by which it is told.
 pub fn origin_comment(
     alloc: Global,
@@ -147,7 +179,8 @@ pub fn origin_comment(
     }
     let mut out = Vec::new(alloc);
     out.extend_from_slice(b"  # ")?;
-    write_line_weights(&mut out, constraints, weights)?;
+    let ordered = plus_first(alloc, weights)?;
+    write_line_weights(&mut out, constraints, ordered.as_slice())?;
     write_names(&mut out, b", by ", constraints, lines)?;
     Ok(out)
 }
