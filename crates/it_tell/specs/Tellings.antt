@@ -24,6 +24,7 @@ use Rattle.it_certificate.specs.Reports.{ReadsReport}
 use Rattle.it_certificate.specs.Sources.{Source, asked}
 use Rattle.it_print.specs.Lines.{certificate_text, contained_line, open_line, row_text, undecided_line, values_text, variable_names}
 use Rattle.it_ratio.specs.BestViews.{BestView, Least, Never, Unbounded, BestView as bests}
+use Rattle.it_terms.specs.RowOrigins.{ComesFrom, row_comment}
 use Rattle.it_terms.specs.RowsUnder.{IsPrintedRow}
 use Rattle.it_terms.specs.Tells.{TellsForms, TellsRow}
 use Rattle.it_terms.specs.Proofs.{TellsForm}
@@ -31,6 +32,7 @@ use Rattle.it_terms.specs.FunctionProofs.{TellsFormUnder, by_comment}
 use Rattle.it_facts.specs.Points.{TellsPoint}
 use Rattle.it_terms.specs.ProofSteps.{TellsSteps}
 use Rattle.it_report.specs.Judging.{IsVerdict}
+use Rattle.it_rates.specs.Asked.{under_all_lines}
 use Rattle.it_region.specs.AnswerForms.{answer_forms}
 use Rattle.it_report.specs.LineVerdicts.{LineVerdict, is_invalid, numbered_line, verdict_line}
 use Rattle.it_canon.specs.QuestionDemands.{question_origins}
@@ -57,13 +59,23 @@ step_line text = codes "    " ++ text ++ codes "\n"
 abbrev pub Each : {X A : Type 0} → (A → List ℕ) → (X → A → Type 0) → List X → List ℕ → Type 0
 Each {X} {A} shown tells items out = Groups (λ (s : Unit {0}) (x : X) (a : A). tells x a) (λ (s : Unit {0}) (x : X) (a : A). s) (λ (k : ℕ) (x : X) (a : A). shown a) 1 tt items tt out
 
--- a row told in the terms of an equal one where the question's functions hold, and behind it the lines that say these; plain ones aren't
-unfoldable pub IsPrintedRowText : BodyView → Style → Terms → List ℕ → Type 0
-IsPrintedRowText q style row text = (is_plain style ≡ false) × ((own : List ℕ) × (by : List ℕ) × (IsPrintedRow q row own by × (text ≡ own ++ by)))
+-- a row told in the terms of an equal one where the functions hold that these lines of the question say; plain ones aren't
+abbrev pub IsStyledRow : BodyView → Style → Terms → List ℕ → List ℕ → Type 0
+IsStyledRow q style row lines text = (is_plain style ≡ false) × IsPrintedRow q row lines text
 
--- a row in the question's own terms, for all maps or where functions hold, or as reports have it and said to be that
-unfoldable pub IsRowText : BodyView → Style → Terms → List ℕ → Type 0
-IsRowText q style row text = TellsRow (problem_names q) row text ⊎ (IsPrintedRowText q style row text ⊎ (text ≡ codes "as row " ++ row_text (problem_names q) Inequality row))
+-- a row in the question's own terms for all maps, or as reports have it and said to be that
+abbrev pub IsPlainRow : BodyView → Terms → List ℕ → Type 0
+IsPlainRow q row text = TellsRow (problem_names q) row text ⊎ (text ≡ codes "as row " ++ row_text (problem_names q) Inequality row)
+
+-- a row by lines whose functions hold, or without any
+unfoldable pub IsRowText : BodyView → Style → Terms → List ℕ → List ℕ → Type 0
+IsRowText q style row lines text = IsStyledRow q style row lines text ⊎ ((lines ≡ []) × IsPlainRow q row text)
+
+-- the weights of lines of the question from which a row comes, or none; a plain row has none
+unfoldable pub IsRowOrigin : BodyView → Style → Terms → List (ℕ × ℤ) → Type 0
+IsRowOrigin q Plain row weights = weights ≡ []
+IsRowOrigin q Named row weights = ComesFrom q row weights
+IsRowOrigin q Whole row weights = ComesFrom q row weights
 
 -- what is said of a row that isn't known to be needed, as a comment
 abbrev pub mark_comment : Mark → List ℕ
@@ -71,9 +83,14 @@ mark_comment Plain = codes "  # plain"
 mark_comment Needed = []
 mark_comment Unsettled = codes "  # unsettled"
 
--- a row of a region
-unfoldable pub IsMarkedRowText : BodyView → Style → Mark × Terms → List ℕ → Type 0
-IsMarkedRowText q style row text = (own : List ℕ) × (IsRowText q style row.1 own × (text ≡ own ++ mark_comment row.0))
+-- A row of a region. Behind it comments name the lines that it comes from and those by which it is told, and say its mark.
+pub record IsMarkedRowText (q : BodyView) (style : Style) (row : Mark × Terms) (text : List ℕ) : Type 0 where
+  pub own : List ℕ
+  pub lines : List ℕ
+  pub weights : List (ℕ × ℤ)
+  pub tells : IsRowText q style row.1 lines own
+  pub origin : IsRowOrigin q style row.1 weights
+  pub is : text ≡ own ++ row_comment (question_origins (under_all_lines q)) weights lines ++ mark_comment row.0
 
 -- the rows of a region in the order in which they are told: plain ones as they are
 abbrev pub told_rows : Style → ℕ → List (Mark × Terms) → List (Mark × Terms)

@@ -5,4 +5,5 @@ pub mod Sums
 pub mod Proposals
 pub mod FunctionProofs
 pub mod RowsUnder
+pub mod RowOrigins
 pub mod Signs
