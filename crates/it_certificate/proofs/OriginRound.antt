@@ -17,7 +17,7 @@ use Rattle.it_certificate.specs.AnswerShapes.{HasQuestionShape, HasVerbShape, Is
 use Rattle.it_certificate.specs.CodeReading.{tells_code}
 use Rattle.it_certificate.specs.FactorReading.{factor_kind_at}
 use Rattle.it_certificate.specs.Laws.{OriginsReadBack, without_zeros}
-use Rattle.it_certificate.specs.OriginReading.{HasDerivedShape, answer_origins, tells_origins}
+use Rattle.it_certificate.specs.OriginReading.{answer_origins, tells_origins}
 use Rattle.it_certificate.specs.Parts.{marked_row_at, origins_at, rows_at, text_of}
 use Rattle.it_certificate.specs.Reports.{Derived, Misfit, answer_of, bounded_of, coded_of, derived_of, reading_by, report_of, tells_misfit, tells_outer, verb_answer}
 use Rattle.it_certificate.specs.Sources.{Text}
