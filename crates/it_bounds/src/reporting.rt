@@ -3,7 +3,6 @@ ghost use Rattle.std.specs.Prelude.{◌≡◌, ◌≤◌, ◌++◌, All, IfOk, c
 ghost use Rattle.it_space.specs.Answers.{certificate_view};
 ghost use Rattle.it_space.specs.Spaces.{size_of};
 ghost use Rattle.it_demand.specs.QuestionSpaces.{space_of};
-ghost use Rattle.it_answer.specs.Truth.{region_rows};
 ghost use Rattle.it_certificate.specs.Values.{source_texts};
 ghost use Rattle.it_question.specs.Limits.{IsQuestion};
 ghost use Rattle.it_question.specs.Questions.{question_body, question_view};
@@ -20,12 +19,12 @@ use crate::lines::write_cause;
 use crate::steps::hull_steps;
 use crate::types::Reply;
 use it_canon::problem_names;
-use it_certificate::{ReportedBounds, SourceText, bounds_json, misfit_json};
+use it_certificate::{ReportedBounds, SourceText, bounds_json, misfit_json, unmarked};
 use it_hull::kept_coordinates;
 use it_outer::Limits;
 use it_question::types::Question;
 use it_rates::gone_rates;
-use it_space::{Certificate, Mark, Point, Row};
+use it_space::{Certificate, Point};
 use it_spans::{Frame, Step};
 use it_syntax::Names;
 use std::alloc::{AllocError, Global};
@@ -145,18 +144,6 @@ fn bounded_json(
     };
     let line = bounds_json(alloc, source, &bounds)?;
     Ok(line)
-}
-
-/// Rows without their marks.
-fn unmarked(alloc: Global, rows: &[(Mark, Row)]) -> Result<Vec<Row>, AllocError>
-    ensures { IfOk result (λ v. v.items ≡ region_rows rows.now) }
-{
-    let mut plain = Vec::new(alloc);
-    for row in rows {
-        let copy = row.1.copy(alloc)?;
-        plain.push(copy)?;
-    }
-    Ok(plain)
 }
 
 /// The same certificates once more.

@@ -16,4 +16,5 @@ pub mod FactorFits
 pub mod CodeFits
 pub mod OriginFits
 mod RoundLemmas
+mod OriginRound
 mod RowsComputed

@@ -1,6 +1,6 @@
 -- What is read of a region's origins fits its question.
 use Rattle.std.proofs.Common.{◌≡◌, List, length, subst, Ok, option_map}
-use Rattle.std.specs.Prelude.{All, ok_or}
+use Rattle.std.specs.Prelude.{All}
 use Rattle.serde_json.specs.Data.{Data}
 use Rattle.it_space.specs.Answers.{AnswerView, CertificateView}
 use Rattle.it_space.specs.Answers.AnswerView.{Region}

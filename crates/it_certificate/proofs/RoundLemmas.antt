@@ -69,7 +69,7 @@ map_same : {A : Type 0} (xs : List A) → map (λ x. x) xs ≡ xs
 map_same [] = refl
 map_same (x ∷ xs) = ap (λ zs. x ∷ zs) (map_same xs)
 
-same_back : {A : Type 0} (P : A → Type 0) (f : Data → Option A) (v : A → Data) → ((a : A) → P a → f (v a) ≡ Some a) → (xs : List A) → All P xs
+pub same_back : {A : Type 0} (P : A → Type 0) (f : Data → Option A) (v : A → Data) → ((a : A) → P a → f (v a) ≡ Some a) → (xs : List A) → All P xs
     → all_of f (items_of (map v xs)) ≡ Some xs
 same_back P f v each xs all = all_back P f v (λ x. x) each xs all ∙ ap Some (map_same xs)
 
@@ -85,7 +85,7 @@ certificate_back c p =
 of_length_is : {A : Type 0} (n : ℕ) (xs : List A) → length xs ≡ n → of_length n xs ≡ Some xs
 of_length_is n xs is = ap (λ b. cond b (Some xs) None) (eq-eqb (length xs) n is)
 
-certificates_back : (n : ℕ) (ws : List CertificateView) → length ws ≡ n → All IsNumbered ws
+pub certificates_back : (n : ℕ) (ws : List CertificateView) → length ws ≡ n → All IsNumbered ws
     → option_and_then (of_length n) (all_of certificate_at (items_of (map proof_value ws))) ≡ Some (map without_zeros ws)
 certificates_back n ws is all =
     ap (option_and_then (of_length n)) (all_back IsNumbered certificate_at proof_value without_zeros certificate_back ws all)
@@ -179,7 +179,7 @@ terms_back : (r : Mark × Terms) → All IsNumberedAmount r.1 → list_at pair_a
 unfolding row_value
 terms_back r all = same_back IsNumberedAmount pair_at pair_value pair_back r.1 all
 
-row_back : (size : ℕ) (r : Mark × Terms) → IsRowIn size r → marked_row_at size (row_value r) ≡ Some r
+pub row_back : (size : ℕ) (r : Mark × Terms) → IsRowIn size r → marked_row_at size (row_value r) ≡ Some r
 unfolding marked_row_at unmarked_row_at
 row_back size r fits =
     ap (λ o. option_zip o (option_and_then (row_of size) (list_at pair_at (get (codes "row") (row_value r))))) (mark_back r.0 r.1)

@@ -1,5 +1,5 @@
 -- The rows of a region whose origins are valid are true wherever the question's lines are.
-use Rattle.std.proofs.Common.{◌≡◌, ℕ, ℤ, pos, ◌≤ℤ◌, List, map, Ok, sym, subst, All}
+use Rattle.std.proofs.Common.{◌≡◌, ℕ, ℤ, pos, ◌≤ℤ◌, map, Ok, sym, subst, All}
 use Rattle.std.specs.List.{AllByRecursion as Every}
 use Rattle.it_space.specs.declared.answers.Mark.{Mark}
 use Rattle.it_space.specs.declared.spaces.Space.{Space}
@@ -16,13 +16,12 @@ use Rattle.it_canon.specs.TrueLines.{AreTrueTogether}
 use Rattle.it_canon.proofs.ExistenceLemmas.{question_poses}
 use Rattle.it_rates.specs.Asked.{under_all_lines}
 use Rattle.it_rates.proofs.AskedLemmas.{all_lines_question, true_meets}
-use Rattle.it_certificate.specs.OriginReading.{rows_of}
 use Rattle.it_certificate.specs.Reports.{Derived, Reading}
 use Rattle.it_certificate.specs.Sources.{IsSourceAt, IsSourceOf, asked}
 use Rattle.it_certificate.proofs.OneLemmas.{one_reading}
 use Rattle.it_certificate.proofs.SourceNumbers.{source_limits, source_numbers}
 use Rattle.it_report.specs.Judging.{IsReadingVerdict}
-use Rattle.it_report.specs.LineVerdicts.{LineVerdict, Judged}
+use Rattle.it_report.specs.LineVerdicts.{Judged}
 use Rattle.it_report.specs.Meaning.{ValidOriginsAreTrue}
 use Rattle.it_report.specs.RowVerdicts.{proofs_verdict}
 use Rattle.it_report.proofs.BoundsTruth.{rows_hold}
@@ -50,5 +49,5 @@ valid_origins_are_true line names source rows ws h reads =
     = rows_hold p posed.limits (map (λ r. r.1) rows) ws (every_of (IsOver (size_of p.space)) (map (λ r. r.1) rows) over) read.1.each valid in
     all_of (λ (row : Mark × Terms). (x : ℕ → ℤ) → AreTrueTogether (under_all_lines q) x → pos 0 ≤ℤ value row.1 x) rows
     (every-same (λ (row : Mark × Terms). (x : ℕ → ℤ) → MeetsProblem p x → pos 0 ≤ℤ value row.1 x) (λ (row : Mark × Terms). (x : ℕ → ℤ) → AreTrueTogether (under_all_lines q) x → pos 0 ≤ℤ value row.1 x) rows
-        (λ row holds x t. holds x (true_meets q p posed x t))
-        (every_mapped (λ (row : Terms). (x : ℕ → ℤ) → MeetsProblem p x → pos 0 ≤ℤ value row x) (λ r. r.1) rows hold))
+    (λ row holds x t. holds x (true_meets q p posed x t))
+    (every_mapped (λ (row : Terms). (x : ℕ → ℤ) → MeetsProblem p x → pos 0 ≤ℤ value row x) (λ r. r.1) rows hold))
