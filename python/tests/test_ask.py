@@ -75,7 +75,7 @@ class Calls(Asks):
             (Path(folder) / "here").symlink_to(ROOT)
             (Path(folder) / "mine.txt").write_text(BINNED)
             done = subprocess.run(["here/ask", "mine.txt"], cwd=folder, capture_output=True, check=False)
-        self.assertEqual((done.returncode, done.stdout), (0, b"1 region 3\n  R >= H(X|Y)\n  Q >= H(Y|X)\n  R + Q >= H(X,Y)\n"))
+        self.assertEqual((done.returncode, done.stdout), (0, b"1 region 3\n  R >= H(X|Y)  # row 1 + row 3\n  Q >= H(Y|X)  # row 2 + row 4\n  R + Q >= H(X,Y)  # row 1 + row 2 + row 5\n"))
 
     def test_words(self):
         path = self.file("vars X\nprove H(X) >= 0\n")
@@ -266,7 +266,7 @@ class Calls(Asks):
     def test_needs(self):
         """Slepian and Wolf's region, and of each row a point at which it alone fails."""
         first, *rows = self.asks(BINNED, "--needs")
-        self.assertEqual([first, rows[0]], ["1 region 3", "  R >= H(X|Y)  # needed: X constant, Y constant, R = -1, Q = 1"])
+        self.assertEqual([first, rows[0]], ["1 region 3", "  R >= H(X|Y)  # row 1 + row 3  # needed: X constant, Y constant, R = -1, Q = 1"])
         self.assertEqual([row.partition("  #")[0] for row in rows], ["  R >= H(X|Y)", "  Q >= H(Y|X)", "  R + Q >= H(X,Y)"])
         self.assertTrue(all("  # needed: " in row for row in rows))
 

@@ -8,4 +8,4 @@ mod search;
 mod sums;
 
 pub use origins::origin;
-pub use sums::{ColumnSum, column_sum};
+pub use sums::{column_weights, multiple_of_denominators};

@@ -24,7 +24,7 @@ impl Drop for ColumnSum {
 }
 
 /// The least common multiple of the denominators of weights, None where it is too large.
-fn common_multiple(
+pub fn multiple_of_denominators(
     alloc: Global,
     weights: &[(usize, Fraction)],
 ) -> Result<Option<i128>, AllocError> {
@@ -43,7 +43,7 @@ fn whole_sum(
     alloc: Global,
     weights: &[(usize, Fraction)],
 ) -> Result<Option<ColumnSum>, AllocError> {
-    let Some(scale) = common_multiple(alloc, weights)? else {
+    let Some(scale) = multiple_of_denominators(alloc, weights)? else {
         return Ok(None);
     };
     let mut whole = Vec::new(alloc);
@@ -59,16 +59,29 @@ fn whole_sum(
     }))
 }
 
-/// Weights of columns, by ascending place and none of them 0, by which these add up to a multiple of a row at the coordinates. None
-/// where there are none, where the run makes too many steps, or where a number is too large.
+/// Weights of columns, by ascending place and none of them 0, by which these add up to a row at the coordinates. None where there are
+/// none, where the run makes too many steps, or where a number is too large.
+pub fn column_weights(
+    alloc: Global,
+    coordinates: &[u32],
+    columns: &[Row],
+    row: &Row,
+) -> Result<Option<Vec<(usize, Fraction)>>, AllocError> {
+    match solve(alloc, coordinates, columns, row, Budget::at_most(STEPS))? {
+        Solved::Weights(weights) => Ok(Some(weights)),
+        _ => Ok(None),
+    }
+}
+
+/// The same made whole.
 pub fn column_sum(
     alloc: Global,
     coordinates: &[u32],
     columns: &[Row],
     row: &Row,
 ) -> Result<Option<ColumnSum>, AllocError> {
-    match solve(alloc, coordinates, columns, row, Budget::at_most(STEPS))? {
-        Solved::Weights(weights) => whole_sum(alloc, weights.as_slice()),
-        _ => Ok(None),
+    match column_weights(alloc, coordinates, columns, row)? {
+        Some(weights) => whole_sum(alloc, weights.as_slice()),
+        None => Ok(None),
     }
 }
