@@ -33,7 +33,7 @@ use Rattle.it_canon.specs.QuestionDemands.{question_origins}
 use Rattle.it_canon.specs.TrueLines.{variable_count}
 use Rattle.it_cli.specs.declared.status.Status.{Status}
 use Rattle.it_cli.specs.declared.status.Status.TheVariants.{Done, Invalid}
-use Rattle.it_tell.specs.Tellings.{Answered, AreContainedLines, AreDetails, AreOwnLineTexts, AreProofTexts, Each, IsMarkedRowText, IsPointText, IsProofText, IsRowOrigin, IsRowText, IsTelling, ProofTexts, Telling, TellsObligation, indented_line, mark_comment, obligation_lines, proof_lines, told_rows}
+use Rattle.it_tell.specs.Tellings.{Answered, AreContainedLines, AreDetails, AreOwnLineTexts, AreProofTexts, Each, IsMarkedRowText, IsPointText, IsProofText, IsRowText, IsTelling, ProofTexts, Telling, TellsObligation, indented_line, mark_comment, obligation_lines, proof_lines, told_rows}
 use Rattle.it_tell.specs.OwnLines.{OwnLine, own_line_comment, own_lines}
 use Rattle.it_tell.specs.declared.settings.Style.{Style}
 use Rattle.it_tell.specs.declared.settings.Style.TheVariants.{Plain, Named, Whole}
@@ -84,17 +84,11 @@ module _ {X A : Type 0} (shown : A → List ℕ) (tells : X → A → Type 0) (e
   lines_there : (items : List X) → (out : List ℕ) × Each shown tells items out
   lines_there items = lines_from 1 items
 
-nothing_told : (q : BodyView) (style : Style) (row : Terms) → IsRowOrigin q style row []
-unfolding IsRowOrigin
-nothing_told q Plain row = refl
-nothing_told q Named row = inl refl
-nothing_told q Whole row = inl refl
-
 row_there : (q : BodyView) (style : Style) (row : Mark × Terms) → (text : List ℕ) × IsMarkedRowText q style row text
 unfolding IsRowText
 row_there q style row =
     let own = codes "as row " ++ row_text (problem_names q) Inequality row.1 in
-    (own ++ mark_comment row.0, record { own = own; lines = []; weights = []; tells = inr (refl, inr refl); origin = nothing_told q style row.1; is = refl })
+    (own ++ mark_comment row.0, record { own = own; lines = []; weights = []; tells = inr (refl, inr refl); origin = inl refl; is = refl })
 
 proof_there : (q : BodyView) (options : Options) (proof : Form × CertificateView) → (t : ProofTexts) × AreProofTexts q options proof t
 unfolding AreProofTexts IsProofText

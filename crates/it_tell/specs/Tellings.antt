@@ -72,10 +72,8 @@ unfoldable pub IsRowText : BodyView → Style → Terms → List ℕ → List �
 IsRowText q style row lines text = IsStyledRow q style row lines text ⊎ ((lines ≡ []) × IsPlainRow q row text)
 
 -- the weights of lines of the question from which a row comes, or none; a plain row has none
-unfoldable pub IsRowOrigin : BodyView → Style → Terms → List (ℕ × ℤ) → Type 0
-IsRowOrigin q Plain row weights = weights ≡ []
-IsRowOrigin q Named row weights = ComesFrom q row weights
-IsRowOrigin q Whole row weights = ComesFrom q row weights
+abbrev pub IsRowOrigin : BodyView → Style → Terms → List (ℕ × ℤ) → Type 0
+IsRowOrigin q style row weights = (weights ≡ []) ⊎ ((is_plain style ≡ false) × ComesFrom q row weights)
 
 -- what is said of a row that isn't known to be needed, as a comment
 abbrev pub mark_comment : Mark → List ℕ

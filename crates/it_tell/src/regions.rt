@@ -57,8 +57,10 @@ fn styled_row(
     if is_plain(style) {
         return Ok(None);
     }
-    let printed = printed_row(alloc, question, row)?;
-    Ok(printed)
+    let Some(printed) = printed_row(alloc, question, row)? else {
+        return Ok(None);
+    };
+    Ok(Some(printed))
 }
 
 /// A row by lines whose functions hold, or without any.
@@ -82,7 +84,6 @@ fn any_row(
 }
 
 /// The weights of lines from which a row comes, where these are told and found.
-#[tactic(auto, unfolding(crate::specs::Tellings::IsRowOrigin))]
 fn styled_origin(
     alloc: Global,
     question: &Question,
@@ -92,10 +93,11 @@ fn styled_origin(
     requires { IsQuestion (question_body question.now) }
     ensures { IfOk result (λ ws. IsRowOrigin (question_body question.now) style row.now ws.items) }
 {
-    match style {
-        Style::Plain => Ok(Vec::new(alloc)),
-        Style::Named | Style::Whole => row_origin(alloc, question, row),
+    if is_plain(style) {
+        return Ok(Vec::new(alloc));
     }
+    let weights = row_origin(alloc, question, row)?;
+    Ok(weights)
 }
 
 /// What is said of a row by its mark, as a comment.

@@ -37,7 +37,7 @@ fn by_constraints(
 /// The lines of a question, `row` lines too, whose sum a row is, up to a positive factor: weights other than 0 by the numbers of what the lines
 /// demand, in their order, of which only equations have one below 0. Without any where none were found. Where the row is one of the lines
 /// it is that one, and few others are named where few are enough.
-#[tactic(auto, using(crate::proofs::OriginLemmas::comes_from, crate::proofs::OriginLemmas::not_told))]
+#[tactic(auto, using(crate::proofs::OriginLemmas::not_told))]
 pub fn row_origin(
     alloc: Global,
     question: &Question,
@@ -58,7 +58,6 @@ pub fn row_origin(
 }
 
 /// The comment behind a row: the lines that it comes from, with these weights, and the lines that say the functions by which it is told.
-#[tactic(auto, using(crate::proofs::OriginLemmas::named_lines))]
 pub fn row_comment(
     alloc: Global,
     question: &Question,
