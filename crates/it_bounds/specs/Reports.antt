@@ -6,6 +6,7 @@ use Rattle.it_spans.specs.Spans.{StepView}
 use Rattle.it_syntax.specs.NamesViews.{NamesView}
 use Rattle.it_question.specs.Questions.{BodyView, QuestionView}
 use Rattle.it_question.specs.ProblemLines.{problem_names}
+use Rattle.it_demand.specs.QuestionSpaces.{space_of}
 use Rattle.it_canon.specs.QuestionDemands.{question_origins}
 use Rattle.it_rates.specs.Asked.{gone_rates, kept_rates, under_all_lines}
 use Rattle.it_rates.specs.Frames.{hull_frame}
