@@ -23,7 +23,7 @@ use Rattle.it_canon.proofs.ExistenceLemmas.{question_poses}
 use Rattle.it_rates.specs.Asked.{gone_rates, kept_rates, under_all_lines}
 use Rattle.it_rates.specs.Frames.{hull_frame}
 use Rattle.it_rates.specs.Bounds.{AreExactBounds, IsTrueRay}
-use Rattle.it_rates.proofs.AskedLemmas.{all_lines_question, at_question, meets_true}
+use Rattle.it_rates.proofs.AskedLemmas.{all_lines_question, asked_rates, at_question, meets_true}
 use Rattle.it_rates.proofs.BoundLemmas.{hull_is_exact}
 use Rattle.it_certificate.specs.Bounds.{BoundsView, HasBoundsShape}
 use Rattle.it_certificate.specs.Reports.{Bounded, Reading}
