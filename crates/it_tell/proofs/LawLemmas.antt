@@ -33,6 +33,8 @@ use Rattle.it_canon.specs.QuestionDemands.{question_origins}
 use Rattle.it_canon.specs.TrueLines.{variable_count}
 use Rattle.it_cli.specs.declared.status.Status.{Status}
 use Rattle.it_cli.specs.declared.status.Status.TheVariants.{Done, Invalid}
+use Rattle.it_rates.specs.Asked.{under_all_lines}
+use Rattle.it_terms.specs.RowOrigins.{row_comment}
 use Rattle.it_tell.specs.Tellings.{Answered, AreContainedLines, AreDetails, AreOwnLineTexts, AreProofTexts, Each, IsMarkedRowText, IsPointText, IsProofText, IsRowText, IsTelling, ProofTexts, Telling, TellsObligation, indented_line, mark_comment, obligation_lines, proof_lines, told_rows}
 use Rattle.it_tell.specs.OwnLines.{OwnLine, own_line_comment, own_lines}
 use Rattle.it_tell.specs.declared.settings.Style.{Style}
@@ -88,7 +90,10 @@ row_there : (q : BodyView) (style : Style) (row : Mark × Terms) → (text : Lis
 unfolding IsRowText
 row_there q style row =
     let own = codes "as row " ++ row_text (problem_names q) Inequality row.1 in
-    (own ++ mark_comment row.0, record { own = own; lines = []; weights = []; tells = inr (refl, inr refl); origin = inl refl; is = refl })
+    (
+      own ++ row_comment (question_origins (under_all_lines q)) [] [] ++ mark_comment row.0,
+      record { own = own; lines = []; weights = []; tells = inr (refl, inr refl); origin = inl refl; is = refl },
+    )
 
 proof_there : (q : BodyView) (options : Options) (proof : Form × CertificateView) → (t : ProofTexts) × AreProofTexts q options proof t
 unfolding AreProofTexts IsProofText
