@@ -23,14 +23,14 @@ use Rattle.it_tell.specs.declared.settings.Style.TheVariants.{Plain, Named, Whol
 -- its comments stand behind it
 pub row_commented : (q : BodyView) (style : Style) (row : Mark × Terms) (lines : List ℕ) (weights : List (ℕ × ℤ)) (own comment first text : List ℕ) → IsRowText q style row.1 lines own
     → IsRowOrigin q style row.1 weights → comment ≡ row_comment (question_origins (under_all_lines q)) weights lines → first ≡ own ++ comment → text ≡ first ++ mark_comment row.0 → IsMarkedRowText q style row text
-row_commented q style row lines weights own comment first text tells origin is then last = record {
+row_commented q style row lines weights own comment first text tells origin is joined last = record {
   own = own;
   lines = lines;
   weights = weights;
   tells = tells;
   origin = origin;
   is =
-      last ∙ ap (λ t. t ++ mark_comment row.0) then ∙ append_assoc own comment (mark_comment row.0)
+      last ∙ ap (λ t. t ++ mark_comment row.0) joined ∙ append_assoc own comment (mark_comment row.0)
       ∙ ap (λ t. own ++ t ++ mark_comment row.0) is;
 }
 
