@@ -89,8 +89,7 @@ module _ {X A : Type 0} (shown : A → List ℕ) (tells : X → A → Type 0) (e
 row_there : (q : BodyView) (style : Style) (row : Mark × Terms) → (text : List ℕ) × IsMarkedRowText q style row text
 unfolding IsRowText
 row_there q style row =
-    let own = codes "as row " ++ row_text (problem_names q) Inequality row.1 in
-    (
+    let own = codes "as row " ++ row_text (problem_names q) Inequality row.1 in (
       own ++ row_comment (question_origins (under_all_lines q)) [] [] ++ mark_comment row.0,
       record { own = own; lines = []; weights = []; tells = inr (refl, inr refl); origin = inl refl; is = refl },
     )

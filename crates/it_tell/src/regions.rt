@@ -112,7 +112,6 @@ fn mark_comment(mark: Mark) -> &'static [u8]
 }
 
 /// A row of a region, with its comments.
-#[tactic(auto, using(crate::proofs::OrderLemmas::row_commented))]
 fn marked_row(
     alloc: Global,
     question: &Question,
