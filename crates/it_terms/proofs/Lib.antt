@@ -11,3 +11,4 @@ pub mod UnderLemmas
 pub mod ToldUnder
 pub mod SignLemmas
 pub mod RowLemmas
+pub mod PieceLemmas

@@ -6,3 +6,4 @@ pub mod Proposals
 pub mod FunctionProofs
 pub mod RowsUnder
 pub mod Signs
+pub mod StepsUnder
