@@ -280,7 +280,7 @@ fn proof_sides(
     proof: &[u8],
     named: &[(u32, i128)],
 ) -> Result<StepSides, AllocError> {
-    let at = place_of_equals(proof);
+    let at = place_of_equals(proof).min(proof.len());
     let left = Vec::from_slice(alloc, &proof[..at])?;
     let right = &proof[at.saturating_add(3).min(proof.len())..];
     let zero = with_names(alloc, b"0", constraints, named)?;

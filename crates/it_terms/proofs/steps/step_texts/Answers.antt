@@ -6,7 +6,7 @@ use Rattle.it_terms.proofs.StepLemmas.{no_step, one_step_more}
 use Rattle.it_terms.proofs.steps.step_texts.Goals as goal
 
 pub loop-i-init : goal.loop-i-init
-loop-i-init c = rw c.in_ok-sum.ensures.items (rw c.new-lines.ensures (no_step c.args.names.now c.args.first.now))
+loop-i-init c = rw c.in_ok-sum.ensures.items (rw c.new-lines.ensures.items (no_step c.args.names.now c.args.first.now))
 
 pub loop-i-preserved : goal.loop-i-preserved
 loop-i-preserved c =

@@ -11,7 +11,7 @@ pub loop-i-init : goal.loop-i-init
 loop-i-init c =
     let cs = c.args.under.now.problem.now.constraints.items in
     let tells = IsPieceStep c.args.under.now.names.now (origins_of cs) (forms_of (map of_constraint cs)) c.args.under.now.lines.now in
-    rw c.in_ok-sum.ensures.items (rw c.new-lines.ensures (no_step_of piece_terms tells c.args.first.now))
+    rw c.in_ok-sum.ensures.items (rw c.new-lines.ensures.items (no_step_of piece_terms tells c.args.first.now))
 
 pub loop-i-preserved : goal.loop-i-preserved
 loop-i-preserved c =
