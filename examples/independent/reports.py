@@ -1,7 +1,7 @@
 """Reports: the line that an answer gets in JSON, and the verdict on any line, from the format's definition and `verify`'s meaning.
 
 A line is judged key by key; a certificate by its scale, its weights in order and its sums coordinate by coordinate; a point by the
-generators in order and then the target; an outer bound by its certificates, its points and the hull of its rays. Numbers are told as they
+generators in order and then the target; a region by the certificates of its rows, where it has some; an outer bound by its certificates, its points and the hull of its rays. Numbers are told as they
 are written, so `1.0` and `1e0` are no whole numbers.
 """
 
@@ -239,8 +239,8 @@ def proof_of(value, key):
     return scale, weights
 
 
-def proofs_of(value, length):
-    return [proof_of(proof, "proofs") for proof in items(value.get("proofs"), "proofs", length)]
+def proofs_of(value, length, key="proofs"):
+    return [proof_of(proof, key) for proof in items(value.get(key), key, length)]
 
 
 def row_of(value, question):
@@ -255,9 +255,12 @@ def row_of(value, question):
 
 
 def marked_rows(value, question):
+    """The rows of a region, without their marks."""
+    rows = []
     for row in items(value.get("rows"), "rows"):
         rule(members(row, "rows").get("mark") in ("plain", "needed", "unsettled"), "rows")
-        row_of(row, question)
+        rows.append(row_of(row, question))
+    return rows
 
 
 def step_of(value, question):
@@ -391,6 +394,14 @@ def no_words(value, question):
     return f"invalid code {question.coordinate_text(other)}" if other else "valid"
 
 
+def region_words(value, question):
+    """The words about a region: on the certificates from which its rows are said to come, where there are some."""
+    rows = marked_rows(value, question)
+    if "origins" not in value:
+        return "skipped"
+    return first_fault(with_all_lines(question), rows, proofs_of(value, len(rows), "origins"))
+
+
 def outer_words(value, question):
     """The words about an outer bound: on its certificates, then on the points of its rays, then on its rows as the hull of the rays."""
     rows = [row_of(row, question) for row in items(value.get("rows"), "rows")]
@@ -424,12 +435,12 @@ def verdict(line):
         return outer_words(value, question)
     if answer == "no":
         return no_words(value, question)
+    if answer == "region":
+        return region_words(value, question)
     if answer == "undecided":
         cause = text_at(value, "cause")
         rule(cause in ("pivots", "width", "scale", "rows"), "cause")
         at_of(value, question, cause)
-    elif answer == "region":
-        marked_rows(value, question)
     else:
         count(value.get("tried"), "tried")
     return "skipped"

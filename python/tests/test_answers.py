@@ -1,4 +1,4 @@
-"""Answers: compared with docs/answers.md, the examples' stored answers, the literature, and the verdicts of `itip check`."""
+"""Answers: compared with docs/guide/answers.md, the examples' stored answers, the literature, and the verdicts of `itip check`."""
 
 import doctest
 import subprocess
@@ -27,7 +27,7 @@ class Answers(unittest.TestCase):
         answer = prove(I(X & Z) <= I(X & Y), given=markov(X, Y, Z))
         self.assertIsInstance(answer, Yes)
         self.assertTrue(answer)
-        # the worked example of docs/answers.md
+        # the worked example of docs/guide/answers.md
         self.assertEqual(answer.certificate.text(), "1 : 1 I(X;Y|Z) + -1 given 1")
         self.assertTrue(answer.certificate.adds_up())
         self.assertEqual(answer.check(), "valid")
@@ -40,7 +40,7 @@ class Answers(unittest.TestCase):
         answer = prove("H(X) >= H(X,Y)")
         self.assertIsInstance(answer, No)
         self.assertFalse(answer)
-        self.assertEqual(repr(answer), "no h(X)=0 h(Y)=1 h(X,Y)=1")  # docs/answers.md
+        self.assertEqual(repr(answer), "no h(X)=0 h(Y)=1 h(X,Y)=1")  # docs/guide/answers.md
         self.assertEqual((answer.point[H(Y | X)], answer.point[I(X & Y) - H(X) / 2]), (1, 0))
         self.assertEqual(answer.check(), "valid")
         self.assertIn("<th>h(X,Y)</th>", answer.point._repr_html_())
@@ -50,7 +50,7 @@ class Answers(unittest.TestCase):
 
     def test_rates(self):
         answer = prove(R >= 0, given=[2 * R >= H(X)])
-        self.assertEqual(repr(answer), "yes 2 : 1 H(X) + 1 row 1")  # docs/answers.md, with A for R
+        self.assertEqual(repr(answer), "yes 2 : 1 H(X) + 1 row 1")  # docs/guide/answers.md, with A for R
         self.assertTrue(answer.certificate.adds_up())
         self.assertLess(prove(R >= 0).point[R], 0)
         self.assertTrue(prove("X >= X").question.startswith("vars Y\nrates X\n"))
@@ -59,12 +59,12 @@ class Answers(unittest.TestCase):
 
     def test_equation(self):
         answer = prove(H(X | Y) == H(Y | X), given=H(X) == H(Y))
-        self.assertEqual([c.text() for c in answer.certificates], ["1 : 1 given 1", "1 : -1 given 1"])  # docs/answers.md
+        self.assertEqual([c.text() for c in answer.certificates], ["1 : 1 given 1", "1 : -1 given 1"])  # docs/guide/answers.md
         self.assertTrue(all(c.adds_up() for c in answer.certificates))
         self.assertEqual(prove("H(X,Y) = H(X)").side, "back")
 
     def test_denominators(self):
-        """They count as they are written (docs/questions.md)."""
+        """They count as they are written (docs/reference/grammar.md)."""
         for text in ("2/4 H(X) >= 0", "1/2 H(X) + 1/3 H(Y) >= 1/6 H(X,Y)", "H(X) + 0/5 H(Y) >= 1/3 H(X) - 2/6 H(X)"):
             for answer in (prove(text), *ask(f"vars X, Y\ngiven 3/6 H(X) >= 0\nprove {text}\n")):
                 self.assertTrue(answer.certificate.adds_up(), text)
@@ -121,7 +121,7 @@ class Answers(unittest.TestCase):
         self.assertIsInstance(answer.again(), No)
 
     def test_told(self):
-        """The steps of docs/ask.md."""
+        """The steps of docs/guide/ask.md."""
         answer = prove(H(A, B, C) + H(B, C, D) + H(A, C, D) + H(A, B, D) >= 3 * H(A, B, C, D))
         self.assertEqual([line.partition(" = ")[0].strip() for line in answer.tell(steps=True)[1:2]], ["I(A;B,C,D) + I(B;C,D|A)"])
         self.assertEqual(len(answer.proof), 1)
@@ -161,5 +161,5 @@ class Many(unittest.TestCase):
 def load_tests(loader, tests, pattern):
     tests.addTests(doctest.DocTestSuite(itip))
     tests.addTests(doctest.DocTestSuite(itip.asking))
-    tests.addTests(doctest.DocFileSuite(str(ROOT / "docs" / "python.md"), module_relative=False))
+    tests.addTests(doctest.DocFileSuite(str(ROOT / "docs" / "guide" / "python.md"), module_relative=False))
     return tests

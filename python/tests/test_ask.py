@@ -22,7 +22,7 @@ SOURCES = ROOT / "python" / "src"
 USAGE = b"ask: usage: ./ask [WORDS] FILE.., with the words that ./ask --help lists\n"
 BOOT = "import sys; sys.path.insert(0, sys.argv[1]); from itip.ask import main; sys.exit(main(*sys.argv[2:]))"
 ANEW = "It is asked anew without a budget, which may take long; Ctrl-C ends it\n"
-# the region of Slepian and Wolf, as docs/questions.md has it
+# the region of Slepian and Wolf, as docs/guide/first-questions.md has it
 BINNED = (
     "vars X, Y\nrates R, Q, S, T\nrow S >= H(X)\nrow T >= H(Y)\nrow S - R <= I(X;Y)\nrow T - Q <= I(X;Y)\n"
     "row S - R + T - Q <= I(X;Y)\neliminate S, T\n"
@@ -75,7 +75,7 @@ class Calls(Asks):
             (Path(folder) / "here").symlink_to(ROOT)
             (Path(folder) / "mine.txt").write_text(BINNED)
             done = subprocess.run(["here/ask", "mine.txt"], cwd=folder, capture_output=True, check=False)
-        self.assertEqual((done.returncode, done.stdout), (0, b"1 region 3\n  R >= H(X|Y)\n  Q >= H(Y|X)\n  R + Q >= H(X,Y)\n"))
+        self.assertEqual((done.returncode, done.stdout), (0, b"1 region 3\n  R >= H(X|Y)  # row 1 + row 3\n  Q >= H(Y|X)  # row 2 + row 4\n  R + Q >= H(X,Y)  # row 1 + row 2 + row 5\n"))
 
     def test_words(self):
         path = self.file("vars X\nprove H(X) >= 0\n")
@@ -88,13 +88,13 @@ class Calls(Asks):
             self.assertEqual((done.returncode, done.stdout, done.stderr), (2, b"", USAGE), words)
 
     def test_help(self):
-        """It lists each word, and docs/ask.md the same list."""
+        """It lists each word, and docs/guide/ask.md the same list."""
         status, shown, said = self.ask("--help")
         self.assertEqual((status, said), (0, ""))
         words = re.findall("--[a-z]+", shown)
         known = [*MODES, "steps", "short", "whole", "latex", "document", "needs", "if", "copies", "code", "made", "per", "proofs", "version"]
         self.assertEqual(sorted(set(words) - {"--help"}), sorted([*SETTINGS, *(f"--{word}" for word in known)]))
-        self.assertIn(f"```\n{shown}```\n", (ROOT / "docs" / "ask.md").read_text())
+        self.assertIn(f"```\n{shown}```\n", (ROOT / "docs" / "guide" / "ask.md").read_text())
         self.assertEqual(self.ask("--version"), (0, "ask 1\n", ""))
 
     def test_settings(self):
@@ -160,8 +160,8 @@ class Calls(Asks):
         os.rmdir(folder)
 
     def test_refused(self):
-        """The example of docs/ask.md, and what has no line to show."""
-        page = (ROOT / "docs" / "ask.md").read_text()
+        """The example of docs/guide/ask.md, and what has no line to show."""
+        page = (ROOT / "docs" / "guide" / "ask.md").read_text()
         shown = re.search(r"(?s)  refused 2:12 byte\n(  ask: mine.txt.*?)  ```", page)[1].replace("\n  ", "\n")[2:]
         path = self.file("vars X, Y\nprove H(X) < H(X,Y)\n")
         status, told, said = self.ask(path)
@@ -266,7 +266,7 @@ class Calls(Asks):
     def test_needs(self):
         """Slepian and Wolf's region, and of each row a point at which it alone fails."""
         first, *rows = self.asks(BINNED, "--needs")
-        self.assertEqual([first, rows[0]], ["1 region 3", "  R >= H(X|Y)  # needed: X constant, Y constant, R = -1, Q = 1"])
+        self.assertEqual([first, rows[0]], ["1 region 3", "  R >= H(X|Y)  # row 1 + row 3  # needed: X constant, Y constant, R = -1, Q = 1"])
         self.assertEqual([row.partition("  #")[0] for row in rows], ["  R >= H(X|Y)", "  Q >= H(Y|X)", "  R + Q >= H(X,Y)"])
         self.assertTrue(all("  # needed: " in row for row in rows))
 
@@ -369,8 +369,8 @@ class Modes(Asks):
         self.are_equations([told[2].strip()])
 
     def test_page(self):
-        """What docs/ask.md shows of the modes."""
-        page = (ROOT / "docs" / "ask.md").read_text()
+        """What docs/guide/ask.md shows of the modes."""
+        page = (ROOT / "docs" / "guide" / "ask.md").read_text()
         for told in [
             self.asks("vars X, Y, Z\nprove H(X,Y) + H(Y,Z) + H(X,Z) >= H(X,Y,Z)\n", "--best"),
             self.asks(f"{PATH}prove H(b) + H(c) >= 3 H(s)\n", "--sharing"),

@@ -157,7 +157,7 @@ class Programs(WithPrograms):
             ask("vars Y\nprove H(Y) >= 0\n", program=lost)
 
     def test_tampered(self):
-        """The forgery of docs/answers.md."""
+        """The forgery of docs/reference/reports.md."""
         answer = prove(I(X & Z) <= I(X & Y), given=markov(X, Y, Z))
         line = answer.report.replace('[4,"1"]', '[4,"2"]')
         wrong = read(answer.asked, line, answer.program)

@@ -20,7 +20,7 @@ class Pages(unittest.TestCase):
         made = dict(gallery().pages())
         self.assertEqual(len(made), 5)
         for name, text in made.items():
-            self.assertEqual(text, (PYTHON.parent / "docs" / name).read_text(), name)
+            self.assertEqual(text, (PYTHON.parent / "docs" / "guide" / name).read_text(), name)
 
 
 if __name__ == "__main__":

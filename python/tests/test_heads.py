@@ -74,7 +74,7 @@ class Copies(Asks):
 
     def test_page(self):
         told = self.ask("--copies", self.file(ZHANG_YEUNG))[1].splitlines()
-        self.assertIn("\n```\n" + "".join(line + "\n" for line in told[2:5]) + "```\n", (ROOT / "docs" / "ask.md").read_text())
+        self.assertIn("\n```\n" + "".join(line + "\n" for line in told[2:5]) + "```\n", (ROOT / "docs" / "guide" / "ask.md").read_text())
         told = self.asks("vars X, Y, Z\nprove I(X;Z) <= I(X;Y)\n", "--if")
-        self.assertIn("\n```\n" + "".join(line + "\n" for line in told) + "```\n", (ROOT / "docs" / "ask.md").read_text())
+        self.assertIn("\n```\n" + "".join(line + "\n" for line in told) + "```\n", (ROOT / "docs" / "guide" / "ask.md").read_text())
         self.assertIn(ZHANG_YEUNG.splitlines()[1], (EXAMPLES / "zhang-yeung.txt").read_text())

@@ -91,8 +91,8 @@ class Questions(Asks):
         self.assertEqual(self.stated(f"{PATH}best H(A) >= H(B)\n", "sharing"), f"{shared}{least}{goal}")
 
     def test_page(self):
-        """docs/ask.md has what is written of the region of Slepian and Wolf, but for the program."""
-        page = (ROOT / "docs" / "ask.md").read_text()
+        """docs/guide/ask.md has what is written of the region of Slepian and Wolf, but for the program."""
+        page = (ROOT / "docs" / "guide" / "ask.md").read_text()
         signed, *told = self.asks((EXAMPLES / "slepian-wolf-binning.txt").read_text(), "--latex")
         first = told[: next(place for place, line in enumerate(told) if line.startswith(r"\paragraph{2.}"))]
         self.assertIn("and none where that is too few\n" + "\n".join(first) + "\n```\n", page)

@@ -78,6 +78,6 @@ class Limits(Asks):
 
 class ClosedSets(unittest.TestCase):
     def test_nine(self):
-        """Without functions all sets are closed; docs/questions.md has the table of ten variables."""
+        """Without functions all sets are closed; docs/reference/grammar.md has the table of ten variables."""
         self.assertEqual(table(parse(TEN + "prove 0 >= 0\n")), (1023, 12553))
         self.assertEqual(len(list(combinations(range(10), 2))) * 2**8 + 10, 11530)

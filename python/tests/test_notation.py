@@ -56,7 +56,7 @@ class Notation(unittest.TestCase):
         self.assertEqual(relation("2H(X)-0<=+1/2 R").text(), "2 H(X) <= 1/2 R")
 
     def test_joint_entropies(self):
-        """The terms as docs/answers.md has them in joint entropies."""
+        """The terms as docs/guide/answers.md has them in joint entropies."""
         h = {names: H(*rv(" ".join(names))) for names in ("W", "X", "Y", "Z", "WX", "WY", "WZ", "XY", "XZ", "YZ", "WXY", "WXYZ", "XYZ")}
         self.assertTrue(H(X | Y).same(h["XY"] - h["Y"]))
         self.assertTrue(I(X & Y | Z).same(h["XZ"] + h["YZ"] - h["XYZ"] - h["Z"]))

@@ -117,7 +117,7 @@ class Command(Asks):
                 "M >= 0", "R >= 0", "F >= 0", "2 M + R >= 2 F", "3 M + 3 R >= 5 F", "M + 2 R >= 2 F",
             })  # fmt: skip
             self.assertEqual([line.count("M") + line.count("R") + line.count("F") for line in below[:-6]], [1, 1, 1, 3, 3, 3])
-        page = (EXAMPLES.parent / "docs" / "ask.md").read_text()
+        page = (EXAMPLES.parent / "docs" / "guide" / "ask.md").read_text()
         self.assertIn("\n```\n" + "".join(line + "\n" for line in told[0]) + "```\n", page)
 
     def test_lines(self):

@@ -28,7 +28,7 @@ class Regions(unittest.TestCase):
         self.assertEqual(found.marks, ("needed",) * 3)
         for row in range(3):
             self.assertIsInstance(found.why_needed(row), No)
-        self.assertEqual([found.why_needed(0).point[rate] for rate in (R, Q)], [-1, 1])  # docs/ask.md
+        self.assertEqual([found.why_needed(0).point[rate] for rate in (R, Q)], [-1, 1])  # docs/guide/ask.md
         self.assertTrue(region(*found.rows, R >= 0).why_needed(3))
         self.assertIn(r"H(X\mid Y)", found._repr_html_())
         self.assertIn(r"R &\ge H(X\mid Y)", found.latex())
@@ -53,9 +53,9 @@ class Regions(unittest.TestCase):
     def test_contained(self):
         inner, outer = region(R <= I(X & Y)), region(R <= I(U & Y), given=markov(U, X, Y), aux=U)
         answer = contained(inner, outer)
-        self.assertEqual((answer.word, answer.check()), ("contained U:=X", "valid"))  # docs/answers.md
+        self.assertEqual((answer.word, answer.check()), ("contained U:=X", "valid"))  # docs/guide/answers.md
         self.assertEqual(contained(inner, outer, attempts=[{U: X}]).substitution, {"U": ("X",)})
-        # superposition coding for a degraded broadcast channel (docs/questions.md)
+        # superposition coding for a degraded broadcast channel (docs/guide/first-questions.md)
         cloud = region(S <= I(U & Z), R <= I(X & Y | U), given=markov(U, X, Y + Z), aux=U)
         both = region(
             S <= I(V & Z), R + S <= I(V & Z) + I(X & Y | V), R + S <= I(X & Y), given=markov(V, X, Y + Z), aux=V

@@ -185,8 +185,8 @@ class Shorthand(Asks):
         self.assertEqual(list(unused("vars X, Y, Z\nprove H(X) >= 0\nprove H(Y) >= 0\nvars X, Y\nprove H(X) >= 0\n")), [(1, "Z"), (3, "Y")])
 
     def test_page(self):
-        """What docs/ask.md shows of it is what is made."""
-        page = (ROOT / "docs" / "ask.md").read_text()
+        """What docs/guide/ask.md shows of it is what is made."""
+        page = (ROOT / "docs" / "guide" / "ask.md").read_text()
         section = page.partition("## Less to write\n")[2].partition("\n## ")[0]
         rows = re.findall(r"(?m)^\| `((?:given|row) .*?)` \| (`.*`) \|$", section)
         self.assertEqual(len(rows), 5)

@@ -1,12 +1,11 @@
 -- How the search for the best factor ends: by the ends of the three phases' runs, each made exactly where the phases before it leave it to
 -- be made, and by the numbers of the scaled answer.
-use Rattle.std.specs.Prelude.{◌≡◌, ◌⊎◌, ℕ, ◌+◌, ◌*◌, ◌<◌, ◌≤◌, ℤ, pos, neg_ℤ, ◌-ℤ◌, ◌*ℤ◌, List, length, map, take, drop, slice_index_or, All, Option}
+use Rattle.std.specs.Prelude.{◌≡◌, ◌⊎◌, ℕ, ◌+◌, ◌*◌, ◌<◌, ℤ, pos, neg_ℤ, ◌*ℤ◌, List, length, map, take, drop, slice_index_or, All, Option}
 use Rattle.it_number.specs.Limit.{IsWithin}
 use Rattle.it_rational.specs.Rational.{Rational, integer}
 use Rattle.it_space.specs.Problems.{ProblemView}
-use Rattle.it_space.specs.Rows.{Terms, ValueFits, coefficient, value, point_of, negated_terms}
+use Rattle.it_space.specs.Rows.{Terms, ValueFits, value, point_of, negated_terms}
 use Rattle.it_space.specs.Spaces.{size_of}
-use Rattle.it_space.specs.Sums.{terms_from}
 use Rattle.it_polymatroid.specs.Elementals.{span}
 use Rattle.it_run.specs.Runs.{RunEndView}
 use Rattle.it_run.specs.Runs.RunEndView.{Weights, Point, Pivots, Width}
@@ -17,6 +16,7 @@ use Rattle.it_columns.specs.Columns.{columns}
 use Rattle.it_columns.specs.Scaling.{NumbersFit, scaled_point}
 use Rattle.it_ratio.specs.declared.types.BestCause.TheVariants as causes
 use Rattle.it_ratio.specs.declared.types.BestCause.TheVariants.{Scale, Size}
+use Rattle.it_ratio.specs.Sides.{SideFits, side_row}
 use Rattle.it_ratio.specs.BestViews.{BestView, Least, Never, Unbounded, Undecided}
 use Rattle.it_best.specs.Numbers.{DifferencesFit, WeightsFit, column_weight, numbers, weights_certificate}
 use Rattle.it_best.specs.Phases.{first_phase, third_phase, third_target, right_equation}
@@ -38,23 +38,13 @@ IsLarge q = 4000000 < third_rows q * third_columns q
 
 -- ---- the scaled answers
 
--- the coefficient at c of a factor's numerator times the left side less its denominator times the right one
-abbrev pub factor_coefficient : Terms → Terms → Rational → ℕ → ℤ
-factor_coefficient left right factor c = factor.num *ℤ coefficient left c -ℤ pos factor.den *ℤ coefficient right c
-
--- it and its two products are within the limit
-pub record CoefficientFits (left right : Terms) (factor : Rational) (c : ℕ) : Type 0 where
-  pub left_times : IsWithin (factor.num *ℤ coefficient left c)
-  pub right_times : IsWithin (pos factor.den *ℤ coefficient right c)
-  pub difference : IsWithin (factor_coefficient left right factor c)
-
--- the row of these coefficients, over so many coordinates
-unfoldable pub factor_row : ℕ → Terms → Terms → Rational → Terms
-factor_row size left right factor = terms_from 1 (map (factor_coefficient left right factor) (span 1 size))
+-- the row of a factor's numerator times the left side less its denominator times the right one, over so many coordinates
+abbrev pub factor_row : ℕ → Terms → Terms → Rational → Terms
+factor_row size left right factor = side_row size factor.num (pos factor.den) left right
 
 -- its coefficients are formed within the limit
 abbrev pub RowFits : ℕ → Terms → Terms → Rational → Type 0
-RowFits size left right factor = (c : ℕ) → 1 ≤ c → c ≤ size → CoefficientFits left right factor c
+RowFits size left right factor = SideFits size factor.num (pos factor.den) left right
 
 -- the numbers of a row's certificate by weights over a denominator are within the limit: the scaled weights, and what the check forms
 pub record ProofFits (q : ProblemView) (row : Terms) (den : ℤ) (weights : List Rational) : Type 0 where

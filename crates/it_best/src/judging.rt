@@ -1,13 +1,13 @@
 //! What is found, scaled and checked.
-ghost use Rattle.std.specs.Prelude.{◌≡◌, ◌<◌, ◌^◌, ◌++◌, ◌*ℤ◌, ◌≤ℤ◌, pos, neg_ℤ, map, length, IfErr, IfOk, OkIff, OnOk};
+ghost use Rattle.std.specs.Prelude.{◌≡◌, ◌<◌, ◌^◌, ◌*ℤ◌, ◌≤ℤ◌, pos, neg_ℤ, map, length, IfErr, IfOk, OkIff, OnOk};
 ghost use Rattle.it_number.specs.Limit.{IsWithin};
 ghost use Rattle.it_space.specs.Answers.{certificate_view};
 ghost use Rattle.it_space.specs.Problems.{IsProblem, problem_view};
-ghost use Rattle.it_space.specs.Rows.{IsOver, ValueFits, point_of, negated_terms, single_term, value};
+ghost use Rattle.it_space.specs.Rows.{IsOver, ValueFits, point_of, negated_terms, value};
 ghost use Rattle.it_space.specs.Spaces.{size_of};
 ghost use Rattle.it_check.specs.Meaning.{CertificateFits, CertifiesRow, PointFits};
 ghost use Rattle.it_columns.specs.Scaling.{scaled_point};
-ghost use Rattle.it_best.specs.Ends.{CoefficientFits, FactorFits, LeastPointFits, NeverFits, ProofFits, RowFits, factor_coefficient, factor_row};
+ghost use Rattle.it_best.specs.Ends.{FactorFits, LeastPointFits, NeverFits, ProofFits, RowFits, factor_row};
 ghost use Rattle.it_best.specs.Factors.{HasNoFactor, IsPoint, ground_of};
 ghost use Rattle.it_best.specs.Numbers.{weights_certificate};
 ghost use Rattle.it_best.specs.PhaseSteps.{AreSides, CertifyBelow, CertifyFactor, side_values};
@@ -15,42 +15,10 @@ ghost use Rattle.it_best.specs.PhaseSteps.{AreSides, CertifyBelow, CertifyFactor
 use crate::numbers::{certificate, turned_point, whole_point};
 use it_check::{Verdict, check_no, check_yes};
 use it_columns::opposite_row;
-use it_fraction::{Fraction, Wide, difference, signed_product};
-use it_space::{Certificate, Point, Problem, Row, RowFault, push_some, value};
+use it_fraction::{Fraction, Wide, signed_product};
+use it_ratio::{RowStop, side_row};
+use it_space::{Certificate, Point, Problem, Row, RowFault, value};
 use std::alloc::Global;
-
-/// A coefficient of a factor's numerator times the left side less its denominator times the right one.
-fn factor_coefficient(
-    left: &Row,
-    right: &Row,
-    factor: &Fraction,
-    coordinate: u32,
-) -> Result<i128, Wide>
-    ensures { OkIff result (CoefficientFits left.now right.now factor.now coordinate) (factor_coefficient left.now right.now factor.now coordinate) }
-{
-    let above = signed_product(factor.num(), left.coefficient(coordinate))?;
-    let below = signed_product(factor.den(), right.coefficient(coordinate))?;
-    difference(above, below)
-}
-
-/// Puts a coefficient of that row after the others, unless it is 0.
-fn push_coefficient(
-    terms: &mut Vec<(u32, i128)>,
-    left: &Row,
-    right: &Row,
-    factor: &Fraction,
-    coordinate: u32,
-) -> Result<(), RowFault>
-    ensures value { OnOk result (terms.new.items ≡ terms.old.items ++ single_term coordinate (factor_coefficient left.now right.now factor.now coordinate)) }
-    ensures fits { OnOk result (CoefficientFits left.now right.now factor.now coordinate) }
-    ensures wide { IfErr result (λ f. f ≡ RowFault.Wide → ¬ (CoefficientFits left.now right.now factor.now coordinate)) }
-{
-    let coefficient = factor_coefficient(left, right, factor, coordinate)?;
-    match push_some(terms, coordinate, coefficient) {
-        Ok(()) => Ok(()),
-        Err(_) => Err(RowFault::Memory),
-    }
-}
 
 /// The numerator of a factor times the left side less its denominator times the right one. `Wide` where a product or a difference
 /// passes the limit.
@@ -66,11 +34,18 @@ pub fn factor_row(
     ensures fits { OnOk result (RowFits (size_of problem.now.space) left.now right.now factor.now) }
     ensures wide { IfErr result (λ f. f ≡ RowFault.Wide → ¬ (RowFits (size_of problem.now.space) left.now right.now factor.now)) }
 {
-    let mut terms = Vec::new(alloc);
-    for coordinate in 1..problem.space.size() + 1 {
-        push_coefficient(&mut terms, left, right, factor, coordinate)?;
+    match side_row(
+        alloc,
+        problem.space,
+        left,
+        right,
+        &factor.num(),
+        &factor.den(),
+    ) {
+        Ok(row) => Ok(row),
+        Err(RowStop::Memory) => Err(RowFault::Memory),
+        Err(RowStop::Wide { .. }) => Err(RowFault::Wide),
     }
-    Ok(Row::new(terms))
 }
 
 /// The certificate where the check finds it valid; else a number of the check passes the limit.

@@ -19,13 +19,14 @@ use Rattle.it_question.specs.Questions.{BodyView, VerbView, Eliminate}
 use Rattle.it_question.specs.ProblemLines.{names_under}
 use Rattle.it_demand.specs.QuestionSpaces.{space_of}
 use Rattle.it_rates.specs.Asked.{gone_rates, kept_rates}
+use Rattle.it_rates.specs.Frames.{hull_frame}
 use Rattle.it_rates.proofs.AskedLemmas.{eliminated_rates}
 use Rattle.it_bounds.specs.declared.types.Reply.{Reply}
 use Rattle.it_bounds.specs.declared.types.Reply.TheVariants as replies
 use Rattle.it_bounds.specs.HullSteps.{AreMade, GoesOnWith, IsMade, MadeStep, numbered_drops}
 use Rattle.it_bounds.specs.Lines.{IsPrintable}
 use Rattle.it_bounds.specs.Replies.{ReplyView, Bounded, Undecided, Size, Other}
-use Rattle.it_bounds.specs.Reports.{AreToldSteps, IsToldReply, OneRightTold, ToldReply, made_frame}
+use Rattle.it_bounds.specs.Reports.{AreToldSteps, IsToldReply, OneRightTold, ToldReply}
 use Rattle.it_bounds.proofs.UniqueLemmas.{one_right_reply}
 
 -- of a question that asks to eliminate rates
@@ -67,7 +68,7 @@ module _ (f : Frame) (effort : Effort) (defined : effort.quick ≡ false) where
 one_steps : (report : Bool) (limits : Limits) (q : BodyView) (reply : ReplyView) (a b : Option (List StepView)) → limits.effort.quick ≡ false
     → AreToldSteps report limits q reply a → AreToldSteps report limits q reply b → a ≡ b
 one_steps true limits q (Bounded rows proofs rays) a b defined e d =
-    one_making (made_frame limits q) limits.effort defined (first_rows (kept_rates q (gone_rates q.verb))) rays a b e d
+    one_making (hull_frame limits.rows q) limits.effort defined (first_rows (kept_rates q (gone_rates q.verb))) rays a b e d
 one_steps true limits q (Undecided cause) a b defined e d = e ∙ sym d
 one_steps true limits q Size a b defined e d = e ∙ sym d
 one_steps true limits q Other a b defined e d = e ∙ sym d

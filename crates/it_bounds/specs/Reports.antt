@@ -1,8 +1,7 @@
 -- What mode `outer` tells: the right reply to a question, in lines, or as the line of a report with the steps that make the hull.
-use Rattle.std.specs.Prelude.{◌≡◌, ℕ, List, ◌++◌, ◌≤◌, length, All, Bool, true, false, Option, Some, None, slice_index_or, codes}
+use Rattle.std.specs.Prelude.{◌≡◌, ℕ, List, ◌++◌, ◌≤◌, length, All, Bool, true, false, Option, Some, None, codes}
 use Rattle.it_space.specs.Spaces.{size_of}
 use Rattle.it_hull.specs.Hulls.{first_rows}
-use Rattle.it_spans.specs.declared.types.Frame.{Frame}
 use Rattle.it_spans.specs.Spans.{StepView}
 use Rattle.it_syntax.specs.NamesViews.{NamesView}
 use Rattle.it_question.specs.Questions.{BodyView, QuestionView}
@@ -10,6 +9,7 @@ use Rattle.it_question.specs.ProblemLines.{problem_names}
 use Rattle.it_demand.specs.QuestionSpaces.{space_of}
 use Rattle.it_canon.specs.QuestionDemands.{question_origins}
 use Rattle.it_rates.specs.Asked.{gone_rates, kept_rates, under_all_lines}
+use Rattle.it_rates.specs.Frames.{hull_frame}
 use Rattle.it_outer.specs.declared.types.Limits.{Limits}
 use Rattle.it_certificate.specs.Values.{OfQuestion, bounds_members, misfit_members, report_text}
 use Rattle.it_answer.specs.Truth.{region_rows}
@@ -25,13 +25,9 @@ pub record ToldReply : Type 0 where
   pub reply : ReplyView
   pub steps : Option (List StepView)
 
--- where the steps are made: multipliers stand at the first rate that goes
-abbrev pub made_frame : Limits → BodyView → Frame
-made_frame limits q = record { space = space_of q.names; spare = slice_index_or (gone_rates q.verb) 0 0; rows = limits.rows }
-
 -- the steps are those of the rays, where a report is asked for and the reply has rays
 abbrev pub AreToldSteps : Bool → Limits → BodyView → ReplyView → Option (List StepView) → Type 0
-AreToldSteps true limits q (Bounded rows proofs rays) steps = AreMade (made_frame limits q) limits.effort (first_rows (kept_rates q (gone_rates q.verb))) rays steps
+AreToldSteps true limits q (Bounded rows proofs rays) steps = AreMade (hull_frame limits.rows q) limits.effort (first_rows (kept_rates q (gone_rates q.verb))) rays steps
 AreToldSteps report limits q reply steps = steps ≡ None
 
 -- the right reply to a question, with the steps that are asked for

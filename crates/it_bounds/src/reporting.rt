@@ -3,28 +3,28 @@ ghost use Rattle.std.specs.Prelude.{◌≡◌, ◌≤◌, ◌++◌, All, IfOk, c
 ghost use Rattle.it_space.specs.Answers.{certificate_view};
 ghost use Rattle.it_space.specs.Spaces.{size_of};
 ghost use Rattle.it_demand.specs.QuestionSpaces.{space_of};
-ghost use Rattle.it_answer.specs.Truth.{region_rows};
 ghost use Rattle.it_certificate.specs.Values.{source_texts};
 ghost use Rattle.it_question.specs.Limits.{IsQuestion};
 ghost use Rattle.it_question.specs.Questions.{question_body, question_view};
 ghost use Rattle.it_rates.specs.Asked.{gone_rates, kept_rates};
+ghost use Rattle.it_rates.specs.Frames.{hull_frame};
 ghost use Rattle.it_hull.specs.Hulls.{first_rows};
 ghost use Rattle.it_spans.specs.Spans.{step_views};
 ghost use Rattle.it_bounds.specs.HullSteps.{AreMade};
 ghost use Rattle.it_bounds.specs.Replies.{reply_view};
-ghost use Rattle.it_bounds.specs.Reports.{AreToldSteps, IsToldReply, IsToldReport, made_frame, unreported};
+ghost use Rattle.it_bounds.specs.Reports.{AreToldSteps, IsToldReply, IsToldReport, unreported};
 ghost use Rattle.it_bounds.specs.ReportViews.{IsBounded, IsBoundsReport, IsToldCause};
 
 use crate::lines::write_cause;
 use crate::steps::hull_steps;
 use crate::types::Reply;
 use it_canon::problem_names;
-use it_certificate::{ReportedBounds, SourceText, bounds_json, misfit_json};
+use it_certificate::{ReportedBounds, SourceText, bounds_json, misfit_json, unmarked};
 use it_hull::kept_coordinates;
 use it_outer::Limits;
 use it_question::types::Question;
 use it_rates::gone_rates;
-use it_space::{Certificate, Mark, Point, Row};
+use it_space::{Certificate, Point};
 use it_spans::{Frame, Step};
 use it_syntax::Names;
 use std::alloc::{AllocError, Global};
@@ -109,7 +109,7 @@ fn steps_of(
     requires few_rows { limits.rows ≤ 65535 }
     requires asked { 1 ≤ length (gone_rates (question_body question.now).verb) }
     requires rays { All (λ ray. length ray ≡ size_of (space_of (question_body question.now).names)) rays.now }
-    ensures { IfOk result (λ s. AreMade (made_frame limits (question_body question.now)) limits.effort (first_rows (kept_rates (question_body question.now) (gone_rates (question_body question.now).verb))) rays.now (option_map (λ v. step_views v.items) s)) }
+    ensures { IfOk result (λ s. AreMade (hull_frame limits.rows (question_body question.now)) limits.effort (first_rows (kept_rates (question_body question.now) (gone_rates (question_body question.now).verb))) rays.now (option_map (λ v. step_views v.items) s)) }
 {
     let space = question.names.space();
     let gone = gone_rates(&question.verb);
@@ -144,18 +144,6 @@ fn bounded_json(
     };
     let line = bounds_json(alloc, source, &bounds)?;
     Ok(line)
-}
-
-/// Rows without their marks.
-fn unmarked(alloc: Global, rows: &[(Mark, Row)]) -> Result<Vec<Row>, AllocError>
-    ensures { IfOk result (λ v. v.items ≡ region_rows rows.now) }
-{
-    let mut plain = Vec::new(alloc);
-    for row in rows {
-        let copy = row.1.copy(alloc)?;
-        plain.push(copy)?;
-    }
-    Ok(plain)
 }
 
 /// The same certificates once more.

@@ -32,7 +32,7 @@ use Rattle.it_demand.specs.Targets.{targets}
 use Rattle.it_certificate.specs.Numerals.{below, count_of_integer, step_of, integer_of}
 use Rattle.it_certificate.specs.Kinds.{back_of, mark_of}
 use Rattle.std.specs.Option.{option_or, option_zip}
-use Rattle.it_certificate.specs.Parts.{text_of, integer_at, count_at, two_of, pair_at, all_of, list_at, of_length, certificate_at, proofs_at, point_at, back_at, cause_kind_at, cause_of, cause_at, is_row_between, row_of, marked_row_at, rows_at, set_at, parts_at, unmarked_row_at}
+use Rattle.it_certificate.specs.Parts.{text_of, integer_at, count_at, two_of, pair_at, all_of, list_at, of_length, certificate_at, origins_at, proofs_at, point_at, back_at, cause_kind_at, cause_of, cause_at, is_row_between, row_of, marked_row_at, rows_at, set_at, parts_at, unmarked_row_at}
 use Rattle.it_certificate.specs.AnswerReading.{and_then, no_at, undecided_at, contained_at}
 use Rattle.it_certificate.specs.Obligations.{obligation_count}
 use Rattle.it_spans.specs.Spans.{StepView}
@@ -95,6 +95,10 @@ certificate_numbers d c is =
 proofs_fit : (n : ℕ) (d : Data) (ps : List CertificateView) → proofs_at n d ≡ Some ps → (length ps ≡ n) × All IsNumbered ps
 unfolding proofs_at
 proofs_fit n d ps is = counted_numbers IsNumbered certificate_at certificate_numbers n (get (codes "proofs") d) ps is
+
+pub origins_fit : (n : ℕ) (d : Data) (ps : List CertificateView) → origins_at n d ≡ Some ps → (length ps ≡ n) × All IsNumbered ps
+unfolding origins_at
+origins_fit n d ps is = counted_numbers IsNumbered certificate_at certificate_numbers n (get (codes "origins") d) ps is
 
 -- ---- yes, no
 

@@ -14,5 +14,7 @@ pub mod OneLemmas
 pub mod FitLemmas
 pub mod FactorFits
 pub mod CodeFits
+pub mod OriginFits
 mod RoundLemmas
+mod OriginRound
 mod RowsComputed

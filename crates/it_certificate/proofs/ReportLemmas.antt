@@ -1,9 +1,11 @@
 -- The reading of a value, step by step.
-use Rattle.std.proofs.Common.{◌≡◌, refl, ap, sym, subst, ◌∙◌, Bool, true, false, cond, Option, Some, None, Result, Ok, Err}
+use Rattle.std.proofs.Common.{◌≡◌, refl, ap, sym, subst, ◌∙◌, List, Vec, map, Bool, true, false, cond, Option, Some, None, Result, Ok, Err}
 use Rattle.std.specs.Prelude.{ok_or}
+use Rattle.std.specs.Global.{Global}
 use Rattle.serde_json.specs.Data.{Data}
-use Rattle.it_space.specs.Answers.{AnswerView, answer_view}
+use Rattle.it_space.specs.Answers.{AnswerView, CertificateView, answer_view, certificate_view}
 use Rattle.it_space.specs.declared.answers.Answer.{Answer}
+use Rattle.it_space.specs.declared.answers.Certificate.{Certificate}
 use Rattle.it_question.specs.Questions.{QuestionView, question_view}
 use Rattle.it_question.specs.declared.types.Question.{Question}
 use Rattle.it_certificate.specs.declared.keys.Refusal.{Refusal}
@@ -18,12 +20,13 @@ use Rattle.it_certificate.specs.declared.types.Reported.TheVariants as reported
 use Rattle.it_certificate.specs.declared.types.ReportedBounds.{ReportedBounds}
 use Rattle.it_certificate.specs.declared.types.ReportedCode.{ReportedCode}
 use Rattle.it_certificate.specs.CodeReading.{ReportedCodeView, names_code, reported_code_view, tells_code}
+use Rattle.it_certificate.specs.OriginReading.{answer_origins, tells_origins}
 use Rattle.it_certificate.specs.Parts.{answer_kind_at}
 use Rattle.it_ratio.specs.BestViews.{BestView, best_view}
 use Rattle.it_ratio.specs.declared.types.Best.{Best}
 use Rattle.it_certificate.specs.declared.kinds.FactorKind.{FactorKind}
 use Rattle.it_certificate.specs.FactorReading.{factor_kind_at, verb_best}
-use Rattle.it_certificate.specs.Reports.{Answered, Coded, Factored, Misfit, Reading, ReadsAs, answer_of, answer_to, best_to, code_to, coded_of, reading_by, report_of, tells_misfit, verb_answer, Bounded, bounded_of, bounds_to, tells_outer}
+use Rattle.it_certificate.specs.Reports.{Answered, Coded, Derived, Factored, Misfit, Reading, ReadsAs, answer_of, answer_to, best_to, code_to, coded_of, derived_of, reading_by, report_of, tells_misfit, verb_answer, Bounded, bounded_of, bounds_to, tells_outer}
 use Rattle.it_certificate.specs.Bounds.{BoundsView, bounds_view, verb_bounds}
 use Rattle.it_certificate.specs.ReportSteps.{GivesAsked, GivesSource, ReadsValue}
 use Rattle.it_certificate.specs.Sources.{IsSourceOf, Source, asked, source_key}
@@ -80,13 +83,17 @@ module _ (d : Data) (told : false ≡ tells_misfit d) (outer : false ≡ tells_o
   by_kind : (o : Option Source) (kind : Option FactorKind) → kind ≡ factor_kind_at d → report_of o d ≡ reading_by o kind d
   by_kind o kind is = of_no_misfit d told o ∙ ap (reading_of o d) (sym outer) ∙ ap (λ k. reading_by o k d) (sym is)
 
-  -- ---- a line that is about neither factors nor a code
+  by_origins : (o : Option Source) (code origins : Bool) → None ≡ factor_kind_at d → code ≡ tells_code d → origins ≡ tells_origins d → report_of o d ≡ cond code (coded_of o d) (cond origins (derived_of o d) (answer_of o d))
+  by_origins o code origins other is_code is_origins = by_kind o None other
+      ∙ ap (λ b. cond b (coded_of o d) (cond (tells_origins d) (derived_of o d) (answer_of o d))) (sym is_code)
+      ∙ ap (λ b. cond code (coded_of o d) (cond b (derived_of o d) (answer_of o d))) (sym is_origins)
 
-  module _ (other : None ≡ factor_kind_at d) (plain : false ≡ tells_code d) where
+  -- ---- a line that is about no factors, and has neither a code nor origins
+
+  module _ (other : None ≡ factor_kind_at d) (no_code : false ≡ tells_code d) (plain : false ≡ tells_origins d) where
     by_answer : (o : Option Source) (kind : Option AnswerKind) → kind ≡ answer_kind_at d
         → report_of o d ≡ and_then (ok_or kind keys.Answer) (λ kind. and_then (ok_or o (source_key d)) (λ source. and_then (answer_to source kind d) (λ a. Ok (Answered source a))))
-    by_answer o kind is = by_kind o None other
-        ∙ ap (λ b. cond b (coded_of o d) (answer_of o d)) (sym plain)
+    by_answer o kind is = by_origins o false false other no_code plain
         ∙ ap (λ k. and_then (ok_or k keys.Answer) (λ kind. and_then (ok_or o (source_key d)) (λ source. and_then (answer_to source kind d) (λ a. Ok (Answered source a))))) (sym is)
 
     pub no_kind : None ≡ answer_kind_at d → ReadsAs d (Err keys.Answer)
@@ -120,7 +127,7 @@ module _ (d : Data) (told : false ≡ tells_misfit d) (outer : false ≡ tells_o
 
   module _ (other : None ≡ factor_kind_at d) (code : true ≡ tells_code d) where
     of_code : (o : Option Source) → report_of o d ≡ coded_of o d
-    of_code o = by_kind o None other ∙ ap (λ b. cond b (coded_of o d) (answer_of o d)) (sym code)
+    of_code o = by_origins o true (tells_origins d) other code refl
 
     pub no_code_source : (f : ReportFault) → GivesAsked d (Err f) → ReadsValue d (Err f)
     no_code_source (faults.Shape key) none = subst (λ k. ReadsAs d (Err k)) (sym none.0) (record { own = None; source = none.1; is = of_code None })
@@ -165,6 +172,48 @@ module _ (d : Data) (told : false ≡ tells_misfit d) (outer : false ≡ tells_o
           (code_as_asked gives.0 (question_view q) (Err key) gives.2 coded)
       code_err a faults.NotJson answered coded = coded
       code_err a faults.Memory answered coded = tt
+
+  -- ---- a region with origins
+
+  module _ (other : None ≡ factor_kind_at d) (no_code : false ≡ tells_code d) (origins : true ≡ tells_origins d) where
+    of_origins : (o : Option Source) → report_of o d ≡ derived_of o d
+    of_origins o = by_origins o false true other no_code origins
+
+    pub no_origins_source : (f : ReportFault) → GivesAsked d (Err f) → ReadsValue d (Err f)
+    no_origins_source (faults.Shape key) none = subst (λ k. ReadsAs d (Err k)) (sym none.0) (record { own = None; source = none.1; is = of_origins None })
+    no_origins_source faults.NotJson none = none
+    no_origins_source faults.Memory none = tt
+
+    -- what is read after the source, by the answer
+    abbrev after_region : Source → Result AnswerView Key → Result Reading Key
+    after_region source r = and_then r (λ a. and_then (answer_origins a d) (λ ws. Ok (Derived source a ws)))
+
+    region_as : (source : Source) (r : Result AnswerView Key) → IsSourceOf d source → answer_to source kinds.Region d ≡ r → ReadsAs d (after_region source r)
+    region_as source r own answered = record { own = Some source; source = own; is = of_origins (Some source) ∙ ap (after_region source) answered }
+
+    -- the region of the question that is asked
+    region_as_asked : (source : Source) (q : QuestionView) (r : Result AnswerView Key) → asked source ≡ q → verb_answer q.body.names q.body.verb kinds.Region d ≡ r → answer_to source kinds.Region d ≡ r
+    region_as_asked source q r e by = ap (λ (z : QuestionView). verb_answer z.body.names z.body.verb kinds.Region d) e ∙ by
+
+    module _ (q : Question) (gives : GivesSource d (Ok q)) where
+      pub region_err : (f : ReportFault) → GivesKeyed answer_view (Err f) (verb_answer (question_view q).body.names (question_view q).body.verb kinds.Region d) → ReadsValue d (Err f)
+      region_err (faults.Shape key) by = region_as gives.0 (Err key) gives.1 (region_as_asked gives.0 (question_view q) (Err key) gives.2 by)
+      region_err faults.NotJson by = by
+      region_err faults.Memory by = tt
+
+      module _ (a : Answer) (answered : verb_answer (question_view q).body.names (question_view q).body.verb kinds.Region d ≡ Ok (answer_view a)) where
+        -- with what is read of the origins
+        origins_as : (s : Result (List CertificateView) Key) → answer_origins (answer_view a) d ≡ s → ReadsAs d (and_then s (λ ws. Ok (Derived gives.0 (answer_view a) ws)))
+        origins_as s by = subst (λ z. ReadsAs d (and_then z (λ ws. Ok (Derived gives.0 (answer_view a) ws)))) by
+            (region_as gives.0 (Ok (answer_view a)) gives.1 (region_as_asked gives.0 (question_view q) (Ok (answer_view a)) gives.2 answered))
+
+        pub origins_ok : (ws : Vec Certificate Global) → answer_origins (answer_view a) d ≡ Ok (map certificate_view ws.items) → ReadsValue d (Ok (reported.Derived q a ws))
+        origins_ok ws by = (Derived gives.0 (answer_view a) (map certificate_view ws.items), (gives.2, refl, refl), origins_as (Ok (map certificate_view ws.items)) by)
+
+        pub origins_err : (f : ReportFault) → GivesKeyed (λ (v : Vec Certificate Global). map certificate_view v.items) (Err f) (answer_origins (answer_view a) d) → ReadsValue d (Err f)
+        origins_err (faults.Shape key) by = origins_as (Err key) by
+        origins_err faults.NotJson by = by
+        origins_err faults.Memory by = tt
 
   -- ---- a line about factors
 

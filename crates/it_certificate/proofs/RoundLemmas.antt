@@ -34,7 +34,8 @@ use Rattle.it_certificate.specs.AnswerReading.{and_then, no_at, undecided_at, co
 use Rattle.it_certificate.specs.Obligations.{obligation_count}
 use Rattle.it_certificate.specs.CodeReading.{tells_code}
 use Rattle.it_certificate.specs.FactorReading.{factor_kind_at}
-use Rattle.it_certificate.specs.Reports.{Answered, Misfit, answer_of, bounded_of, coded_of, reading_by, report_of, tells_misfit, tells_outer, verb_answer}
+use Rattle.it_certificate.specs.OriginReading.{tells_origins}
+use Rattle.it_certificate.specs.Reports.{Answered, Misfit, answer_of, bounded_of, coded_of, derived_of, reading_by, report_of, tells_misfit, tells_outer, verb_answer}
 use Rattle.it_certificate.specs.Sources.{Text}
 use Rattle.it_certificate.specs.AnswerShapes.{IsNumberedAmount, IsNumbered, IsRowIn, IsCauseFor, HasContainmentShape, HasVerbShape, HasQuestionShape}
 use Rattle.it_certificate.specs.Laws.{without_zeros, written_answer, ReadsBack}
@@ -68,7 +69,7 @@ map_same : {A : Type 0} (xs : List A) → map (λ x. x) xs ≡ xs
 map_same [] = refl
 map_same (x ∷ xs) = ap (λ zs. x ∷ zs) (map_same xs)
 
-same_back : {A : Type 0} (P : A → Type 0) (f : Data → Option A) (v : A → Data) → ((a : A) → P a → f (v a) ≡ Some a) → (xs : List A) → All P xs
+pub same_back : {A : Type 0} (P : A → Type 0) (f : Data → Option A) (v : A → Data) → ((a : A) → P a → f (v a) ≡ Some a) → (xs : List A) → All P xs
     → all_of f (items_of (map v xs)) ≡ Some xs
 same_back P f v each xs all = all_back P f v (λ x. x) each xs all ∙ ap Some (map_same xs)
 
@@ -84,7 +85,7 @@ certificate_back c p =
 of_length_is : {A : Type 0} (n : ℕ) (xs : List A) → length xs ≡ n → of_length n xs ≡ Some xs
 of_length_is n xs is = ap (λ b. cond b (Some xs) None) (eq-eqb (length xs) n is)
 
-certificates_back : (n : ℕ) (ws : List CertificateView) → length ws ≡ n → All IsNumbered ws
+pub certificates_back : (n : ℕ) (ws : List CertificateView) → length ws ≡ n → All IsNumbered ws
     → option_and_then (of_length n) (all_of certificate_at (items_of (map proof_value ws))) ≡ Some (map without_zeros ws)
 certificates_back n ws is all =
     ap (option_and_then (of_length n)) (all_back IsNumbered certificate_at proof_value without_zeros certificate_back ws all)
@@ -178,7 +179,7 @@ terms_back : (r : Mark × Terms) → All IsNumberedAmount r.1 → list_at pair_a
 unfolding row_value
 terms_back r all = same_back IsNumberedAmount pair_at pair_value pair_back r.1 all
 
-row_back : (size : ℕ) (r : Mark × Terms) → IsRowIn size r → marked_row_at size (row_value r) ≡ Some r
+pub row_back : (size : ℕ) (r : Mark × Terms) → IsRowIn size r → marked_row_at size (row_value r) ≡ Some r
 unfolding marked_row_at unmarked_row_at
 row_back size r fits =
     ap (λ o. option_zip o (option_and_then (row_of size) (list_at pair_at (get (codes "row") (row_value r))))) (mark_back r.0 r.1)
@@ -308,6 +309,16 @@ no_code text v (Region rows) = refl
 no_code text v (Contained parts proofs) = refl
 no_code text v (Open tried) = refl
 
+-- and no origins
+no_origins : (text : List ℕ) (v : NamesView) (a : AnswerView) → tells_origins (answer_value text v a) ≡ false
+unfolding tells_origins answer_value answer_members
+no_origins text v (Yes proofs) = refl
+no_origins text v (No back values) = refl
+no_origins text v (Undecided cause) = refl
+no_origins text v (Region rows) = refl
+no_origins text v (Contained parts proofs) = refl
+no_origins text v (Open tried) = refl
+
 -- the object has a key alone that an answer doesn't write
 other_key : (text : List ℕ) (v : NamesView) (a : AnswerView) → (get (codes "sharing") (answer_value text v a) ≡ None) × (get (codes "copies") (answer_value text v a) ≡ None)
 unfolding answer_value answer_members
@@ -329,7 +340,8 @@ reads_back q a short file fits =
       is = ap (λ b. cond b (Ok Misfit) (cond (tells_outer d) (bounded_of (Some (Text q)) d) (reading_by (Some (Text q)) (factor_kind_at d) d))) (no_misfit q.text q.body.names a)
           ∙ ap (λ b. cond b (bounded_of (Some (Text q)) d) (reading_by (Some (Text q)) (factor_kind_at d) d)) (no_bounds q.text q.body.names a)
           ∙ ap (λ k. reading_by (Some (Text q)) k d) (no_factor q.text q.body.names a)
-          ∙ ap (λ b. cond b (coded_of (Some (Text q)) d) (answer_of (Some (Text q)) d)) (no_code q.text q.body.names a)
+          ∙ ap (λ b. cond b (coded_of (Some (Text q)) d) (cond (tells_origins d) (derived_of (Some (Text q)) d) (answer_of (Some (Text q)) d))) (no_code q.text q.body.names a)
+          ∙ ap (λ b. cond b (derived_of (Some (Text q)) d) (answer_of (Some (Text q)) d)) (no_origins q.text q.body.names a)
           ∙ ap (λ k. and_then (ok_or k keys.Answer) (λ kind. and_then (verb_answer q.body.names q.body.verb kind d) (λ b. Ok (Answered (Text q) b)))) (answer_kind_back q.text q.body.names a)
           ∙ ap (λ r. and_then r (λ b. Ok (Answered (Text q) b))) (answer_back q a fits);
     }

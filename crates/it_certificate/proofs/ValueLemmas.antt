@@ -16,7 +16,7 @@ use Rattle.it_space.specs.declared.answers.Mark.{Mark}
 use Rattle.it_syntax.specs.NamesViews.{NamesView}
 use Rattle.it_ratio.specs.BestViews.{BestView, Least, Never, Unbounded, BestView as bests}
 use Rattle.it_certificate.specs.FactorValues.{best_members, ratio_value}
-use Rattle.it_certificate.specs.Values.{SourceTexts, OfQuestion, OfCopies, OfSharing, ascii_byte, ascii_string, integer_value, count_value, pair_value, proof_value, row_value, answer_members, answer_value, answer_text, report_text, with_source, bounds_members, drop_value, step_value, unmarked_row_value}
+use Rattle.it_certificate.specs.Values.{SourceTexts, OfQuestion, OfCopies, OfSharing, ascii_byte, ascii_string, integer_value, count_value, pair_value, proof_value, row_value, answer_members, answer_value, answer_text, derived_members, derived_text, derived_value, list_value, report_text, with_source, bounds_members, drop_value, step_value, unmarked_row_value}
 use Rattle.it_spans.specs.Drops.{DropView}
 use Rattle.it_spans.specs.Spans.{StepView}
 use Rattle.it_certificate.specs.Bounds.{BoundsView}
@@ -73,7 +73,7 @@ best_no_float (Never values) = or_none _ false (items_no_float integer_value (λ
 best_no_float (Unbounded num den proof below) = or_none _ false (items_no_float proof_value proof_no_float (proof ∷ below ∷ [])) refl
 best_no_float (bests.Undecided cause) = refl
 
--- a text that is put among members is no float
+-- what is put among members is no float
 first_none : (a b : Bool) → (a || b) ≡ false → a ≡ false
 first_none false b e = refl
 first_none true b e = e
@@ -82,19 +82,27 @@ rest_none : (a b : Bool) → (a || b) ≡ false → b ≡ false
 rest_none false b e = e
 rest_none true b e = let f : true ≡ false = e in absurd cc
 
-text_no_float : (key text : List ℕ) (ms : Members) → members_have_float ms ≡ false → members_have_float (put key (string text) ms) ≡ false
-text_no_float key text no_members none = refl
-text_no_float key text (member l e ms) none = by_order (slice_cmp nat_cmp key l) (text_no_float key text ms (rest_none (has_float e) (members_have_float ms) none))
+put_no_float : (key : List ℕ) (d : Data) (ms : Members) → has_float d ≡ false → members_have_float ms ≡ false → members_have_float (put key d ms) ≡ false
+put_no_float key d no_members own none = or_none (has_float d) false own refl
+put_no_float key d (member l e ms) own none = by_order (slice_cmp nat_cmp key l) (put_no_float key d ms own (rest_none (has_float e) (members_have_float ms) none))
   where
-    by_order : (o : Ordering) → members_have_float (put key (string text) ms) ≡ false
-        → members_have_float (match_ordering o (member key (string text) (member l e ms)) (member l (string text) ms) (member l e (put key (string text) ms))) ≡ false
-    by_order Less rest = none
-    by_order Equal rest = rest_none (has_float e) (members_have_float ms) none
-    by_order Greater rest = or_none (has_float e) (members_have_float (put key (string text) ms)) (first_none (has_float e) (members_have_float ms) none) rest
+    by_order : (o : Ordering) → members_have_float (put key d ms) ≡ false
+        → members_have_float (match_ordering o (member key d (member l e ms)) (member l d ms) (member l e (put key d ms))) ≡ false
+    by_order Less rest = or_none (has_float d) (members_have_float (member l e ms)) own none
+    by_order Equal rest = or_none (has_float d) (members_have_float ms) own (rest_none (has_float e) (members_have_float ms) none)
+    by_order Greater rest = or_none (has_float e) (members_have_float (put key d ms)) (first_none (has_float e) (members_have_float ms) none) rest
+
+text_no_float : (key text : List ℕ) (ms : Members) → members_have_float ms ≡ false → members_have_float (put key (string text) ms) ≡ false
+text_no_float key text ms none = put_no_float key (string text) ms refl none
 
 no_float : (text : List ℕ) (v : NamesView) (a : AnswerView) → has_float (answer_value text v a) ≡ false
 unfolding answer_value
 no_float text v a = text_no_float (codes "question") text (answer_members v a) (answer_no_float v a)
+
+derived_no_float : (text : List ℕ) (v : NamesView) (rows : List (Mark × Terms)) (ws : List CertificateView) → has_float (derived_value text v rows ws) ≡ false
+unfolding derived_value
+derived_no_float text v rows ws = text_no_float (codes "question") text (derived_members v rows ws)
+    (put_no_float (codes "origins") (list_value proof_value ws) (answer_members v (Region rows)) (items_no_float proof_value proof_no_float ws) (answer_no_float v (Region rows)))
 
 source_no_float : (source : SourceTexts) (ms : Members) → members_have_float ms ≡ false → has_float (object (with_source source ms)) ≡ false
 source_no_float (OfQuestion text) ms none = text_no_float (codes "question") (map ascii_byte text) ms none
@@ -130,6 +138,12 @@ answer_shallow text v (Contained parts proofs) =
     let f = items_shallow proof_value 3 proof_shallow proofs in omega (arith, e, f)
 answer_shallow text v (Open tried) = omega arith
 
+derived_shallow : (text : List ℕ) (v : NamesView) (rows : List (Mark × Terms)) (ws : List CertificateView) → depth (derived_value text v rows ws) ≤ 127
+unfolding derived_value answer_members
+derived_shallow text v rows ws =
+    let e = items_shallow proof_value 3 proof_shallow ws in
+    let f = items_shallow row_value 3 row_shallow rows in omega (arith, e, f)
+
 pub line_is : (source : SourceTexts) (ms : Members) (d : Data) (text : List ℕ) → members_have_float ms ≡ false → d ≡ object (with_source source ms) → (has_float d ≡ false → text ≡ compact_text d) → text ≡ report_text source ms
 unfolding report_text
 line_is source ms d text none is h = h (ap has_float is ∙ source_no_float source ms none) ∙ ap compact_text is
@@ -144,6 +158,17 @@ pub back_is : {E : Type 0} {S : Type 0} (bytes : S → List ℕ) (text : List �
     → IfOk out (λ s. depth d ≤ 127 → read (bytes s) ≡ Some d) → IfOk out (λ s. read (bytes s) ≡ Some (answer_value text v a))
 back_is bytes text v a d (Ok s) is h = h (subst (λ (e : Data). depth e ≤ 127) (sym is) (answer_shallow text v a)) ∙ ap Some is
 back_is bytes text v a d (Err e) is h = tt
+
+pub derived_text_is : {E : Type 0} {S : Type 0} (bytes : S → List ℕ) (text : List ℕ) (v : NamesView) (rows : List (Mark × Terms)) (ws : List CertificateView) (d : Data) (out : Result S E) → d ≡ derived_value text v rows ws
+    → IfOk out (λ s. has_float d ≡ false → bytes s ≡ compact_text d) → IfOk out (λ s. bytes s ≡ derived_text text v rows ws)
+unfolding derived_text
+derived_text_is bytes text v rows ws d (Ok s) is h = h (ap has_float is ∙ derived_no_float text v rows ws) ∙ ap compact_text is
+derived_text_is bytes text v rows ws d (Err e) is h = tt
+
+pub derived_back_is : {E : Type 0} {S : Type 0} (bytes : S → List ℕ) (text : List ℕ) (v : NamesView) (rows : List (Mark × Terms)) (ws : List CertificateView) (d : Data) (out : Result S E) → d ≡ derived_value text v rows ws
+    → IfOk out (λ s. depth d ≤ 127 → read (bytes s) ≡ Some d) → IfOk out (λ s. read (bytes s) ≡ Some (derived_value text v rows ws))
+derived_back_is bytes text v rows ws d (Ok s) is h = h (subst (λ (e : Data). depth e ≤ 127) (sym is) (derived_shallow text v rows ws)) ∙ ap Some is
+derived_back_is bytes text v rows ws d (Err e) is h = tt
 
 -- ---- bytes in ASCII
 

@@ -2,11 +2,14 @@
 use Rattle.std.specs.Prelude.{◌≡◌, ℕ, ◌≤◌, List, [], ◌∷◌, map, filter, length, Result, Ok}
 use Rattle.it_space.specs.Answers.{CertificateView, AnswerView, is_nonzero_weight}
 use Rattle.it_space.specs.Answers.AnswerView.{Yes, No, Undecided, Region, Contained, Open}
+use Rattle.it_space.specs.declared.answers.Mark.{Mark}
+use Rattle.it_space.specs.Rows.{Terms}
 use Rattle.it_question.specs.Questions.{QuestionView}
 use Rattle.it_question.specs.Files.{IsFile}
 use Rattle.it_certificate.specs.declared.keys.Key.{Key}
-use Rattle.it_certificate.specs.Values.{answer_value}
-use Rattle.it_certificate.specs.Reports.{Answered, ReadsAs, ReadsReport, Reading}
+use Rattle.it_certificate.specs.OriginReading.{HasDerivedShape}
+use Rattle.it_certificate.specs.Values.{answer_value, derived_value}
+use Rattle.it_certificate.specs.Reports.{Answered, Derived, ReadsAs, ReadsReport, Reading}
 use Rattle.it_certificate.specs.Sources.{Text}
 use Rattle.it_certificate.specs.AnswerShapes.{HasQuestionShape}
 
@@ -27,6 +30,11 @@ written_answer (Open tried) = Open tried
 abbrev pub ReadsBack : Type 0
 ReadsBack = (q : QuestionView) (answer : AnswerView) → length q.text ≤ 1048577 → IsFile q.text (q ∷ []) → HasQuestionShape q.body answer
     → ReadsAs (answer_value q.text q.body.names answer) (Ok (Answered (Text q) (written_answer answer)))
+
+-- The value of a region with a certificate for each of its rows, which fit its question, reads as that question with that region and these.
+abbrev pub OriginsReadBack : Type 0
+OriginsReadBack = (q : QuestionView) (rows : List (Mark × Terms)) (origins : List CertificateView) → length q.text ≤ 1048577 → IsFile q.text (q ∷ []) → HasDerivedShape q.body (Region rows) origins
+    → ReadsAs (derived_value q.text q.body.names rows origins) (Ok (Derived (Text q) (Region rows) (map without_zeros origins)))
 
 -- A line has at most one reading.
 abbrev pub OneReading : Type 0

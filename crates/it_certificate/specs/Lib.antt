@@ -12,6 +12,7 @@ pub mod Reports
 pub mod AnswerShapes
 pub mod FactorShapes
 pub mod CodeReading
+pub mod OriginReading
 pub mod Laws
 pub mod Rows
 pub mod Steps

@@ -58,9 +58,17 @@ certificate_at d = option_map (λ p. record { scale = p.0; weights = p.1 })
 unfoldable pub answer_kind_at : Data → Option AnswerKind
 answer_kind_at d = option_and_then answer_kind_of (text_of (get (codes "answer") d))
 
--- so many certificates
+-- so many certificates of a member
+abbrev pub certificates_of : ℕ → Option Data → Option (List CertificateView)
+certificates_of n d = option_and_then (of_length n) (list_at certificate_at d)
+
+-- so many that prove an answer
 unfoldable pub proofs_at : ℕ → Data → Option (List CertificateView)
-proofs_at n d = option_and_then (of_length n) (list_at certificate_at (get (codes "proofs") d))
+proofs_at n d = certificates_of n (get (codes "proofs") d)
+
+-- so many from which rows come
+unfoldable pub origins_at : ℕ → Data → Option (List CertificateView)
+origins_at n d = certificates_of n (get (codes "origins") d)
 
 -- so many values
 unfoldable pub point_at : ℕ → Data → Option (List ℤ)

@@ -1,11 +1,11 @@
 -- The reading of a report line: what it is about and its answer, or the first key that is missing or of another shape.
-use Rattle.std.specs.Prelude.{◌≡◌, ℕ, List, length, Bool, false, if◌then◌else◌, codes, Option, Some, None, option_map, option_and_then, Result, Ok, Err, ok_or, IsUtf8}
+use Rattle.std.specs.Prelude.{◌≡◌, ℕ, List, length, map, Bool, false, if◌then◌else◌, codes, Option, Some, None, option_map, option_and_then, Result, Ok, Err, ok_or, IsUtf8}
 use Rattle.std.specs.Option.{option_map_or}
 use Rattle.std.specs.Str.{bytes_eq}
 use Rattle.serde_json.specs.Data.{Data}
 use Rattle.serde_json.specs.Find.{get}
 use Rattle.serde_json.specs.Read.{read}
-use Rattle.it_space.specs.Answers.{AnswerView, answer_view}
+use Rattle.it_space.specs.Answers.{AnswerView, CertificateView, answer_view, certificate_view}
 use Rattle.it_space.specs.Answers.{AnswerView as answers}
 use Rattle.it_space.specs.Spaces.{size_of}
 use Rattle.it_syntax.specs.NamesViews.{NamesView}
@@ -29,6 +29,7 @@ use Rattle.it_certificate.specs.AnswerShapes.{HasQuestionShape}
 use Rattle.it_certificate.specs.FactorReading.{factor_kind_at, verb_best}
 use Rattle.it_certificate.specs.FactorShapes.{HasFactorShape}
 use Rattle.it_certificate.specs.CodeReading.{HasCodedShape, ReportedCodeView, names_code, reported_code_view, tells_code}
+use Rattle.it_certificate.specs.OriginReading.{HasDerivedShape, answer_origins, tells_origins}
 use Rattle.it_certificate.specs.Bounds.{BoundsView, HasBoundsShape, bounds_view, verb_bounds}
 use Rattle.it_certificate.specs.Obligations.{obligation_count}
 use Rattle.it_certificate.specs.Sources.{Source, IsSourceAt, asked, source_key}
@@ -49,11 +50,12 @@ verb_answer v verb kind d = Err keys.Answer
 
 -- ---- the report
 
--- what a line says: an answer to what it is about; a no with a code that its point is said to be of; what is found of the factors of its relation; an outer bound; or that a question can't
+-- what a line says: an answer to what it is about; a no with a code that its point is said to be of; a region with a certificate for each of its rows; what is found of the factors of its relation; an outer bound; or that a question can't
 -- have what is asked for, which claims nothing
 pub data Reading : Type 0 where
   Answered : (source : Source) (answer : AnswerView) → Reading
   Coded : (source : Source) (answer : AnswerView) (code : ReportedCodeView) → Reading
+  Derived : (source : Source) (answer : AnswerView) (origins : List CertificateView) → Reading
   Factored : (source : Source) (best : BestView) → Reading
   Bounded : (source : Source) (bounds : BoundsView) → Reading
   Misfit : Reading
@@ -97,6 +99,13 @@ coded_of own d =
     and_then (answer_to source No d) (λ answer.
     and_then (code_to source d) (λ code. Ok (Coded source answer code))))
 
+-- of a region with origins, in the same order, and then its origins
+abbrev pub derived_of : Option Source → Data → Result Reading Key
+derived_of own d =
+    and_then (ok_or own (source_key d)) (λ source.
+    and_then (answer_to source Region d) (λ answer.
+    and_then (answer_origins answer d) (λ origins. Ok (Derived source answer origins))))
+
 -- of a line of this kind about factors, in the same order
 abbrev pub best_of : Option Source → FactorKind → Data → Result Reading Key
 best_of own kind d =
@@ -109,10 +118,10 @@ bounded_of own d =
     and_then (ok_or own (source_key d)) (λ source.
     and_then (bounds_to source d) (λ bounds. Ok (Bounded source bounds)))
 
--- by the kind, if the line is about factors; else by whether there is a code
+-- by the kind, if the line is about factors; else by whether there is a code, or origins
 abbrev pub reading_by : Option Source → Option FactorKind → Data → Result Reading Key
 reading_by own (Some kind) d = best_of own kind d
-reading_by own None d = if tells_code d then coded_of own d else answer_of own d
+reading_by own None d = if tells_code d then coded_of own d else if tells_origins d then derived_of own d else answer_of own d
 
 -- by the word of the answer; of a misfit nothing else is read
 unfoldable pub report_of : Option Source → Data → Result Reading Key
@@ -135,6 +144,7 @@ pub record ReadsReport (line : List ℕ) (r : Result Reading Key) : Type 0 where
 abbrev pub IsReported : Reading → Reported → Type 0
 IsReported (Answered source a) (reported.Answered question answer) = (asked source ≡ question_view question) × (a ≡ answer_view answer)
 IsReported (Coded source a c) (reported.Coded question answer code) = (asked source ≡ question_view question) × (a ≡ answer_view answer) × (c ≡ reported_code_view code)
+IsReported (Derived source a ws) (reported.Derived question answer origins) = (asked source ≡ question_view question) × (a ≡ answer_view answer) × (ws ≡ map certificate_view origins.items)
 IsReported (Factored source b) (reported.Factored question best) = (asked source ≡ question_view question) × (b ≡ best_view best)
 IsReported (Bounded source b) (reported.Bounded question bounds) = (asked source ≡ question_view question) × (b ≡ bounds_view bounds)
 IsReported Misfit reported.Misfit = Unit {0}
@@ -147,10 +157,11 @@ Reports line (Err (faults.Shape key)) = ReadsReport line (Err key)
 Reports line (Err faults.NotJson) = IsUtf8 line → read line ≡ None
 Reports line (Err faults.Memory) = Unit {0}
 
--- the question that was read is within the limits, and its answer, that with its code, what is found of its factors, or its bounds fit it
+-- the question that was read is within the limits, and its answer, that with its code or its origins, what is found of its factors, or its bounds fit it
 abbrev pub KeepsLimits : Reported → Type 0
 KeepsLimits (reported.Answered q a) = IsQuestion (question_body q) × HasQuestionShape (question_body q) (answer_view a)
 KeepsLimits (reported.Coded q a c) = IsQuestion (question_body q) × HasCodedShape (question_body q) (answer_view a) (reported_code_view c)
+KeepsLimits (reported.Derived q a ws) = IsQuestion (question_body q) × HasDerivedShape (question_body q) (answer_view a) (map certificate_view ws.items)
 KeepsLimits (reported.Factored q b) = IsQuestion (question_body q) × HasFactorShape (question_body q) (best_view b)
 KeepsLimits (reported.Bounded q b) = IsQuestion (question_body q) × HasBoundsShape (question_body q) (bounds_view b)
 KeepsLimits reported.Misfit = Unit {0}

@@ -94,6 +94,18 @@ answer_value text v answer = object (put (codes "question") (string text) (answe
 unfoldable pub answer_text : List ℕ → NamesView → AnswerView → List ℕ
 answer_text text v answer = compact_text (answer_value text v answer)
 
+-- the members of a region with a certificate for each of its rows
+abbrev pub derived_members : NamesView → List (Mark × Terms) → List CertificateView → Members
+derived_members v rows origins = put (codes "origins") (list_value proof_value origins) (answer_members v (Region rows))
+
+-- that region as the answer to the question of a text
+unfoldable pub derived_value : List ℕ → NamesView → List (Mark × Terms) → List CertificateView → Data
+derived_value text v rows origins = object (put (codes "question") (string text) (derived_members v rows origins))
+
+-- the line of that region
+unfoldable pub derived_text : List ℕ → NamesView → List (Mark × Terms) → List CertificateView → List ℕ
+derived_text text v rows origins = compact_text (derived_value text v rows origins)
+
 -- ---- lines about a question with copies or an outer bound, or about a sharing file
 
 -- a byte of ASCII, or a question mark in its place

@@ -22,6 +22,7 @@ pub enum Key {
     Tried,
     Rays,
     Code,
+    Origins,
 }
 
 /// Why a line isn't read: memory ran out, it has no JSON reading, or the first key that is missing or of another shape.

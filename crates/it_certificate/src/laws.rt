@@ -1,11 +1,17 @@
 //! Laws of reports.
-ghost use Rattle.it_certificate.specs.Laws.{OneReading, ReadsBack};
+ghost use Rattle.it_certificate.specs.Laws.{OneReading, OriginsReadBack, ReadsBack};
 ghost use Rattle.it_certificate.specs.Rows.{CausesReadAsSaid, ContainmentsReadAsSaid, KindsReadAsSaid, LinesWrittenAsSaid, NumbersReadAsSaid, PointsReadAsSaid, ProofsReadAsSaid, RegionsReadAsSaid, TextsReadAsSaid};
 
 /// What is written of an answer that fits its question reads as that answer.
 #[tactic(auto, using(crate::proofs::RoundLemmas::reads_back))]
 pub fn answers_read_back()
     ensures { ReadsBack }
+{}
+
+/// So does what is written of a region with a certificate for each of its rows.
+#[tactic(auto, using(crate::proofs::OriginRound::origins_read_back))]
+pub fn origins_read_back()
+    ensures { OriginsReadBack }
 {}
 
 /// A line has at most one reading.

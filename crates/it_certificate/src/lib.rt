@@ -14,6 +14,7 @@ mod members;
 mod numbers;
 mod objects;
 mod obligations;
+mod origins;
 mod questions;
 mod reports;
 mod rows;
@@ -27,9 +28,10 @@ mod writing;
 pub use it_space::{Answer, Cause, Certificate, Mark};
 pub use keys::{Key, ReportFault};
 pub use laws::{
-    answers_read_back, lines_are_written_as_said, lines_have_one_reading, reports_read_as_said,
-    texts_read_as_said,
+    answers_read_back, lines_are_written_as_said, lines_have_one_reading, origins_read_back,
+    reports_read_as_said, texts_read_as_said,
 };
+pub use origins::unmarked;
 pub use reports::answer_from_json;
 pub use types::{Reported, ReportedBounds, ReportedCode, SourceText};
-pub use writing::{answer_json, best_json, bounds_json, misfit_json, report_json};
+pub use writing::{answer_json, best_json, bounds_json, derived_json, misfit_json, report_json};

@@ -6,7 +6,7 @@ ghost use Rattle.std.specs.Option.{option_or};
 ghost use Rattle.it_space.specs.Answers.{certificate_view};
 ghost use Rattle.it_space.specs.Spaces.{IsSpace, size_of};
 ghost use Rattle.it_space.specs.declared.answers.Cause.TheVariants.{WideRate, Width};
-ghost use Rattle.it_certificate.specs.Parts.{answer_kind_at, back_at, cause_at, cause_kind_at, cause_of, count_at, point_at, proofs_at, text_of};
+ghost use Rattle.it_certificate.specs.Parts.{answer_kind_at, back_at, cause_at, cause_kind_at, cause_of, certificates_of, count_at, origins_at, point_at, proofs_at, text_of};
 ghost use Rattle.it_certificate.specs.Reports.{tells_misfit, tells_outer};
 ghost use Rattle.it_certificate.specs.Steps.{Yields};
 
@@ -56,17 +56,36 @@ pub fn tells_outer(value: &Value) -> bool
     }
 }
 
-/// So many certificates.
-#[tactic(auto, unfolding(crate::specs::Parts::proofs_at))]
-pub fn proofs_at(alloc: Global, value: &Value, count: usize) -> Result<Vec<Certificate>, Refusal>
-    ensures { Yields (λ v. map certificate_view v.items) result (proofs_at count (view value.now)) }
+/// So many certificates of a member.
+fn certificates_of(
+    alloc: Global,
+    value: Option<&Value>,
+    count: usize,
+) -> Result<Vec<Certificate>, Refusal>
+    ensures { Yields (λ v. map certificate_view v.items) result (certificates_of count (option_map (λ v. view v.now) value.entry)) }
 {
-    let certificates = certificates_of_member(alloc, value.get("proofs"))?;
+    let certificates = certificates_of_member(alloc, value)?;
     if certificates.len() == count {
         Ok(certificates)
     } else {
         Err(Refusal::Shape)
     }
+}
+
+/// So many that prove an answer.
+#[tactic(auto, unfolding(crate::specs::Parts::proofs_at))]
+pub fn proofs_at(alloc: Global, value: &Value, count: usize) -> Result<Vec<Certificate>, Refusal>
+    ensures { Yields (λ v. map certificate_view v.items) result (proofs_at count (view value.now)) }
+{
+    certificates_of(alloc, value.get("proofs"), count)
+}
+
+/// So many from which rows come.
+#[tactic(auto, unfolding(crate::specs::Parts::origins_at))]
+pub fn origins_at(alloc: Global, value: &Value, count: usize) -> Result<Vec<Certificate>, Refusal>
+    ensures { Yields (λ v. map certificate_view v.items) result (origins_at count (view value.now)) }
+{
+    certificates_of(alloc, value.get("origins"), count)
 }
 
 /// So many values.

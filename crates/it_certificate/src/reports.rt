@@ -5,6 +5,7 @@ ghost use Rattle.it_question.specs.Limits.{IsQuestion};
 ghost use Rattle.it_question.specs.Questions.{question_body};
 ghost use Rattle.it_certificate.specs.CodeReading.{tells_code};
 ghost use Rattle.it_certificate.specs.FactorReading.{factor_kind_at};
+ghost use Rattle.it_certificate.specs.OriginReading.{tells_origins};
 ghost use Rattle.it_certificate.specs.Reports.{KeepsLimits, Reports, tells_misfit, tells_outer};
 ghost use Rattle.it_certificate.specs.ReportSteps.{GivesAsked, ReadsValue};
 
@@ -15,6 +16,7 @@ use crate::factors::{factor_kind_at, question_best};
 use crate::keys::{Key, ReportFault};
 use crate::kinds::{AnswerKind, FactorKind};
 use crate::members::{answer_kind_at, tells_misfit, tells_outer};
+use crate::origins::{answer_origins, tells_origins};
 use crate::sources::{source_at, source_key};
 use crate::types::Reported;
 use crate::verbs::question_answer;
@@ -57,6 +59,7 @@ fn answered(alloc: Global, value: &Value) -> Result<Reported, ReportFault>
     requires outer { false ≡ tells_outer (view value.now) }
     requires factors { None ≡ factor_kind_at (view value.now) }
     requires code { false ≡ tells_code (view value.now) }
+    requires origins { false ≡ tells_origins (view value.now) }
     ensures reading { ReadsValue (view value.now) result }
     ensures limits { IfOk result KeepsLimits }
 {
@@ -97,6 +100,33 @@ fn coded(alloc: Global, value: &Value) -> Result<Reported, ReportFault>
     }
 }
 
+/// The reading of a line that tells a region with origins.
+#[tactic(auto, using(crate::proofs::ReportLemmas::no_origins_source, crate::proofs::ReportLemmas::region_err))]
+fn derived(alloc: Global, value: &Value) -> Result<Reported, ReportFault>
+    requires told { false ≡ tells_misfit (view value.now) }
+    requires outer { false ≡ tells_outer (view value.now) }
+    requires factors { None ≡ factor_kind_at (view value.now) }
+    requires code { false ≡ tells_code (view value.now) }
+    requires origins { true ≡ tells_origins (view value.now) }
+    ensures reading { ReadsValue (view value.now) result }
+    ensures limits { IfOk result KeepsLimits }
+{
+    let question = asked_question(alloc, value)?;
+    // as above
+    let answer = match question_answer(alloc, value, &question, AnswerKind::Region) {
+        Ok(answer) => answer,
+        Err(fault) => return Err(fault),
+    };
+    match answer_origins(alloc, value, &answer) {
+        Ok(origins) => Ok(Reported::Derived {
+            question,
+            answer,
+            origins,
+        }),
+        Err(fault) => Err(fault),
+    }
+}
+
 /// The reading of a line of this kind about factors.
 #[tactic(auto, using(crate::proofs::ReportLemmas::no_factor_source, crate::proofs::ReportLemmas::best_err))]
 fn factored(alloc: Global, value: &Value, kind: FactorKind) -> Result<Reported, ReportFault>
@@ -131,6 +161,8 @@ fn report_of(alloc: Global, value: &Value) -> Result<Reported, ReportFault>
         None => {
             if tells_code(value) {
                 coded(alloc, value)
+            } else if tells_origins(value) {
+                derived(alloc, value)
             } else {
                 answered(alloc, value)
             }
@@ -143,7 +175,7 @@ fn report_of(alloc: Global, value: &Value) -> Result<Reported, ReportFault>
 /// there is such a key. `NotJson` comes where the line is no UTF-8 or no JSON value, also one that is nested more than 127 deep.
 /// `Shape` names the first key that is missing or of another shape, in this order: `answer`; of `sharing`, `copies` and `question` the
 /// first that is there, where no question is asked, or `question` where none is there; `answer` again where the question's verb gives no
-/// such answer; and then for `yes` `proofs`, for `no` `point` and `side`, and `code` where there is such a key, for `undecided` `cause` and `at`, for `region` `rows`, for
+/// such answer; and then for `yes` `proofs`, for `no` `point` and `side`, and `code` where there is such a key, for `undecided` `cause` and `at`, for `region` `rows`, and `origins` where there is such a key, for
 /// `contained` `parts` and `proofs`, for `open` `tried`, for `outer` `rows`, `proofs` and `rays`. What is said of factors is read for a
 /// question `prove E >= F`: for `best` `factor`, `proofs` and `point`, for `none` `point`, for `unbounded` `factor` and `proofs`, and for
 /// an `undecided` that has the key `phase` `cause`, `at` and `phase`. Of `misfit` no other key is read. Of doubled keys the last counts;

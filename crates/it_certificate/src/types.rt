@@ -45,7 +45,7 @@ impl Drop for ReportedCode {
     }
 }
 
-/// The question that is asked with an answer of the shape that it wants, with a no and a code that its point is said to be of, with what is said of its factors, or with an outer bound, of
+/// The question that is asked with an answer of the shape that it wants, with a no and a code that its point is said to be of, with a region and a certificate for each of its rows, with what is said of its factors, or with an outer bound, of
 /// which nothing says that it is right; or that a question can't have what is asked for.
 pub enum Reported {
     Answered {
@@ -56,6 +56,11 @@ pub enum Reported {
         question: Question,
         answer: Answer,
         code: ReportedCode,
+    },
+    Derived {
+        question: Question,
+        answer: Answer,
+        origins: Vec<Certificate>,
     },
     Factored {
         question: Question,
@@ -80,6 +85,11 @@ impl Drop for Reported {
                 question: _,
                 answer: _,
                 code: _,
+            } => {}
+            Reported::Derived {
+                question: _,
+                answer: _,
+                origins: _,
             } => {}
             Reported::Factored {
                 question: _,

@@ -9,7 +9,7 @@ ghost use Rattle.it_space.specs.Answers.AnswerView.{Yes, No, Undecided, Region, 
 ghost use Rattle.it_ratio.specs.BestViews.{best_view};
 ghost use Rattle.it_certificate.specs.Bounds.{bounds_view};
 ghost use Rattle.it_certificate.specs.FactorValues.{best_members};
-ghost use Rattle.it_certificate.specs.Values.{IsAsciiRate, IsWritable, answer_members, answer_text, answer_value, ascii_byte, ascii_string, bounds_members, misfit_members, report_text, source_texts, with_source};
+ghost use Rattle.it_certificate.specs.Values.{IsAsciiRate, IsWritable, answer_members, answer_text, answer_value, ascii_byte, ascii_string, bounds_members, derived_members, derived_text, derived_value, misfit_members, report_text, source_texts, with_source};
 
 use crate::factor_values::best_members;
 use crate::objects::Members;
@@ -170,6 +170,70 @@ pub fn answer_json(
     ensures utf8 { IfOk result (λ out. IsUtf8 out.items) }
 {
     let line = answer_string(alloc, ascii_text(text), names, answer)?;
+    // asked for its clause, that the bytes are UTF-8
+    let _text = line.as_str();
+    Ok(line.into_bytes())
+}
+
+/// The members of a region with a certificate for each of its rows.
+fn derived_members(
+    alloc: Global,
+    names: &Names,
+    rows: &[(Mark, Row)],
+    origins: &[Certificate],
+) -> Result<Members, AllocError>
+    ensures { IfOk result (λ m. members_view m.map.entries ≡ derived_members names.now rows.now (map certificate_view origins.now)) }
+{
+    let members = region_members(alloc, names, rows)?;
+    let origins = proofs(alloc, origins)?;
+    members.with(alloc, "origins", origins)
+}
+
+/// The value of that region as the answer to the question of a text.
+#[tactic(auto, unfolding(crate::specs::Values::derived_value))]
+fn derived_value(
+    alloc: Global,
+    question: &str,
+    names: &Names,
+    rows: &[(Mark, Row)],
+    origins: &[Certificate],
+) -> Result<Value, AllocError>
+    ensures { IfOk result (λ v. view v ≡ derived_value question.now names.now rows.now (map certificate_view origins.now)) }
+{
+    let members = derived_members(alloc, names, rows, origins)?;
+    let members = members.with_text(alloc, "question", question)?;
+    Ok(members.into_value())
+}
+
+/// The text of that region, which reads back as its value.
+fn derived_string(
+    alloc: Global,
+    question: &str,
+    names: &Names,
+    rows: &[(Mark, Row)],
+    origins: &[Certificate],
+) -> Result<String, AllocError>
+    ensures text { IfOk result (λ s. string_bytes s ≡ derived_text question.now names.now rows.now (map certificate_view origins.now)) }
+    ensures reads_back { IfOk result (λ s. read (string_bytes s) ≡ Some (derived_value question.now names.now rows.now (map certificate_view origins.now))) }
+{
+    let value = derived_value(alloc, question, names, rows, origins)?;
+    value.to_string(alloc)
+}
+
+/// The line of a region with a certificate for each of its rows, without its end, as `answer_json` writes it, and with the key `origins`.
+pub fn derived_json(
+    alloc: Global,
+    text: &[u8],
+    names: &Names,
+    rows: &[(Mark, Row)],
+    origins: &[Certificate],
+) -> Result<Vec<u8>, AllocError>
+    requires { IsAscii text.now }
+    ensures text { IfOk result (λ out. out.items ≡ derived_text text.now names.now rows.now (map certificate_view origins.now)) }
+    ensures reads_back { IfOk result (λ out. read out.items ≡ Some (derived_value text.now names.now rows.now (map certificate_view origins.now))) }
+    ensures utf8 { IfOk result (λ out. IsUtf8 out.items) }
+{
+    let line = derived_string(alloc, ascii_text(text), names, rows, origins)?;
     // asked for its clause, that the bytes are UTF-8
     let _text = line.as_str();
     Ok(line.into_bytes())

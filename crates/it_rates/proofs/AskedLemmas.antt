@@ -1,5 +1,5 @@
 -- The problem that all lines of a question pose, and where it is met.
-use Rattle.std.proofs.Common.{◌≡◌, ℕ, ℤ, List, length, Some, refl, sym, subst, arith}
+use Rattle.std.proofs.Common.{◌≡◌, ◌≤◌, ℕ, ℤ, List, length, Some, refl, sym, subst, arith}
 use Rattle.it_space.specs.declared.spaces.Space.{Space}
 use Rattle.it_space.specs.Problems.{ProblemView}
 use Rattle.it_polymatroid.specs.Polymatroid.{IsPolymatroid}
@@ -37,6 +37,15 @@ asked_rates q gone k asked = by_verb q.verb refl asked
     by_verb (Prove r) e f = absurd (cc)
     by_verb (Eliminate rates) e f = eliminated_rates q rates k e
     by_verb (Contain first second tries) e f = absurd (cc)
+
+-- the same where there are some
+pub some_rates : (q : BodyView) → IsQuestion q → 1 ≤ length (gone_rates q.verb) → AreRatesOf (length q.names.rates) (gone_rates q.verb)
+some_rates q k some = by_verb q.verb refl some
+  where
+    by_verb : (verb : VerbView) → q.verb ≡ verb → 1 ≤ length (gone_rates verb) → AreRatesOf (length q.names.rates) (gone_rates verb)
+    by_verb (Prove r) e l = absurd (omega (arith, l))
+    by_verb (Eliminate rates) e l = eliminated_rates q rates k e
+    by_verb (Contain first second tries) e l = absurd (omega (arith, l))
 
 -- constraints that state what all lines demand are the problem that these pose
 pub posed_by_lines : (q : BodyView) (p : ProblemView) → IsQuestion q → p.space ≡ space_of q.names → AreStated p.space (line_origins p.space.variables q.lines) (line_demands p.space.variables q.lines) p.constraints → IsProblemOf (under_all_lines q) p

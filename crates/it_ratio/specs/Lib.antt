@@ -1,2 +1,3 @@
 pub mod BestViews
+pub mod Sides
 pub mod Truth

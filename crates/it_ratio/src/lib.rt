@@ -1,4 +1,8 @@
-//! What is said of the factors between the sides of a relation: the least one, that there is none, or no least one; and when it is true.
+//! What is said of the factors between the sides of a relation: the least one, that there is none, or no least one; when it is true; and
+//! the row that says that a number is one.
 #![tactic(auto)]
 
+mod sides;
 pub mod types;
+
+pub use sides::{RowStop, side_row};

@@ -21,20 +21,21 @@ use Rattle.it_demand.specs.QuestionSpaces.{space_of}
 use Rattle.it_canon.specs.QuestionDemands.{IsProblemOf, problem_of}
 use Rattle.it_canon.proofs.ExistenceLemmas.{question_poses}
 use Rattle.it_rates.specs.Asked.{gone_rates, kept_rates, under_all_lines}
+use Rattle.it_rates.specs.Frames.{hull_frame}
 use Rattle.it_rates.specs.Bounds.{AreExactBounds, IsTrueRay}
-use Rattle.it_rates.proofs.AskedLemmas.{all_lines_question, at_question, meets_true}
+use Rattle.it_rates.proofs.AskedLemmas.{all_lines_question, asked_rates, at_question, meets_true}
 use Rattle.it_rates.proofs.BoundLemmas.{hull_is_exact}
 use Rattle.it_certificate.specs.Bounds.{BoundsView, HasBoundsShape}
 use Rattle.it_certificate.specs.Reports.{Bounded, Reading}
 use Rattle.it_certificate.specs.Sources.{IsSourceAt, IsSourceOf, asked}
 use Rattle.it_certificate.proofs.SourceNumbers.{source_limits, source_numbers}
-use Rattle.it_report.specs.BoundsVerdicts.{HullVerdictIs, judged_frame}
+use Rattle.it_report.specs.BoundsVerdicts.{HullVerdictIs, most_rows}
 use Rattle.it_report.specs.Judging.{IsReadingVerdict}
 use Rattle.it_report.specs.LineVerdicts.{Hulled}
 use Rattle.it_report.specs.Meaning.{ValidIsTrueOfBounds}
 use Rattle.it_report.specs.RowVerdicts.{proof_verdict, proofs_verdict, ray_verdict, rays_verdict}
 use Rattle.it_certificate.proofs.OneLemmas.{one_reading}
-use Rattle.it_report.proofs.FrameLemmas.{are_kept, is_frame}
+use Rattle.it_rates.proofs.FrameLemmas.{are_kept, is_frame}
 use Rattle.it_report.proofs.OneLemmas.{same_read}
 use Rattle.it_report.proofs.ReadingLemmas.{bounds_are}
 use Rattle.it_report.proofs.VerdictLemmas.{both_valid}
@@ -42,7 +43,7 @@ use Rattle.it_report.proofs.VerdictLemmas.{both_valid}
 -- ---- valid rows and rays
 
 module _ (p : ProblemView) (k : IsProblem p) where
-  rows_hold : (rows : List Terms) (ws : List CertificateView) → Every (IsOver (size_of p.space)) rows → length ws ≡ length rows → proofs_verdict p rows ws ≡ Valid
+  pub rows_hold : (rows : List Terms) (ws : List CertificateView) → Every (IsOver (size_of p.space)) rows → length ws ≡ length rows → proofs_verdict p rows ws ≡ Valid
       → Every (λ row. (x : ℕ → ℤ) → MeetsProblem p x → pos 0 ≤ℤ value row x) rows
   unfolding proofs_verdict
   rows_hold [] ws o l e = tt
@@ -77,7 +78,8 @@ module _ (q : BodyView) (b : BoundsView) (k : IsQuestion q) (fits : HasBoundsSha
       let over = every_of (IsOver (size_of p.space)) b.rows (to_problem (λ s. All (IsOver (size_of s)) b.rows) fits.rows) in
       let complete = every_of (λ (s : StepView). length s.ray ≡ size_of p.space) b.steps (to_problem (λ s. All (λ (x : StepView). length x.ray ≡ size_of s) b.steps) fits.rays) in
       let is_hull : IsHull (kept_rates q gone) b.rows (rays_of b.steps) =
-      valid_rows (judged_frame q gone) (kept_rates q gone) b.steps b.rows hull.end HullIsValid (is_frame q b k fits) (are_kept q b k fits) hull.ends hull.verdict_is refl in
+      let asked = asked_rates q fits.gone k fits.asked in
+      valid_rows (hull_frame most_rows q) (kept_rates q gone) b.steps b.rows hull.end HullIsValid (is_frame most_rows q k (omega arith) asked) (are_kept most_rows q k (omega arith) asked) hull.ends hull.verdict_is refl in
       hull_is_exact q p gone b.rows (rays_of b.steps) posed is_hull
       (all_of (λ (row : Terms). (x : ℕ → ℤ) → MeetsProblem p x → pos 0 ≤ℤ value row x) b.rows (rows_hold p posed.limits b.rows b.proofs over fits.proofs rows))
       (all_of (IsTrueRay q) (rays_of b.steps) (rays_true (rays_of b.steps) (rays_met p posed.limits b.steps complete rays)))

@@ -13,15 +13,18 @@ use Rattle.it_certificate.specs.Bounds.{BoundsView}
 use Rattle.it_certificate.specs.CodeReading.{IsNo, ReportedCodeView}
 use Rattle.it_codes.specs.Codes.{FirstOtherIs}
 use Rattle.it_codes.proofs.ExistenceLemmas.{first_other_there}
-use Rattle.it_certificate.specs.Reports.{Answered, Bounded, Coded, Factored, Misfit, ReadsReport, Reading, report_of}
+use Rattle.it_certificate.specs.Reports.{Answered, Bounded, Coded, Derived, Factored, Misfit, ReadsReport, Reading, report_of}
 use Rattle.it_certificate.specs.Sources.{asked}
 use Rattle.it_certificate.proofs.SourceLemmas.{source_there}
 use Rattle.it_check.specs.declared.verdicts.Verdict.{Verdict}
 use Rattle.it_check.specs.declared.verdicts.Verdict.TheVariants.{Valid}
-use Rattle.it_rates.specs.Asked.{gone_rates, kept_rates}
+use Rattle.it_canon.specs.QuestionDemands.{problem_of}
+use Rattle.it_certificate.specs.OriginReading.{rows_of}
+use Rattle.it_rates.specs.Asked.{gone_rates, kept_rates, under_all_lines}
+use Rattle.it_rates.specs.Frames.{hull_frame}
 use Rattle.it_spans.proofs.ExistenceLemmas.{hull_verdict_there}
-use Rattle.it_report.specs.BoundsVerdicts.{bounds_verdict, judged_frame}
-use Rattle.it_report.specs.RowVerdicts.{is_valid}
+use Rattle.it_report.specs.BoundsVerdicts.{bounds_verdict, most_rows}
+use Rattle.it_report.specs.RowVerdicts.{is_valid, proofs_verdict}
 use Rattle.it_report.specs.LineVerdicts.{LineVerdict, NotJson, Shape, Skipped, Judged, OtherCode, Hulled, verdict_line, is_invalid}
 use Rattle.it_report.specs.Judging.{factor_line_verdict, values_of, verdict_of, IsAnswerVerdict, IsBoundsVerdict, IsCodedVerdict, IsVerdict}
 use Rattle.it_report.specs.Meaning.{EachLineIsJudged}
@@ -62,7 +65,7 @@ bounds_verdict_there q b = by_parts (bounds_verdict q b) refl
   where
     by_valid : (v : Verdict) (is : Bool) → is_valid v ≡ is → bounds_verdict q b ≡ v → (v : LineVerdict) × IsBoundsVerdict q b v
     by_valid v true valid e =
-        let hull = hull_verdict_there (judged_frame q (gone_rates q.verb)) (kept_rates q (gone_rates q.verb)) b.steps b.rows in
+        let hull = hull_verdict_there (hull_frame most_rows q) (kept_rates q (gone_rates q.verb)) b.steps b.rows in
         (Hulled hull.0, (e ∙ only_valid v valid, hull.1))
     by_valid v false invalid e = (Judged q.names v, (refl, e, invalid))
 
@@ -82,6 +85,10 @@ verdict_read line (Ok (Answered source a)) h =
 verdict_read line (Ok (Coded source a c)) h =
     let v = coded_verdict_there (asked source).body a c (coded_is h.reads.own h.value source a c h.reads.is).1.no in
     (v.0, read_verdict line (Coded source a c) v.0 h v.1)
+verdict_read line (Ok (Derived source a ws)) h =
+    let q = (asked source).body in
+    let v = Judged q.names (proofs_verdict (problem_of (under_all_lines q)) (rows_of a) ws) in
+    (v, read_verdict line (Derived source a ws) v h refl)
 verdict_read line (Ok (Factored source b)) h = let v = factor_line_verdict (asked source).body b in (v, read_verdict line (Factored source b) v h refl)
 verdict_read line (Ok (Bounded source b)) h =
     let v = bounds_verdict_there (asked source).body b in

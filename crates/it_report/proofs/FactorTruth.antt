@@ -1,23 +1,19 @@
 -- What a valid line says of factors is true.
-use Rattle.std.proofs.Common.{◌≡◌, ℕ, ◌+◌, ◌-◌, ◌≤◌, ℤ, pos, neg_ℤ, ◌-ℤ◌, ◌*ℤ◌, ◌+ℤ◌, ◌≤ℤ◌, int_lt, List, length, map, Bool, true, false, Option, Some, None, option_and_then, if◌then◌else◌, Ok, ◌↔◌, refl, sym, ap, ap₂, subst, ◌∙◌, arith, rules}
+use Rattle.std.proofs.Common.{◌≡◌, ℕ, ◌+◌, ◌-◌, ◌≤◌, ℤ, pos, neg_ℤ, ◌-ℤ◌, ◌*ℤ◌, ◌+ℤ◌, ◌≤ℤ◌, int_lt, List, length, Bool, true, false, Option, Some, None, option_and_then, if◌then◌else◌, Ok, ◌↔◌, refl, sym, ap, ap₂, subst, ◌∙◌, arith, rules}
 use Rattle.std.specs.Ordering.{int_eq}
 use Rattle.std.proofs.lemmas.Bool.{true≢false}
 use Rattle.std.proofs.lemmas.Int.{ints}
-use Rattle.std.proofs.lemmas.List.{get_or-map}
 use Rattle.it_space.specs.declared.spaces.Space.{Space}
 use Rattle.it_space.specs.Answers.{CertificateView}
 use Rattle.it_space.specs.Problems.{ProblemView, AreMet}
-use Rattle.it_space.specs.Rows.{Terms, IsOver, coefficient, one_at, point_of, value}
+use Rattle.it_space.specs.Rows.{Terms, IsOver, one_at, point_of, value}
 use Rattle.it_space.specs.Spaces.{size_of}
-use Rattle.it_space.specs.Sums.{terms_from}
 use Rattle.it_space.proofs.OptionLemmas.{some_same}
-use Rattle.it_space.proofs.SumLemmas.{terms_at}
 use Rattle.it_space.proofs.TermLemmas.{value-one_at}
 use Rattle.it_polymatroid.specs.Certificates.{Form}
-use Rattle.it_polymatroid.specs.Elementals.{elementals, span}
+use Rattle.it_polymatroid.specs.Elementals.{elementals}
 use Rattle.it_polymatroid.specs.Polymatroid.{IsPolymatroid}
 use Rattle.it_polymatroid.proofs.Forms.{dot_from_one, linear-scale, linear-sub, value_linear}
-use Rattle.it_polymatroid.proofs.Spans.{get_or-span, length-span}
 use Rattle.it_elemental.specs.Generators.{generators}
 use Rattle.it_syntax.specs.Meaning.{RelationView}
 use Rattle.it_syntax.specs.declared.types.Sign.{Sign}
@@ -56,14 +52,15 @@ use Rattle.it_certificate.proofs.OneLemmas.{one_reading}
 use Rattle.it_certificate.proofs.SourceNumbers.{source_limits, source_numbers}
 use Rattle.it_report.specs.declared.factors.FactorVerdict.{FactorVerdict}
 use Rattle.it_report.specs.declared.factors.FactorVerdict.TheVariants.{BelowOne, Checked, NotZero}
-use Rattle.it_report.specs.FactorVerdicts.{best_verdict, first_wrong, from_one, row_unless, side_number, side_row, tight_verdict, unformed, with_row, zero_verdict}
+use Rattle.it_ratio.specs.Sides.{row_unless, side_row, unformed}
+use Rattle.it_ratio.proofs.SideSteps.{number_at, row_over}
+use Rattle.it_report.specs.FactorVerdicts.{best_verdict, first_wrong, from_one, tight_verdict, with_row, zero_verdict}
 use Rattle.it_report.specs.Judging.{IsReadingVerdict, factor_line_verdict, factor_verdict_of, weighed_by}
 use Rattle.it_report.specs.LineVerdicts.{Weighed}
 use Rattle.it_report.specs.Meaning.{ValidFactorIsTrue, ValidFactorIsTrueOfSharing}
 use Rattle.it_report.specs.RowVerdicts.{is_valid, proof_verdict}
 use Rattle.it_report.proofs.OneLemmas.{same_read}
 use Rattle.it_report.proofs.ReadingLemmas.{best_is}
-use Rattle.it_report.proofs.SideSteps.{row_over}
 use Rattle.it_report.proofs.VerdictLemmas.{only_valid}
 
 -- ---- verdicts with nothing wrong
@@ -114,23 +111,12 @@ module _ (size : ℕ) (left right : Terms) (left_over : IsOver size left) (right
   abbrev row : Terms
   row = side_row size num den left right
 
-  coefficient_is : (c : ℕ) → 1 ≤ c → c ≤ size → coefficient row c ≡ side_number num den left right c
-  unfolding side_row
-  coefficient_is c h l =
-      ap (coefficient (terms_from 1 (map (side_number num den left right) (span 1 size)))) (sym (counted_from_one c h))
-      ∙ terms_at 1 (map (side_number num den left right) (span 1 size)) (c - 1)
-      ∙ get_or-map (side_number num den left right) (span 1 size) (c - 1) 0 (pos 0) (omega (arith, length-span 1 size))
-      ∙ ap (side_number num den left right) (get_or-span 1 size (c - 1) 0 (omega arith) ∙ counted_from_one c h)
-    where
-      counted_from_one : (c : ℕ) → 1 ≤ c → 1 + (c - 1) ≡ c
-      counted_from_one c h = omega arith
-
   -- the row's value is that of both rows
   value_is : (m : ℕ → ℤ) → m 0 ≡ pos 0 → value row m ≡ num *ℤ value left m -ℤ den *ℤ value right m
   value_is m z =
       (value_linear size row (row_over size num den left right)).sum m z
       ∙ dot_from_one (size + 1) (λ c. value row (one_at c)) (λ c. num *ℤ value left (one_at c) -ℤ den *ℤ value right (one_at c)) m z
-      (λ c h l. value-one_at row c ∙ coefficient_is c (omega (arith, h)) (omega (arith, l)) ∙ ap₂ (λ (x y : ℤ). num *ℤ x -ℤ den *ℤ y) (sym (value-one_at left c)) (sym (value-one_at right c)))
+      (λ c h l. value-one_at row c ∙ number_at size num den left right c (omega (arith, h)) (omega (arith, l)) ∙ ap₂ (λ (x y : ℤ). num *ℤ x -ℤ den *ℤ y) (sym (value-one_at left c)) (sym (value-one_at right c)))
       ∙ sym ((linear-sub (size + 1) (λ p. num *ℤ value left p) (λ p. den *ℤ value right p)
       (linear-scale (size + 1) num (value left) (value_linear size left left_over)) (linear-scale (size + 1) den (value right) (value_linear size right right_over))).sum m z)
 

@@ -1,14 +1,15 @@
 -- The line about a report's line, step by step as the code forms it.
-use Rattle.std.proofs.Common.{◌≡◌, ℕ, ℤ, lit<, ◌+◌, ◌-◌, ◌^◌, ◌<◌, ◌≤◌, List, length, take, Bool, true, false, Option, Some, None, option_and_then, Result, Ok, Err, IfOk, refl, sym, ap, ap₂, ◌∙◌, subst, arith, map}
+use Rattle.std.proofs.Common.{◌≡◌, ℕ, ℤ, lit<, ◌+◌, ◌-◌, ◌^◌, ◌<◌, ◌≤◌, List, length, take, Bool, true, false, Option, Some, None, option_and_then, Result, Ok, Err, IfOk, refl, sym, ap, ap₂, ◌∙◌, subst, arith, map, All}
 use Rattle.std.specs.Prelude.{is_some, not}
 use Rattle.std.proofs.lemmas.Bool.{true≢false}
 use Rattle.std.proofs.lemmas.List.Elements.{All-weaker}
 use Rattle.std.proofs.lemmas.Nat.{pow_pos}
 use Rattle.it_space.specs.declared.spaces.Space.{Space}
-use Rattle.it_space.specs.Answers.{AnswerView, CertificateView, answer_view}
+use Rattle.it_space.specs.Answers.{AnswerView, CertificateView, answer_view, certificate_view}
 use Rattle.it_space.specs.Answers.AnswerView.{Yes, No, Undecided, Region, Contained, Open}
 use Rattle.it_space.specs.Problems.{ProblemView, problem_view}
-use Rattle.it_space.specs.Rows.{Terms}
+use Rattle.it_space.specs.Rows.{IsOver, Terms}
+use Rattle.it_space.proofs.EveryLemmas.{all_of, every_of, every-map, every-same}
 use Rattle.it_space.specs.Spaces.{size_of}
 use Rattle.it_polymatroid.specs.Certificates.{Form}
 use Rattle.it_syntax.specs.Meaning.{RelationView}
@@ -31,13 +32,14 @@ use Rattle.it_region.specs.declared.types.Pair.{Pair}
 use Rattle.it_region.specs.Obligations.{obligations, IsSubstitution, ArePulledRows}
 use Rattle.it_region.specs.Pairs.{IsPair, IsPairOf, Pairs, IsContainment, FitsPair, pair_obligations}
 use Rattle.it_region.proofs.TextLemmas.{text_rows, parts_fit, rows_as_pulled, pulled_rows_are}
-use Rattle.it_certificate.specs.AnswerShapes.{HasQuestionShape, HasVerbShape, HasContainmentShape}
+use Rattle.it_certificate.specs.AnswerShapes.{HasQuestionShape, HasVerbShape, HasContainmentShape, IsRowIn}
 use Rattle.it_certificate.specs.Bounds.{BoundsView, bounds_view}
 use Rattle.it_certificate.specs.CodeReading.{HasCodedShape, IsNo, ReportedCodeView, reported_code_view}
 use Rattle.it_codes.specs.Codes.{AreEntropies, IsCode, IsFirstOther, variables_of}
 use Rattle.it_certificate.specs.declared.keys.Key.{Key}
 use Rattle.it_certificate.specs.declared.keys.ReportFault.{ReportFault}
-use Rattle.it_certificate.specs.Reports.{Answered, Bounded, Coded, Factored, IsReported, Misfit, ReadsReport, Reading, Reports}
+use Rattle.it_certificate.specs.OriginReading.{IsRegion, rows_of}
+use Rattle.it_certificate.specs.Reports.{Answered, Bounded, Coded, Derived, Factored, IsReported, Misfit, ReadsReport, Reading, Reports}
 use Rattle.it_certificate.specs.Sources.{asked}
 use Rattle.it_certificate.specs.declared.types.Reported.{Reported}
 use Rattle.it_certificate.specs.declared.types.Reported.TheVariants as variants
@@ -50,9 +52,9 @@ use Rattle.it_report.specs.LineVerdicts.{LineVerdict, NotJson, Shape, Skipped, J
 use Rattle.it_ratio.specs.BestViews.{BestView, best_view}
 use Rattle.it_ratio.specs.Truth.{asked_by, at_least}
 use Rattle.it_report.specs.declared.factors.FactorVerdict.{FactorVerdict}
-use Rattle.it_report.specs.Judging.{answer_verdict, factor_line_verdict, factor_verdict_of, values_of, verdict_of, weighed_by, IsAnswerVerdict, IsBoundsVerdict, IsCodedVerdict, IsReadingVerdict, IsVerdict, IsJudgedLine}
+use Rattle.it_report.specs.Judging.{answer_verdict, factor_line_verdict, factor_verdict_of, values_of, verdict_of, weighed_by, IsAnswerVerdict, IsBoundsVerdict, IsCodedVerdict, IsDerivedVerdict, IsReadingVerdict, IsVerdict, IsJudgedLine}
 use Rattle.it_report.specs.FactorVerdicts.{best_verdict}
-use Rattle.it_report.specs.Steps.{IsAboutRelation, IsFaultLine, IsJudgedAnswer, IsJudgedBounds, IsJudgedCoded, IsJudgedReport}
+use Rattle.it_report.specs.Steps.{IsAboutRelation, IsFaultLine, IsJudgedAnswer, IsJudgedBounds, IsJudgedCoded, IsJudgedDerived, IsJudgedReport}
 use Rattle.it_demand.specs.RowsOfForms.{terms_of_form}
 use Rattle.it_demand.proofs.FormRows.{row_is_terms_of_form}
 use Rattle.it_canon.specs.Sides.{left_form, right_form}
@@ -76,6 +78,8 @@ read_verdict line (Answered source a) NotJson h is = absurd is
 read_verdict line (Answered source a) (Shape key) h is = absurd is
 read_verdict line (Coded source a c) NotJson h is = absurd is
 read_verdict line (Coded source a c) (Shape key) h is = absurd is
+read_verdict line (Derived source a ws) NotJson h is = absurd cc
+read_verdict line (Derived source a ws) (Shape key) h is = absurd cc
 read_verdict line (Factored source b) NotJson h is = absurd (not_json (asked source).body (option_and_then (λ r. factor_verdict_of (asked source).body r b) (asked_by (asked source).body.verb)) is)
 read_verdict line (Factored source b) (Shape key) h is = absurd (no_shape key (asked source).body (option_and_then (λ r. factor_verdict_of (asked source).body r b) (asked_by (asked source).body.verb)) is)
 read_verdict line (Bounded source b) NotJson h is = absurd is
@@ -164,6 +168,7 @@ module _ {L E : Type 0} (text : L → List ℕ) (invalid : L → Bool) (k : ℕ)
           subst (λ b. IsAnswerVerdict (asked source).body b judged.verdict) (sym same.1) (subst (λ (q : QuestionView). IsAnswerVerdict q.body (answer_view answer) judged.verdict) (sym same.0) judged.is) in
           record { verdict = judged.verdict; is = read_verdict line (Answered source a) judged.verdict h verdict; told = judged.told }
       by_reading (Answered source a) (variants.Coded question answer code) same h judged = absurd same
+      by_reading (Answered source a) (variants.Derived question answer origins) same h judged = absurd same
       by_reading (Answered source a) (variants.Factored question best) same h judged = absurd same
       by_reading (Answered source a) (variants.Bounded question bounds) same h judged = absurd same
       by_reading (Answered source a) variants.Misfit same h judged = absurd same
@@ -174,11 +179,24 @@ module _ {L E : Type 0} (text : L → List ℕ) (invalid : L → Bool) (k : ℕ)
           (subst (λ x. IsCodedVerdict (asked source).body x (reported_code_view code) judged.verdict) (sym same.1)
           (subst (λ (q : QuestionView). IsCodedVerdict q.body (answer_view answer) (reported_code_view code) judged.verdict) (sym same.0) judged.is)) in
           record { verdict = judged.verdict; is = read_verdict line (Coded source a c) judged.verdict h verdict; told = judged.told }
+      by_reading (Coded source a c) (variants.Derived question answer origins) same h judged = absurd same
       by_reading (Coded source a c) (variants.Factored question best) same h judged = absurd same
       by_reading (Coded source a c) (variants.Bounded question bounds) same h judged = absurd same
       by_reading (Coded source a c) variants.Misfit same h judged = absurd same
+      by_reading (Derived source a ws) (variants.Answered question answer) same h judged = absurd same
+      by_reading (Derived source a ws) (variants.Coded question answer code) same h judged = absurd same
+      by_reading (Derived source a ws) (variants.Derived question answer origins) same h judged =
+          let verdict : IsDerivedVerdict (asked source).body a ws judged.verdict =
+          subst (λ x. IsDerivedVerdict (asked source).body a x judged.verdict) (sym same.2)
+          (subst (λ x. IsDerivedVerdict (asked source).body x (map certificate_view origins.items) judged.verdict) (sym same.1)
+          (subst (λ (q : QuestionView). IsDerivedVerdict q.body (answer_view answer) (map certificate_view origins.items) judged.verdict) (sym same.0) judged.is)) in
+          record { verdict = judged.verdict; is = read_verdict line (Derived source a ws) judged.verdict h verdict; told = judged.told }
+      by_reading (Derived source a ws) (variants.Factored question best) same h judged = absurd same
+      by_reading (Derived source a ws) (variants.Bounded question bounds) same h judged = absurd same
+      by_reading (Derived source a ws) variants.Misfit same h judged = absurd same
       by_reading (Factored source b) (variants.Answered question answer) same h judged = absurd same
       by_reading (Factored source b) (variants.Coded question answer code) same h judged = absurd same
+      by_reading (Factored source b) (variants.Derived question answer origins) same h judged = absurd same
       by_reading (Factored source b) (variants.Factored question best) same h judged =
           let v = factor_line_verdict (question_body question) (best_view best) in
           let told : v ≡ factor_line_verdict (asked source).body b = ap₂ (λ (q : QuestionView) (x : BestView). factor_line_verdict q.body x) (sym same.0) (sym same.1) in
@@ -187,6 +205,7 @@ module _ {L E : Type 0} (text : L → List ℕ) (invalid : L → Bool) (k : ℕ)
       by_reading (Factored source b) variants.Misfit same h judged = absurd same
       by_reading (Bounded source b) (variants.Answered question answer) same h judged = absurd same
       by_reading (Bounded source b) (variants.Coded question answer code) same h judged = absurd same
+      by_reading (Bounded source b) (variants.Derived question answer origins) same h judged = absurd same
       by_reading (Bounded source b) (variants.Factored question best) same h judged = absurd same
       by_reading (Bounded source b) (variants.Bounded question bounds) same h judged =
           let verdict : IsBoundsVerdict (asked source).body b judged.verdict =
@@ -195,6 +214,7 @@ module _ {L E : Type 0} (text : L → List ℕ) (invalid : L → Bool) (k : ℕ)
       by_reading (Bounded source b) variants.Misfit same h judged = absurd same
       by_reading Misfit (variants.Answered question answer) same h judged = absurd same
       by_reading Misfit (variants.Coded question answer code) same h judged = absurd same
+      by_reading Misfit (variants.Derived question answer origins) same h judged = absurd same
       by_reading Misfit (variants.Factored question best) same h judged = absurd same
       by_reading Misfit (variants.Bounded question bounds) same h judged = absurd same
       by_reading Misfit variants.Misfit same h judged = record { verdict = Skipped; is = read_verdict line Misfit Skipped h refl; told = judged }
@@ -215,9 +235,22 @@ module _ {L E : Type 0} (text : L → List ℕ) (invalid : L → Bool) (k : ℕ)
   other_coded q a c t i names s (Ok j) is_no valid judged own first told = record { verdict = OtherCode names s; is = (own, is_valid_no k q a t i is_no valid judged, first); told = told }
   other_coded q a c t i names s (Err e) is_no valid judged own first told = tt
 
+  pub derived_told : (q : BodyView) (a : AnswerView) (ws : List CertificateView) (v : LineVerdict) (r : Result L E) → IsDerivedVerdict q a ws v → IfOk r (λ j. IsLineOf k v (text j) (invalid j)) → IfOk r (λ j. IsJudgedDerived k q a ws (text j) (invalid j))
+  derived_told q a ws v (Ok j) is told = record { verdict = v; is = is; told = told }
+  derived_told q a ws v (Err e) is told = tt
+
   pub bounds_told : (q : BodyView) (b : BoundsView) (v : LineVerdict) (r : Result L E) → IsBoundsVerdict q b v → IfOk r (λ j. IsLineOf k v (text j) (invalid j)) → IfOk r (λ j. IsJudgedBounds k q b (text j) (invalid j))
   bounds_told q b v (Ok j) is told = record { verdict = v; is = is; told = told }
   bounds_told q b v (Err e) is told = tt
+
+-- a region is no claim that is judged
+pub region_skipped : (q : BodyView) (a : AnswerView) → IsRegion a → IsAnswerVerdict q a Skipped
+region_skipped q (Yes ws) is_region = absurd is_region
+region_skipped q (No back values) is_region = absurd is_region
+region_skipped q (Undecided cause) is_region = absurd is_region
+region_skipped q (Region rows) is_region = refl
+region_skipped q (Contained parts ws) is_region = absurd is_region
+region_skipped q (Open tried) is_region = absurd is_region
 
 -- ---- the question that an answer fits
 
@@ -410,3 +443,22 @@ set_named q a c names s h own first =
     by_answer (Region rows) is_no fits = absurd is_no
     by_answer (Contained parts ws) is_no fits = absurd is_no
     by_answer (Open tried) is_no fits = absurd is_no
+
+-- ---- a region with origins
+
+-- its rows are over the question's coordinates
+pub rows_over : (q : BodyView) (a : AnswerView) → IsRegion a → HasQuestionShape q a → All (IsOver (size_of (space_of q.names))) (rows_of a)
+rows_over q (Yes ws) is_region fits = absurd is_region
+rows_over q (No back values) is_region fits = absurd is_region
+rows_over q (Undecided cause) is_region fits = absurd is_region
+rows_over q (Region rows) is_region fits = by_verb q.verb (verb_fits q (Region rows) q.verb refl fits)
+  where
+    by_verb : (verb : VerbView) → HasVerbShape q.names verb (Region rows) → All (IsOver (size_of (space_of q.names))) (map (λ r. r.1) rows)
+    by_verb (Prove r) fits = absurd fits
+    by_verb (Eliminate rates) fits =
+        let size = size_of (space_of q.names) in
+        all_of (IsOver size) (map (λ r. r.1) rows)
+        (every-map (IsOver size) (λ r. r.1) rows (every-same (IsRowIn size) (λ r. IsOver size r.1) rows (λ r k. k.coordinates) (every_of (IsRowIn size) rows fits)))
+    by_verb (Contain first second tries) fits = absurd fits
+rows_over q (Contained parts ws) is_region fits = absurd is_region
+rows_over q (Open tried) is_region fits = absurd is_region

@@ -6,8 +6,8 @@ pub mod ReadingLemmas
 pub mod TruthLemmas
 pub mod SourceTruth
 pub mod ExistenceLemmas
-pub mod SideSteps
 pub mod ZeroLemmas
 pub mod FactorTruth
 pub mod FrameLemmas
 pub mod BoundsTruth
+pub mod OriginTruth

@@ -10,7 +10,7 @@ use Rattle.it_certificate.specs.declared.keys.Key.{Key}
 use Rattle.it_certificate.specs.Bounds.{BoundsView}
 use Rattle.it_certificate.specs.CodeReading.{ReportedCodeView}
 use Rattle.it_codes.proofs.ExistenceLemmas.{no_first_other, one_first_other}
-use Rattle.it_certificate.specs.Reports.{Answered, Bounded, Coded, Factored, Misfit, ReadsReport, Reading}
+use Rattle.it_certificate.specs.Reports.{Answered, Bounded, Coded, Derived, Factored, Misfit, ReadsReport, Reading}
 use Rattle.it_certificate.specs.Sources.{asked}
 use Rattle.it_certificate.proofs.OneLemmas.{one_reading}
 use Rattle.it_check.specs.declared.verdicts.Verdict.{Verdict}
@@ -20,8 +20,9 @@ use Rattle.it_spans.specs.declared.types.HullVerdict.{HullVerdict}
 use Rattle.it_spans.specs.Verdicts.{rows_verdict}
 use Rattle.it_spans.proofs.SpanLemmas.{one_span_end}
 use Rattle.it_rates.specs.Asked.{gone_rates, kept_rates}
+use Rattle.it_rates.specs.Frames.{hull_frame}
 use Rattle.it_report.specs.LineVerdicts.{LineVerdict, NotJson, Shape, Skipped, Judged, Weighed, OtherCode, Hulled}
-use Rattle.it_report.specs.BoundsVerdicts.{HullVerdictIs, bounds_verdict, judged_frame}
+use Rattle.it_report.specs.BoundsVerdicts.{HullVerdictIs, bounds_verdict, most_rows}
 use Rattle.it_report.specs.RowVerdicts.{is_valid}
 use Rattle.it_report.specs.Judging.{IsAnswerVerdict, IsBoundsVerdict, IsCodedVerdict, IsReadingVerdict, HasReading, values_of}
 use Rattle.it_report.specs.Meaning.{OneVerdict}
@@ -97,7 +98,7 @@ coded_once q a c (OtherCode m s) (Hulled w) h k = absurd k
 -- of bounds one thing is told
 hull_once : (q : BodyView) (b : BoundsView) (v w : HullVerdict) → HullVerdictIs q b v → HullVerdictIs q b w → v ≡ w
 hull_once q b v w h k =
-    h.verdict_is ∙ ap (rows_verdict b.rows) (one_span_end (judged_frame q (gone_rates q.verb)) 0 (first_rows (kept_rates q (gone_rates q.verb))) b.steps h.end k.end h.ends k.ends) ∙ sym k.verdict_is
+    h.verdict_is ∙ ap (rows_verdict b.rows) (one_span_end (hull_frame most_rows q) 0 (first_rows (kept_rates q (gone_rates q.verb))) b.steps h.end k.end h.ends k.ends) ∙ sym k.verdict_is
 
 not_both : (v w : Verdict) → v ≡ w → is_valid w ≡ false → v ≡ Valid → ⊥
 not_both v w same invalid valid = true≢false (sym (ap is_valid (sym same ∙ valid)) ∙ invalid)
@@ -126,6 +127,7 @@ bounds_once q b (Hulled v) (Hulled w) h k = ap Hulled (hull_once q b v w h.1 k.1
 told_once : (x : Reading) (v w : LineVerdict) → IsReadingVerdict x v → IsReadingVerdict x w → v ≡ w
 told_once (Answered source a) v w h k = answer_once (asked source).body a v w h k
 told_once (Coded source a c) v w h k = coded_once (asked source).body a c v w h k
+told_once (Derived source a ws) v w h k = h ∙ sym k
 told_once (Factored source b) v w h k = h ∙ sym k
 told_once (Bounded source b) v w h k = bounds_once (asked source).body b v w h k
 told_once Misfit v w h k = h ∙ sym k

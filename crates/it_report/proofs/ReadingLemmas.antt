@@ -1,13 +1,13 @@
 -- What was read of a line, by the word and the kind of its answer; it fits the question that is asked.
-use Rattle.std.proofs.Common.{◌≡◌, Bool, true, false, Option, Some, None, Result, Ok, if◌then◌else◌, ap, subst, ◌∙◌}
+use Rattle.std.proofs.Common.{◌≡◌, List, Bool, true, false, Option, Some, None, Result, Ok, if◌then◌else◌, ap, subst, ◌∙◌}
 use Rattle.std.specs.Prelude.{ok_or}
 use Rattle.serde_json.specs.Data.{Data}
-use Rattle.it_space.specs.Answers.{AnswerView}
+use Rattle.it_space.specs.Answers.{AnswerView, CertificateView}
 use Rattle.it_ratio.specs.BestViews.{BestView}
 use Rattle.it_certificate.specs.declared.keys.Key.{Key}
 use Rattle.it_certificate.specs.declared.keys.Key.TheVariants as keys
 use Rattle.it_certificate.specs.declared.kinds.AnswerKind.{AnswerKind}
-use Rattle.it_certificate.specs.declared.kinds.AnswerKind.TheVariants.{No}
+use Rattle.it_certificate.specs.declared.kinds.AnswerKind.TheVariants.{No, Region}
 use Rattle.it_certificate.specs.declared.kinds.FactorKind.{FactorKind}
 use Rattle.it_certificate.specs.AnswerReading.{and_then}
 use Rattle.it_certificate.specs.AnswerShapes.{HasQuestionShape}
@@ -15,11 +15,13 @@ use Rattle.it_certificate.specs.Bounds.{BoundsView, HasBoundsShape}
 use Rattle.it_certificate.specs.CodeReading.{HasCodedShape, ReportedCodeView, tells_code}
 use Rattle.it_certificate.specs.FactorReading.{factor_kind_at}
 use Rattle.it_certificate.specs.FactorShapes.{HasFactorShape}
+use Rattle.it_certificate.specs.OriginReading.{HasDerivedShape, answer_origins, tells_origins}
 use Rattle.it_certificate.specs.Parts.{answer_kind_at}
-use Rattle.it_certificate.specs.Reports.{Answered, Bounded, Coded, Factored, Misfit, Reading, answer_of, answer_to, best_to, bounded_of, bounds_to, code_to, coded_of, reading_by, report_of, tells_misfit, tells_outer}
+use Rattle.it_certificate.specs.Reports.{Answered, Bounded, Coded, Derived, Factored, Misfit, Reading, answer_of, answer_to, best_to, bounded_of, bounds_to, code_to, coded_of, derived_of, reading_by, report_of, tells_misfit, tells_outer}
 use Rattle.it_certificate.specs.Sources.{Source, asked, source_key}
 use Rattle.it_certificate.proofs.CodeFits.{coded_fits}
 use Rattle.it_certificate.proofs.FactorFits.{best_fits}
+use Rattle.it_certificate.proofs.OriginFits.{derived_fits}
 use Rattle.it_certificate.proofs.FitLemmas.{answer_fits, bounds_fit, key_ok, then_ok}
 use Rattle.it_report.proofs.OneLemmas.{as_read, same_read}
 
@@ -63,17 +65,46 @@ from_coded own d x e =
       makes = same_read (Coded h.0 l.0 m.0) x m.1.1;
     }
 
+-- of a region with origins, of the region and then of its origins
+record IsFromDerived (own : Option Source) (d : Data) (reading : Reading) : Type 0 where
+  source : Source
+  answer : AnswerView
+  origins : List CertificateView
+  is : own ≡ Some source
+  answered : answer_to source Region d ≡ Ok answer
+  derived : answer_origins answer d ≡ Ok origins
+  makes : Derived source answer origins ≡ reading
+
+from_derived : (own : Option Source) (d : Data) (x : Reading) → derived_of own d ≡ as_read x → IsFromDerived own d x
+from_derived own d x e =
+    let h = then_ok (ok_or own (source_key d)) (λ s. and_then (answer_to s Region d) (λ a. and_then (answer_origins a d) (λ ws. as_read (Derived s a ws)))) x e in
+    let l = then_ok (answer_to h.0 Region d) (λ a. and_then (answer_origins a d) (λ ws. as_read (Derived h.0 a ws))) x h.1.1 in
+    let m = then_ok (answer_origins l.0 d) (λ ws. as_read (Derived h.0 l.0 ws)) x l.1.1 in
+    record {
+      source = h.0;
+      answer = l.0;
+      origins = m.0;
+      is = key_ok (source_key d) own h.0 h.1.0;
+      answered = l.1.0;
+      derived = m.1.0;
+      makes = same_read (Derived h.0 l.0 m.0) x m.1.1;
+    }
+
 module _ (own : Option Source) (d : Data) (x : Reading) (P : Type 0) (misfit : Misfit ≡ x → P) (bounded : IsFromSource BoundsView own (λ s. bounds_to s d) Bounded x → P)
-    (factored : (kind : FactorKind) → IsFromSource BestView own (λ s. best_to s kind d) Factored x → P) (coded : IsFromCoded own d x → P)
+    (factored : (kind : FactorKind) → IsFromSource BestView own (λ s. best_to s kind d) Factored x → P) (coded : IsFromCoded own d x → P) (derived : IsFromDerived own d x → P)
     (answered : (kind : AnswerKind) → IsFromSource AnswerView own (λ s. answer_to s kind d) Answered x → P) where
   by_answer : answer_of own d ≡ as_read x → P
   by_answer e =
       let h = then_ok (ok_or (answer_kind_at d) keys.Answer) (λ kind. and_then (ok_or own (source_key d)) (λ s. and_then (answer_to s kind d) (λ a. as_read (Answered s a)))) x e in
       answered h.0 (from_source AnswerView own (source_key d) (λ s. answer_to s h.0 d) Answered x h.1.1)
 
-  by_code : (told : Bool) → (if told then coded_of own d else answer_of own d) ≡ as_read x → P
+  by_origins : (told : Bool) → (if told then derived_of own d else answer_of own d) ≡ as_read x → P
+  by_origins true e = derived (from_derived own d x e)
+  by_origins false e = by_answer e
+
+  by_code : (told : Bool) → (if told then coded_of own d else if tells_origins d then derived_of own d else answer_of own d) ≡ as_read x → P
   by_code true e = coded (from_coded own d x e)
-  by_code false e = by_answer e
+  by_code false e = by_origins (tells_origins d) e
 
   by_kind : (kind : Option FactorKind) → reading_by own kind d ≡ as_read x → P
   by_kind (Some kind) e = factored kind (from_source BestView own (source_key d) (λ s. best_to s kind d) Factored x e)
@@ -92,7 +123,7 @@ module _ (own : Option Source) (d : Data) (x : Reading) (P : Type 0) (misfit : M
   by_reading e = by_word (tells_misfit d) e
 
 pub answer_is : (own : Option Source) (d : Data) (source : Source) (a : AnswerView) → report_of own d ≡ as_read (Answered source a) → (own ≡ Some source) × HasQuestionShape (asked source).body a
-answer_is own d source a e = by_reading own d (Answered source a) ((own ≡ Some source) × HasQuestionShape (asked source).body a) (λ f. absurd (cc)) (λ h. absurd (cc)) (λ kind h. absurd (cc)) (λ h. absurd (cc)) of_kind e
+answer_is own d source a e = by_reading own d (Answered source a) ((own ≡ Some source) × HasQuestionShape (asked source).body a) (λ f. absurd (cc)) (λ h. absurd (cc)) (λ kind h. absurd (cc)) (λ h. absurd (cc)) (λ h. absurd (cc)) of_kind e
   where
     of_kind : (kind : AnswerKind) → IsFromSource AnswerView own (λ s. answer_to s kind d) Answered (Answered source a) → (own ≡ Some source) × HasQuestionShape (asked source).body a
     of_kind kind h =
@@ -101,7 +132,7 @@ answer_is own d source a e = by_reading own d (Answered source a) ((own ≡ Some
         (h.is ∙ ap Some s, subst (λ t. HasQuestionShape (asked t).body a) s (subst (HasQuestionShape (asked h.source).body) b (answer_fits (asked h.source) kind d h.part h.reads)))
 
 pub best_is : (own : Option Source) (d : Data) (source : Source) (b : BestView) → report_of own d ≡ as_read (Factored source b) → (own ≡ Some source) × HasFactorShape (asked source).body b
-best_is own d source b e = by_reading own d (Factored source b) ((own ≡ Some source) × HasFactorShape (asked source).body b) (λ f. absurd (cc)) (λ h. absurd (cc)) of_kind (λ h. absurd (cc)) (λ kind h. absurd (cc)) e
+best_is own d source b e = by_reading own d (Factored source b) ((own ≡ Some source) × HasFactorShape (asked source).body b) (λ f. absurd (cc)) (λ h. absurd (cc)) of_kind (λ h. absurd (cc)) (λ h. absurd (cc)) (λ kind h. absurd (cc)) e
   where
     of_kind : (kind : FactorKind) → IsFromSource BestView own (λ s. best_to s kind d) Factored (Factored source b) → (own ≡ Some source) × HasFactorShape (asked source).body b
     of_kind kind h =
@@ -110,7 +141,7 @@ best_is own d source b e = by_reading own d (Factored source b) ((own ≡ Some s
         (h.is ∙ ap Some s, subst (λ t. HasFactorShape (asked t).body b) s (subst (HasFactorShape (asked h.source).body) c (best_fits (asked h.source) kind d h.part h.reads)))
 
 pub bounds_are : (own : Option Source) (d : Data) (source : Source) (b : BoundsView) → report_of own d ≡ as_read (Bounded source b) → (own ≡ Some source) × HasBoundsShape (asked source).body b
-bounds_are own d source b e = by_reading own d (Bounded source b) ((own ≡ Some source) × HasBoundsShape (asked source).body b) (λ f. absurd (cc)) of_bounds (λ kind h. absurd (cc)) (λ h. absurd (cc)) (λ kind h. absurd (cc)) e
+bounds_are own d source b e = by_reading own d (Bounded source b) ((own ≡ Some source) × HasBoundsShape (asked source).body b) (λ f. absurd (cc)) of_bounds (λ kind h. absurd (cc)) (λ h. absurd (cc)) (λ h. absurd (cc)) (λ kind h. absurd (cc)) e
   where
     of_bounds : IsFromSource BoundsView own (λ s. bounds_to s d) Bounded (Bounded source b) → (own ≡ Some source) × HasBoundsShape (asked source).body b
     of_bounds h =
@@ -121,7 +152,7 @@ bounds_are own d source b e = by_reading own d (Bounded source b) ((own ≡ Some
 pub coded_is : (own : Option Source) (d : Data) (source : Source) (a : AnswerView) (c : ReportedCodeView) → report_of own d ≡ as_read (Coded source a c)
     → (own ≡ Some source) × HasCodedShape (asked source).body a c
 coded_is own d source a c e =
-    by_reading own d (Coded source a c) ((own ≡ Some source) × HasCodedShape (asked source).body a c) (λ f. absurd (cc)) (λ h. absurd (cc)) (λ kind h. absurd (cc)) of_code (λ kind h. absurd (cc)) e
+    by_reading own d (Coded source a c) ((own ≡ Some source) × HasCodedShape (asked source).body a c) (λ f. absurd (cc)) (λ h. absurd (cc)) (λ kind h. absurd (cc)) of_code (λ h. absurd (cc)) (λ kind h. absurd (cc)) e
   where
     of_code : IsFromCoded own d (Coded source a c) → (own ≡ Some source) × HasCodedShape (asked source).body a c
     of_code h =
@@ -130,3 +161,16 @@ coded_is own d source a c e =
         let f : h.code ≡ c = cc in
         let fits : HasCodedShape (asked h.source).body h.answer h.code = coded_fits (asked h.source) d h.answer h.code h.answered h.coded in
         (h.is ∙ ap Some s, subst (λ t. HasCodedShape (asked t).body a c) s (subst (λ x. HasCodedShape (asked h.source).body x c) b (subst (HasCodedShape (asked h.source).body h.answer) f fits)))
+
+pub derived_is : (own : Option Source) (d : Data) (source : Source) (a : AnswerView) (ws : List CertificateView) → report_of own d ≡ as_read (Derived source a ws)
+    → (own ≡ Some source) × HasDerivedShape (asked source).body a ws
+derived_is own d source a ws e =
+    by_reading own d (Derived source a ws) ((own ≡ Some source) × HasDerivedShape (asked source).body a ws) (λ f. absurd (cc)) (λ h. absurd (cc)) (λ kind h. absurd (cc)) (λ h. absurd (cc)) of_origins (λ kind h. absurd (cc)) e
+  where
+    of_origins : IsFromDerived own d (Derived source a ws) → (own ≡ Some source) × HasDerivedShape (asked source).body a ws
+    of_origins h =
+        let s : h.source ≡ source = cc in
+        let b : h.answer ≡ a = cc in
+        let f : h.origins ≡ ws = cc in
+        let fits : HasDerivedShape (asked h.source).body h.answer h.origins = derived_fits (asked h.source) d h.answer h.origins h.answered h.derived in
+        (h.is ∙ ap Some s, subst (λ t. HasDerivedShape (asked t).body a ws) s (subst (λ x. HasDerivedShape (asked h.source).body x ws) b (subst (HasDerivedShape (asked h.source).body h.answer) f fits)))

@@ -31,7 +31,7 @@ use Rattle.it_region.proofs.RegionLemmas.{obligations_contain}
 use Rattle.it_region.proofs.TextLemmas.{rows_as_pulled}
 use Rattle.it_certificate.specs.AnswerShapes.{HasQuestionShape, HasContainmentShape}
 use Rattle.it_certificate.specs.CodeReading.{ReportedCodeView}
-use Rattle.it_certificate.specs.Reports.{Answered, Coded, ReadsReport}
+use Rattle.it_certificate.specs.Reports.{Answered, Coded, Derived, ReadsReport}
 use Rattle.it_certificate.specs.Sources.{IsSourceAt, IsSourceOf, Source, asked}
 use Rattle.it_certificate.proofs.OneLemmas.{one_reading}
 use Rattle.it_certificate.proofs.SourceNumbers.{source_limits, source_numbers}
@@ -46,7 +46,7 @@ use Rattle.it_report.specs.Meaning.{IsClaimTrueBy, ValidCodeIsTrue, ValidIsTrue}
 use Rattle.it_report.proofs.JudgingLemmas.{verb_fits, target_is_there, point_is_complete, parts_as_named}
 use Rattle.it_report.proofs.CountLemmas.{obligations_counted, targets_counted}
 use Rattle.it_report.proofs.OneLemmas.{same_read}
-use Rattle.it_report.proofs.ReadingLemmas.{answer_is, coded_is}
+use Rattle.it_report.proofs.ReadingLemmas.{answer_is, coded_is, derived_is}
 use Rattle.it_report.proofs.VerdictLemmas.{both_valid}
 
 -- ---- the question that an answer is about
@@ -67,6 +67,9 @@ small_numbers line source a h = source_numbers h.value source (source_read line 
 
 pub coded_numbers : (line : List ℕ) (source : Source) (a : AnswerView) (c : ReportedCodeView) → ReadsReport line (Ok (Coded source a c)) → QuestionHasSmallNumbers (asked source).body
 coded_numbers line source a c h = source_numbers h.value source (subst (IsSourceAt h.value) (coded_is h.reads.own h.value source a c h.reads.is).0 h.reads.source)
+
+pub derived_numbers : (line : List ℕ) (source : Source) (a : AnswerView) (ws : List CertificateView) → ReadsReport line (Ok (Derived source a ws)) → QuestionHasSmallNumbers (asked source).body
+derived_numbers line source a ws h = source_numbers h.value source (subst (IsSourceAt h.value) (derived_is h.reads.own h.value source a ws h.reads.is).0 h.reads.source)
 
 -- ---- valid certificates
 

@@ -1,15 +1,14 @@
 -- The verdict on an outer bound: on the certificates of its rows, on the points of its rays, and on the rows as the hull of the rays.
-use Rattle.std.specs.Prelude.{ℕ, List, Bool, true, false, if◌then◌else◌, slice_index_or}
+use Rattle.std.specs.Prelude.{ℕ, Bool, true, false, if◌then◌else◌}
 use Rattle.it_space.specs.Problems.{ProblemView}
-use Rattle.it_spans.specs.declared.types.Frame.{Frame}
 use Rattle.it_spans.specs.declared.types.HullVerdict.{HullVerdict}
 use Rattle.it_spans.specs.declared.types.HullVerdict.TheVariants as hulls
 use Rattle.it_spans.specs.Verdicts.{VerdictIs}
 use Rattle.it_check.specs.declared.verdicts.Verdict.{Verdict}
 use Rattle.it_question.specs.Questions.{BodyView}
-use Rattle.it_demand.specs.QuestionSpaces.{space_of}
 use Rattle.it_canon.specs.QuestionDemands.{problem_of}
 use Rattle.it_rates.specs.Asked.{gone_rates, kept_rates, under_all_lines}
+use Rattle.it_rates.specs.Frames.{hull_frame}
 use Rattle.it_certificate.specs.Bounds.{BoundsView}
 use Rattle.it_report.specs.RowVerdicts.{is_valid, proofs_verdict, rays_verdict}
 
@@ -21,13 +20,13 @@ parts_verdict p b = if is_valid (proofs_verdict p b.rows b.proofs) then rays_ver
 abbrev pub bounds_verdict : BodyView → BoundsView → Verdict
 bounds_verdict q b = parts_verdict (problem_of (under_all_lines q)) b
 
--- where the hull is made: multipliers stand at the first rate that goes, and one more ray may leave 4,096 rows
-abbrev pub judged_frame : BodyView → List ℕ → Frame
-judged_frame q gone = record { space = space_of q.names; spare = slice_index_or gone 0 0; rows = 4096 }
+-- one more ray may leave so many rows
+abbrev pub most_rows : ℕ
+most_rows = 4096
 
 -- the verdict on the rows as the hull of the rays
 abbrev pub HullVerdictIs : BodyView → BoundsView → HullVerdict → Type 0
-HullVerdictIs q b verdict = VerdictIs (judged_frame q (gone_rates q.verb)) (kept_rates q (gone_rates q.verb)) b.steps b.rows verdict
+HullVerdictIs q b verdict = VerdictIs (hull_frame most_rows q) (kept_rates q (gone_rates q.verb)) b.steps b.rows verdict
 
 -- nothing is wrong
 abbrev pub is_hull : HullVerdict → Bool

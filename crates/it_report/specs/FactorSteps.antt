@@ -1,29 +1,15 @@
--- No public clause cites this module: how the rows of both sides are formed, and the verdicts by them.
-use Rattle.std.specs.Prelude.{◌≡◌, ℕ, ℤ, ◌*ℤ◌, length, Result, Ok, Err}
-use Rattle.it_number.specs.Limit.{IsWithin}
-use Rattle.it_space.specs.Rows.{Terms, IsOver, coefficient}
+-- No public clause cites this module: the verdicts by the rows of both sides.
+use Rattle.std.specs.Prelude.{◌≡◌, ℕ, length, Result, Ok, Err}
+use Rattle.it_space.specs.Rows.{Terms, IsOver}
 use Rattle.it_space.specs.Spaces.{size_of}
 use Rattle.it_space.specs.Problems.{ProblemView, IsProblem}
+use Rattle.it_ratio.specs.declared.sides.RowStop.{RowStop}
+use Rattle.it_ratio.specs.declared.sides.RowStop.TheVariants as stops
 use Rattle.it_ratio.specs.BestViews.{BestView, Least, Never}
 use Rattle.it_report.specs.declared.factors.FactorVerdict.{FactorVerdict}
 use Rattle.it_report.specs.declared.factors.FactorVerdict.TheVariants.{Checked}
-use Rattle.it_report.specs.declared.factors.RowStop.{RowStop}
-use Rattle.it_report.specs.declared.factors.RowStop.TheVariants as stops
 use Rattle.it_check.specs.declared.verdicts.Verdict.TheVariants.{Width}
-use Rattle.it_report.specs.FactorVerdicts.{row_unless, side_number, side_row, unformed}
 use Rattle.it_report.specs.Steps.{IsVerdictOver}
-
--- a coefficient of a row of both sides and its two products are within the limit
-pub record NumberFits (num den : ℤ) (left right : Terms) (c : ℕ) : Type 0 where
-  pub left_times : IsWithin (num *ℤ coefficient left c)
-  pub right_times : IsWithin (den *ℤ coefficient right c)
-  pub difference : IsWithin (side_number num den left right c)
-
--- what the former of a row of both sides gave
-abbrev pub RowForms : ℕ → ℤ → ℤ → Terms → Terms → Result Terms RowStop → Type 0
-RowForms size num den left right (Ok row) = (row_unless (unformed size num den left right) (side_row size num den left right) ≡ Ok row) × IsOver size row
-RowForms size num den left right (Err stops.Memory) = Unit {0}
-RowForms size num den left right (Err (stops.Wide c)) = row_unless (unformed size num den left right) (side_row size num den left right) ≡ Err c
 
 -- the verdict of one that forms rows on the way, against what is told; of want of memory nothing is
 abbrev pub Gives : Result FactorVerdict RowStop → FactorVerdict → Type 0

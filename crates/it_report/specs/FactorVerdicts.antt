@@ -1,46 +1,21 @@
 -- The verdict on what is said of factors, by the rows of both sides of the relation under a problem.
-use Rattle.std.specs.Prelude.{ℕ, ◌+◌, ℤ, pos, neg_ℤ, ◌-ℤ◌, ◌*ℤ◌, List, map, length, Bool, not, ◌&&◌, int_lt, Option, Some, None, Result, Ok, Err, if◌then◌else◌}
-use Rattle.std.specs.List.{find}
+use Rattle.std.specs.Prelude.{ℕ, ◌+◌, ℤ, pos, neg_ℤ, List, length, int_lt, Option, Some, None, Result, Ok, Err, if◌then◌else◌}
 use Rattle.std.specs.Ordering.{int_eq}
 use Rattle.it_space.specs.Answers.{CertificateView}
 use Rattle.it_space.specs.Problems.{ProblemView}
-use Rattle.it_space.specs.Rows.{Terms, coefficient, point_of}
+use Rattle.it_space.specs.Rows.{Terms, point_of}
 use Rattle.it_space.specs.Spaces.{size_of}
-use Rattle.it_space.specs.Sums.{terms_from}
-use Rattle.it_polymatroid.specs.Elementals.{elementals, span}
+use Rattle.it_polymatroid.specs.Elementals.{elementals}
 use Rattle.it_elemental.specs.Generators.{generators}
-use Rattle.it_check.specs.Sums.{is_within, sum_within}
+use Rattle.it_check.specs.Sums.{sum_within}
 use Rattle.it_check.specs.Verdicts.{no_verdict}
 use Rattle.it_check.specs.declared.verdicts.Verdict.{Verdict}
 use Rattle.it_check.specs.declared.verdicts.Verdict.TheVariants.{Valid, Width}
 use Rattle.it_ratio.specs.BestViews.{BestView, Least, Never, Unbounded, Undecided}
+use Rattle.it_ratio.specs.Sides.{row_unless, side_row, unformed}
 use Rattle.it_report.specs.RowVerdicts.{is_valid, proof_verdict}
 use Rattle.it_report.specs.declared.factors.FactorVerdict.{FactorVerdict}
 use Rattle.it_report.specs.declared.factors.FactorVerdict.TheVariants.{BelowOne, Checked, NotZero}
-
--- ---- rows of both sides
-
--- the coefficient at c of num times the left row less den times the right one
-abbrev pub side_number : ℤ → ℤ → Terms → Terms → ℕ → ℤ
-side_number num den left right c = num *ℤ coefficient left c -ℤ den *ℤ coefficient right c
-
--- whether it and its two products are within the limit
-abbrev pub is_formed : ℤ → ℤ → Terms → Terms → ℕ → Bool
-is_formed num den left right c =
-    is_within (num *ℤ coefficient left c) && (is_within (den *ℤ coefficient right c) && is_within (side_number num den left right c))
-
--- the row of these coefficients, over so many coordinates
-unfoldable pub side_row : ℕ → ℤ → ℤ → Terms → Terms → Terms
-side_row size num den left right = terms_from 1 (map (side_number num den left right) (span 1 size))
-
--- the first coordinate at which one isn't formed within the limit
-unfoldable pub unformed : ℕ → ℤ → ℤ → Terms → Terms → Option ℕ
-unformed size num den left right = find (λ c. not (is_formed num den left right c)) (span 1 size)
-
--- the row, or that coordinate
-abbrev pub row_unless : Option ℕ → Terms → Result Terms ℕ
-row_unless None row = Ok row
-row_unless (Some c) row = Err c
 
 -- what follows where there is a row; else that a number is wide at the coordinate
 abbrev pub with_row : Result Terms ℕ → (Terms → FactorVerdict) → FactorVerdict

@@ -2,7 +2,7 @@
 -- rows of the forms that the answer speaks of.
 use Rattle.std.specs.Prelude.{◌≡◌, ℕ, ℤ, List, [], map, Bool, false, Option, Some, None, option_and_then, Ok, Err, IsUtf8}
 use Rattle.serde_json.specs.Read.{read}
-use Rattle.it_space.specs.Answers.{AnswerView}
+use Rattle.it_space.specs.Answers.{AnswerView, CertificateView}
 use Rattle.it_space.specs.Answers.AnswerView.{Yes, No, Contained}
 use Rattle.it_space.specs.Problems.{ProblemView}
 use Rattle.it_space.specs.Rows.{Terms}
@@ -15,10 +15,12 @@ use Rattle.it_canon.specs.TrueLines.{variable_count}
 use Rattle.it_ratio.specs.BestViews.{BestView}
 use Rattle.it_ratio.specs.Truth.{asked_by}
 use Rattle.it_region.specs.AnswerForms.{answer_forms}
-use Rattle.it_certificate.specs.Reports.{Answered, Coded, Factored, Bounded, Misfit, ReadsReport, Reading}
+use Rattle.it_certificate.specs.OriginReading.{rows_of}
+use Rattle.it_certificate.specs.Reports.{Answered, Coded, Derived, Factored, Bounded, Misfit, ReadsReport, Reading}
 use Rattle.it_certificate.specs.Bounds.{BoundsView}
 use Rattle.it_certificate.specs.CodeReading.{ReportedCodeView}
 use Rattle.it_codes.specs.Codes.{AreEntropies, IsFirstOther}
+use Rattle.it_rates.specs.Asked.{under_all_lines}
 use Rattle.it_certificate.specs.Sources.{asked}
 use Rattle.it_check.specs.declared.verdicts.Verdict.{Verdict}
 use Rattle.it_check.specs.declared.verdicts.Verdict.TheVariants.{Valid}
@@ -74,6 +76,12 @@ IsCodedVerdict q answer c (Judged names v) = (names ≡ problem_names q) × (ver
 IsCodedVerdict q answer c (OtherCode names s) = (names ≡ problem_names q) × (verdict_of q answer ≡ Some Valid) × IsFirstOther c.code c.times (values_of answer) s
 IsCodedVerdict q answer c verdict = ⊥
 
+-- ---- of origins
+
+-- what is told of a region with a certificate for each of its rows: the verdict on these, where all lines of the question are constraints
+abbrev pub IsDerivedVerdict : BodyView → AnswerView → List CertificateView → LineVerdict → Type 0
+IsDerivedVerdict q answer origins verdict = verdict ≡ Judged q.names (proofs_verdict (problem_of (under_all_lines q)) (rows_of answer) origins)
+
 -- ---- of bounds
 
 -- what is told of an outer bound: what is wrong with a certificate or a point, with the names of the question; where nothing is, the
@@ -85,11 +93,12 @@ IsBoundsVerdict q b verdict = ⊥
 
 -- ---- of lines
 
--- what is told of what a line says: the verdict on an answer to the question that is asked, on a no with its code, on what is found of its factors, or on its
+-- what is told of what a line says: the verdict on an answer to the question that is asked, on a no with its code, on a region with its origins, on what is found of its factors, or on its
 -- bounds; and that a misfit isn't judged
 abbrev pub IsReadingVerdict : Reading → LineVerdict → Type 0
 IsReadingVerdict (Answered source answer) v = IsAnswerVerdict (asked source).body answer v
 IsReadingVerdict (Coded source answer c) v = IsCodedVerdict (asked source).body answer c v
+IsReadingVerdict (Derived source answer origins) v = IsDerivedVerdict (asked source).body answer origins v
 IsReadingVerdict (Factored source best) v = v ≡ factor_line_verdict (asked source).body best
 IsReadingVerdict (Bounded source b) v = IsBoundsVerdict (asked source).body b v
 IsReadingVerdict Misfit v = v ≡ Skipped

@@ -60,6 +60,7 @@ key_text keys.Parts = codes "parts"
 key_text keys.Tried = codes "tried"
 key_text keys.Rays = codes "rays"
 key_text keys.Code = codes "code"
+key_text keys.Origins = codes "origins"
 
 -- a coordinate by the name of its set or rate, and the two numbers that differ there
 abbrev pub mismatch_text : NamesView → ℕ → ℤ → ℤ → List ℕ

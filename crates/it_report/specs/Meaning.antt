@@ -1,8 +1,9 @@
 -- What the verdicts mean: each line has one and no other, and the claim of a valid one is true.
-use Rattle.std.specs.Prelude.{◌≡◌, ℕ, ℤ, pos, neg_ℤ, ◌≤ℤ◌, ◌≤◌, List, length, Bool, get_or, Some, Ok}
+use Rattle.std.specs.Prelude.{◌≡◌, ℕ, ℤ, pos, neg_ℤ, ◌≤ℤ◌, ◌≤◌, List, length, All, Bool, get_or, Some, Ok}
 use Rattle.it_space.specs.Answers.{AnswerView, CertificateView}
-use Rattle.it_space.specs.Answers.AnswerView.{Yes, No, Contained}
-use Rattle.it_space.specs.Rows.{point_of}
+use Rattle.it_space.specs.Answers.AnswerView.{Yes, No, Region, Contained}
+use Rattle.it_space.specs.declared.answers.Mark.{Mark}
+use Rattle.it_space.specs.Rows.{Terms, point_of, value}
 use Rattle.it_syntax.specs.Meaning.{Holds, RelationView}
 use Rattle.it_syntax.specs.NamesViews.{NamesView}
 use Rattle.it_question.specs.Questions.{BodyView, QuestionView, VerbView, Prove, Contain}
@@ -18,12 +19,12 @@ use Rattle.it_ratio.specs.BestViews.{BestView}
 use Rattle.it_ratio.specs.Truth.{HoldsFor, IsTrueBest, asked_by}
 use Rattle.it_spans.specs.declared.types.HullVerdict.TheVariants.{Valid as HullIsValid}
 use Rattle.it_spans.specs.Spans.{rays_of}
-use Rattle.it_rates.specs.Asked.{gone_rates}
+use Rattle.it_rates.specs.Asked.{gone_rates, under_all_lines}
 use Rattle.it_rates.specs.Bounds.{AreExactBounds}
 use Rattle.it_certificate.specs.Bounds.{BoundsView}
 use Rattle.it_certificate.specs.CodeReading.{ReportedCodeView}
 use Rattle.it_codes.specs.Codes.{AreEntropies, variables_of}
-use Rattle.it_certificate.specs.Reports.{Answered, Bounded, Coded, Factored, ReadsReport}
+use Rattle.it_certificate.specs.Reports.{Answered, Bounded, Coded, Derived, Factored, ReadsReport}
 use Rattle.it_certificate.specs.Sources.{Source, Copies, Sharing, asked}
 use Rattle.it_check.specs.declared.verdicts.Verdict.TheVariants.{Valid}
 use Rattle.it_report.specs.declared.factors.FactorVerdict.TheVariants.{Checked}
@@ -64,6 +65,13 @@ abbrev pub ValidCodeIsTrue : Type 0
 ValidCodeIsTrue = (line : List ℕ) (names : NamesView) (source : Source) (back : Bool) (values : List ℤ) (c : ReportedCodeView)
     → IsVerdict line (Judged names Valid) → ReadsReport line (Ok (Coded source (No back values) c))
     → IsClaimTrue (asked source).body (No back values) × (variables_of c.code ≡ length (asked source).body.names.variables) × (1 ≤ c.times) × AreEntropies c.code c.times values
+
+-- Where a valid region has origins, each of its rows is true wherever a polymatroid and rates make all lines of the question true. It says
+-- nothing of whether the rows are all.
+abbrev pub ValidOriginsAreTrue : Type 0
+ValidOriginsAreTrue = (line : List ℕ) (names : NamesView) (source : Source) (rows : List (Mark × Terms)) (origins : List CertificateView)
+    → IsVerdict line (Judged names Valid) → ReadsReport line (Ok (Derived source (Region rows) origins))
+    → All (λ row. (p : ℕ → ℤ) → AreTrueTogether (under_all_lines (asked source).body) p → pos 0 ≤ℤ value row.1 p) rows
 
 -- What a valid line says of factors is true of those of the relation that the question asks about: the least one holds wherever a
 -- polymatroid and rates make the question's lines true, and no smaller one does; where there is none, none holds; where there is no least

@@ -1,7 +1,7 @@
 -- No public clause cites this module: the lines of faults and of answers, of which the line about a report's line is one, and the
 -- coordinates that verdicts name.
-use Rattle.std.specs.Prelude.{ℕ, ◌<◌, List, Bool}
-use Rattle.it_space.specs.Answers.{AnswerView, answer_view}
+use Rattle.std.specs.Prelude.{ℕ, ◌<◌, List, map, Bool}
+use Rattle.it_space.specs.Answers.{AnswerView, CertificateView, answer_view, certificate_view}
 use Rattle.it_question.specs.Questions.{BodyView, VerbView, Prove, Eliminate, Contain, question_body}
 use Rattle.it_certificate.specs.declared.keys.ReportFault.{ReportFault}
 use Rattle.it_certificate.specs.declared.keys.ReportFault.TheVariants as faults
@@ -13,7 +13,7 @@ use Rattle.it_check.specs.declared.verdicts.Verdict.{Verdict}
 use Rattle.it_check.specs.declared.verdicts.Verdict.TheVariants.{Mismatch}
 use Rattle.it_report.specs.LineVerdicts.{LineVerdict, NotJson, Shape, Skipped, IsLineOf}
 use Rattle.it_ratio.specs.BestViews.{best_view}
-use Rattle.it_report.specs.Judging.{IsAnswerVerdict, IsBoundsVerdict, IsCodedVerdict, factor_line_verdict}
+use Rattle.it_report.specs.Judging.{IsAnswerVerdict, IsBoundsVerdict, IsCodedVerdict, IsDerivedVerdict, factor_line_verdict}
 
 -- the question is about a relation
 abbrev pub IsAboutRelation : VerbView → Type 0
@@ -39,6 +39,12 @@ pub record IsJudgedCoded (k : ℕ) (q : BodyView) (answer : AnswerView) (c : Rep
   pub is : IsCodedVerdict q answer c verdict
   pub told : IsLineOf k verdict text invalid
 
+-- the line about a region with origins
+pub record IsJudgedDerived (k : ℕ) (q : BodyView) (answer : AnswerView) (origins : List CertificateView) (text : List ℕ) (invalid : Bool) : Type 0 where
+  pub verdict : LineVerdict
+  pub is : IsDerivedVerdict q answer origins verdict
+  pub told : IsLineOf k verdict text invalid
+
 -- the line about an outer bound
 pub record IsJudgedBounds (k : ℕ) (q : BodyView) (b : BoundsView) (text : List ℕ) (invalid : Bool) : Type 0 where
   pub verdict : LineVerdict
@@ -49,6 +55,7 @@ pub record IsJudgedBounds (k : ℕ) (q : BodyView) (b : BoundsView) (text : List
 abbrev pub IsJudgedReport : ℕ → Reported → List ℕ → Bool → Type 0
 IsJudgedReport k (reported.Answered question answer) text invalid = IsJudgedAnswer k (question_body question) (answer_view answer) text invalid
 IsJudgedReport k (reported.Coded question answer code) text invalid = IsJudgedCoded k (question_body question) (answer_view answer) (reported_code_view code) text invalid
+IsJudgedReport k (reported.Derived question answer origins) text invalid = IsJudgedDerived k (question_body question) (answer_view answer) (map certificate_view origins.items) text invalid
 IsJudgedReport k (reported.Factored question best) text invalid = IsLineOf k (factor_line_verdict (question_body question) (best_view best)) text invalid
 IsJudgedReport k (reported.Bounded question bounds) text invalid = IsJudgedBounds k (question_body question) (bounds_view bounds) text invalid
 IsJudgedReport k reported.Misfit text invalid = IsLineOf k Skipped text invalid

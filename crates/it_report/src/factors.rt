@@ -1,23 +1,23 @@
 //! The verdict on what is said of factors, by the rows of both sides of the relation under a problem.
-ghost use Rattle.std.specs.Prelude.{◌≡◌, ◌+◌, ◌++◌, ℕ, length, pos, IfErr, IfOk, OkIff, OnOk, Some};
+ghost use Rattle.std.specs.Prelude.{◌≡◌, ◌+◌, ℕ, length, pos, IfOk, Some};
 ghost use Rattle.it_space.specs.Answers.{certificate_view};
 ghost use Rattle.it_space.specs.Problems.{IsProblem, problem_view};
-ghost use Rattle.it_space.specs.Rows.{IsOver, point_of, single_term};
+ghost use Rattle.it_space.specs.Rows.{IsOver, point_of};
 ghost use Rattle.it_space.specs.Spaces.{size_of};
 ghost use Rattle.it_elemental.specs.Generators.{generators};
 ghost use Rattle.it_check.specs.Sums.{sum_within};
 ghost use Rattle.it_ratio.specs.BestViews.{best_view};
-ghost use Rattle.it_report.specs.FactorSteps.{AreSideRows, Gives, IsComplete, IsFactorVerdictOver, NumberFits, RowForms};
-ghost use Rattle.it_report.specs.FactorVerdicts.{best_verdict, first_wrong, least_verdict, never_verdict, side_number, tight_verdict, unbounded_verdict, zero_verdict};
+ghost use Rattle.it_report.specs.FactorSteps.{AreSideRows, Gives, IsComplete, IsFactorVerdictOver};
+ghost use Rattle.it_report.specs.FactorVerdicts.{best_verdict, first_wrong, least_verdict, never_verdict, tight_verdict, unbounded_verdict, zero_verdict};
 ghost use Rattle.it_report.specs.RowVerdicts.{proof_verdict};
 ghost use Rattle.it_report.specs.declared.factors.FactorVerdict.TheVariants.{Checked};
 
 use crate::rows::{is_valid, proof_verdict};
 use it_check::{Verdict, check_no};
 use it_elemental::generator_count;
-use it_fraction::{Wide, difference, signed_product};
 use it_ratio::types::Best;
-use it_space::{Certificate, Point, Problem, Row, push_some, value};
+use it_ratio::{RowStop, side_row};
+use it_space::{Certificate, Point, Problem, Row, value};
 use std::alloc::{AllocError, Global};
 
 /// What is wrong with what is said of factors, or that nothing is.
@@ -31,75 +31,6 @@ pub enum FactorVerdict {
     /// What is to be 0 at the point has this value.
     NotZero { value: i128 },
 }
-
-/// Why there is no verdict by rows: memory ran out, or a coefficient at this coordinate passes the limit.
-pub enum RowStop {
-    Memory,
-    Wide { coordinate: u32 },
-}
-
-impl From<AllocError> for RowStop {
-    ghost use Rattle.std.specs.Prelude.{◌≡◌};
-    ghost use Rattle.it_report.specs.declared.factors.RowStop.TheVariants.{Memory};
-
-    ghost from_gives = { λ _ e. e ≡ Memory };
-
-    fn from(_error: AllocError) -> RowStop {
-        RowStop::Memory
-    }
-}
-
-// ---- rows of both sides
-
-/// A coefficient of `num` times the left row less `den` times the right one.
-fn side_number(left: &Row, right: &Row, num: &i128, den: &i128, at: u32) -> Result<i128, Wide>
-    ensures { OkIff result (NumberFits num.now den.now left.now right.now at) (side_number num.now den.now left.now right.now at) }
-{
-    let above = signed_product(*num, left.coefficient(at))?;
-    let below = signed_product(*den, right.coefficient(at))?;
-    difference(above, below)
-}
-
-/// Puts a coefficient of the row after the others.
-fn push_number(
-    terms: &mut Vec<(u32, i128)>,
-    left: &Row,
-    right: &Row,
-    num: &i128,
-    den: &i128,
-    at: u32,
-) -> Result<(), RowStop>
-    ensures value { OnOk result (terms.new.items ≡ terms.old.items ++ single_term at (side_number num.now den.now left.now right.now at)) }
-    ensures fits { OnOk result (NumberFits num.now den.now left.now right.now at) }
-    ensures wide { IfErr result (λ e. (c : ℕ) → e ≡ RowStop.Wide c → (c ≡ at) × ¬ (NumberFits num.now den.now left.now right.now at)) }
-{
-    let Ok(number) = side_number(left, right, num, den, at) else {
-        return Err(RowStop::Wide { coordinate: at });
-    };
-    push_some(terms, at, number)?;
-    Ok(())
-}
-
-/// `num` times the left row less `den` times the right one.
-fn side_row(
-    alloc: Global,
-    problem: &Problem,
-    left: &Row,
-    right: &Row,
-    num: &i128,
-    den: &i128,
-) -> Result<Row, RowStop>
-    requires { AreSideRows (problem_view problem.now) left.now right.now }
-    ensures { RowForms (size_of problem.now.space) num.now den.now left.now right.now result }
-{
-    let mut terms = Vec::new(alloc);
-    for at in 1..problem.space.size() + 1 {
-        push_number(&mut terms, left, right, num, den, at)?;
-    }
-    Ok(Row::new(terms))
-}
-
-// ---- verdicts
 
 /// Whether the row is 0 at the point.
 fn zero_verdict(problem: &Problem, row: &Row, point: &Point) -> FactorVerdict
@@ -201,8 +132,8 @@ fn least_verdict(
     if *den < 1 {
         return Ok(FactorVerdict::BelowOne { den: *den });
     }
-    let factor = side_row(alloc, problem, left, right, num, den)?;
-    let turned = side_row(alloc, problem, left, right, &-1, &0)?;
+    let factor = side_row(alloc, problem.space, left, right, num, den)?;
+    let turned = side_row(alloc, problem.space, left, right, &-1, &0)?;
     Ok(factor_verdict(problem, &factor, &turned, proof, point))
 }
 
@@ -219,7 +150,7 @@ fn never_verdict(
     ensures verdict { Gives result (never_verdict (problem_view problem.now) left.now right.now point.now) }
     ensures over { IfOk result (IsFactorVerdictOver (size_of problem.now.space + 1)) }
 {
-    let turned = side_row(alloc, problem, left, right, &0, &1)?;
+    let turned = side_row(alloc, problem.space, left, right, &0, &1)?;
     Ok(tight_verdict(problem, &turned, left, point))
 }
 
@@ -241,8 +172,8 @@ fn unbounded_verdict(
     if *den < 1 {
         return Ok(FactorVerdict::BelowOne { den: *den });
     }
-    let factor = side_row(alloc, problem, left, right, num, den)?;
-    let turned = side_row(alloc, problem, left, right, &-1, &0)?;
+    let factor = side_row(alloc, problem.space, left, right, num, den)?;
+    let turned = side_row(alloc, problem.space, left, right, &-1, &0)?;
     Ok(both_verdict(problem, &factor, &turned, proof, below))
 }
 

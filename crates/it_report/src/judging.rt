@@ -1,7 +1,7 @@
 //! The verdict on a line of a report.
 ghost use Rattle.std.specs.Prelude.{◌≡◌, map, IfOk};
 ghost use Rattle.it_space.specs.Answers.{answer_view, certificate_view};
-ghost use Rattle.it_space.specs.Answers.AnswerView.{Yes, No, Contained};
+ghost use Rattle.it_space.specs.Answers.AnswerView.{Yes, No, Region, Contained};
 ghost use Rattle.it_syntax.specs.Meaning.{relation_view};
 ghost use Rattle.it_question.specs.Limits.{IsQuestion};
 ghost use Rattle.it_question.specs.Questions.{Prove, question_body};
@@ -9,10 +9,11 @@ ghost use Rattle.it_certificate.specs.AnswerShapes.{HasQuestionShape};
 ghost use Rattle.it_ratio.specs.BestViews.{best_view};
 ghost use Rattle.it_certificate.specs.FactorShapes.{HasFactorShape};
 ghost use Rattle.it_certificate.specs.CodeReading.{HasCodedShape, IsNo, reported_code_view};
+ghost use Rattle.it_certificate.specs.OriginReading.{HasDerivedShape, IsRegion, rows_of};
 ghost use Rattle.it_report.specs.Judging.{IsJudgedLine, factor_line_verdict, values_of};
 ghost use Rattle.it_report.specs.LineVerdicts.{IsLineOf};
 ghost use Rattle.it_certificate.specs.Reports.{KeepsLimits};
-ghost use Rattle.it_report.specs.Steps.{IsAboutRelation, IsFaultLine, IsJudgedAnswer, IsJudgedCoded, IsJudgedReport};
+ghost use Rattle.it_report.specs.Steps.{IsAboutRelation, IsFaultLine, IsJudgedAnswer, IsJudgedCoded, IsJudgedDerived, IsJudgedReport};
 
 use crate::bounds::bounds_line;
 use crate::factors::best_verdict;
@@ -21,21 +22,23 @@ use crate::lines::{
 };
 use crate::rows::{point_verdict, proofs_verdict};
 use it_canon::{problem, problem_names, sides, target_rows};
-use it_certificate::{ReportFault, Reported, ReportedCode, answer_from_json};
+use it_certificate::{ReportFault, Reported, ReportedCode, answer_from_json, unmarked};
 use it_codes::first_other;
 use it_question::types::{Question, Verb};
+use it_rates::problem_of_lines;
 use it_ratio::types::Best;
 use it_region::{candidate, obligations, pair};
-use it_space::{Answer, Certificate, Point, VarSet};
+use it_space::{Answer, Certificate, Mark, Point, Row, VarSet};
 use it_syntax::types::Relation;
 use std::alloc::{AllocError, Global};
 
 /// The line about line k of a report; lines are counted from 1, and `line` comes without its end. A yes and a containment
 /// have the verdict of the first of their certificates that isn't valid, a no that of its point against the target on its
-/// side; one that has a code, where that is valid, the first set whose value is another by the code. A least factor has the verdict of its certificate and then of its point, at which the left side is at least 1 and the factor holds
+/// side; one that has a code, where that is valid, the first set whose value is another by the code. A region that has origins has the verdict of the
+/// first of its rows' certificates that isn't valid. A least factor has the verdict of its certificate and then of its point, at which the left side is at least 1 and the factor holds
 /// with equality; no factor that of its point, at which the left side is 0; no least one that of its two certificates. An outer bound has
 /// that of its rows, its rays and their hull. Answers that claim nothing of polymatroids, or whose claim isn't judged, are skipped:
-/// undecided, regions, open questions and misfits.
+/// undecided, regions without origins, open questions and misfits.
 pub fn judge(alloc: Global, k: usize, line: &[u8]) -> Result<JudgedLine, AllocError>
     ensures { IfOk result (λ j. IsJudgedLine k line.now j.text.items j.invalid) }
 {
@@ -68,6 +71,11 @@ fn report_line(alloc: Global, k: usize, reported: &Reported) -> Result<JudgedLin
             answer,
             code,
         } => coded_line(alloc, k, question, answer, code),
+        Reported::Derived {
+            question,
+            answer,
+            origins,
+        } => derived_line(alloc, k, question, answer, origins.as_slice()),
         Reported::Factored { question, best } => best_line(alloc, k, question, best),
         Reported::Bounded { question, bounds } => bounds_line(alloc, k, question, bounds),
         Reported::Misfit => skipped_line(alloc, k),
@@ -176,6 +184,36 @@ fn coded_line(
         Some(set) => other_line(alloc, k, problem_names(question), set),
         None => Ok(judged),
     }
+}
+
+/// The rows of a region, with their marks.
+fn rows_of(answer: &Answer) -> &[(Mark, Row)]
+    requires { IsRegion (answer_view answer.now) }
+    ensures { answer_view answer.now ≡ Region result.now }
+{
+    let Answer::Region(rows) = answer else {
+        unreachable!()
+    };
+    rows.as_slice()
+}
+
+/// The line about a region with origins: what is wrong first with a certificate of a row. All lines of the question are constraints, `row`
+/// lines too.
+fn derived_line(
+    alloc: Global,
+    k: usize,
+    question: &Question,
+    answer: &Answer,
+    origins: &[Certificate],
+) -> Result<JudgedLine, AllocError>
+    requires limits { IsQuestion (question_body question.now) }
+    requires fits { HasDerivedShape (question_body question.now) (answer_view answer.now) (map certificate_view origins.now) }
+    ensures { IfOk result (λ j. IsJudgedDerived k (question_body question.now) (answer_view answer.now) (map certificate_view origins.now) j.text.items j.invalid) }
+{
+    let problem = problem_of_lines(alloc, question)?;
+    let rows = unmarked(alloc, rows_of(answer))?;
+    let verdict = proofs_verdict(&problem, rows.as_slice(), origins);
+    verdict_line(alloc, k, &question.names, &verdict)
 }
 
 /// The line about a containment: its certificates against the obligations of its parts, under the first region's problem.

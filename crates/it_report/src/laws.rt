@@ -1,5 +1,5 @@
 //! What the verdicts mean, each theorem as the contract of a function.
-ghost use Rattle.it_report.specs.Meaning.{EachLineIsJudged, OneVerdict, ValidCodeIsTrue, ValidFactorIsTrue, ValidFactorIsTrueOfSharing, ValidIsTrue, ValidIsTrueByCopies, ValidIsTrueOfBounds, ValidIsTrueOfSharing};
+ghost use Rattle.it_report.specs.Meaning.{EachLineIsJudged, OneVerdict, ValidCodeIsTrue, ValidFactorIsTrue, ValidFactorIsTrueOfSharing, ValidOriginsAreTrue, ValidIsTrue, ValidIsTrueByCopies, ValidIsTrueOfBounds, ValidIsTrueOfSharing};
 
 /// Each line of a report, whatever its bytes, has a verdict and so a line about it.
 pub fn each_line_is_judged()
@@ -25,6 +25,11 @@ pub fn valid_is_true()
 /// Where a valid no has a code, its relation fails at random variables: the values of its point are the entropies of the code's variables.
 pub fn valid_code_is_true()
     ensures { ValidCodeIsTrue }
+{}
+
+/// Where a valid region has origins, each of its rows is true wherever the question's lines are.
+pub fn valid_origins_are_true()
+    ensures { ValidOriginsAreTrue }
 {}
 
 /// What a valid line says of factors is true of the question that is asked: the least one holds wherever the question's lines are true, and

@@ -11,6 +11,7 @@ mod words;
 
 pub use judging::judge;
 pub use laws::{
-    each_line_is_judged, valid_code_is_true, valid_factor_is_true, valid_is_true, verdict_is_one,
+    each_line_is_judged, valid_code_is_true, valid_factor_is_true, valid_is_true,
+    valid_origins_are_true, verdict_is_one,
 };
 pub use lines::JudgedLine;

@@ -35,6 +35,7 @@ pub fn key_name(key: Key) -> &'static str
         Key::Tried => "tried",
         Key::Rays => "rays",
         Key::Code => "code",
+        Key::Origins => "origins",
     }
 }
 

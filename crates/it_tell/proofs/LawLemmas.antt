@@ -85,8 +85,10 @@ module _ {X A : Type 0} (shown : A → List ℕ) (tells : X → A → Type 0) (e
   lines_there items = lines_from 1 items
 
 row_there : (q : BodyView) (style : Style) (row : Mark × Terms) → (text : List ℕ) × IsMarkedRowText q style row text
-unfolding IsMarkedRowText IsRowText
-row_there q style row = let own = codes "as row " ++ row_text (problem_names q) Inequality row.1 in (own ++ mark_comment row.0, (own, (inr (inr refl), refl)))
+unfolding IsRowText
+row_there q style row =
+    let own = codes "as row " ++ row_text (problem_names q) Inequality row.1 in
+    (own ++ mark_comment row.0, record { own = own; lines = []; weights = []; tells = inr (refl, inr refl); origin = inl refl; is = refl })
 
 proof_there : (q : BodyView) (options : Options) (proof : Form × CertificateView) → (t : ProofTexts) × AreProofTexts q options proof t
 unfolding AreProofTexts IsProofText
@@ -128,6 +130,9 @@ reading_there options line v is accepted (reports.Answered source a) reads =
 reading_there options line v is accepted (reports.Coded source a c) reads =
     let details = details_there (asked source).body options a in
     (tellings.Coded source a c details.0, (record { verdict = v; is = is; accepted = accepted; reads = reads }, details.1))
+reading_there options line v is accepted (reports.Derived source a ws) reads =
+    let details = details_there (asked source).body options a in
+    (tellings.Derived source a ws details.0, (record { verdict = v; is = is; accepted = accepted; reads = reads }, details.1))
 reading_there options line v is accepted (reports.Factored source best) reads = (tellings.Factored source best, record { verdict = v; is = is; accepted = accepted; reads = reads })
 reading_there options line v is accepted (reports.Bounded source b) reads = (tellings.Bounded source b, record { verdict = v; is = is; accepted = accepted; reads = reads })
 reading_there options line v is accepted reports.Misfit reads = (tellings.Misfit, reads)

@@ -17,7 +17,8 @@ use Rattle.it_report.specs.Judging.{HasReading, IsAnswerVerdict, IsCodedVerdict,
 use Rattle.it_report.specs.LineVerdicts.{LineVerdict, NotJson, Shape, Skipped, Judged, Weighed, OtherCode, Hulled, is_invalid, numbered_line}
 use Rattle.it_report.proofs.OneLemmas.{as_read, same_read}
 use Rattle.it_canon.proofs.ExistenceLemmas.{question_poses}
-use Rattle.it_report.proofs.TruthLemmas.{coded_numbers, small_numbers}
+use Rattle.it_report.proofs.TruthLemmas.{coded_numbers, derived_numbers, small_numbers}
+use Rattle.it_report.proofs.JudgingLemmas.{region_skipped}
 use Rattle.it_tell.specs.Tellings as tellings
 use Rattle.it_ratio.specs.BestViews.{BestView}
 use Rattle.it_tell.specs.Tellings.{Invalid, IsAccepted, IsAcceptedBest, best_words, bounds_words}
@@ -109,6 +110,7 @@ can_be_printed line r read limits h = by_reading read.0 r read.1 read.2 limits
         subst (λ b. IsAnswerVerdict (question_body q) b h.verdict) same.1 (subst (λ (x : QuestionView). IsAnswerVerdict x.body a h.verdict) same.0 (on_answer line source a reads h)) in
         printable (question_body q) limits.0 (question_poses (question_body q) limits.0 small) h.verdict h.accepted answer limits.1 verdict
     by_reading (reports.Answered source a) (variants.Coded q answer code) same reads limits = absurd same
+    by_reading (reports.Answered source a) (variants.Derived q answer origins) same reads limits = absurd same
     by_reading (reports.Answered source a) (variants.Factored q best) same reads limits = absurd same
     by_reading (reports.Answered source a) (variants.Bounded q bounds) same reads limits = absurd same
     by_reading (reports.Answered source a) variants.Misfit same reads limits = absurd same
@@ -118,21 +120,33 @@ can_be_printed line r read limits h = by_reading read.0 r read.1 read.2 limits
         let verdict : IsAnswerVerdict (question_body q) (answer_view answer) h.verdict =
         subst (λ b. IsAnswerVerdict (question_body q) b h.verdict) same.1 (subst (λ (x : QuestionView). IsAnswerVerdict x.body a h.verdict) same.0 (on_coded line source a c reads h)) in
         printable (question_body q) limits.0 (question_poses (question_body q) limits.0 small) h.verdict h.accepted answer limits.1.answered verdict
+    by_reading (reports.Coded source a c) (variants.Derived q answer origins) same reads limits = absurd same
     by_reading (reports.Coded source a c) (variants.Factored q best) same reads limits = absurd same
     by_reading (reports.Coded source a c) (variants.Bounded q bounds) same reads limits = absurd same
     by_reading (reports.Coded source a c) variants.Misfit same reads limits = absurd same
+    by_reading (reports.Derived source a ws) (variants.Answered q answer) same reads limits = absurd same
+    by_reading (reports.Derived source a ws) (variants.Coded q answer code) same reads limits = absurd same
+    by_reading (reports.Derived source a ws) (variants.Derived q answer origins) same reads limits =
+        let small = subst (λ (x : QuestionView). QuestionHasSmallNumbers x.body) same.0 (derived_numbers line source a ws reads) in
+        printable (question_body q) limits.0 (question_poses (question_body q) limits.0 small) Skipped refl answer limits.1.answered (region_skipped (question_body q) (answer_view answer) limits.1.region)
+    by_reading (reports.Derived source a ws) (variants.Factored q best) same reads limits = absurd same
+    by_reading (reports.Derived source a ws) (variants.Bounded q bounds) same reads limits = absurd same
+    by_reading (reports.Derived source a ws) variants.Misfit same reads limits = absurd same
     by_reading (reports.Factored source b) (variants.Answered q answer) same reads limits = absurd same
     by_reading (reports.Factored source b) (variants.Coded q answer code) same reads limits = absurd same
+    by_reading (reports.Factored source b) (variants.Derived q answer origins) same reads limits = absurd same
     by_reading (reports.Factored source b) (variants.Factored q best) same reads limits = tt
     by_reading (reports.Factored source b) (variants.Bounded q bounds) same reads limits = absurd same
     by_reading (reports.Factored source b) variants.Misfit same reads limits = absurd same
     by_reading (reports.Bounded source b) (variants.Answered q answer) same reads limits = absurd same
     by_reading (reports.Bounded source b) (variants.Coded q answer code) same reads limits = absurd same
+    by_reading (reports.Bounded source b) (variants.Derived q answer origins) same reads limits = absurd same
     by_reading (reports.Bounded source b) (variants.Factored q best) same reads limits = absurd same
     by_reading (reports.Bounded source b) (variants.Bounded q bounds) same reads limits = tt
     by_reading (reports.Bounded source b) variants.Misfit same reads limits = absurd same
     by_reading reports.Misfit (variants.Answered q answer) same reads limits = absurd same
     by_reading reports.Misfit (variants.Coded q answer code) same reads limits = absurd same
+    by_reading reports.Misfit (variants.Derived q answer origins) same reads limits = absurd same
     by_reading reports.Misfit (variants.Factored q best) same reads limits = absurd same
     by_reading reports.Misfit (variants.Bounded q bounds) same reads limits = absurd same
     by_reading reports.Misfit variants.Misfit same reads limits = tt
@@ -147,6 +161,7 @@ reported_line options k line text r read h told = by_reading read.0 r read.1 rea
         subst (λ b. IsAnsweredText options k (asked source).body b text) (sym same.1) (subst (λ (x : QuestionView). IsAnsweredText options k x.body (answer_view answer) text) (sym same.0) told) in
         record { telling = tellings.Answered source a back.0; is = (accepts line source a reads h, back.1.0); text_is = back.1.1; invalid_is = refl }
     by_reading (reports.Answered source a) (variants.Coded q answer code) same reads told = absurd same
+    by_reading (reports.Answered source a) (variants.Derived q answer origins) same reads told = absurd same
     by_reading (reports.Answered source a) (variants.Factored q best) same reads told = absurd same
     by_reading (reports.Answered source a) (variants.Bounded q bounds) same reads told = absurd same
     by_reading (reports.Answered source a) variants.Misfit same reads told = absurd same
@@ -162,16 +177,33 @@ reported_line options k line text r read h told = by_reading read.0 r read.1 rea
           text_is = back.1.1;
           invalid_is = refl;
         }
+    by_reading (reports.Coded source a c) (variants.Derived q answer origins) same reads told = absurd same
     by_reading (reports.Coded source a c) (variants.Factored q best) same reads told = absurd same
     by_reading (reports.Coded source a c) (variants.Bounded q bounds) same reads told = absurd same
     by_reading (reports.Coded source a c) variants.Misfit same reads told = absurd same
+    by_reading (reports.Derived source a ws) (variants.Answered q answer) same reads told = absurd same
+    by_reading (reports.Derived source a ws) (variants.Coded q answer code) same reads told = absurd same
+    by_reading (reports.Derived source a ws) (variants.Derived q answer origins) same reads told =
+        let back : IsAnsweredText options k (asked source).body a text =
+        subst (λ b. IsAnsweredText options k (asked source).body b text) (sym same.1) (subst (λ (x : QuestionView). IsAnsweredText options k x.body (answer_view answer) text) (sym same.0) told) in
+        record {
+          telling = tellings.Derived source a ws back.0;
+          is = (record { verdict = h.verdict; is = h.is; accepted = h.accepted; reads = reads }, back.1.0);
+          text_is = back.1.1;
+          invalid_is = refl;
+        }
+    by_reading (reports.Derived source a ws) (variants.Factored q best) same reads told = absurd same
+    by_reading (reports.Derived source a ws) (variants.Bounded q bounds) same reads told = absurd same
+    by_reading (reports.Derived source a ws) variants.Misfit same reads told = absurd same
     by_reading (reports.Factored source b) (variants.Answered q answer) same reads told = absurd same
     by_reading (reports.Factored source b) (variants.Coded q answer code) same reads told = absurd same
+    by_reading (reports.Factored source b) (variants.Derived q answer origins) same reads told = absurd same
     by_reading (reports.Factored source b) (variants.Factored q best) same reads told = record { telling = tellings.Factored source b; is = accepts_best line source b reads h; text_is = told ∙ ap (λ x. numbered_line k (best_words x)) (sym same.1); invalid_is = refl }
     by_reading (reports.Factored source b) (variants.Bounded q bounds) same reads told = absurd same
     by_reading (reports.Factored source b) variants.Misfit same reads told = absurd same
     by_reading (reports.Bounded source b) (variants.Answered q answer) same reads told = absurd same
     by_reading (reports.Bounded source b) (variants.Coded q answer code) same reads told = absurd same
+    by_reading (reports.Bounded source b) (variants.Derived q answer origins) same reads told = absurd same
     by_reading (reports.Bounded source b) (variants.Factored q best) same reads told = absurd same
     by_reading (reports.Bounded source b) (variants.Bounded q bounds) same reads told = record {
       telling = tellings.Bounded source b;
@@ -182,6 +214,7 @@ reported_line options k line text r read h told = by_reading read.0 r read.1 rea
     by_reading (reports.Bounded source b) variants.Misfit same reads told = absurd same
     by_reading reports.Misfit (variants.Answered q answer) same reads told = absurd same
     by_reading reports.Misfit (variants.Coded q answer code) same reads told = absurd same
+    by_reading reports.Misfit (variants.Derived q answer origins) same reads told = absurd same
     by_reading reports.Misfit (variants.Factored q best) same reads told = absurd same
     by_reading reports.Misfit (variants.Bounded q bounds) same reads told = absurd same
     by_reading reports.Misfit variants.Misfit same reads told = record { telling = tellings.Misfit; is = reads; text_is = told; invalid_is = refl }

@@ -1,5 +1,5 @@
 -- The order in which the rows of a region are told.
-use Rattle.std.proofs.Common.{◌≡◌, ◌≢◌, ℕ, zero, suc, ◌+◌, ◌<◌, ◌≤◌, Bool, true, false, nat_lt, if◌then◌else◌, List, [], ◌∷◌, ◌++◌, map, take, drop, length, get_or, All, refl, sym, ap, ap₂, subst, ◌∙◌, ◌&&◌, ◌||◌, arith, add-one, eq-eqb, ne_eqb, lt-ltb, le-ltb, ltb-true, ltb-false}
+use Rattle.std.proofs.Common.{◌≡◌, ◌≢◌, ℕ, ℤ, zero, suc, ◌+◌, ◌<◌, ◌≤◌, Bool, true, false, nat_lt, if◌then◌else◌, List, [], ◌∷◌, ◌++◌, map, take, drop, length, get_or, append_assoc, All, refl, sym, ap, ap₂, subst, ◌∙◌, ◌&&◌, ◌||◌, arith, add-one, eq-eqb, ne_eqb, lt-ltb, le-ltb, ltb-true, ltb-false}
 use Rattle.std.specs.Borrow.{Bor}
 use Rattle.std.specs.List.{fold, insert}
 use Rattle.std.proofs.lemmas.List.{drop_all, get_or-map, length-map, map-append, take_more}
@@ -8,11 +8,31 @@ use Rattle.std.proofs.lemmas.List.Sums.{fold-append}
 use Rattle.it_space.specs.declared.answers.Mark.{Mark}
 use Rattle.it_space.specs.Rows.{Terms}
 use Rattle.it_syntax.specs.NamesViews.{NamesView}
+use Rattle.it_question.specs.Questions.{BodyView}
+use Rattle.it_canon.specs.QuestionDemands.{question_origins}
 use Rattle.it_print.specs.Lines.{IsRowOver}
 use Rattle.it_tell.specs.SortedRows.{is_before, order_key, put_in_order, rows_by_rates}
-use Rattle.it_tell.specs.Tellings.{told_rows}
+use Rattle.it_rates.specs.Asked.{under_all_lines}
+use Rattle.it_terms.specs.RowOrigins.{row_comment}
+use Rattle.it_tell.specs.Tellings.{IsMarkedRowText, IsRowOrigin, IsRowText, mark_comment, told_rows}
 use Rattle.it_tell.specs.declared.settings.Style.{Style}
 use Rattle.it_tell.specs.declared.settings.Style.TheVariants.{Plain, Named, Whole}
+
+-- ---- a row
+
+-- its comments stand behind it
+pub row_commented : (q : BodyView) (style : Style) (row : Mark × Terms) (lines : List ℕ) (weights : List (ℕ × ℤ)) (own comment first text : List ℕ) → IsRowText q style row.1 lines own
+    → IsRowOrigin q style row.1 weights → comment ≡ row_comment (question_origins (under_all_lines q)) weights lines → first ≡ own ++ comment → text ≡ first ++ mark_comment row.0 → IsMarkedRowText q style row text
+row_commented q style row lines weights own comment first text tells origin is then last = record {
+  own = own;
+  lines = lines;
+  weights = weights;
+  tells = tells;
+  origin = origin;
+  is =
+      last ∙ ap (λ t. t ++ mark_comment row.0) then ∙ append_assoc own comment (mark_comment row.0)
+      ∙ ap (λ t. own ++ t ++ mark_comment row.0) is;
+}
 
 -- ---- numbers, as words
 

@@ -66,6 +66,7 @@ IsCodedText options k q answer code text =
 abbrev pub IsReportedText : Options → ℕ → Reported → List ℕ → Type 0
 IsReportedText options k (variants.Answered question answer) text = IsAnsweredText options k (question_body question) (answer_view answer) text
 IsReportedText options k (variants.Coded question answer code) text = IsCodedText options k (question_body question) (answer_view answer) (reported_code_view code) text
+IsReportedText options k (variants.Derived question answer origins) text = IsAnsweredText options k (question_body question) (answer_view answer) text
 IsReportedText options k (variants.Factored question best) text = text ≡ numbered_line k (best_words (best_view best))
 IsReportedText options k (variants.Bounded question bounds) text = text ≡ numbered_line k (bounds_words (bounds_view bounds))
 IsReportedText options k variants.Misfit text = text ≡ numbered_line k (codes "misfit")
@@ -74,6 +75,7 @@ IsReportedText options k variants.Misfit text = text ≡ numbered_line k (codes 
 abbrev pub CanBePrinted : Reported → Type 0
 CanBePrinted (variants.Answered question answer) = IsPrintable (question_body question) (length (question_demands (question_body question))) answer
 CanBePrinted (variants.Coded question answer code) = IsPrintable (question_body question) (length (question_demands (question_body question))) answer
+CanBePrinted (variants.Derived question answer origins) = IsPrintable (question_body question) (length (question_demands (question_body question))) answer
 CanBePrinted (variants.Factored question best) = Unit {0}
 CanBePrinted (variants.Bounded question bounds) = Unit {0}
 CanBePrinted variants.Misfit = Unit {0}

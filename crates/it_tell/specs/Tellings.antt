@@ -24,6 +24,7 @@ use Rattle.it_certificate.specs.Reports.{ReadsReport}
 use Rattle.it_certificate.specs.Sources.{Source, asked}
 use Rattle.it_print.specs.Lines.{certificate_text, contained_line, open_line, row_text, undecided_line, values_text, variable_names}
 use Rattle.it_ratio.specs.BestViews.{BestView, Least, Never, Unbounded, BestView as bests}
+use Rattle.it_terms.specs.RowOrigins.{ComesFrom, row_comment}
 use Rattle.it_terms.specs.RowsUnder.{IsPrintedRow}
 use Rattle.it_terms.specs.Tells.{TellsForms, TellsRow}
 use Rattle.it_terms.specs.Proofs.{TellsForm}
@@ -32,6 +33,7 @@ use Rattle.it_facts.specs.Points.{TellsPoint}
 use Rattle.it_terms.specs.ProofSteps.{TellsSteps}
 use Rattle.it_terms.specs.StepsUnder.{TellsStepsUnder}
 use Rattle.it_report.specs.Judging.{IsVerdict}
+use Rattle.it_rates.specs.Asked.{under_all_lines}
 use Rattle.it_region.specs.AnswerForms.{answer_forms}
 use Rattle.it_report.specs.LineVerdicts.{LineVerdict, is_invalid, numbered_line, verdict_line}
 use Rattle.it_canon.specs.QuestionDemands.{question_origins}
@@ -58,13 +60,21 @@ step_line text = codes "    " ++ text ++ codes "\n"
 abbrev pub Each : {X A : Type 0} → (A → List ℕ) → (X → A → Type 0) → List X → List ℕ → Type 0
 Each {X} {A} shown tells items out = Groups (λ (s : Unit {0}) (x : X) (a : A). tells x a) (λ (s : Unit {0}) (x : X) (a : A). s) (λ (k : ℕ) (x : X) (a : A). shown a) 1 tt items tt out
 
--- a row told in the terms of an equal one where the question's functions hold, and behind it the lines that say these; plain ones aren't
-unfoldable pub IsPrintedRowText : BodyView → Style → Terms → List ℕ → Type 0
-IsPrintedRowText q style row text = (is_plain style ≡ false) × ((own : List ℕ) × (by : List ℕ) × (IsPrintedRow q row own by × (text ≡ own ++ by)))
+-- a row told in the terms of an equal one where the functions hold that these lines of the question say; plain ones aren't
+abbrev pub IsStyledRow : BodyView → Style → Terms → List ℕ → List ℕ → Type 0
+IsStyledRow q style row lines text = (is_plain style ≡ false) × IsPrintedRow q row lines text
 
--- a row in the question's own terms, for all maps or where functions hold, or as reports have it and said to be that
-unfoldable pub IsRowText : BodyView → Style → Terms → List ℕ → Type 0
-IsRowText q style row text = TellsRow (problem_names q) row text ⊎ (IsPrintedRowText q style row text ⊎ (text ≡ codes "as row " ++ row_text (problem_names q) Inequality row))
+-- a row in the question's own terms for all maps, or as reports have it and said to be that
+abbrev pub IsPlainRow : BodyView → Terms → List ℕ → Type 0
+IsPlainRow q row text = TellsRow (problem_names q) row text ⊎ (text ≡ codes "as row " ++ row_text (problem_names q) Inequality row)
+
+-- a row by lines whose functions hold, or without any
+unfoldable pub IsRowText : BodyView → Style → Terms → List ℕ → List ℕ → Type 0
+IsRowText q style row lines text = IsStyledRow q style row lines text ⊎ ((lines ≡ []) × IsPlainRow q row text)
+
+-- the weights of lines of the question from which a row comes, or none; a plain row has none
+abbrev pub IsRowOrigin : BodyView → Style → Terms → List (ℕ × ℤ) → Type 0
+IsRowOrigin q style row weights = (weights ≡ []) ⊎ ((is_plain style ≡ false) × ComesFrom q row weights)
 
 -- what is said of a row that isn't known to be needed, as a comment
 abbrev pub mark_comment : Mark → List ℕ
@@ -72,9 +82,14 @@ mark_comment Plain = codes "  # plain"
 mark_comment Needed = []
 mark_comment Unsettled = codes "  # unsettled"
 
--- a row of a region
-unfoldable pub IsMarkedRowText : BodyView → Style → Mark × Terms → List ℕ → Type 0
-IsMarkedRowText q style row text = (own : List ℕ) × (IsRowText q style row.1 own × (text ≡ own ++ mark_comment row.0))
+-- A row of a region. Behind it comments name the lines that it comes from and those by which it is told, and say its mark.
+pub record IsMarkedRowText (q : BodyView) (style : Style) (row : Mark × Terms) (text : List ℕ) : Type 0 where
+  pub own : List ℕ
+  pub lines : List ℕ
+  pub weights : List (ℕ × ℤ)
+  pub tells : IsRowText q style row.1 lines own
+  pub origin : IsRowOrigin q style row.1 weights
+  pub is : text ≡ own ++ row_comment (question_origins (under_all_lines q)) weights lines ++ mark_comment row.0
 
 -- the rows of a region in the order in which they are told: plain ones as they are
 abbrev pub told_rows : Style → ℕ → List (Mark × Terms) → List (Mark × Terms)
@@ -178,12 +193,13 @@ head_line k q (Open tried) = open_line k tried
 -- ---- a line of a report
 
 -- that it is invalid, with this verdict; its answer to the question that is asked, with these lines below the first one; a no with these
--- and its code; its outer bound;
+-- and its code; a region with these, of which origins are not told; its outer bound;
 -- or that a question can't have what is asked for
 pub data Telling : Type 0 where
   Invalid : (verdict : LineVerdict) → Telling
   Answered : (source : Source) (answer : AnswerView) (details : List ℕ) → Telling
   Coded : (source : Source) (answer : AnswerView) (code : ReportedCodeView) (details : List ℕ) → Telling
+  Derived : (source : Source) (answer : AnswerView) (origins : List CertificateView) (details : List ℕ) → Telling
   Factored : (source : Source) (best : BestView) → Telling
   Bounded : (source : Source) (bounds : BoundsView) → Telling
   Misfit : Telling
@@ -201,6 +217,13 @@ pub record IsAcceptedCode (line : List ℕ) (source : Source) (answer : AnswerVi
   pub is : IsVerdict line verdict
   pub accepted : is_invalid verdict ≡ false
   pub reads : ReadsReport line (Ok (reports.Coded source answer code))
+
+-- the line reads as this region with these origins, and its verdict isn't an invalid one
+pub record IsAcceptedRegion (line : List ℕ) (source : Source) (answer : AnswerView) (origins : List CertificateView) : Type 0 where
+  pub verdict : LineVerdict
+  pub is : IsVerdict line verdict
+  pub accepted : is_invalid verdict ≡ false
+  pub reads : ReadsReport line (Ok (reports.Derived source answer origins))
 
 -- the line reads as this of the factors that this asks for, and its verdict isn't an invalid one
 pub record IsAcceptedBest (line : List ℕ) (source : Source) (best : BestView) : Type 0 where
@@ -236,6 +259,7 @@ abbrev pub IsTelling : Options → List ℕ → Telling → Type 0
 IsTelling options line (Invalid v) = IsVerdict line v × (is_invalid v ≡ true)
 IsTelling options line (Answered source answer details) = IsAccepted line source answer × AreDetails (asked source).body options answer details
 IsTelling options line (Coded source answer code details) = IsAcceptedCode line source answer code × AreDetails (asked source).body options answer details
+IsTelling options line (Derived source answer origins details) = IsAcceptedRegion line source answer origins × AreDetails (asked source).body options answer details
 IsTelling options line (Factored source best) = IsAcceptedBest line source best
 IsTelling options line (Bounded source bounds) = IsAcceptedBound line source bounds
 IsTelling options line Misfit = ReadsReport line (Ok reports.Misfit)
@@ -245,6 +269,7 @@ abbrev pub tells_invalid : Telling → Bool
 tells_invalid (Invalid v) = true
 tells_invalid (Answered source answer details) = false
 tells_invalid (Coded source answer code details) = false
+tells_invalid (Derived source answer origins details) = false
 tells_invalid (Factored source best) = false
 tells_invalid (Bounded source bounds) = false
 tells_invalid Misfit = false
@@ -254,6 +279,7 @@ abbrev pub telling_text : ℕ → Telling → List ℕ
 telling_text k (Invalid v) = verdict_line k v
 telling_text k (Answered source answer details) = head_line k (asked source).body answer ++ details
 telling_text k (Coded source answer code details) = head_line k (asked source).body answer ++ details ++ indented_line (code_text (asked source).body.names.variables code)
+telling_text k (Derived source answer origins details) = head_line k (asked source).body answer ++ details
 telling_text k (Factored source best) = numbered_line k (best_words best)
 telling_text k (Bounded source bounds) = numbered_line k (bounds_words bounds)
 telling_text k Misfit = numbered_line k (codes "misfit")

@@ -108,6 +108,11 @@ fn reported_text(
             answer,
             code,
         } => coded_text(alloc, options, k, question, answer, code),
+        Reported::Derived {
+            question,
+            answer,
+            origins: _,
+        } => answered_text(alloc, options, k, question, answer),
         Reported::Factored { question: _, best } => best_line(alloc, k, best),
         Reported::Bounded {
             question: _,

@@ -9,7 +9,7 @@ ghost use Rattle.it_canon.specs.TrueLines.{variable_count};
 ghost use Rattle.it_print.specs.Lines.{IsRowOver, row_text};
 ghost use Rattle.it_tell.specs.SortedRows.{is_before, order_key, put_in_order, rate_coordinates, rows_by_rates};
 ghost use Rattle.it_tell.specs.Steps.{AppendsEach};
-ghost use Rattle.it_tell.specs.Tellings.{IsMarkedRowText, IsPrintedRowText, IsRowText, indented_line, mark_comment, told_rows};
+ghost use Rattle.it_tell.specs.Tellings.{IsMarkedRowText, IsPlainRow, IsRowOrigin, IsRowText, IsStyledRow, indented_line, mark_comment, told_rows};
 
 use crate::details::write_indented;
 use crate::settings::{Options, Style, is_plain};
@@ -17,7 +17,7 @@ use it_canon::problem_names;
 use it_print::row_text;
 use it_question::types::Question;
 use it_space::{Kind, Mark, Row};
-use it_terms::{PrintedRow, printed_row, told_row};
+use it_terms::{PrintedRow, printed_row, row_comment, row_origin, told_row};
 use std::alloc::{AllocError, Global};
 
 /// A row as reports have it.
@@ -32,17 +32,27 @@ fn reported_row(alloc: Global, question: &Question, row: &Row) -> Result<Vec<u8>
     Ok(out)
 }
 
-/// A row in fewer terms where the question's functions hold, and behind it the lines that say these; None where it is to be plain or
-/// there are none.
-#[tactic(auto, unfolding(crate::specs::Tellings::IsPrintedRowText))]
-fn shorter_row(
+/// A row in the question's own terms, or as reports have it.
+fn plain_row(alloc: Global, question: &Question, row: &Row) -> Result<Vec<u8>, AllocError>
+    requires question { IsQuestion (question_body question.now) }
+    requires over { IsRowOver (problem_names (question_body question.now)) row.now }
+    ensures { IfOk result (λ t. IsPlainRow (question_body question.now) row.now t.items) }
+{
+    match told_row(alloc, question, row)? {
+        Some(text) => Ok(text),
+        None => reported_row(alloc, question, row),
+    }
+}
+
+/// A row in fewer terms where the question's functions hold, with the lines that say these; None where it is to be plain or there are none.
+fn styled_row(
     alloc: Global,
     question: &Question,
     style: Style,
     row: &Row,
-) -> Result<Option<Vec<u8>>, AllocError>
+) -> Result<Option<PrintedRow>, AllocError>
     requires { IsQuestion (question_body question.now) }
-    ensures { IfOk result (λ o. IfSome o (λ t. IsPrintedRowText (question_body question.now) style row.now t.items)) }
+    ensures { IfOk result (λ o. IfSome o (λ t. IsStyledRow (question_body question.now) style row.now t.lines.items t.text.items)) }
 {
     if is_plain(style) {
         return Ok(None);
@@ -50,30 +60,44 @@ fn shorter_row(
     let Some(printed) = printed_row(alloc, question, row)? else {
         return Ok(None);
     };
-    let PrintedRow { mut text, by } = printed;
-    text.extend_from_slice(by.as_slice())?;
-    Ok(Some(text))
+    Ok(Some(printed))
 }
 
-/// A row in the question's own terms, or as reports have it.
+/// A row by lines whose functions hold, or without any.
 #[tactic(auto, unfolding(crate::specs::Tellings::IsRowText))]
 fn any_row(
     alloc: Global,
     question: &Question,
     style: Style,
     row: &Row,
-) -> Result<Vec<u8>, AllocError>
+) -> Result<PrintedRow, AllocError>
     requires question { IsQuestion (question_body question.now) }
     requires over { IsRowOver (problem_names (question_body question.now)) row.now }
-    ensures { IfOk result (λ t. IsRowText (question_body question.now) style row.now t.items) }
+    ensures { IfOk result (λ t. IsRowText (question_body question.now) style row.now t.lines.items t.text.items) }
 {
-    if let Some(text) = shorter_row(alloc, question, style, row)? {
-        return Ok(text);
+    if let Some(printed) = styled_row(alloc, question, style, row)? {
+        return Ok(printed);
     }
-    match told_row(alloc, question, row)? {
-        Some(text) => Ok(text),
-        None => reported_row(alloc, question, row),
+    let text = plain_row(alloc, question, row)?;
+    let lines = Vec::new(alloc);
+    Ok(PrintedRow { text, lines })
+}
+
+/// The weights of lines from which a row comes, where these are told and found.
+fn styled_origin(
+    alloc: Global,
+    question: &Question,
+    style: Style,
+    row: &Row,
+) -> Result<Vec<(u32, i128)>, AllocError>
+    requires { IsQuestion (question_body question.now) }
+    ensures { IfOk result (λ ws. IsRowOrigin (question_body question.now) style row.now ws.items) }
+{
+    if is_plain(style) {
+        return Ok(Vec::new(alloc));
     }
+    let weights = row_origin(alloc, question, row)?;
+    Ok(weights)
 }
 
 /// What is said of a row by its mark, as a comment.
@@ -87,8 +111,8 @@ fn mark_comment(mark: Mark) -> &'static [u8]
     }
 }
 
-/// A row of a region.
-#[tactic(auto, unfolding(crate::specs::Tellings::IsMarkedRowText))]
+/// A row of a region, with its comments.
+#[tactic(auto, using(crate::proofs::OrderLemmas::row_commented))]
 fn marked_row(
     alloc: Global,
     question: &Question,
@@ -99,7 +123,10 @@ fn marked_row(
     requires over { IsRowOver (problem_names (question_body question.now)) row.now.1 }
     ensures { IfOk result (λ t. IsMarkedRowText (question_body question.now) style row.now t.items) }
 {
-    let mut text = any_row(alloc, question, style, &row.1)?;
+    let PrintedRow { mut text, lines } = any_row(alloc, question, style, &row.1)?;
+    let weights = styled_origin(alloc, question, style, &row.1)?;
+    let comment = row_comment(alloc, question, weights.as_slice(), lines.as_slice())?;
+    text.extend_from_slice(comment.as_slice())?;
     text.extend_from_slice(mark_comment(row.0))?;
     Ok(text)
 }

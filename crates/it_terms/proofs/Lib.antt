@@ -12,3 +12,4 @@ pub mod ToldUnder
 pub mod SignLemmas
 pub mod RowLemmas
 pub mod PieceLemmas
+pub mod OriginLemmas

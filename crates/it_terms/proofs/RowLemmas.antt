@@ -27,15 +27,14 @@ use Rattle.it_question.specs.Questions.{BodyView}
 use Rattle.it_question.specs.ProblemLines.{problem_lines, problem_names}
 use Rattle.it_canon.specs.TrueLines.{variable_count}
 use Rattle.it_canon.specs.QuestionDemands.{question_demands, question_origins}
-use Rattle.it_print.specs.Lines.{origins_of}
-use Rattle.it_terms.specs.FunctionProofs.{IsSaid, by_comment}
+use Rattle.it_terms.specs.FunctionProofs.{IsSaid}
 use Rattle.it_terms.specs.Proofs.{constraints_of, demand_at}
 use Rattle.it_terms.specs.RowsUnder.{AreZeroAt, IsPrintedRow, PrintedRowsSay, SaysRowUnder, given_demands}
 use Rattle.it_terms.specs.Signs.{AreGivenEquations, AreLeastSpreadOut, HasSignUnder, IsGiven, IsGivenEquation, IsPrintedRowFrom, SaysSpreadOut, TellsRowBy}
 use Rattle.it_terms.specs.Tells.{IsRelationText}
 use Rattle.it_terms.proofs.JudgedTexts.{compares_by_difference}
 use Rattle.it_terms.proofs.SaidLemmas.{constraint_at}
-use Rattle.it_terms.proofs.SameProofs.{AreSameConstraints, placed_origins, stated_are_same}
+use Rattle.it_terms.proofs.SameProofs.{AreSameConstraints, stated_are_same}
 use Rattle.it_terms.proofs.ToldProofs.{demand_satisfied, met_zero}
 use Rattle.it_terms.proofs.UnderLemmas.{said_are_dependences}
 
@@ -84,9 +83,9 @@ said_by_functions v s g lines ds r row text space is said says = record {
 
 -- ---- the lines of a question
 
-pub printed_from : (v : NamesView) (row : Terms) (cs : List Constraint) (lines text by : List ℕ) → AreGivenEquations cs lines → TellsRowBy v (forms_of (map of_constraint cs)) lines row text
-    → by ≡ by_comment (origins_of cs) lines → IsPrintedRowFrom v row cs text by
-printed_from v row cs lines text by given tells e = record { lines = lines; given = given; tells = tells; by_is = e }
+pub printed_from : (v : NamesView) (row : Terms) (cs : List Constraint) (lines text : List ℕ) → AreGivenEquations cs lines → TellsRowBy v (forms_of (map of_constraint cs)) lines row text
+    → IsPrintedRowFrom v row cs lines text
+printed_from v row cs lines text given tells = record { given = given; tells = tells }
 
 -- no constraint of a `row` line is one of a `given` line
 row_is_not_given : (line : ℕ) (rs : List RelationView) (cs : List Constraint) (l : ℕ) (c : Constraint) → AllZip ComesFrom (row_origins line rs) cs → l < length cs → c ≡ get_or cs l c → IsGiven c.origin → ⊥
@@ -141,35 +140,31 @@ all_by_both : (P Q R : ℕ → Type 0) → ((l : ℕ) → P l → Q l → R l) �
 all_by_both P Q R f [] a b = All-nil R
 all_by_both P Q R f (l ∷ ls) a b = All-cons R l ls (f l (All-head P l ls a) (All-head Q l ls b)) (all_by_both P Q R f ls (All-tail P l ls a) (All-tail Q l ls b))
 
-printed_by_question : (q : BodyView) (row : Terms) (s : Space) (cs : List Constraint) (text by : List ℕ) → AreStated s (question_origins q) (question_demands q) cs
-    → IsPrintedRowFrom (problem_names q) row cs text by → IsPrintedRow q row text by
-printed_by_question q row s cs text by are t =
-    let each : All (IsGivenDemand q cs) t.lines = each_is_demand q s cs t.lines are t.given in
+printed_by_question : (q : BodyView) (row : Terms) (s : Space) (cs : List Constraint) (lines text : List ℕ) → AreStated s (question_origins q) (question_demands q) cs
+    → IsPrintedRowFrom (problem_names q) row cs lines text → IsPrintedRow q row lines text
+printed_by_question q row s cs lines text are t =
+    let each : All (IsGivenDemand q cs) lines = each_is_demand q s cs lines are t.given in
     let g : Generators = constraints_of (given_demands q) in record {
-      lines = t.lines;
-      tells = record {
-        relation = t.tells.relation;
-        is = t.tells.is;
-        equations = All-weaker (IsGivenDemand q cs) (λ l. (l < g.count) × (g.is_equation l ≡ true)) (λ l d. (d.there, d.equation)) t.lines each;
-        same = λ p k zeros. t.tells.same p k (both_zero p k.empty each zeros);
-      };
-      by_is = t.by_is ∙ ap (λ (os : List Origin). by_comment os t.lines) (placed_origins (question_origins q) cs are.placed);
+      relation = t.tells.relation;
+      is = t.tells.is;
+      equations = All-weaker (IsGivenDemand q cs) (λ l. (l < g.count) × (g.is_equation l ≡ true)) (λ l d. (d.there, d.equation)) lines each;
+      same = λ p k zeros. t.tells.same p k (both_zero p k.empty each zeros);
     }
   where
-    both_zero : (p : ℕ → ℤ) → p 0 ≡ pos 0 → All (IsGivenDemand q cs) t.lines → AreZeroAt (constraints_of (given_demands q)) t.lines p → AreZeroAt (forms_of (map of_constraint cs)) t.lines p
-    both_zero p z each zeros = all_by_both (IsGivenDemand q cs) (λ l. (demand_at (given_demands q) l).form p ≡ pos 0) (λ l. (forms_of (map of_constraint cs)).form l p ≡ pos 0) (λ l d e. d.form p z ∙ e) t.lines each zeros
+    both_zero : (p : ℕ → ℤ) → p 0 ≡ pos 0 → All (IsGivenDemand q cs) lines → AreZeroAt (constraints_of (given_demands q)) lines p → AreZeroAt (forms_of (map of_constraint cs)) lines p
+    both_zero p z each zeros = all_by_both (IsGivenDemand q cs) (λ l. (demand_at (given_demands q) l).form p ≡ pos 0) (λ l. (forms_of (map of_constraint cs)).form l p ≡ pos 0) (λ l d e. d.form p z ∙ e) lines each zeros
 
 -- what is told from a problem's constraints is told from the question's lines
-pub row_printed_by_lines : {X : Type 0} (text by : X → List ℕ) (q : BodyView) (row : Terms) (s : Space) (cs : List Constraint) (o : Option X) → AreStated s (question_origins q) (question_demands q) cs
-    → IfSome o (λ x. IsPrintedRowFrom (problem_names q) row cs (text x) (by x)) → IfSome o (λ x. IsPrintedRow q row (text x) (by x))
-row_printed_by_lines text by q row s cs None are h = tt
-row_printed_by_lines text by q row s cs (Some x) are h = printed_by_question q row s cs (text x) (by x) are h
+pub row_printed_by_lines : {X : Type 0} (lines text : X → List ℕ) (q : BodyView) (row : Terms) (s : Space) (cs : List Constraint) (o : Option X) → AreStated s (question_origins q) (question_demands q) cs
+    → IfSome o (λ x. IsPrintedRowFrom (problem_names q) row cs (lines x) (text x)) → IfSome o (λ x. IsPrintedRow q row (lines x) (text x))
+row_printed_by_lines lines text q row s cs None are h = tt
+row_printed_by_lines lines text q row s cs (Some x) are h = printed_by_question q row s cs (lines x) (text x) are h
 
 -- ---- the law
 
 pub printed_rows_say : PrintedRowsSay
-printed_rows_say q row text by t p k givens =
+printed_rows_say q row lines text t p k givens =
     let ds : List Demand = given_demands q in
     let all = (givens_satisfied (variable_count q) (problem_lines q).givens p).1 givens in
-    t.tells.same p k (All-weaker (λ l. (l < length ds) × (is_equation (demand_at ds l).kind ≡ true)) (λ l. (demand_at ds l).form p ≡ pos 0)
-    (λ l e. met_zero (demand_at ds l).kind ((demand_at ds l).form p) e.1 (demand_satisfied p ds l e.0 all)) t.lines t.tells.equations)
+    t.same p k (All-weaker (λ l. (l < length ds) × (is_equation (demand_at ds l).kind ≡ true)) (λ l. (demand_at ds l).form p ≡ pos 0)
+    (λ l e. met_zero (demand_at ds l).kind ((demand_at ds l).form p) e.1 (demand_satisfied p ds l e.0 all)) lines t.equations)

@@ -25,6 +25,7 @@ use Rattle.it_canon.specs.TrueLines.{variable_count}
 use Rattle.it_terms.specs.Proofs.{AreSame, IsProofOf, TellsForm, TellsProof, constraints_of, demand_at, side_form}
 use Rattle.it_terms.specs.FunctionProofs.{ArePrinted, IsNamedText, IsProofUnder, IsSaid, TellsFormUnder, TellsProofUnder, by_comment}
 use Rattle.it_terms.specs.Proposals.{ArePrintedFrom}
+use Rattle.it_terms.specs.RowOrigins.{IsSumOf}
 
 -- as many constraints, each with the same form and of the same kind
 pub record AreSameConstraints (g k : Generators) : Type 0 where
@@ -52,6 +53,16 @@ proof_of_same n r f h g k e s t = record {
   weights = t.weights;
   allowed = allowed_in_same g k t.weights s t.allowed;
   constraints_are = λ p z. t.constraints_are p z ∙ same_combination g k s t.weights t.allowed p z;
+}
+
+-- what is a sum of constraints is one of the same ones
+pub sum_of_same : (g k : Generators) (f : Form) (ws : List (ℕ × ℤ)) → AreSameConstraints g k → IsSumOf g f ws → IsSumOf k f ws
+sum_of_same g k f ws s t = record {
+  scale = t.scale;
+  scale_from_one = t.scale_from_one;
+  allowed = allowed_in_same g k ws s t.allowed;
+  nonzero = t.nonzero;
+  adds_up = λ p z. t.adds_up p z ∙ same_combination g k s ws t.allowed p z;
 }
 
 -- a constraint by its number is what states the demand of this number

@@ -57,19 +57,23 @@ weight_sign true false = []
 weight_sign false true = codes " - "
 weight_sign false false = codes " + "
 
--- names of lines, the first of them after `  # by ` and each other one after `, `
-abbrev pub listed_names : List Origin → Bool → List ℕ → List ℕ
-listed_names origins is_first [] = []
-listed_names origins is_first (l ∷ ls) = (if is_first then codes "  # by " else codes ", ") ++ line_name origins l ++ listed_names origins false ls
+-- names of lines, the first of them after a text and each other one after `, `
+abbrev pub listed_names : List ℕ → List Origin → Bool → List ℕ → List ℕ
+listed_names before origins is_first [] = []
+listed_names before origins is_first (l ∷ ls) = (if is_first then before else codes ", ") ++ line_name origins l ++ listed_names before origins false ls
 
 -- the names of lines as a comment behind a text, nothing where there are none
 abbrev pub by_comment : List Origin → List ℕ → List ℕ
-by_comment origins lines = listed_names origins true lines
+by_comment origins lines = listed_names (codes "  # by ") origins true lines
+
+-- a number before what it counts, nothing where it is 1
+abbrev pub times_text : ℕ → List ℕ
+times_text n = if n == 1 then [] else decimal n ++ codes " "
 
 -- a weight of a constraint by the name of its line: ` + 2 (row 1)`, as the first of its side or not
 unfoldable pub named_weight : List Origin → Bool → ℕ × ℤ → List ℕ
 named_weight origins is_first w =
-    weight_sign is_first (int_lt w.1 (pos 0)) ++ (if unsigned_abs w.1 == 1 then [] else decimal (unsigned_abs w.1) ++ codes " ") ++ codes "(" ++ line_name origins w.0 ++ codes ")"
+    weight_sign is_first (int_lt w.1 (pos 0)) ++ times_text (unsigned_abs w.1) ++ codes "(" ++ line_name origins w.0 ++ codes ")"
 
 -- weights so, one after the other
 abbrev pub named_weights : List Origin → Bool → List (ℕ × ℤ) → List ℕ

@@ -5,5 +5,6 @@ pub mod Sums
 pub mod Proposals
 pub mod FunctionProofs
 pub mod RowsUnder
+pub mod RowOrigins
 pub mod Signs
 pub mod StepsUnder

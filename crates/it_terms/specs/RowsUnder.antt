@@ -10,8 +10,6 @@ use Rattle.it_demand.specs.Demands.{Demand, demands}
 use Rattle.it_question.specs.Questions.{BodyView}
 use Rattle.it_question.specs.ProblemLines.{problem_lines, problem_names}
 use Rattle.it_canon.specs.TrueLines.{variable_count}
-use Rattle.it_canon.specs.QuestionDemands.{question_origins}
-use Rattle.it_terms.specs.FunctionProofs.{by_comment}
 use Rattle.it_terms.specs.Proofs.{constraints_of}
 use Rattle.it_terms.specs.Tells.{IsRelationText}
 
@@ -38,13 +36,11 @@ pub record TellsRowUnder (v : NamesView) (lines : List ℕ) (row : Terms) (g : G
 abbrev pub given_demands : BodyView → List Demand
 given_demands q = flat_map (demands (variable_count q)) (problem_lines q).givens
 
--- the text tells the row where the `given` lines are true that the comment names
-pub record IsPrintedRow (q : BodyView) (row : Terms) (text by : List ℕ) : Type 0 where
-  pub lines : List ℕ
-  pub tells : TellsRowUnder (problem_names q) lines row (constraints_of (given_demands q)) text
-  pub by_is : by ≡ by_comment (question_origins q) lines
+-- the text tells the row where these `given` lines of the question are true
+abbrev pub IsPrintedRow : BodyView → Terms → List ℕ → List ℕ → Type 0
+IsPrintedRow q row lines text = TellsRowUnder (problem_names q) lines row (constraints_of (given_demands q)) text
 
 -- A row that is told so says what the row says wherever a polymatroid makes the question's `given` lines true.
 abbrev pub PrintedRowsSay : Type 0
-PrintedRowsSay = (q : BodyView) (row : Terms) (text by : List ℕ) (t : IsPrintedRow q row text by) (p : ℕ → ℤ) → IsPolymatroid (variable_count q) p → All (IsTrueAt (variable_count q) p) (problem_lines q).givens
-    → Holds (variable_count q) p t.tells.relation ↔ (pos 0 ≤ℤ value row p)
+PrintedRowsSay = (q : BodyView) (row : Terms) (lines text : List ℕ) (t : IsPrintedRow q row lines text) (p : ℕ → ℤ) → IsPolymatroid (variable_count q) p → All (IsTrueAt (variable_count q) p) (problem_lines q).givens
+    → Holds (variable_count q) p t.relation ↔ (pos 0 ≤ℤ value row p)

@@ -10,8 +10,6 @@ use Rattle.it_closure.specs.declared.dependences.Dependence.{Dependence}
 use Rattle.it_closure.specs.Collapse.{spread_out}
 use Rattle.it_syntax.specs.Meaning.{Holds, RelationView}
 use Rattle.it_syntax.specs.NamesViews.{NamesView}
-use Rattle.it_print.specs.Lines.{origins_of}
-use Rattle.it_terms.specs.FunctionProofs.{by_comment}
 use Rattle.it_polymatroid.specs.Certificates.{Generators}
 use Rattle.it_terms.specs.Tells.{IsRelationText}
 use Rattle.it_terms.specs.RowsUnder.{SaysRowUnder}
@@ -51,9 +49,7 @@ IsGivenEquation cs l = (l < length cs) × ((c : Constraint) × ((c ≡ get_or cs
 abbrev pub AreGivenEquations : List Constraint → List ℕ → Type 0
 AreGivenEquations cs lines = All (IsGivenEquation cs) lines
 
--- the text tells the row where the constraints are true that the comment names, which are equations of `given` lines
-pub record IsPrintedRowFrom (v : NamesView) (row : Terms) (cs : List Constraint) (text by : List ℕ) : Type 0 where
-  pub lines : List ℕ
+-- the text tells the row where these constraints are true, which are equations of `given` lines
+pub record IsPrintedRowFrom (v : NamesView) (row : Terms) (cs : List Constraint) (lines text : List ℕ) : Type 0 where
   pub given : AreGivenEquations cs lines
   pub tells : TellsRowBy v (forms_of (map of_constraint cs)) lines row text
-  pub by_is : by ≡ by_comment (origins_of cs) lines

@@ -1,5 +1,5 @@
 -- No public clause cites this module: sums by place to which forms are added, and constraints by number.
-use Rattle.std.specs.Prelude.{◌≡◌, ◌<◌, ◌≤◌, ℕ, ℤ, ◌+ℤ◌, ◌-ℤ◌, Bool, List, All, length, map, get_or}
+use Rattle.std.specs.Prelude.{◌≡◌, ◌<◌, ◌≤◌, ◌-◌, ℕ, ℤ, ◌+ℤ◌, ◌-ℤ◌, Bool, List, All, length, map, get_or}
 use Rattle.std.specs.List.{AllZip}
 use Rattle.it_number.specs.Limit.{IsWithin}
 use Rattle.it_space.specs.declared.spaces.Space.{Space}
@@ -31,6 +31,10 @@ constraint_value cs p i = (forms_of (map of_constraint cs)).form i p
 pub record IsExcess (s : Space) (r : RelationView) (turned : Bool) (cs : List Constraint) (ws : List (ℕ × ℤ)) (row : Terms) : Type 0 where
   pub coordinates : IsOver (size_of s) row
   pub same : AreSame (value row) (λ p. signed_by turned (side_form s.variables r r.left p -ℤ side_form s.variables r r.right p) +ℤ combination ws (constraint_value cs p))
+
+-- a weight by the number of its constraint, where so many elemental inequalities come before these
+abbrev pub by_constraint : ℕ → ℕ × ℤ → ℕ × ℤ
+by_constraint count w = (w.0 - count, w.1)
 
 -- constraints by their numbers, in order
 abbrev pub AreChosen : List Constraint → List ℕ → List Constraint → Type 0

@@ -3,15 +3,12 @@ ghost use Rattle.std.specs.Prelude.{◌≤◌};
 
 use crate::measures::Measure;
 use crate::untold::Untold;
-use it_columns::{common_scale, opposite_row};
+use it_columns::opposite_row;
 use it_fraction::{Fraction, signed_product, sum};
-use it_simplex::{Budget, Solved, solve};
+use it_origins::{column_weights, multiple_of_denominators};
 use it_space::{Row, Space, VarSet};
 use it_syntax::types::{Atom, Term};
 use std::alloc::{AllocError, Global};
-
-/// How many steps a run may make that looks for weights of columns.
-const STEPS: u32 = 20000;
 
 /// Some measures, by their places among others, and the weights of their columns that make a sum.
 struct Choice {
@@ -112,10 +109,8 @@ pub fn weights_of(
     columns: &[Row],
     row: &Row,
 ) -> Result<Vec<(usize, Fraction)>, Untold> {
-    match solve(alloc, coordinates, columns, row, Budget::at_most(STEPS))? {
-        Solved::Weights(weights) => Ok(weights),
-        _ => Err(Untold::NotFound),
-    }
+    let weights = column_weights(alloc, coordinates, columns, row)?;
+    weights.ok_or(Untold::NotFound)
 }
 
 /// A sum of some of the measures, by their places, that a row's part over the coordinates is.
@@ -187,12 +182,8 @@ fn short_sum(alloc: Global, measures: &[Measure], row: &Row, space: Space) -> Re
 
 /// The least common multiple of the denominators of weights.
 pub fn common_multiple(alloc: Global, weights: &[(usize, Fraction)]) -> Result<i128, Untold> {
-    let mut numbers = Vec::new(alloc);
-    for weight in weights {
-        numbers.push(weight.1)?;
-    }
-    let scale = common_scale(numbers.as_slice())?;
-    Ok(scale as i128)
+    let multiple = multiple_of_denominators(alloc, weights)?;
+    multiple.ok_or(Untold::NotFound)
 }
 
 /// A number with its sign turned or not.

@@ -1,8 +1,9 @@
 //! Constraints by the names of their lines.
-ghost use Rattle.std.specs.Prelude.{◌≡◌, ◌++◌, [], codes, decimal, int_lt, length, map, pos, slice_index_or, unsigned_abs, ◌==◌, if◌then◌else◌, IfOk, OnOk};
+ghost use Rattle.std.specs.Prelude.{◌≡◌, ◌++◌, codes, filter, int_lt, not, length, map, pos, slice_index_or, true, ◌==◌, if◌then◌else◌, IfOk, OnOk};
 ghost use Rattle.it_space.specs.declared.problems.Origin.TheVariants.{Rate};
 ghost use Rattle.it_print.specs.Lines.{origins_of};
-ghost use Rattle.it_terms.specs.FunctionProofs.{by_comment, line_name, named_weight, named_weights, weight_sign};
+ghost use Rattle.it_terms.specs.FunctionProofs.{by_comment, line_name, listed_names, named_weight, named_weights, times_text, weight_sign};
+ghost use Rattle.it_terms.specs.RowOrigins.{line_weight, line_weights, plus_first, row_comment};
 
 use it_print::write_origin;
 use it_space::{Constraint, Origin};
@@ -33,10 +34,28 @@ fn write_line_name(
 }
 
 /// What stands before the name of a line in a list of them.
-fn before_name(is_first: bool) -> &'static [u8]
-    ensures { result.now ≡ (if is_first then codes "  # by " else codes ", ") }
+fn before_name(before: &[u8], is_first: bool) -> &[u8]
+    ensures { result.now ≡ (if is_first then before.now else codes ", ") }
 {
-    if is_first { b"  # by " } else { b", " }
+    if is_first { before } else { b", " }
+}
+
+/// The names of lines, the first of them after a text.
+fn write_names(
+    out: &mut Vec<u8>,
+    before: &[u8],
+    constraints: &[Constraint],
+    lines: &[u32],
+) -> Result<(), AllocError>
+    ensures { OnOk result (out.new.items ≡ out.old.items ++ listed_names before.now (origins_of constraints.now) true lines.now) }
+{
+    let mut is_first = true;
+    for line in lines {
+        out.extend_from_slice(before_name(before, is_first))?;
+        write_line_name(out, constraints, *line)?;
+        is_first = false;
+    }
+    Ok(())
 }
 
 /// The names of lines as a comment behind a text.
@@ -48,12 +67,7 @@ pub fn by_comment(
     ensures { IfOk result (λ t. t.items ≡ by_comment (origins_of constraints.now) lines.now) }
 {
     let mut out = Vec::new(alloc);
-    let mut is_first = true;
-    for line in lines {
-        out.extend_from_slice(before_name(is_first))?;
-        write_line_name(&mut out, constraints, *line)?;
-        is_first = false;
-    }
+    write_names(&mut out, b"  # by ", constraints, lines)?;
     Ok(out)
 }
 
@@ -78,7 +92,7 @@ fn weight_sign(is_first: bool, is_negative: bool) -> &'static [u8]
 
 /// A number before a name with a blank, and nothing where it is 1.
 fn write_times(out: &mut Vec<u8>, number: u128) -> Result<(), AllocError>
-    ensures { OnOk result (out.new.items ≡ out.old.items ++ (if number == 1 then [] else decimal number ++ codes " ")) }
+    ensures { OnOk result (out.new.items ≡ out.old.items ++ times_text number) }
 {
     if number != 1 {
         let mut buffer = Buffer::new();
@@ -86,6 +100,89 @@ fn write_times(out: &mut Vec<u8>, number: u128) -> Result<(), AllocError>
         out.extend_from_slice(b" ")?;
     }
     Ok(())
+}
+
+/// A weight of a constraint before the name of its line.
+#[tactic(auto, unfolding(crate::specs::RowOrigins::line_weight))]
+fn write_line_weight(
+    out: &mut Vec<u8>,
+    constraints: &[Constraint],
+    is_first: bool,
+    weight: &(u32, i128),
+) -> Result<(), AllocError>
+    ensures { OnOk result (out.new.items ≡ out.old.items ++ line_weight (origins_of constraints.now) is_first weight.now) }
+{
+    out.extend_from_slice(weight_sign(is_first, is_below_zero(weight.1)))?;
+    write_times(out, weight.1.unsigned_abs())?;
+    write_line_name(out, constraints, weight.0)
+}
+
+/// Weights of constraints before the names of their lines.
+fn write_line_weights(
+    out: &mut Vec<u8>,
+    constraints: &[Constraint],
+    weights: &[(u32, i128)],
+) -> Result<(), AllocError>
+    ensures { OnOk result (out.new.items ≡ out.old.items ++ line_weights (origins_of constraints.now) true weights.now) }
+{
+    let mut is_first = true;
+    for weight in weights {
+        write_line_weight(out, constraints, is_first, weight)?;
+        is_first = false;
+    }
+    Ok(())
+}
+
+/// The weights that aren't below 0.
+fn positive(alloc: Global, weights: &[(u32, i128)]) -> Result<Vec<(u32, i128)>, AllocError>
+    ensures { IfOk result (λ ws. ws.items ≡ filter (λ w. not (int_lt w.1 (pos 0))) weights.now) }
+{
+    weights
+        .iter()
+        .copied()
+        .filter(|weight| !is_below_zero(weight.1))
+        .collect(alloc)
+}
+
+/// The weights below 0.
+fn negative(alloc: Global, weights: &[(u32, i128)]) -> Result<Vec<(u32, i128)>, AllocError>
+    ensures { IfOk result (λ ws. ws.items ≡ filter (λ w. int_lt w.1 (pos 0)) weights.now) }
+{
+    weights
+        .iter()
+        .copied()
+        .filter(|weight| is_below_zero(weight.1))
+        .collect(alloc)
+}
+
+/// The weights above 0, and then those below it.
+fn plus_first(alloc: Global, weights: &[(u32, i128)]) -> Result<Vec<(u32, i128)>, AllocError>
+    ensures { IfOk result (λ ws. ws.items ≡ plus_first weights.now) }
+{
+    let mut ordered = positive(alloc, weights)?;
+    let others = negative(alloc, weights)?;
+    ordered.extend_from_slice(others.as_slice())?;
+    Ok(ordered)
+}
+
+/// The comment behind a row: the lines that it comes from, with these weights, and the lines that say the functions by which it is told.
+pub fn origin_comment(
+    alloc: Global,
+    constraints: &[Constraint],
+    weights: &[(u32, i128)],
+    lines: &[u32],
+) -> Result<Vec<u8>, AllocError>
+    ensures { IfOk result (λ t. t.items ≡ row_comment (origins_of constraints.now) weights.now lines.now) }
+{
+    if weights.is_empty() {
+        return by_comment(alloc, constraints, lines);
+    }
+    let mut out = Vec::new(alloc);
+    out.extend_from_slice(b"  # ")?;
+    let ordered = plus_first(alloc, weights)?;
+    write_line_weights(&mut out, constraints, ordered.as_slice())?;
+    write_names(&mut out, b", by ", constraints, lines)?;
+    Ok(out)
 }
 
 /// A weight of a constraint by the name of its line.

@@ -22,7 +22,7 @@ use it_syntax::types::{Relation, Sign};
 use std::alloc::{AllocError, Global};
 
 /// Whether the coordinates of a row are those of a space.
-fn is_over(row: &Row, space: Space) -> bool
+pub fn is_over(row: &Row, space: Space) -> bool
     requires { IsSpace space }
     ensures { OnTrue result (IsOver (size_of space) row.now) }
 {

@@ -11,7 +11,6 @@ ghost use Rattle.it_terms.specs.Signs.{IsPrintedRowFrom};
 use crate::closed::{ClosedTerm, Closures, closures_of};
 use crate::finding::own_sum;
 use crate::measures::{Measure, measures};
-use crate::names::by_comment;
 use crate::row_judging::{are_given_equations, is_given_equation, tells_under};
 use crate::row_search::{Length, closed_sum, closed_terms, length_of};
 use crate::telling::{names_of, written};
@@ -25,11 +24,11 @@ use it_space::{Constraint, Problem, Row};
 use it_syntax::Names;
 use std::alloc::{AllocError, Global};
 
-/// A row as papers print it, and as a comment the lines by which it is that row.
+/// A row as papers print it, and the lines, by their numbers, by which it is that row.
 #[derive(Drop)]
 pub struct PrintedRow {
     pub text: Vec<u8>,
-    pub by: Vec<u8>,
+    pub lines: Vec<u32>,
 }
 
 /// Whether a constraint is there and is an equation of a `given` line.
@@ -164,21 +163,20 @@ fn printed_by(
     requires some { 1 ≤ length names.now.variables }
     requires problem { IsProblem (problem_view problem.now) }
     requires space { problem.now.space ≡ record { variables = length names.now.variables; rates = length names.now.rates } }
-    ensures { IfOk result (λ o. IfSome o (λ t. IsPrintedRowFrom names.now row.now problem.now.constraints.items t.text.items t.by.items)) }
+    ensures { IfOk result (λ o. IfSome o (λ t. IsPrintedRowFrom names.now row.now problem.now.constraints.items t.lines.items t.text.items)) }
 {
     let shown = text.as_slice();
     let lines = needed_lines(alloc, names, problem, lines, row, shown)?;
-    let lines = lines.as_slice();
+    let needed = lines.as_slice();
     let constraints = problem.constraints.as_slice();
-    if !are_given_equations(constraints, lines) {
+    if !are_given_equations(constraints, needed) {
         return Ok(None);
     }
-    let tells = tells_under(alloc, shown, names, problem, lines, row)?;
+    let tells = tells_under(alloc, shown, names, problem, needed, row)?;
     if !tells {
         return Ok(None);
     }
-    let by = by_comment(alloc, constraints, lines)?;
-    Ok(Some(PrintedRow { text, by }))
+    Ok(Some(PrintedRow { text, lines }))
 }
 
 /// A row in few terms by a problem's functions.
@@ -191,7 +189,7 @@ fn any_printed(
     requires question { IsQuestion (question_body question.now) }
     requires problem { IsProblem (problem_view problem.now) }
     requires space { problem.now.space ≡ space_of (problem_names (question_body question.now)) }
-    ensures { IfOk result (λ o. IfSome o (λ t. IsPrintedRowFrom (problem_names (question_body question.now)) row.now problem.now.constraints.items t.text.items t.by.items)) }
+    ensures { IfOk result (λ o. IfSome o (λ t. IsPrintedRowFrom (problem_names (question_body question.now)) row.now problem.now.constraints.items t.lines.items t.text.items)) }
 {
     let names = names_of(question);
     let lines = given_functions(alloc, problem)?;
@@ -215,7 +213,7 @@ pub fn printed_row(
     row: &Row,
 ) -> Result<Option<PrintedRow>, AllocError>
     requires { IsQuestion (question_body question.now) }
-    ensures { IfOk result (λ o. IfSome o (λ t. IsPrintedRow (question_body question.now) row.now t.text.items t.by.items)) }
+    ensures { IfOk result (λ o. IfSome o (λ t. IsPrintedRow (question_body question.now) row.now t.lines.items t.text.items)) }
 {
     let posed = problem(alloc, question)?;
     match any_printed(alloc, question, &posed, row) {

@@ -1,4 +1,4 @@
-"""Questions about information inequalities as objects, answered by the proved programs (docs/python.md).
+"""Questions about information inequalities as objects, answered by the proved programs (docs/guide/python.md).
 
 >>> from itip import *
 >>> X, Y, Z = rv("X Y Z")

@@ -147,7 +147,7 @@ class No(Answer):
 
 @dataclass(frozen=True, eq=False, repr=False)
 class Undecided(Answer):
-    """Neither: the run used up its steps, or a number passed 2**127 - 1 (docs/answers.md)."""
+    """Neither: the run used up its steps, or a number passed 2**127 - 1 (docs/guide/answers.md)."""
 
     cause: str
     at: str

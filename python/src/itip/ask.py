@@ -1,4 +1,4 @@
-"""The command ./ask: what question files ask, answered in the field's own notation (docs/ask.md).
+"""The command ./ask: what question files ask, answered in the field's own notation (docs/guide/ask.md).
 
 It runs two programs: `itip` answers, and `tell` writes the answers anew.
 """
@@ -16,7 +16,7 @@ if TYPE_CHECKING:
 
 USAGE = "usage: ./ask [WORDS] FILE.., with the words that ./ask --help lists"
 HELP = """usage: ./ask [WORDS] FILE..
-Answers question files in the field's own notation (docs/ask.md); - is standard input.
+Answers question files in the field's own notation (docs/guide/ask.md); - is standard input.
 --steps      below each proof its steps
 --short      proofs with the least sum of terms, which may take long
 --whole      proofs with the terms of the lines that they name, to be pasted

@@ -1,6 +1,6 @@
-"""What would make a relation true that isn't: single conditional independences and functions, for `./ask --if` (docs/ask.md).
+"""What would make a relation true that isn't: single conditional independences and functions, for `./ask --if` (docs/guide/ask.md).
 
-A condition is three sets of variables, by their numbers (docs/answers.md): A, B, C for I(A;B|C) = 0, and A, A, C for H(A|C) = 0.
+A condition is three sets of variables, by their numbers (docs/reference/reports.md): A, B, C for I(A;B|C) = 0, and A, A, C for H(A|C) = 0.
 """
 
 from __future__ import annotations

@@ -1,4 +1,4 @@
-"""Copies of variables, with which relations beyond Shannon's have proofs (docs/questions.md)."""
+"""Copies of variables, with which relations beyond Shannon's have proofs (docs/guide/copies.md)."""
 
 from __future__ import annotations
 

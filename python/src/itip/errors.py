@@ -38,7 +38,7 @@ class UndecidedError(ItipError):
 class Refused(ItipError):
     """The program refused the file: at `line` and `column` of `source` for the reason `word`.
 
-    `meaning` is what docs/questions.md says of the word, and `hint` what docs/slips.txt says to write. A file that is too long has
+    `meaning` is what docs/reference/refusals.md says of the word, and `hint` what docs/slips.txt says to write. A file that is too long has
     no place: both numbers are 0.
     """
 

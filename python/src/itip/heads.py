@@ -1,4 +1,4 @@
-"""Heads of copies with which a question gets a yes, for `./ask --copies` (docs/ask.md)."""
+"""Heads of copies with which a question gets a yes, for `./ask --copies` (docs/guide/ask.md)."""
 
 from __future__ import annotations
 

@@ -12,6 +12,7 @@ if TYPE_CHECKING:
 
 WIDTH = 72  # of a line, in letters of the text form
 LEFT = 40  # of what stands left of a sign
+BEHIND = 28  # of a comment behind a relation
 SIGNS = {"<=": r"\le", ">=": r"\ge", "=": "="}  # as text and as LaTeX
 ESCAPES = str.maketrans({"\\": r"\textbackslash{}", "~": r"\~{}", "^": r"\^{}", **{sign: "\\" + sign for sign in "#$%&_{}"}})
 # the name of a line; a name or a number, with the bracket that makes it the word of an entropy; a fraction; a bar; a sign
@@ -120,16 +121,16 @@ def aligned(relations: Iterable[Relation], width: int = WIDTH) -> str:
 
 
 def align(rows: Sequence[tuple[str, str]], names: Names, width: int = WIDTH) -> str:
-    """The same of their texts, each with a comment: behind it, or where that has commas below it."""
+    """The same of their texts, each with a comment: behind it, or where that has commas or is long below it."""
     left = max((len(re.split(" *(?:<=|>=|=)", text, maxsplit=1)[0]) for text, _ in rows), default=0)
     room = 0 if left > LEFT else left + 1
     lines: list[str] = []
     for text, comment in rows:
         lines += _relation(text, room, names, width)
-        if ", " in comment:
+        if ", " in comment or len(comment) > BEHIND:
             lines += _comment(comment)
         elif comment:
-            lines[-1] += rf" && \text{{{escaped(comment)}}}"
+            lines[-1] += rf" && \text{{{_words(comment)}}}"
     return "\\begin{align*}\n  " + " \\\\\n  ".join(lines) + "\n\\end{align*}"
 
 
@@ -157,13 +158,17 @@ def _relation(text: str, room: int, names: Names, width: int) -> list[str]:
 
 
 def _comment(text: str) -> list[str]:
-    """A comment as lines of its own, broken at its commas."""
+    """A comment as lines of its own, broken at its commas and signs."""
     lines, used = [""], 0
-    for part in text.split(", "):
-        if lines[-1] and used + len(part) > WIDTH:
-            lines[-1] += ","
+    for part in re.split("(?<=,) | (?=[+-] )", text):
+        if lines[-1] and used + len(part.rstrip(",")) > WIDTH:
             lines.append("")
             used = 0
-        lines[-1] += (", " if lines[-1] else "") + escaped(part)
-        used += len(part) + 2
+        lines[-1] += (" " if lines[-1] else "") + _words(part)
+        used += len(part) + 1
     return [rf"&\quad\text{{{line}}}" for line in lines]
+
+
+def _words(text: str) -> str:
+    """The words of a comment, with a minus between them as a sign."""
+    return re.sub("(^| )- ", r"\1$-$ ", escaped(text))

@@ -1,4 +1,4 @@
-"""Which limit a refused file passes, and by how much, for `./ask`: a count of what stands in the file (docs/questions.md, "Limits")."""
+"""Which limit a refused file passes, and by how much, for `./ask`: a count of what stands in the file (docs/reference/grammar.md, "Limits")."""
 
 from __future__ import annotations
 

@@ -1,4 +1,4 @@
-"""Linear codes at points, as those of a `no` for `./ask --code` (docs/ask.md): variables that are linear functions of a uniform message.
+"""Linear codes at points, as those of a `no` for `./ask --code` (docs/guide/ask.md): variables that are linear functions of a uniform message.
 
 A vector has a number below q for each symbol of the message, and a space is a basis in echelon form: each vector begins with a 1, at a
 place of its own, where no other one has a number.
@@ -48,7 +48,7 @@ class Code:
         return [fewest(space, self.elements) for space in self.spaces]
 
     def value(self) -> dict[str, Any]:
-        """The `code` of a report's line (docs/answers.md)."""
+        """The `code` of a report's line (docs/reference/reports.md)."""
         functions = self.functions()
         symbols = max((len(vector) for of in functions for vector in of), default=0)
         return {"field": self.elements, "functions": functions, "symbols": symbols, "times": self.times}

@@ -1,4 +1,4 @@
-"""The reports of the modes copy, best and sharing, as lines about the questions that they ask, which `tell` reads (docs/answers.md)."""
+"""The reports of the modes copy, best and sharing, as lines about the questions that they ask, which `tell` reads (docs/reference/reports.md)."""
 
 from __future__ import annotations
 

@@ -1,4 +1,4 @@
-"""Why the rows of a region are needed: questions about each of them, and the points that answer them, for `./ask --needs` (docs/ask.md)."""
+"""Why the rows of a region are needed: questions about each of them, and the points that answer them, for `./ask --needs` (docs/guide/ask.md)."""
 
 from __future__ import annotations
 

@@ -6,7 +6,7 @@ I(X,Y;Z) <= 2 H(X,Y|Z)
 >>> markov(X, Y, Z)
 markov X -> Y -> Z
 
-Each object is written in the notation of question files (docs/questions.md) by `text()`, and for a paper by `latex()`.
+Each object is written in the notation of question files (docs/reference/grammar.md) by `text()`, and for a paper by `latex()`.
 """
 
 from __future__ import annotations

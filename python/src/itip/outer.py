@@ -1,4 +1,4 @@
-"""The lines of mode `outer` (docs/answers.md): bounds in rates alone, read, and as an author would write them."""
+"""The lines of mode `outer` (docs/guide/outer-bounds.md): bounds in rates alone, read, and as an author would write them."""
 
 from __future__ import annotations
 

@@ -1,4 +1,4 @@
-"""What `tell` tells, as LaTeX for a paper: a sentence for each answer, and the lines below it as lines of align* (docs/ask.md)."""
+"""What `tell` tells, as LaTeX for a paper: a sentence for each answer, and the lines below it as lines of align* (docs/guide/ask.md)."""
 
 from __future__ import annotations
 

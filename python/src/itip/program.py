@@ -42,7 +42,7 @@ class Itip:
     """How to call the programs.
 
     `home` is the repository: without it ITIP_HOME, or the folders around this package. `prover` and `teller` are paths of the
-    programs, where they lie elsewhere. `run` is "quick" or "bland": with "bland" each answer is the one that docs/answers.md fixes.
+    programs, where they lie elsewhere. `run` is "quick" or "bland": with "bland" each answer is the one that docs/guide/answers.md fixes.
     `pivots` is the budget of steps of each defined run, None for none; "usual" is that of the program, and what stays undecided by
     it is asked once more without a budget, as `./ask` does. `timeout` is how many seconds one call of a program may take. With
     `judge` each answer goes through `itip check` before it is handed out.

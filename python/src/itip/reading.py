@@ -1,4 +1,4 @@
-"""Reads the notation of question files (docs/questions.md), in which users may write and `tell` answers."""
+"""Reads the notation of question files (docs/reference/grammar.md), in which users may write and `tell` answers."""
 
 from __future__ import annotations
 

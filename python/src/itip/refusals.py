@@ -1,4 +1,4 @@
-"""What a refusal means, by docs/questions.md, and what to write, by docs/slips.txt."""
+"""What a refusal means, by docs/reference/refusals.md, and what to write, by docs/slips.txt."""
 
 from __future__ import annotations
 
@@ -11,7 +11,7 @@ if TYPE_CHECKING:
 
 def meaning(docs: str | PathLike[str], word: str) -> str:
     """What the table of refusals says of a word."""
-    with open(f"{docs}/questions.md", encoding="utf-8") as page:
+    with open(f"{docs}/reference/refusals.md", encoding="utf-8") as page:
         for row in page:
             first, _, rest = row.partition(" | ")
             if first == f"| `{word}`":

@@ -1,4 +1,4 @@
-"""Reports: what `itip answer --format json` writes, a line for each question (docs/answers.md); and how files have questions."""
+"""Reports: what `itip answer --format json` writes, a line for each question (docs/reference/reports.md); and how files have questions."""
 
 from __future__ import annotations
 

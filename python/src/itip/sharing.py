@@ -1,4 +1,4 @@
-"""Secret sharing: who may know the secret, and how large the shares must be (docs/questions.md)."""
+"""Secret sharing: who may know the secret, and how large the shares must be (docs/guide/sharing.md)."""
 
 from __future__ import annotations
 

@@ -1,4 +1,4 @@
-"""Files with less to write, as question files, for `./ask`: what each line makes, and where each place of what is made was written (docs/ask.md).
+"""Files with less to write, as question files, for `./ask`: what each line makes, and where each place of what is made was written (docs/guide/ask.md).
 
 A made line has its line as written, and texts with their columns there, both from 1; 0 is the column of what nobody wrote.
 """

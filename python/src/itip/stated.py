@@ -1,4 +1,4 @@
-"""Questions as LaTeX states them: their variables, what is given, and what is asked (docs/ask.md)."""
+"""Questions as LaTeX states them: their variables, what is given, and what is asked (docs/guide/ask.md)."""
 
 from __future__ import annotations
 

@@ -1,11 +1,11 @@
-use Rattle.std.proofs.Common.{rules, sym, subst}
+use Rattle.std.proofs.Common.{rules, pos, sym, subst}
 use Rattle.it_space.specs.Answers.{certificate_view}
 use Rattle.it_space.specs.Problems.{problem_view}
 use Rattle.it_space.specs.Rows.{Terms, IsOver}
 use Rattle.it_space.specs.Spaces.{size_of}
 use Rattle.it_check.specs.Meaning.{CertifiesRow}
 use Rattle.it_prove.specs.ProofViews.{IsSettled, Yes}
-use Rattle.it_best.proofs.JudgeSteps.{row_up}
+use Rattle.it_ratio.proofs.SideSteps.{row_over}
 use Rattle.it_factor.specs.QuickSteps.{IsQuickBest}
 use Rattle.it_factor.proofs.QuickLemmas.{answer_is_right}
 use Rattle.it_factor.proofs.quick.by_row.Goals as goal
@@ -13,7 +13,7 @@ use Rattle.it_factor.proofs.quick.by_row.Goals as goal
 pub settle-requires-clause-target : goal.settle-requires-clause-target
 settle-requires-clause-target c =
     let size = size_of c.args.problem.now.space in
-    subst (IsOver size) (sym c.requires.row) (row_up size c.args.left.now c.args.right.now c.args.trial.factor)
+    subst (IsOver size) (sym c.requires.row) (row_over size c.args.trial.factor.num (pos c.args.trial.factor.den) c.args.left.now c.args.right.now)
 
 pub returns-in-Some-Yes : goal.returns-in-Some-Yes
 returns-in-Some-Yes c =

@@ -1,0 +1,84 @@
+//! Certificates of rows from constraints alone.
+ghost use Rattle.std.specs.Prelude.{◌≤◌, All, IfOk, IfSome};
+ghost use Rattle.std.specs.Bool.{OnTrue};
+ghost use Rattle.it_space.specs.Answers.{certificate_view};
+ghost use Rattle.it_space.specs.Problems.{IsProblem, problem_view};
+ghost use Rattle.it_space.specs.Rows.{IsOver};
+ghost use Rattle.it_space.specs.Spaces.{size_of};
+ghost use Rattle.it_origins.specs.Origins.{IsOfConstraint, IsOrigin};
+
+use crate::search::{Choice, short_sum};
+use it_check::{Verdict, check_yes};
+use it_elemental::count;
+use it_space::{Certificate, Problem, Row};
+use std::alloc::{AllocError, Global};
+
+/// The certificate that a sum of constraints makes, with so many elemental inequalities before these; None where a number of it is too
+/// large.
+fn certificate_of(
+    alloc: Global,
+    choice: &Choice,
+    elementals: u32,
+) -> Result<Option<Certificate>, AllocError> {
+    let mut weights = Vec::new(alloc);
+    for (place, number) in choice.sum.weights.as_slice() {
+        if *place >= choice.columns.len() {
+            return Ok(None);
+        }
+        let column = choice.columns[*place];
+        let index = elementals.checked_add(column.number);
+        let turned = if column.is_turned {
+            0i128.checked_sub(*number)
+        } else {
+            Some(*number)
+        };
+        let (Some(index), Some(weight)) = (index, turned) else {
+            return Ok(None);
+        };
+        weights.push((index, weight))?;
+    }
+    Ok(Some(Certificate {
+        scale: choice.sum.scale,
+        weights,
+    }))
+}
+
+/// Whether each weight is one of a constraint, and other than 0.
+fn are_of_constraints(weights: &[(u32, i128)], variables: u8) -> bool
+    requires some { 1 ≤ variables }
+    requires few { variables ≤ 10 }
+    ensures { OnTrue result (All (IsOfConstraint variables) weights.now) }
+{
+    let elementals = count(variables);
+    weights
+        .iter()
+        .all(|(index, weight)| elementals <= *index && *weight != 0)
+}
+
+/// A certificate of a row from a problem's constraints alone: the row, so many times, is exactly the sum of constraints with these
+/// weights, and only equations have weights below 0. Weights stand in the order of the constraints. Where the row is a multiple of a
+/// constraint it is that one; else none of them can be left out, where there are few. None where no such certificate was found.
+pub fn origin(
+    alloc: Global,
+    problem: &Problem,
+    row: &Row,
+) -> Result<Option<Certificate>, AllocError>
+    requires problem { IsProblem (problem_view problem.now) }
+    requires row { IsOver (size_of problem.now.space) row.now }
+    ensures { IfOk result (λ o. IfSome o (λ w. IsOrigin (problem_view problem.now) row.now (certificate_view w))) }
+{
+    let variables = problem.space.variables;
+    let Some(choice) = short_sum(alloc, problem, row)? else {
+        return Ok(None);
+    };
+    let Some(certificate) = certificate_of(alloc, &choice, count(variables))? else {
+        return Ok(None);
+    };
+    if !are_of_constraints(certificate.weights.as_slice(), variables) {
+        return Ok(None);
+    }
+    if check_yes(problem, row, &certificate) != Verdict::Valid {
+        return Ok(None);
+    }
+    Ok(Some(certificate))
+}

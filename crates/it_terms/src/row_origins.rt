@@ -1,0 +1,73 @@
+//! Where rows come from, by the numbers of the question's constraints.
+ghost use Rattle.std.specs.Prelude.{◌≡◌, ◌≤◌, IfOk, length, map};
+ghost use Rattle.it_polymatroid.specs.Elementals.{elementals};
+ghost use Rattle.it_question.specs.Limits.{IsQuestion};
+ghost use Rattle.it_question.specs.Questions.{question_body};
+ghost use Rattle.it_canon.specs.QuestionDemands.{question_origins};
+ghost use Rattle.it_rates.specs.Asked.{under_all_lines};
+ghost use Rattle.it_terms.specs.RowOrigins.{ComesFrom, row_comment};
+ghost use Rattle.it_terms.specs.Sums.{by_constraint};
+
+use crate::names::origin_comment;
+use crate::row_judging::is_over;
+use it_elemental::count;
+use it_origins::origin;
+use it_question::types::Question;
+use it_rates::problem_of_lines;
+use it_space::Row;
+use std::alloc::{AllocError, Global};
+
+/// The weights by the numbers of constraints alone, of so many variables.
+fn by_constraints(
+    alloc: Global,
+    weights: &[(u32, i128)],
+    variables: u8,
+) -> Result<Vec<(u32, i128)>, AllocError>
+    requires some { 1 ≤ variables }
+    requires few { variables ≤ 10 }
+    ensures { IfOk result (λ ws. ws.items ≡ map (by_constraint (length (elementals variables))) weights.now) }
+{
+    let elementals = count(variables);
+    weights
+        .iter()
+        .map(|(index, weight)| (index.saturating_sub(elementals), *weight))
+        .collect(alloc)
+}
+
+/// The lines of a question, `row` lines too, whose sum a row is, up to a positive factor: weights other than 0 by the numbers of what the lines
+/// demand, in their order, of which only equations have one below 0. Without any where none were found. Where the row is one of the lines
+/// it is that one, and few others are named where few are enough.
+#[tactic(auto, using(crate::proofs::OriginLemmas::not_told))]
+pub fn row_origin(
+    alloc: Global,
+    question: &Question,
+    row: &Row,
+) -> Result<Vec<(u32, i128)>, AllocError>
+    requires { IsQuestion (question_body question.now) }
+    ensures { IfOk result (λ ws. ComesFrom (question_body question.now) row.now ws.items) }
+{
+    let posed = problem_of_lines(alloc, question)?;
+    if !is_over(row, posed.space) {
+        return Ok(Vec::new(alloc));
+    }
+    let Some(certificate) = origin(alloc, &posed, row)? else {
+        return Ok(Vec::new(alloc));
+    };
+    let weights = by_constraints(alloc, certificate.weights.as_slice(), posed.space.variables)?;
+    Ok(weights)
+}
+
+/// The comment behind a row: the lines that it comes from, with these weights, and the lines that say the functions by which it is told.
+pub fn row_comment(
+    alloc: Global,
+    question: &Question,
+    weights: &[(u32, i128)],
+    lines: &[u32],
+) -> Result<Vec<u8>, AllocError>
+    requires { IsQuestion (question_body question.now) }
+    ensures { IfOk result (λ t. t.items ≡ row_comment (question_origins (under_all_lines (question_body question.now))) weights.now lines.now) }
+{
+    let posed = problem_of_lines(alloc, question)?;
+    let comment = origin_comment(alloc, posed.constraints.as_slice(), weights, lines)?;
+    Ok(comment)
+}
