@@ -105,7 +105,7 @@ struct Styled {
 }
 
 /// A proof in a style where functions hold; None in the style without.
-fn styled(
+fn in_style(
     alloc: Global,
     text: Vec<u8>,
     whole: Vec<u8>,
@@ -145,6 +145,14 @@ fn steps_under(
     }
 }
 
+/// A proof with the comment behind it.
+fn with_comment(mut proof: Vec<u8>, by: &[u8]) -> Result<Vec<u8>, AllocError>
+    ensures { IfOk result (λ t. t.items ≡ proof.items ++ by.now) }
+{
+    proof.extend_from_slice(by)?;
+    Ok(proof)
+}
+
 /// The texts of a proof in a style where functions hold, None in the style without.
 fn styled_texts(
     alloc: Global,
@@ -162,7 +170,7 @@ fn styled_texts(
         lines,
         named,
     } = proof;
-    let Some(own) = styled(alloc, text, whole, named, options.style) else {
+    let Some(own) = in_style(alloc, text, whole, named, options.style) else {
         return Ok(None);
     };
     let steps = steps_under(
@@ -173,8 +181,7 @@ fn styled_texts(
         lines.as_slice(),
         own.named.as_slice(),
     )?;
-    let mut proof = own.proof;
-    proof.extend_from_slice(by.as_slice())?;
+    let proof = with_comment(own.proof, by.as_slice())?;
     Ok(Some(Texts { proof, steps }))
 }
 
@@ -272,6 +279,7 @@ fn plain_texts(
 }
 
 /// The texts of the proof of a row in the question's own terms, or of its weights.
+#[tactic(auto, unfolding(crate::specs::Tellings::AreProofTexts))]
 fn proof_texts(
     alloc: Global,
     question: &Question,

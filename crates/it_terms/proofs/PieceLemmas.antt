@@ -1,11 +1,12 @@
 -- Steps of a proof where functions hold, piece by piece.
-use Rattle.std.proofs.Common.{◌≡◌, ℕ, ℤ, pos, false, ◌+ℤ◌, ◌-ℤ◌, ◌==◌, List, [], ◌∷◌, ◌++◌, length, map, All, refl, sym, ap, ◌∙◌, subst, subst₂, arith}
+use Rattle.std.proofs.Common.{◌≡◌, ◌≤◌, ℕ, ℤ, pos, false, ◌+ℤ◌, ◌-ℤ◌, ◌==◌, List, [], ◌∷◌, ◌++◌, length, map, All, refl, sym, ap, ◌∙◌, subst, subst₂, arith}
 use Rattle.std.proofs.lemmas.Int.{ints}
 use Rattle.std.proofs.lemmas.List.Elements.{All-weaker}
 use Rattle.it_space.specs.declared.spaces.Space.{Space}
 use Rattle.it_space.specs.declared.problems.Constraint.{Constraint}
 use Rattle.it_space.specs.declared.problems.Origin.{Origin}
 use Rattle.it_space.specs.declared.problems.Problem.{Problem}
+use Rattle.it_space.specs.Problems.{IsProblem, problem_view}
 use Rattle.it_space.specs.Rows.{Terms, value}
 use Rattle.it_polymatroid.specs.Certificates.{Generators, IsAllowed, combination}
 use Rattle.it_elemental.specs.Generators.{forms_of, of_constraint}
@@ -51,6 +52,12 @@ equation_by_excess s lines r named cs ds row equal one allowed said is none = re
     nothing_more : (left right rest row : ℤ) → row ≡ (left -ℤ right) +ℤ rest → row ≡ pos 0 → left +ℤ rest ≡ right
     nothing_more left right rest row e f = omega (arith, ints, e, f)
 
+-- a problem of names with the functions that lines of it say
+pub read_under : (v : NamesView) (problem : Problem) (lines : List ℕ) (s : Space) (ds : List Dependence) → 1 ≤ length v.variables → IsProblem (problem_view problem)
+    → problem.space ≡ record { variables = length v.variables; rates = length v.rates } → s ≡ problem.space
+    → All (IsSaid problem.space.variables (forms_of (map of_constraint problem.constraints.items)) lines) ds → AreReadUnder v problem lines s ds
+read_under v problem lines s ds some posed names space said = record { some = some; posed = posed; names = names; space = space; said = said }
+
 -- a relation of names is one of the space of their problem
 pub relation_read_under : (v : NamesView) (problem : Problem) (lines : List ℕ) (s : Space) (ds : List Dependence) (r : RelationView) → AreReadUnder v problem lines s ds → IsRelationOf (length v.variables) (length v.rates) r
     → IsRelationOf problem.space.variables problem.space.rates r
@@ -74,13 +81,14 @@ step_of_piece v cs s lines sum piece left right text after named r space is begi
     }) begins)
 
 -- steps of the pieces of a proof's right side are its steps
-pub steps_of_proof : (v : NamesView) (origins : List Origin) (g : Generators) (lines : List ℕ) (named : List (ℕ × ℤ)) (proof left right : List ℕ) (r : RelationView) (pieces : List Piece) (first : List Term) (texts : List (List ℕ))
-    → IsRelationText v (sides_text left right) r → proof ≡ named_sides_text origins named left right → pieces ≡ right_pieces right r.right named → first ≡ first_sum right r.right
-    → ArePieceSteps v origins g lines first pieces r.left texts → TellsPieceSteps v origins g lines named proof texts
-steps_of_proof v origins g lines named proof left right r pieces first texts is text_is pieces_are first_is tells = record {
+pub steps_of_proof : (v : NamesView) (origins : List Origin) (g : Generators) (lines : List ℕ) (named : List (ℕ × ℤ)) (proof left right : List ℕ) (r : RelationView) (pieces : List Piece) (first total : List Term) (texts : List (List ℕ))
+    → IsRelationText v (sides_text left right) r → proof ≡ named_sides_text origins named left right → pieces ≡ right_pieces right r.right named → first ≡ first_sum right r.right → total ≡ r.left
+    → ArePieceSteps v origins g lines first pieces total texts → TellsPieceSteps v origins g lines named proof texts
+steps_of_proof v origins g lines named proof left right r pieces first total texts is text_is pieces_are first_is total_is tells = record {
   relation = r;
   is = record { left = left; right = right; is = is; text_is = text_is };
-  tells = subst₂ (λ (sum : List Term) (ps : List Piece). ArePieceSteps v origins g lines sum ps r.left texts) first_is pieces_are tells;
+  tells = subst (λ (ts : List Term). ArePieceSteps v origins g lines (first_sum right r.right) (right_pieces right r.right named) ts texts) total_is
+      (subst₂ (λ (sum : List Term) (ps : List Piece). ArePieceSteps v origins g lines sum ps total texts) first_is pieces_are tells);
 }
 
 -- ---- from the lines of a question

@@ -293,7 +293,15 @@ fn proof_sides(
     Ok(StepSides { left, right })
 }
 
+/// Whether two texts are the same.
+fn is_same_text(text: &[u8], other: &[u8]) -> bool
+    ensures { OnTrue result (text.now ≡ other.now) }
+{
+    text == other
+}
+
 /// The steps of a proof with constraints of these weights by name.
+#[tactic(auto, using(crate::proofs::PieceLemmas::steps_of_proof))]
 fn told_pieces(
     alloc: Global,
     under: &Under<'_>,
@@ -311,7 +319,7 @@ fn told_pieces(
         return Ok(None);
     };
     let text = named_text(alloc, constraints, left, right, named)?;
-    if text.as_slice() != proof {
+    if !is_same_text(text.as_slice(), proof) {
         return Ok(None);
     }
     let terms = read.right.terms.as_slice();
@@ -321,10 +329,14 @@ fn told_pieces(
     }
     let first = first_sum(right, terms);
     let total = read.left.terms.as_slice();
-    piece_steps(alloc, under, first, pieces.as_slice(), total, left)
+    let Some(steps) = piece_steps(alloc, under, first, pieces.as_slice(), total, left)? else {
+        return Ok(None);
+    };
+    Ok(Some(steps))
 }
 
 /// The steps of a proof from a problem's constraints where the functions hold that those of these numbers say.
+#[tactic(auto, using(crate::proofs::PieceLemmas::read_under))]
 fn steps_from(
     alloc: Global,
     question: &Question,
@@ -369,5 +381,6 @@ pub fn printed_steps(
     ensures { IfOk result (λ o. IfSome o (λ steps. TellsStepsUnder (question_body question.now) lines.now named.now proof.now (map (λ step. step.items) steps.items))) }
 {
     let posed = problem(alloc, question)?;
-    steps_from(alloc, question, &posed, proof, lines, named)
+    let steps = steps_from(alloc, question, &posed, proof, lines, named)?;
+    Ok(steps)
 }
