@@ -1,5 +1,5 @@
 //! Mode `answer`: a question file and its answers.
-ghost use Rattle.std.specs.Prelude.{◌≡◌, ◌≤◌, ◌++◌, codes, length, map, All, IfOk, IsAscii};
+ghost use Rattle.std.specs.Prelude.{◌≡◌, ◌≤◌, length, map, All, IfOk};
 ghost use Rattle.it_space.specs.Answers.{answer_view};
 ghost use Rattle.it_space.specs.Rows.{IsOver};
 ghost use Rattle.it_space.specs.Spaces.{size_of};
@@ -13,24 +13,21 @@ ghost use Rattle.it_canon.specs.QuestionDemands.{question_demands, question_orig
 ghost use Rattle.it_answer.specs.AnswerKinds.{IsAnswerTo};
 ghost use Rattle.it_print.specs.Lines.{IsPrintable};
 ghost use Rattle.it_certificate.specs.OriginReading.{rows_of};
-ghost use Rattle.it_certificate.specs.Values.{IsWritable, answer_text};
 ghost use Rattle.it_cli.specs.InnerEnds.{EndsForBytes, EndsForItems, EndsWithLineOrMemory, IsAnswerText, IsToldText, proof_lines_of, text_lines_of};
 ghost use Rattle.it_cli.specs.Outputs.{answer_mode};
 ghost use Rattle.it_cli.specs.Refusals.{fault_line};
 
-use crate::deriving::derived_line;
+use crate::json_lines::{derived_line, json_line};
 use crate::refusals::fault_line;
 use crate::status::Status;
 use crate::telling::tell;
 use it_answer::{AnsweredProblem, Budgets, answer, target_rows};
-use it_certificate::answer_json;
 use it_contain::Proposer;
 use it_outside::{Sink, write_all};
 use it_print::{answer_line, proof_text};
 use it_question::questions;
 use it_question::types::{FileFault, Question};
 use it_settings::types::Format;
-use it_space::Answer;
 use it_syntax::types::Code;
 use std::alloc::{AllocError, Global};
 
@@ -137,22 +134,6 @@ pub fn text_lines(
         answered.problem.constraints.as_slice(),
         &answered.answer,
     )
-}
-
-/// The line of an answer in the format `json`.
-pub fn json_line(
-    alloc: Global,
-    question: &Question,
-    answer: &Answer,
-) -> Result<Vec<u8>, AllocError>
-    requires ascii { IsAscii (question_view question.now).text }
-    requires writable { IsWritable question.now.names (answer_view answer.now) }
-    ensures { IfOk result (λ line. line.items ≡ answer_text (question_view question.now).text question.now.names (answer_view answer.now) ++ codes "\n") }
-{
-    let text = question.text(alloc)?;
-    let mut line = answer_json(alloc, text.as_slice(), &question.names, answer)?;
-    line.extend_from_slice(b"\n")?;
-    Ok(line)
 }
 
 /// The lines of an answer in the format `proof`, with the rows of which it has certificates.

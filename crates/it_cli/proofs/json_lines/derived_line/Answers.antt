@@ -6,7 +6,7 @@ use Rattle.it_space.specs.Answers.{answer_view, certificate_view}
 use Rattle.it_question.specs.Questions.{question_body, question_view}
 use Rattle.it_cli.specs.ToldOrigins.{AreToldOrigins, derived_line}
 use Rattle.it_cli.proofs.OriginLemmas.{line_without, told_of_region}
-use Rattle.it_cli.proofs.deriving.derived_line.Goals as goal
+use Rattle.it_cli.proofs.json_lines.derived_line.Goals as goal
 
 pub region_line-requires-clause-region : goal.region_line-requires-clause-region
 region_line-requires-clause-region c = told_of_region (question_body c.args.question.now) (answer_view c.args.answer.now) (map certificate_view c.in-Some.origins.items)

@@ -1,5 +1,5 @@
-//! The format `derived` of mode `answer`: lines of JSON with certificates of the rows of a region.
-ghost use Rattle.std.specs.Prelude.{◌≡◌, All, IfOk, IfSome, IsAscii, Some, map, option_map};
+//! Lines of JSON: the formats `json` and `derived` of mode `answer`.
+ghost use Rattle.std.specs.Prelude.{◌≡◌, ◌++◌, All, IfOk, IfSome, IsAscii, Some, codes, map, option_map};
 ghost use Rattle.std.specs.List.{AllZip};
 ghost use Rattle.it_settings.specs.declared.types.Format.TheVariants.{Derived};
 ghost use Rattle.it_space.specs.Answers.{answer_view, certificate_view};
@@ -12,17 +12,32 @@ ghost use Rattle.it_demand.specs.QuestionSpaces.{space_of};
 ghost use Rattle.it_origins.specs.Origins.{IsOrigin};
 ghost use Rattle.it_answer.specs.Truth.{region_rows};
 ghost use Rattle.it_certificate.specs.OriginReading.{IsRegion, rows_of};
-ghost use Rattle.it_certificate.specs.Values.{IsWritable};
+ghost use Rattle.it_certificate.specs.Values.{IsWritable, answer_text};
 ghost use Rattle.it_cli.specs.InnerEnds.{IsDerivedLine};
 ghost use Rattle.it_cli.specs.ToldOrigins.{AreToldOrigins, derived_line};
 
-use crate::answering::json_line;
-use it_certificate::derived_json;
+use it_certificate::{answer_json, derived_json};
 use it_origins::origin;
 use it_question::types::Question;
 use it_rates::problem_of_lines;
 use it_space::{Answer, Certificate, Mark, Problem, Row};
 use std::alloc::{AllocError, Global};
+
+/// The line of an answer in the format `json`.
+pub fn json_line(
+    alloc: Global,
+    question: &Question,
+    answer: &Answer,
+) -> Result<Vec<u8>, AllocError>
+    requires ascii { IsAscii (question_view question.now).text }
+    requires writable { IsWritable question.now.names (answer_view answer.now) }
+    ensures { IfOk result (λ line. line.items ≡ answer_text (question_view question.now).text question.now.names (answer_view answer.now) ++ codes "\n") }
+{
+    let text = question.text(alloc)?;
+    let mut line = answer_json(alloc, text.as_slice(), &question.names, answer)?;
+    line.extend_from_slice(b"\n")?;
+    Ok(line)
+}
 
 /// The line of an answer in the format `derived`: as in the format `json`; that of a region for each of whose rows a certificate from the
 /// question's lines is found has these certificates too.

@@ -6,7 +6,7 @@ use Rattle.it_space.specs.Answers.{certificate_view}
 use Rattle.it_space.specs.Problems.{problem_view}
 use Rattle.it_origins.specs.Origins.{IsOrigin}
 use Rattle.it_cli.proofs.OriginLemmas.{origins_all, origins_more, row_over}
-use Rattle.it_cli.proofs.deriving.row_origins.Goals as goal
+use Rattle.it_cli.proofs.json_lines.row_origins.Goals as goal
 
 pub origin-requires-clause-row : goal.origin-requires-clause-row
 origin-requires-clause-row c = row_over (problem_view c.args.problem.now) c.args.rows.now c.loop-row.row-index c.row-item.result c.requires.rows c.loop-row-test.true c.row-item.is

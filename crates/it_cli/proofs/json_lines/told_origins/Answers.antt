@@ -14,7 +14,7 @@ use Rattle.it_origins.specs.Origins.{IsOrigin}
 use Rattle.it_answer.specs.Truth.{region_rows}
 use Rattle.it_certificate.specs.OriginReading.{rows_of}
 use Rattle.it_cli.proofs.OriginLemmas.{rows_of_problem, told_where_found}
-use Rattle.it_cli.proofs.deriving.told_origins.Goals as goal
+use Rattle.it_cli.proofs.json_lines.told_origins.Goals as goal
 
 pub row_origins-requires-clause-rows : goal.row_origins-requires-clause-rows
 row_origins-requires-clause-rows c = let q = question_body c.args.question.now in
