@@ -24,11 +24,7 @@ use it_space::{Answer, Certificate, Mark, Problem, Row};
 use std::alloc::{AllocError, Global};
 
 /// The line of an answer in the format `json`.
-pub fn json_line(
-    alloc: Global,
-    question: &Question,
-    answer: &Answer,
-) -> Result<Vec<u8>, AllocError>
+pub fn json_line(alloc: Global, question: &Question, answer: &Answer) -> Result<Vec<u8>, AllocError>
     requires ascii { IsAscii (question_view question.now).text }
     requires writable { IsWritable question.now.names (answer_view answer.now) }
     ensures { IfOk result (λ line. line.items ≡ answer_text (question_view question.now).text question.now.names (answer_view answer.now) ++ codes "\n") }
