@@ -30,7 +30,6 @@ use Rattle.it_answer.specs.Replies.{Reply}
 use Rattle.it_answer.specs.RightAnswers.{IsRightAnswer}
 use Rattle.it_answer.specs.Shows.{ShowsBy}
 use Rattle.it_answer.specs.Truth.{region_rows}
-use Rattle.it_cli.specs.InnerEnds.{IsDerivedLine}
 use Rattle.it_cli.specs.ToldOrigins.{AreToldOrigins, derived_line}
 
 -- ---- the loop over the rows

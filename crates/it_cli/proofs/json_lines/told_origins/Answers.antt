@@ -1,5 +1,4 @@
-use Rattle.std.proofs.Common.{List, Option, All, map, subst}
-use Rattle.std.specs.Global.{Vec}
+use Rattle.std.proofs.Common.{List, All, map, subst}
 use Rattle.std.specs.List.{AllZip}
 use Rattle.std.specs.Prelude.{IfSome}
 use Rattle.it_space.specs.declared.answers.Answer.{Answer}
