@@ -1,4 +1,4 @@
-//! Answers to questions, and what they are made of.
+//! Answers to questions, with their certificates, marks and causes.
 ghost use Rattle.std.specs.Prelude.{◌≡◌, IfOk};
 ghost use Rattle.it_space.specs.Answers.{certificate_view, is_nonzero_weight, mark_word};
 
@@ -24,7 +24,7 @@ impl Drop for Certificate {
 }
 
 impl Certificate {
-    /// The same certificate once more.
+    /// A copy of the certificate.
     pub fn copy(&self, alloc: Global) -> Result<Certificate, AllocError>
         ensures { IfOk result (λ c. certificate_view c ≡ certificate_view self.now) }
     {
@@ -54,7 +54,7 @@ pub enum Answer {
         back: bool,
         point: Point,
     },
-    /// Neither, and why.
+    /// Neither is known, and why.
     Undecided(Cause),
     /// The rows of a region, each with what is known of it.
     Region(Vec<(Mark, Row)>),
@@ -63,7 +63,7 @@ pub enum Answer {
         parts: Vec<VarSet>,
         proofs: Vec<Certificate>,
     },
-    /// So many candidates were tried, and none was proved.
+    /// `tried` candidates were tried, and none was proved.
     Open {
         tried: u32,
     },
@@ -94,7 +94,7 @@ pub enum Mark {
 }
 
 impl Mark {
-    /// The mark in a word, as outputs have it.
+    /// The mark's word in reports.
     pub fn word(self) -> &'static str
         ensures { result.now ≡ mark_word self }
     {
@@ -109,7 +109,7 @@ impl Mark {
 /// Why a question stays undecided.
 #[derive(Clone, Copy, Debug, PartialEq, Eq)]
 pub enum Cause {
-    /// The budget's steps were made, and the run isn't at its end.
+    /// The run made all steps of its budget, the number given here, without reaching its end.
     Pivots(u32),
     /// A number of this step passes the limit.
     Width(u32),
