@@ -19,7 +19,7 @@ use Rattle.it_engine.proofs.StepsLeft.{steps_left_to, steps_left_falls, several_
 use Rattle.it_engine.proofs.ManySteps.{steps_lead_on}
 use Rattle.it_engine.proofs.Runs.{done_here, not_done_here}
 
--- what the run from s does after so many steps it does from t, with some budget
+-- an end of the run from s, after made steps, is an end of the run from t, with some budget
 abbrev RunsOnFrom : ℕ → ℕ → SimplexTable Rational → ℕ → SimplexTable Rational → Type 0
 RunsOnFrom m n t made s = (left : ℕ) (e : RunEndView (SimplexTable Rational) (SimplexTable Rational)) → Reaches m n left made s e → (budget : ℕ) × Reaches m n budget 0 t e
 
