@@ -1,4 +1,4 @@
--- What the gate proves of greatest common divisors and least common multiples.
+-- Laws of greatest common divisors and least common multiples.
 use Rattle.std.specs.Prelude.{ℕ, ◌*◌}
 use Rattle.std.specs.Int.{IsGcd}
 use Prim.Native.Nat.{◌∣◌}

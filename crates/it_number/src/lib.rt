@@ -1,5 +1,5 @@
-//! The mathematics of whole numbers under the product's exact arithmetic: greatest common divisors,
-//! divisors of numbers with a sign, a solver of equations in any commutative ring, and decimal texts.
+//! The mathematics of whole numbers below the exact arithmetic: greatest common divisors, division of signed numbers, a solver of
+//! equations in any commutative ring, and decimal texts.
 #![tactic(auto)]
 
 ghost use Rattle.it_number.specs.Laws.{EuclidsLemma, GcdIsGreatest, LcmIsLeast};
