@@ -7,13 +7,13 @@ use Rattle.it_space.specs.Answers.{CertificateView}
 abbrev pub Form : Type 0
 Form = (ℕ → ℤ) → ℤ
 
--- what an answer may be built from: for each number below `count` a form that is to be at least 0, or to be 0 where it is an equation
+-- the forms that a certificate may weigh: for each number below `count` one that must be at least 0, or be 0 where it is an equation
 pub record Generators : Type 0 where
   pub count : ℕ
   pub form : ℕ → Form
   pub is_equation : ℕ → Bool
 
--- the sum over a list of numbered weights
+-- the sum over a list of numbered weights of each weight times the value of f at its number
 abbrev pub combination : List (ℕ × ℤ) → (ℕ → ℤ) → ℤ
 combination [] f = pos 0
 combination (w ∷ ws) f = w.1 *ℤ f w.0 +ℤ combination ws f
