@@ -1,4 +1,4 @@
--- Where a term belongs, and where a rate that stays has its coordinate. No public clause cites this module.
+-- The place of a term, and the coordinate of a rate that stays. No public clause cites this module.
 use Rattle.std.specs.Prelude.{ℕ, ◌+◌, ◌^◌, ◌<◌, ◌≤◌, List, [], ◌∷◌, length, nat_eq, if◌then◌else◌}
 use Rattle.std.specs.List.{AllWithin, list_any}
 use Rattle.it_space.specs.declared.spaces.Space.{Space}
