@@ -10,7 +10,7 @@ use crate::inequalities::count;
 use crate::rows::coefficient;
 use it_space::{Kind, Problem, VarSet};
 
-/// How many generators a problem has.
+/// The number of generators of `problem`.
 pub fn generator_count(problem: &Problem) -> u32
     requires { IsProblem (problem_view problem.now) }
     ensures { result ≡ length (generators (problem_view problem.now)) }
@@ -18,7 +18,7 @@ pub fn generator_count(problem: &Problem) -> u32
     count(problem.space.variables) + problem.constraints.len() as u32
 }
 
-/// Whether a generator is to be at least 0, as each elemental inequality is, or to be 0.
+/// The kind of generator `index`: whether it must be at least 0, like each elemental inequality, or must be 0.
 pub fn kind_at(problem: &Problem, index: u32) -> Kind
     requires problem { IsProblem (problem_view problem.now) }
     requires listed { index < length (generators (problem_view problem.now)) }
@@ -31,7 +31,7 @@ pub fn kind_at(problem: &Problem, index: u32) -> Kind
     problem.constraints[(index - elementals) as usize].kind
 }
 
-/// Whether a generator is to be 0, so that its weight in a certificate may be negative.
+/// Whether generator `index` must be 0, so that its weight in a certificate may be negative.
 pub fn is_equation(problem: &Problem, index: u32) -> bool
     requires problem { IsProblem (problem_view problem.now) }
     requires listed { index < length (generators (problem_view problem.now)) }
@@ -43,7 +43,7 @@ pub fn is_equation(problem: &Problem, index: u32) -> bool
     }
 }
 
-/// The coefficient of a generator at a coordinate, which are counted from 1.
+/// The coefficient of generator `index` at `coordinate`; coordinates are counted from 1.
 pub fn coefficient_at(problem: &Problem, index: u32, coordinate: u32) -> i128
     requires problem { IsProblem (problem_view problem.now) }
     requires listed { index < length (generators (problem_view problem.now)) }
@@ -60,7 +60,7 @@ pub fn coefficient_at(problem: &Problem, index: u32, coordinate: u32) -> i128
     elemental_coefficient(n, index, coordinate)
 }
 
-/// The coefficient of an elemental inequality at any coordinate: 0 at rates.
+/// The coefficient of elemental inequality `index` at `coordinate`, which is 0 at rates.
 fn elemental_coefficient(n: u8, index: u32, coordinate: u32) -> i128
     requires some { 1 ≤ n }
     requires few { n ≤ 10 }
