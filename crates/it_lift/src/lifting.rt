@@ -18,8 +18,9 @@ use it_elemental::count;
 use it_space::{Certificate, Problem, Row, RowFault, VarSet};
 use std::alloc::Global;
 
-/// The certificate over all sets that a certificate over closed sets stands for: what is left over at a set is moved to
-/// its closure, by the inequalities and equations that hold for the two. Without dependences it is the same certificate.
+/// The certificate over all sets that `collapsed`, a certificate over closed sets, represents: the excess at each set is moved to its
+/// closure, by inequalities and equations between the two. Without dependences it is a copy of `collapsed`. `Wide` if a number passes
+/// the limit.
 pub fn lift(
     alloc: Global,
     problem: &Problem,
@@ -43,7 +44,7 @@ pub fn lift(
     lift_all(alloc, problem, dependences, target, collapsed)
 }
 
-/// The same with every number formed.
+/// Like `lift`, without the shortcut for no dependences.
 fn lift_all(
     alloc: Global,
     problem: &Problem,
@@ -69,7 +70,7 @@ fn lift_all(
     })
 }
 
-/// Adds to the weights of what evens out the excesses at all sets.
+/// Adds to the weights of the generators that cancel the excesses at all sets.
 fn add_all(
     alloc: Global,
     sums: &mut WeightSums,
@@ -93,7 +94,7 @@ fn add_all(
     Ok(())
 }
 
-/// The same for the nonempty sets.
+/// Like `add_all`, for the nonempty sets.
 fn add_others(
     alloc: Global,
     sums: &mut WeightSums,
