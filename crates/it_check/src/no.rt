@@ -1,4 +1,4 @@
-//! The verdicts on a point that is to meet a problem, and on a counterexample.
+//! The verdicts on a point that should meet a problem, and on a counterexample.
 ghost use Rattle.std.specs.Prelude.{◌≡◌, ◌<◌, length, pos};
 ghost use Rattle.it_space.specs.Problems.{IsProblem, problem_view};
 ghost use Rattle.it_space.specs.Rows.{IsOver, point_of};
@@ -14,7 +14,7 @@ use crate::verdicts::Verdict;
 use it_elemental::{count, generator_count, kind_at};
 use it_space::{Kind, Point, Problem, Row, value};
 
-/// Whether a value is not as the kind says.
+/// Whether `value` violates an inequality or an equation.
 fn violates(kind: Kind, value: i128) -> bool
     ensures { result ≡ violates kind value }
 {
@@ -24,7 +24,7 @@ fn violates(kind: Kind, value: i128) -> bool
     }
 }
 
-/// The finding of a generator that the point violates, by its number.
+/// The verdict that generator `index`, whose value at the point is `value`, is violated.
 fn violation(problem: &Problem, index: u32, value: i128) -> Verdict
     requires { IsProblem (problem_view problem.now) }
     ensures { result ≡ violation (length (elementals problem.now.space.variables)) index value }
@@ -36,7 +36,7 @@ fn violation(problem: &Problem, index: u32, value: i128) -> Verdict
     }
 }
 
-/// A generator that isn't met, or whose value is wide.
+/// The verdict on `point` at generator `index`: that it is violated, or its value is wide; `None` if it is met.
 fn of_generator(problem: &Problem, index: u32, point: &Point) -> Option<Verdict>
     requires problem { IsProblem (problem_view problem.now) }
     requires listed { index < length (generators (problem_view problem.now)) }
@@ -53,7 +53,7 @@ fn of_generator(problem: &Problem, index: u32, point: &Point) -> Option<Verdict>
     }
 }
 
-/// The first such generator.
+/// The verdict at the first generator that is violated or whose value is wide; `None` if there is none.
 fn of_generators(problem: &Problem, point: &Point) -> Option<Verdict>
     requires problem { IsProblem (problem_view problem.now) }
     requires complete { length point.now ≡ size_of problem.now.space }
@@ -67,7 +67,7 @@ fn of_generators(problem: &Problem, point: &Point) -> Option<Verdict>
     None
 }
 
-/// Whether the point meets the problem: the first thing that is wrong with it, in order of the generators.
+/// Whether `point` meets `problem`: `Valid`, or the first fault, in order of the generators.
 #[tactic(auto, unfolding(crate::specs::Verdicts::met_verdict))]
 pub fn check_met(problem: &Problem, point: &Point) -> Verdict
     requires problem { IsProblem (problem_view problem.now) }
@@ -80,7 +80,7 @@ pub fn check_met(problem: &Problem, point: &Point) -> Verdict
     }
 }
 
-/// A target that isn't violated, or whose value is wide.
+/// The verdict on `point` at the target: that it isn't violated, or its value is wide; `None` if it is violated.
 fn of_target(problem: &Problem, target: &Row, point: &Point) -> Option<Verdict>
     requires problem { IsProblem (problem_view problem.now) }
     requires target { IsOver (size_of problem.now.space) target.now }
@@ -98,8 +98,7 @@ fn of_target(problem: &Problem, target: &Row, point: &Point) -> Option<Verdict>
     }
 }
 
-/// Whether the point meets the problem and violates the target: the first thing that is wrong with it, in order of the
-/// generators and then the target.
+/// Whether `point` meets `problem` and violates `target`: `Valid`, or the first fault, in order of the generators and then the target.
 pub fn check_no(problem: &Problem, target: &Row, point: &Point) -> Verdict
     requires problem { IsProblem (problem_view problem.now) }
     requires target { IsOver (size_of problem.now.space) target.now }

@@ -9,7 +9,7 @@ use it_elemental::{count, value_at as elemental_value};
 use it_fraction::Wide;
 use it_space::{Point, Problem, value};
 
-/// The value of a generator at a point.
+/// The value of generator `index` at `point`; `Wide` if a product or a partial sum passes the limit.
 pub fn generator_value(problem: &Problem, index: u32, point: &Point) -> Result<i128, Wide>
     requires problem { IsProblem (problem_view problem.now) }
     requires listed { index < length (generators (problem_view problem.now)) }

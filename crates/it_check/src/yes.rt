@@ -13,7 +13,7 @@ use it_elemental::{coefficient_at, generator_count, is_equation};
 use it_fraction::{Wide, signed_product};
 use it_space::{Certificate, Problem, Row, with_product};
 
-/// What is wrong with the scale, None if nothing.
+/// The fault of the scale; `None` if it has none.
 fn of_scale(certificate: &Certificate) -> Option<Verdict>
     ensures { result ≡ of_scale certificate.now.scale }
 {
@@ -25,7 +25,7 @@ fn of_scale(certificate: &Certificate) -> Option<Verdict>
     }
 }
 
-/// A weight of a generator that isn't there, or a negative one of an inequality.
+/// The fault of a weight: no generator has its number, or it is negative for an inequality; `None` if it has none.
 fn of_weight(problem: &Problem, weight: &(u32, i128)) -> Option<Verdict>
     requires { IsProblem (problem_view problem.now) }
     ensures { result ≡ of_weight (generators (problem_view problem.now)) weight.now }
@@ -40,7 +40,7 @@ fn of_weight(problem: &Problem, weight: &(u32, i128)) -> Option<Verdict>
     None
 }
 
-/// The first such weight.
+/// The first fault of a weight; `None` if there is none.
 fn of_weights(problem: &Problem, weights: &[(u32, i128)]) -> Option<Verdict>
     requires { IsProblem (problem_view problem.now) }
     ensures { result ≡ of_weights (generators (problem_view problem.now)) weights.now }
@@ -53,14 +53,14 @@ fn of_weights(problem: &Problem, weights: &[(u32, i128)]) -> Option<Verdict>
     None
 }
 
-/// The scale times the target's coefficient at a coordinate.
+/// The scale times the target's coefficient at coordinate `at`; `Wide` if it passes the limit.
 fn left_number(target: &Row, certificate: &Certificate, at: u32) -> Result<i128, Wide>
     ensures { OkIff result (IsWithin (certificate.now.scale *ℤ coefficient target.now at)) (certificate.now.scale *ℤ coefficient target.now at) }
 {
     signed_product(certificate.scale, target.coefficient(at))
 }
 
-/// The sum of weights times coefficients at a coordinate.
+/// The sum of the weights times the generators' coefficients at `coordinate`; `Wide` if a product or a partial sum passes the limit.
 fn right_number(problem: &Problem, weights: &[(u32, i128)], coordinate: u32) -> Result<i128, Wide>
     requires problem { IsProblem (problem_view problem.now) }
     requires listed { All (λ w. w.0 < length (generators (problem_view problem.now))) weights.now }
@@ -75,7 +75,7 @@ fn right_number(problem: &Problem, weights: &[(u32, i128)], coordinate: u32) -> 
     Ok(sum)
 }
 
-/// Sides that differ at a coordinate, or one of them wide.
+/// The fault at `coordinate`: the two sides differ, or one of them is wide; `None` if there is none.
 fn of_coordinate(
     problem: &Problem,
     target: &Row,
@@ -104,7 +104,7 @@ fn of_coordinate(
     })
 }
 
-/// The first coordinate with such sides.
+/// The fault at the first coordinate that has one; `None` if none has.
 fn of_coordinates(problem: &Problem, target: &Row, certificate: &Certificate) -> Option<Verdict>
     requires problem { IsProblem (problem_view problem.now) }
     requires listed { All (λ w. w.0 < length (generators (problem_view problem.now))) certificate.now.weights.items }
@@ -118,8 +118,8 @@ fn of_coordinates(problem: &Problem, target: &Row, certificate: &Certificate) ->
     None
 }
 
-/// Whether the weights add up to the target at its scale: the first thing that is wrong with them, in order of the scale,
-/// the weights as listed and the coordinates.
+/// Whether the weights add up to the scale times `target`: `Valid`, or the first fault, in order of the scale, the weights as listed
+/// and the coordinates.
 pub fn check_yes(problem: &Problem, target: &Row, certificate: &Certificate) -> Verdict
     requires problem { IsProblem (problem_view problem.now) }
     requires target { IsOver (size_of problem.now.space) target.now }
