@@ -1,4 +1,4 @@
-//! Rows that go.
+//! Drops of rows from the list of a hull.
 ghost use Rattle.std.specs.Prelude.{◌≡◌, ◌<◌, ◌≤◌, length, map, All, IfOk, IfNone, OnOk};
 ghost use Rattle.std.specs.List.{remove};
 ghost use Rattle.it_space.specs.Problems.{problem_view};
@@ -13,7 +13,7 @@ use it_eliminate::problem_with;
 use it_space::{Problem, Row};
 use std::alloc::{AllocError, Global};
 
-/// Takes a drop's row out of the rows, and tells whether its certificate shows that it follows from those that are left.
+/// Removes the row of `drop` from `rows`, and returns the verdict on its certificate that the row follows from those that are left.
 fn take_row(
     alloc: Global,
     givens: &Problem,
@@ -33,7 +33,7 @@ fn take_row(
     Ok(check_yes(&problem, &row, &drop.proof))
 }
 
-/// What a verdict finds wrong with a drop.
+/// The fault that `verdict` means for the drop of this number after the ray of that one; `None` if it is `Valid`.
 fn verdict_fault(ray: usize, number: usize, verdict: Verdict) -> Option<Fault>
     ensures { result ≡ verdict_fault ray number verdict }
 {
@@ -47,7 +47,7 @@ fn verdict_fault(ray: usize, number: usize, verdict: Verdict) -> Option<Fault>
     }
 }
 
-/// What is wrong with a drop; where nothing is, its row goes.
+/// The fault of `drop`; `None` if it has none, and then its row is removed.
 fn drop_row(
     alloc: Global,
     givens: &Problem,
@@ -70,7 +70,7 @@ fn drop_row(
     Ok(verdict_fault(ray, number, verdict))
 }
 
-/// The first fault of the drops after a ray; where there is none, their rows go.
+/// The first fault of the drops after a ray; `None` if there is none, and then their rows are removed.
 pub fn drop_rows(
     alloc: Global,
     givens: &Problem,

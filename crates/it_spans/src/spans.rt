@@ -1,4 +1,4 @@
-//! The hull of rays, a step after the other.
+//! The hull of rays, one step after the other.
 ghost use Rattle.std.specs.Prelude.{◌≡◌, ◌≤◌, length, map, All, IfOk};
 ghost use Rattle.it_space.specs.Problems.{problem_view};
 ghost use Rattle.it_space.specs.Rows.{IsOver};
@@ -16,7 +16,7 @@ use it_hull::{constants, first_rows, with_ray};
 use it_space::{Problem, Row, System};
 use std::alloc::{AllocError, Global};
 
-/// The rows of a system that is let go.
+/// Consumes the system and returns its rows.
 fn rows_of(alloc: Global, system: System) -> Vec<Row>
     ensures { result.items ≡ system.rows.items }
 {
@@ -24,7 +24,7 @@ fn rows_of(alloc: Global, system: System) -> Vec<Row>
     std::mem::replace(&mut system.rows, Vec::new(alloc))
 }
 
-/// What drops leave of the rows of a system.
+/// The rows of `system` that `drops` leave, or the first fault of the drops.
 fn after_drops(
     alloc: Global,
     givens: &Problem,
@@ -45,7 +45,7 @@ fn after_drops(
     }
 }
 
-/// What a step makes of the rows of a hull.
+/// The rows of a hull after `step`, whose ray has the number `ray`, or the step's first fault.
 fn after_step(
     alloc: Global,
     frame: Frame,
@@ -75,7 +75,7 @@ fn after_step(
     }
 }
 
-/// What steps make of the rows of no ray.
+/// The rows of the hull of no rays after `steps`, or the first fault.
 fn after_steps(
     alloc: Global,
     frame: Frame,
@@ -98,8 +98,8 @@ fn after_steps(
     Ok(Spanned::Hull(rows))
 }
 
-/// The hull of the rays of steps: from the rows of no ray one step after the other, each of which puts in its ray by elimination, and
-/// then takes out the rows of its drops. What is wrong first, in the order of the steps and of their drops, is the end.
+/// The hull of the rays of `steps`, made from the rows of no rays by one step after the other: each adds its ray by elimination, and
+/// then removes the rows of its drops. The first fault, in the order of the steps and of their drops, is the end.
 pub fn hull(
     alloc: Global,
     frame: Frame,
@@ -112,7 +112,7 @@ pub fn hull(
     ensures ends { IfOk result (λ s. SpanEnds frame kept.now (step_views steps.now) (spanned_view s)) }
     ensures hull { IfOk result (λ s. IsRightSpan kept.now (rays_of (step_views steps.now)) (spanned_view s)) }
 {
-    // named before it is answered, so that the contract of the call stands at the answer
+    // named before it is returned, so that the contract of the call is available at the return
     let end = after_steps(alloc, frame, kept, steps)?;
     Ok(end)
 }
