@@ -29,7 +29,7 @@ fn opposite_terms(alloc: Global, terms: &[(u32, i128)]) -> Result<Vec<(u32, i128
     Ok(opposites)
 }
 
-/// The row with all signs turned: its value at each point is the negated one.
+/// The negated row: its value at each point is the negated value of `row`.
 pub fn opposite_row(alloc: Global, row: &Row) -> Result<Row, AllocError>
     ensures { IfOk result (λ r. r ≡ negated_terms row.now) }
 {
@@ -37,7 +37,7 @@ pub fn opposite_row(alloc: Global, row: &Row) -> Result<Row, AllocError>
     Ok(Row::new(terms))
 }
 
-/// The row of a generator by its number: below their count an elemental inequality, from there on a constraint.
+/// The row of generator `index`: an elemental inequality below their count, from there on a constraint.
 pub fn generator_row(alloc: Global, problem: &Problem, index: u32) -> Result<Row, AllocError>
     requires problem { IsProblem (problem_view problem.now) }
     requires listed { index < length (generators (problem_view problem.now)) }
