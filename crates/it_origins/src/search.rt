@@ -1,4 +1,4 @@
-//! The search for constraints whose sum a row is. What is found is judged by the checker, so no clause says it here.
+//! The search for constraints whose sum is a given row. The checker judges the result, so the functions here have no contracts about it.
 ghost use Rattle.it_space.specs.Problems.{IsProblem, problem_view};
 
 use crate::columns::{Column, all_columns, rows_of, used_coordinates};
@@ -6,13 +6,13 @@ use crate::sums::{ColumnSum, column_sum};
 use it_space::{Problem, Row};
 use std::alloc::{AllocError, Global};
 
-/// Shorter sums are looked for where there are so many constraints at most, each with its opposite.
+/// Shorter sums are searched for if there are at most this many columns: constraints, and negated equations.
 const MOST_COLUMNS: usize = 80;
 
-/// The most times that a sum is made shorter.
+/// The most times that a sum is shortened.
 const MOST_ROUNDS: u32 = 16;
 
-/// Columns, and weights of some of them, by their places, that make a sum.
+/// Columns, and weights of some of them, by their places, that sum to a row.
 pub struct Choice {
     pub columns: Vec<Column>,
     pub sum: ColumnSum,
@@ -24,7 +24,7 @@ impl Drop for Choice {
     }
 }
 
-/// A sum of some of the columns that the row is.
+/// A sum of some of `columns` that equals `row`, up to a positive factor.
 fn sum_of(
     alloc: Global,
     problem: &Problem,
@@ -41,7 +41,7 @@ fn sum_of(
     }
 }
 
-/// The columns without the one at a place.
+/// `columns` without the one at `place`.
 fn without(alloc: Global, columns: &[Column], place: usize) -> Result<Vec<Column>, AllocError> {
     let mut others = Vec::new(alloc);
     for (i, column) in columns.iter().enumerate() {
@@ -52,7 +52,7 @@ fn without(alloc: Global, columns: &[Column], place: usize) -> Result<Vec<Column
     Ok(others)
 }
 
-/// A sum of fewer columns than these, where one is found without one of them.
+/// A sum of fewer columns than those of `found`, if one is found without one of them.
 fn shorter(
     alloc: Global,
     problem: &Problem,
@@ -72,7 +72,7 @@ fn shorter(
     Ok(None)
 }
 
-/// One column alone of which the row is a multiple.
+/// A single column of which `row` is a multiple, if there is one.
 fn single(
     alloc: Global,
     problem: &Problem,
@@ -90,7 +90,8 @@ fn single(
     Ok(None)
 }
 
-/// A sum of constraints that the row is: of one alone where there is one, else without columns that can be left out one by one.
+/// A sum of constraints that equals `row`, up to a positive factor: a single one if there is one; else, if there are few, one without
+/// columns that could be left out.
 pub fn short_sum(alloc: Global, problem: &Problem, row: &Row) -> Result<Option<Choice>, AllocError>
     requires { IsProblem (problem_view problem.now) }
 {
