@@ -1,4 +1,4 @@
-//! The answer about one target: by a quick run where one comes first, and where that settles nothing by the defined run.
+//! The answer about one target: by a quick run if one comes first, and if that doesn't settle it, by the defined run.
 ghost use Rattle.std.specs.Prelude.{◌≡◌, ◌≢◌, ℕ, true, IfOk, OnOk};
 ghost use Rattle.std.specs.Option.{IfNone, IfSome};
 ghost use Rattle.it_space.specs.declared.answers.Cause.TheVariants as causes;
@@ -14,11 +14,11 @@ use crate::types::{Effort, Proof};
 use it_space::{Problem, Row};
 use std::alloc::{AllocError, Global};
 
-/// A quick run has at most so many steps. Nobody sees it in an answer.
+/// The most steps of a quick run. Answers don't show it.
 pub const QUICK_STEPS: u32 = 4000;
 
 impl ClosedProblem {
-    /// What a quick run settles, where one comes first.
+    /// The proof by a quick run, if one comes first and settles the target.
     fn settled(
         &mut self,
         alloc: Global,
@@ -40,9 +40,9 @@ impl ClosedProblem {
         }
     }
 
-    /// The answer of `prove` for a target under a problem that this one is of, or that goes on after the constraints of
-    /// such a problem by constraints of `row` lines. It is then of the same problems as before. A quick run comes first where the
-    /// effort has one here and had one when the problem was read.
+    /// The answer of `prove` about `target` under `problem`, which is the problem that was read, or has further constraints after those of
+    /// it, of `row` lines. Afterwards the closed problem serves the same problems as before. A quick run comes first if `effort` has one
+    /// here and had one when the problem was read.
     pub fn prove(
         &mut self,
         alloc: Global,
@@ -65,12 +65,11 @@ impl ClosedProblem {
     }
 }
 
-/// Whether the target, a row over the coordinates of the problem's space, is at least 0 wherever a polymatroid and rates
-/// meet the problem. The answer is that of the defined run over closed sets with Bland's rule (Bland 1977): a certificate
-/// or a point that the check finds valid, `Pivots` with the budget where its steps don't suffice, which is never without
-/// one, `Width` with the step that has a number past the limit, 0 for the start, and `Scale` where the scaled answer has one.
-/// With an effort that has a quick run first, a certificate or a point that this run proposes and the check finds valid comes in
-/// the place of that answer.
+/// Whether `target`, a row over the coordinates of the problem's space, is at least 0 wherever a polymatroid and rates meet `problem`.
+/// The answer is that of the defined run over closed sets with Bland's rule (Bland 1977): a certificate or a point that the check finds
+/// valid; `Pivots` with the budget if its steps don't suffice, which never happens without one; `Width` with the step at which a number
+/// passes the limit, 0 for the start; or `Scale` if a number of the scaled answer passes the limit. If `effort` has a quick run first, a
+/// certificate or a point that this run proposes and the check finds valid is the answer instead.
 pub fn prove(
     alloc: Global,
     problem: &Problem,

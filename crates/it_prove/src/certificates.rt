@@ -1,4 +1,4 @@
-//! A certificate from the weights of columns.
+//! Certificates from the weights of columns.
 ghost use Rattle.std.specs.Prelude.{◌≡◌, ◌<◌, ◌^◌, ℕ, ℤ, pos, ◌-ℤ◌, ◌≤ℤ◌, length, IfErr, IfOk, OnOk};
 ghost use Rattle.it_space.specs.Answers.{certificate_view};
 ghost use Rattle.it_space.specs.Problems.{IsProblem, problem_view};
@@ -19,7 +19,8 @@ use it_fraction::Fraction;
 use it_space::{Certificate, Kind, Problem, Row, RowFault, push_some};
 use std::alloc::{AllocError, Global};
 
-/// The weight of a generator whose first column is given. The second one of an equation counts against the first.
+/// The weight of a generator of this kind whose first column is `column`, where `row` has the weights of columns: for an equation that
+/// of the second column is subtracted.
 fn weight_of(row: &Row, kind: Kind, column: u32) -> i128
     requires positive { (c : ℕ) → pos 0 ≤ℤ coefficient row.now c }
     requires few { column < 2 ^ 31 }
@@ -31,7 +32,7 @@ fn weight_of(row: &Row, kind: Kind, column: u32) -> i128
     }
 }
 
-/// The weights of generators, each after its number, by a row that has the weight of each column.
+/// The nonzero weights of generators, each after its number, where `row` has the weights of columns.
 fn generator_weights(
     alloc: Global,
     problem: &Problem,
@@ -51,8 +52,8 @@ fn generator_weights(
     Ok(weights)
 }
 
-/// The certificate over the generators by the weights of their columns, which ascend by column: each weight times the
-/// least common multiple of the denominators. `Wide` where that multiple or a weight times it passes the limit.
+/// The certificate over the generators by the weights of their columns, which ascend by column: its scale is the least common multiple
+/// of the denominators, and each weight is multiplied by it. `Wide` if the scale or a multiplied weight passes the limit.
 pub fn certificate(
     alloc: Global,
     problem: &Problem,

@@ -11,7 +11,7 @@ use it_elemental::kind_at;
 use it_space::{Problem, Row, RowFault};
 use std::alloc::Global;
 
-/// The row of a generator over closed sets. `Wide` where a partial sum of its coefficients passes the limit.
+/// The row of generator `index` over closed sets. `Wide` if a partial sum of its coefficients passes the limit.
 fn collapsed_row(
     alloc: Global,
     problem: &Problem,
@@ -26,12 +26,12 @@ fn collapsed_row(
     ensures wide { IfErr result (λ f. f ≡ RowFault.Wide → ¬ (GeneratorFits (problem_view problem.now) dependences.now.list index)) }
 {
     let row = generator_row(alloc, problem, index)?;
-    // named before it is answered, so that the contract of the call stands at the answer
+    // named before it is returned, so that the contract of the call is available at the return
     let closed = dependences.collapse(alloc, &row)?;
     Ok(closed)
 }
 
-/// Puts the columns of a generator over closed sets after the others.
+/// Appends the columns of generator `index` over closed sets. `Wide` as for `collapsed_row`.
 pub fn push_columns(
     columns: &mut Vec<Row>,
     alloc: Global,

@@ -16,7 +16,7 @@ use it_fraction::Fraction;
 use it_space::{Point, Problem, Row, RowFault, push_some};
 use std::alloc::{AllocError, Global};
 
-/// Puts a coordinate with its value after the others, unless the value is 0.
+/// Appends coordinate number `k` with its value, unless that is 0.
 fn put_pair(
     terms: &mut Vec<(u32, i128)>,
     coordinates: &[u32],
@@ -30,7 +30,7 @@ fn put_pair(
     push_some(terms, coordinates[k], values[k])
 }
 
-/// The values other than 0, each after its coordinate.
+/// The nonzero values, each after its coordinate.
 fn terms_of_places(
     alloc: Global,
     coordinates: &[u32],
@@ -40,14 +40,14 @@ fn terms_of_places(
     ensures { IfOk result (λ v. v.items ≡ terms_of_places coordinates.now values.now) }
 {
     let mut terms = Vec::new(alloc);
-    // by index, since the invariant speaks of both lists from k on
+    // by index, since the invariant is about both lists from k on
     for k in 0..coordinates.len() {
         put_pair(&mut terms, coordinates, values, k)?;
     }
     Ok(terms)
 }
 
-/// Puts the value of a coordinate, which a row over the places has at its place, after the others.
+/// Appends the value at `coordinate`, where `row` has the values at places.
 fn put_value(
     values: &mut Vec<i128>,
     dependences: &Dependences,
@@ -60,7 +60,7 @@ fn put_value(
     Ok(())
 }
 
-/// The values at all coordinates from 1 on by a row that has the value at each place.
+/// The values at all coordinates, from 1 on, where `row` has the values at places.
 fn spread_values(
     alloc: Global,
     dependences: &Dependences,
@@ -76,7 +76,7 @@ fn spread_values(
     Ok(values)
 }
 
-/// The point over closed sets times its scale, as a row. `Wide` where the scale or a value passes the limit.
+/// The values of `point`, over closed sets, times their scale, as a row. `Wide` if the scale or a value passes the limit.
 fn whole_row(alloc: Global, coordinates: &[u32], point: &[Fraction]) -> Result<Row, RowFault>
     requires rise { (to : ℕ) × RiseTo 1 to coordinates.now }
     requires complete { length point.now ≡ length coordinates.now }
@@ -91,8 +91,8 @@ fn whole_row(alloc: Global, coordinates: &[u32], point: &[Fraction]) -> Result<R
     Ok(Row::new(terms))
 }
 
-/// The point over all coordinates by the run's point, which has one value for each coordinate of the run: the values are
-/// made whole and spread out. `Wide` where the scale or a value passes the limit.
+/// The point over all coordinates by the run's `point`, which has a value for each coordinate of the run: the values are made whole and
+/// spread out. `Wide` if the scale or a value passes the limit.
 pub fn whole_point(
     alloc: Global,
     problem: &Problem,

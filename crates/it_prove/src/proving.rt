@@ -1,5 +1,5 @@
 //! The answer of the defined run about one target: collapse, run, lift or spread out, check.
-//! A last call is named before it is answered, so that its contract stands at the answer.
+//! The result of a last call is named before it is returned, so that its contract is available at the return.
 ghost use Rattle.std.specs.Prelude.{◌≡◌, ◌++◌, ℕ, IfErr, IfOk, OnOk};
 ghost use Rattle.it_space.specs.Answers.{certificate_view};
 ghost use Rattle.it_space.specs.Problems.{IsProblem, ProblemView, problem_view};
@@ -26,8 +26,8 @@ use it_simplex::{Budget, Solved, solve};
 use it_space::{Cause, Certificate, Problem, Row, RowFault};
 use std::alloc::{AllocError, Global};
 
-/// The certificate that weights of the columns over closed sets make, lifted to all sets. `Wide` where a number of the
-/// scaled weights or of the lift passes the limit.
+/// The certificate by weights of the columns over closed sets, lifted to all sets. `Wide` if a number of the scaled weights or of the
+/// lift passes the limit.
 fn lifted_certificate(
     alloc: Global,
     problem: &Problem,
@@ -50,7 +50,7 @@ fn lifted_certificate(
     Ok(certificate)
 }
 
-/// The answer by weights, a yes only where the check finds the certificate valid.
+/// The answer by weights: a yes only if the check finds the certificate valid.
 fn by_weights(
     alloc: Global,
     problem: &Problem,
@@ -75,7 +75,7 @@ fn by_weights(
     }
 }
 
-/// The answer by a point, a no only where the check finds the point valid.
+/// The answer by a point: a no only if the check finds the point valid.
 fn by_point(
     alloc: Global,
     problem: &Problem,
@@ -102,14 +102,14 @@ fn by_point(
     }
 }
 
-/// What the run is given besides: the columns that aren't there yet, and the target over closed sets.
+/// The rest of the run's input: the columns that a closed problem doesn't have, and the target over closed sets.
 #[derive(Drop)]
 struct ClosedRows {
     columns: Vec<Row>,
     target: Row,
 }
 
-/// The columns that aren't there yet, and the target, over closed sets. `Wide` where a partial sum of a coefficient passes the limit.
+/// The columns that `closed` doesn't have, and `target`, over closed sets. `Wide` if a partial sum of a coefficient passes the limit.
 fn collapse_rows(
     alloc: Global,
     problem: &Problem,
@@ -129,7 +129,7 @@ fn collapse_rows(
     Ok(ClosedRows { columns, target })
 }
 
-/// The answer by the run over closed sets, where all columns are there.
+/// The answer by the run over closed sets, where `closed` has all columns.
 fn closed_proof(
     alloc: Global,
     problem: &Problem,
@@ -175,7 +175,7 @@ fn closed_proof(
     }
 }
 
-/// The answer with more columns put after those that are there; they are taken off once the run is over.
+/// The answer by the run with the further columns of `rows`, which `closed` has only during the run.
 fn with_columns(
     alloc: Global,
     problem: &Problem,

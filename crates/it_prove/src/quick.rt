@@ -1,4 +1,4 @@
-//! What a quick run settles: its proposal, where the check finds it valid.
+//! Proofs by a quick run: its proposals that the check finds valid.
 ghost use Rattle.std.specs.Prelude.{◌≡◌, ◌≢◌, ◌≤◌, All, IfOk, length, pos};
 ghost use Rattle.std.specs.Bool.{OnTrue};
 ghost use Rattle.std.specs.Option.{IfSome};
@@ -14,14 +14,15 @@ use it_quick::{Proposal, QuickProblem};
 use it_space::{Certificate, Point, Problem, Row};
 use std::alloc::{AllocError, Global};
 
-/// Whether a weight may stand in a list that ascends from a number on.
+/// Whether `weight` may be the next in an ascending list: its generator's number is at least `from`, and it is nonzero and within the
+/// limit.
 fn may_stand(from: u32, weight: &(u32, i128)) -> bool
     ensures { OnTrue result ((from ≤ weight.now.0) × (weight.now.1 ≢ pos 0) × IsWithin weight.now.1) }
 {
     from <= weight.0 && weight.1 != 0 && weight.1 != i128::MIN
 }
 
-/// Whether the weights ascend by generator from a number on, and none is 0.
+/// Whether the weights ascend by generator, from at least `from` on, and none is 0.
 fn ascends(weights: &[(u32, i128)], from: u32) -> bool
     ensures { OnTrue result (Ascends from weights.now) }
 {
@@ -39,7 +40,7 @@ fn ascends(weights: &[(u32, i128)], from: u32) -> bool
     }
 }
 
-/// The proof that a certificate whose weights ascend is, where the check finds it valid.
+/// The proof by `certificate`, whose weights ascend, if the check finds it valid.
 fn judged_yes(problem: &Problem, target: &Row, certificate: Certificate) -> Option<Proof>
     requires problem { IsProblem (problem_view problem.now) }
     requires target { IsOver (size_of problem.now.space) target.now }
@@ -53,7 +54,7 @@ fn judged_yes(problem: &Problem, target: &Row, certificate: Certificate) -> Opti
     }
 }
 
-/// The same of any certificate.
+/// The proof by `certificate`, if its weights ascend and the check finds it valid.
 fn checked_yes(problem: &Problem, target: &Row, certificate: Certificate) -> Option<Proof>
     requires problem { IsProblem (problem_view problem.now) }
     requires target { IsOver (size_of problem.now.space) target.now }
@@ -66,7 +67,7 @@ fn checked_yes(problem: &Problem, target: &Row, certificate: Certificate) -> Opt
     }
 }
 
-/// The refutation that a point with a value for each coordinate is, where the check finds it valid.
+/// The refutation by `point`, which has a value for each coordinate, if the check finds it valid.
 fn judged_no(problem: &Problem, target: &Row, point: Point) -> Option<Proof>
     requires problem { IsProblem (problem_view problem.now) }
     requires target { IsOver (size_of problem.now.space) target.now }
@@ -80,7 +81,7 @@ fn judged_no(problem: &Problem, target: &Row, point: Point) -> Option<Proof>
     }
 }
 
-/// The same of any point.
+/// The refutation by `point`, if it has a value for each coordinate and the check finds it valid.
 fn checked_no(problem: &Problem, target: &Row, point: Point) -> Option<Proof>
     requires problem { IsProblem (problem_view problem.now) }
     requires target { IsOver (size_of problem.now.space) target.now }
@@ -93,7 +94,7 @@ fn checked_no(problem: &Problem, target: &Row, point: Point) -> Option<Proof>
     }
 }
 
-/// What a proposal settles.
+/// The proof or refutation by `proposal`, if the check finds it valid.
 fn checked(problem: &Problem, target: &Row, proposal: Proposal) -> Option<Proof>
     requires problem { IsProblem (problem_view problem.now) }
     requires target { IsOver (size_of problem.now.space) target.now }
@@ -105,8 +106,8 @@ fn checked(problem: &Problem, target: &Row, proposal: Proposal) -> Option<Proof>
     }
 }
 
-/// What a quick run of at most so many steps settles of a target: a certificate or a point that the check finds valid. None where it
-/// settles nothing, which says nothing of the target.
+/// The proof or refutation of `target` by a quick run of at most `steps` steps: a certificate or a point that the check finds valid.
+/// `None` if it settles nothing, which says nothing about the target.
 pub fn settle(
     alloc: Global,
     quick: &mut QuickProblem,
