@@ -14,9 +14,8 @@ use it_prove::Effort;
 use it_space::{Problem, Space, System};
 use std::alloc::{AllocError, Global};
 
-/// The rows that are left of a system without rates, which are eliminated in the order of their list: the list after each rate is
-/// reduced before the next. At most `rows` may be left by a rate's step, before their reduction. The givens speak of entropies
-/// alone, and there is at least one rate.
+/// Eliminates `rates` from `system`, in the order of their list, and reduces the list of rows after each rate. A rate's step may leave
+/// at most `rows` rows, before their reduction. The givens are about entropies alone, and there is at least one rate.
 pub fn project(
     alloc: Global,
     system: &System,
@@ -33,12 +32,12 @@ pub fn project(
     ensures ends { IfOk result (λ e. ReducedEnds (problem_view givens.now) effort rows system.now.rows.items [] [] rates.now (projected_view e)) }
     ensures region { IfOk result (λ e. RegionIsReduced (problem_view givens.now) rates.now system.now.rows.items (projected_view e)) }
 {
-    // named before it is answered, so that the contract of the call stands at the answer
+    // named before it is returned, so that the contract of the call is available at the return
     let end = reduced_elimination(alloc, system, rates, givens, rows, effort)?;
     Ok(end)
 }
 
-/// Reduced elimination, without what follows for a region.
+/// Like `project`, without the claim that a region is the projection.
 fn reduced_elimination(
     alloc: Global,
     system: &System,
@@ -60,7 +59,7 @@ fn reduced_elimination(
     Ok(end)
 }
 
-/// What is left after a rate, of what was left before it: a cause stays.
+/// The result after `rate`, where `end` is the one before it: a cause stays.
 fn next_end(
     alloc: Global,
     end: Projected,
@@ -87,7 +86,7 @@ fn next_end(
     }
 }
 
-/// The rows that stay of a reduction, in order, as a system over this space.
+/// The rows that a reduction keeps, in order, as a system over `space`.
 pub fn kept_system(alloc: Global, space: Space, reduced: &Reduced) -> Result<System, AllocError>
     ensures space { IfOk result (λ s. s.space ≡ space) }
     ensures rows { IfOk result (λ s. s.rows.items ≡ map (λ k. k.0) reduced.now.kept.items) }
@@ -99,7 +98,7 @@ pub fn kept_system(alloc: Global, space: Space, reduced: &Reduced) -> Result<Sys
     Ok(System { space, rows })
 }
 
-/// What is left of a system after a rate.
+/// The result of the elimination of `rate` from `system` and of the reduction after it.
 fn after_rate(
     alloc: Global,
     system: &System,

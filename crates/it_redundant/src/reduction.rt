@@ -18,8 +18,8 @@ use it_prove::{ClosedProblem, Effort, Proof};
 use it_space::{Certificate, Problem, Row, System};
 use std::alloc::{AllocError, Global};
 
-/// The rows of a system without those that the others give. They are visited in order: each is the target of a run under the
-/// givens and all other rows that still stand, in order, each of these as a `row` line, counted from 1. A proof drops it.
+/// Reduces the rows of `system`: visits them in order, each as the target of a run under the givens and all other rows that are still
+/// in the list, in order, as `row` lines counted from 1. A row that is proved is dropped, any other is kept.
 pub fn reduce(
     alloc: Global,
     system: &System,
@@ -32,12 +32,12 @@ pub fn reduce(
     ensures alike { IfOk result (λ r. HoldAlike (problem_view givens.now) system.now.rows.items (kept_rows (kept_view r))) }
     ensures needed { IfOk result (λ r. AreNeeded (problem_view givens.now) (kept_view r)) }
 {
-    // named before it is answered, so that the contract of the call stands at the answer
+    // named before it is returned, so that the contract of the call is available at the return
     let reduced = reduced_rows(alloc, system.rows.as_slice(), givens, effort)?;
     Ok(reduced)
 }
 
-/// The reduction, without what follows for its rows.
+/// Like `reduce`, without the claims about the rows that are kept.
 fn reduced_rows(
     alloc: Global,
     rows: &[Row],
@@ -71,8 +71,8 @@ fn reduced_rows(
     Ok(reduced)
 }
 
-/// Visits a row: in the problem the rows that stay so far stand before it, the others after it. It is taken out for its run, and put
-/// back where it stays. What is made of the givens serves each visit.
+/// Visits `row`: in `problem` the rows kept so far are before it, and the unvisited ones after it. It is removed for its run, and
+/// inserted again if it is kept. `closed` is the closed problem of the givens, which serves each visit.
 fn visit(
     alloc: Global,
     givens: &Problem,
@@ -106,7 +106,7 @@ fn visit(
     Ok(())
 }
 
-/// Puts a row where its outcome wants it: after those that went, or after those that stay.
+/// Appends `row` to the dropped rows or to the kept ones, by its outcome.
 fn put(alloc: Global, reduced: &mut Reduced, row: &Row, proof: Proof) -> Result<(), AllocError>
     ensures kept { OnOk result (kept_view reduced.new ≡ kept_view reduced.old ++ kept_by row.now (proof_view proof)) }
     ensures dropped { OnOk result (dropped_view reduced.new ≡ dropped_view reduced.old ++ dropped_by row.now (proof_view proof)) }
@@ -118,7 +118,7 @@ fn put(alloc: Global, reduced: &mut Reduced, row: &Row, proof: Proof) -> Result<
     }
 }
 
-/// Puts a row with its certificate after those that went.
+/// Appends `row` with its certificate to the dropped rows.
 fn drop_row(
     alloc: Global,
     reduced: &mut Reduced,
@@ -132,7 +132,7 @@ fn drop_row(
     Ok(())
 }
 
-/// Puts a row with its need after those that stay.
+/// Appends `row` with its need to the kept rows.
 fn keep(alloc: Global, reduced: &mut Reduced, row: &Row, need: Need) -> Result<(), AllocError>
     ensures kept { OnOk result (kept_view reduced.new ≡ kept_view reduced.old ++ (row.now, need_view need) ∷ []) }
     ensures dropped { OnOk result (dropped_view reduced.new ≡ dropped_view reduced.old) }
