@@ -18,7 +18,7 @@ use it_hull::{constants, kept_coordinates};
 use it_space::{Problem, RowFault};
 use std::alloc::{AllocError, Global};
 
-/// What a search without some rates is about.
+/// The frame of the search for bounds of `problem` without the rates in `gone`.
 fn frame<'a>(
     alloc: Global,
     problem: &'a Problem,
@@ -43,7 +43,7 @@ fn frame<'a>(
     })
 }
 
-/// The second pass, from the extreme rays of the first.
+/// The second pass, from the extreme rays of the first. `Width` if the value of a row at a ray passes the limit.
 fn second_pass(
     alloc: Global,
     frame: &Frame<'_>,
@@ -98,10 +98,10 @@ fn both_passes(alloc: Global, frame: &Frame<'_>) -> Result<Outer, AllocError>
     Ok(end)
 }
 
-/// The bounds that a problem gives on its rates but for those of `gone`, counted from 0: rows with certificates, which are the hull
-/// of rays, each of which meets the problem. The search goes on while a row of the hull of the rays so far is refuted: that point is
-/// one more ray. It is made twice, the second time from the extreme rays that it found first, so that neither rays that aren't
-/// extreme nor the order in which they were found show in the bounds.
+/// The bounds of `problem` on its rates but those in `gone`, counted from 0: rows with certificates, which are the hull of rays, each of
+/// which meets the problem. The search goes on while a row of the hull of the rays so far is refuted: that point is added as a ray. It
+/// is made twice, the second time from the extreme rays that it found first, so that the bounds depend neither on rays that aren't
+/// extreme nor on the order in which rays were found.
 pub fn outer(
     alloc: Global,
     problem: &Problem,

@@ -12,7 +12,7 @@ use it_prove::{Effort, Proof};
 use it_space::{Problem, Row};
 use std::alloc::{AllocError, Global};
 
-/// Proves the rows one after the other, up to the first that has no proof.
+/// Proves `rows` one after the other, up to the first that has no proof.
 pub fn visit(
     alloc: Global,
     problem: &Problem,
