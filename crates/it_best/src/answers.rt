@@ -1,4 +1,4 @@
-//! The answers by the numbers of the phases, where these fit.
+//! The answers by the numbers of the phases; `Scale` if one of these passes the limit.
 ghost use Rattle.std.specs.Prelude.{◌≡◌, IfErr, IfOk, OnOk};
 ghost use Rattle.it_space.specs.Problems.{problem_view};
 ghost use Rattle.it_space.specs.Spaces.{size_of};
@@ -36,7 +36,7 @@ pub fn never(
     }
 }
 
-/// The answer by the weights of the third phase, where its numbers fit.
+/// The answer by the weights of the third phase; `Wide` if a number of it passes the limit.
 fn least_answer(
     alloc: Global,
     problem: &Problem,
@@ -98,7 +98,7 @@ pub fn least(
     }
 }
 
-/// The answer by the weights of the first phase and of the second, where their numbers fit.
+/// The answer by the weights of the first phase and of the second; `Wide` if a number of it passes the limit.
 fn unbounded_answer(
     alloc: Global,
     problem: &Problem,

@@ -25,7 +25,7 @@ use it_simplex::{Budget, Solved, solve};
 use it_space::{Problem, Row};
 use std::alloc::{AllocError, Global};
 
-/// How the run of a phase ends.
+/// The end of the run of a phase with `count` equations.
 fn phase_end(
     alloc: Global,
     unknowns: &[Unknown],
@@ -48,7 +48,7 @@ fn phase_end(
     )
 }
 
-/// The answer by the end of the third phase, which is no point after weights of the first and a point of the second.
+/// The answer by the end of the third phase, which isn't a point after weights of the first phase and a point of the second.
 fn third_answer(
     alloc: Global,
     problem: &Problem,
@@ -84,7 +84,7 @@ fn third_answer(
     }
 }
 
-/// How the run of the third phase ends.
+/// The end of the run of the third phase.
 fn third_end(
     alloc: Global,
     problem: &Problem,
@@ -101,7 +101,7 @@ fn third_end(
     phase_end(alloc, unknowns, right_equation(problem), &target, budget)
 }
 
-/// The answer by the third phase, where a point doesn't end it.
+/// The answer by the third phase, which doesn't end with a point.
 fn by_third_phase(
     alloc: Global,
     problem: &Problem,
@@ -159,7 +159,7 @@ fn second_answer(
     }
 }
 
-/// How the run of the second phase ends.
+/// The end of the run of the second phase.
 fn second_end(
     alloc: Global,
     problem: &Problem,
@@ -283,11 +283,11 @@ fn best_by_phases(
     by_first_phase(alloc, problem, left, right, budget)
 }
 
-/// Which numbers c make c times the left side at least the right one wherever a polymatroid and rates meet the problem. The sides
-/// are rows over the coordinates of the problem's space. Three runs of at most the budget's steps each look for it, over all sets:
-/// by the first there is such a number or none (`Never`), by the second there is no least one (`Unbounded`) or there is, and the
-/// third finds it (`Least`). `Size` comes where the third run's table has more than 4,000,000 entries, and is judged first;
-/// `Pivots` and `Width` tell the first run that has no end, `Scale` that the answer has a number past the limit.
+/// The numbers c for which c times `left` is at least `right` wherever a polymatroid and rates meet `problem`. The sides are rows over
+/// the coordinates of the problem's space. Three runs of at most the budget's steps each search for them, over all sets: the first
+/// decides whether there is such a number (else `Never`), the second whether there is a least one (else `Unbounded`), and the third
+/// finds it (`Least`). `Size` means that the third run's table would have more than 4,000,000 entries, and is tested first; `Pivots` and
+/// `Width` name the first run that has no end, and `Scale` means that a number of the answer passes the limit.
 pub fn best(
     alloc: Global,
     problem: &Problem,

@@ -1,4 +1,4 @@
-//! What is found, scaled and checked.
+//! Answers, scaled and checked.
 ghost use Rattle.std.specs.Prelude.{◌≡◌, ◌<◌, ◌^◌, ◌*ℤ◌, ◌≤ℤ◌, pos, neg_ℤ, map, length, IfErr, IfOk, OkIff, OnOk};
 ghost use Rattle.it_number.specs.Limit.{IsWithin};
 ghost use Rattle.it_space.specs.Answers.{certificate_view};
@@ -20,8 +20,7 @@ use it_ratio::{RowStop, side_row};
 use it_space::{Certificate, Point, Problem, Row, RowFault, value};
 use std::alloc::Global;
 
-/// The numerator of a factor times the left side less its denominator times the right one. `Wide` where a product or a difference
-/// passes the limit.
+/// The numerator of `factor` times `left` less its denominator times `right`. `Wide` if a product or a difference passes the limit.
 pub fn factor_row(
     alloc: Global,
     problem: &Problem,
@@ -48,7 +47,7 @@ pub fn factor_row(
     }
 }
 
-/// The certificate where the check finds it valid; else a number of the check passes the limit.
+/// `proof`, a certificate of `target`, if the check finds it valid; else `Wide`, as then a number of the check passes the limit.
 fn if_valid(problem: &Problem, target: &Row, proof: Certificate) -> Result<Certificate, Wide>
     requires problem { IsProblem (problem_view problem.now) }
     requires target { IsOver (size_of problem.now.space) target.now }
@@ -61,8 +60,7 @@ fn if_valid(problem: &Problem, target: &Row, proof: Certificate) -> Result<Certi
     }
 }
 
-/// The certificate of a factor, by the weights of the generators. `Wide` where a number of it, of the row or of the check passes the
-/// limit.
+/// The certificate of `factor`, by the weights of the generators. `Wide` if a number of it, of the row or of the check passes the limit.
 pub fn factor_proof(
     alloc: Global,
     problem: &Problem,
@@ -84,8 +82,7 @@ pub fn factor_proof(
     Ok(valid)
 }
 
-/// The certificate that the left side is at most 0, by the weights of the generators. `Wide` where a number of it or of the check passes
-/// the limit.
+/// The certificate that `left` is at most 0, by the weights of the generators. `Wide` if a number of it or of the check passes the limit.
 pub fn below_proof(
     alloc: Global,
     problem: &Problem,
@@ -106,8 +103,8 @@ pub fn below_proof(
     Ok(valid)
 }
 
-/// Has the check find the point, which meets the problem, valid for a row that is above 0 there. `Wide` where a number of the check passes
-/// the limit.
+/// Checks `point`, which meets `problem`, as a refutation of the negation of `row`, which is above 0 there. `Wide` if a number of the
+/// check passes the limit.
 fn check_point(alloc: Global, problem: &Problem, row: &Row, point: &Point) -> Result<(), RowFault>
     requires problem { IsProblem (problem_view problem.now) }
     requires row { IsOver (size_of problem.now.space) row.now }
@@ -123,7 +120,7 @@ fn check_point(alloc: Global, problem: &Problem, row: &Row, point: &Point) -> Re
     }
 }
 
-/// The values of both sides at a point.
+/// The values of `left` and `right` at `point`. `Wide` if a product or a partial sum passes the limit.
 fn side_values(left: &Row, right: &Row, point: &Point) -> Result<(i128, i128), Wide>
     requires left { IsOver (length point.now) left.now }
     requires right { IsOver (length point.now) right.now }
@@ -134,7 +131,7 @@ fn side_values(left: &Row, right: &Row, point: &Point) -> Result<(i128, i128), W
     Ok((left, right))
 }
 
-/// Tests the products of the sides' values with a factor's numerator and denominator.
+/// `Wide` if the product of `left` with the numerator of `factor`, or of `right` with its denominator, passes the limit.
 fn check_products(factor: &Fraction, left: i128, right: i128) -> Result<(), Wide>
     ensures { OkIff result (IsWithin (factor.now.num *ℤ left) × IsWithin (pos factor.now.den *ℤ right)) tt }
 {
@@ -143,8 +140,8 @@ fn check_products(factor: &Fraction, left: i128, right: i128) -> Result<(), Wide
     Ok(())
 }
 
-/// The point at which no factor holds, by the point of the first phase's run. `Wide` where a number of it or of the sides' values passes the
-/// limit.
+/// The point at which no factor holds, by the point of the first phase's run. `Wide` if a number of it or of the sides' values passes
+/// the limit.
 pub fn never_point(
     alloc: Global,
     problem: &Problem,
@@ -165,7 +162,7 @@ pub fn never_point(
     Ok(point)
 }
 
-/// The point at which a factor holds with equality, by its values. `Wide` where a number of it, of the sides' values or of the products
+/// The point at which `factor` holds with equality, by its values. `Wide` if a number of it, of the sides' values or of the products
 /// passes the limit.
 pub fn least_point(
     alloc: Global,

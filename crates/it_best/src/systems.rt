@@ -15,7 +15,7 @@ use it_elemental::{generator_count, kind_at};
 use it_space::{Kind, Problem, Row, push_some};
 use std::alloc::{AllocError, Global};
 
-/// A generator as an unknown: its weight.
+/// The weight of generator `index` as an unknown.
 fn weight(alloc: Global, problem: &Problem, index: u32) -> Result<Unknown, AllocError>
     requires problem { IsProblem (problem_view problem.now) }
     requires listed { index < length (generators (problem_view problem.now)) }
@@ -28,7 +28,7 @@ fn weight(alloc: Global, problem: &Problem, index: u32) -> Result<Unknown, Alloc
     })
 }
 
-/// The weight of a generator that counts against the factor: the generator turned.
+/// The weight of generator `index` as an unknown that counts against the factor: with the generator's negated row.
 fn counterweight(alloc: Global, problem: &Problem, index: u32) -> Result<Unknown, AllocError>
     requires problem { IsProblem (problem_view problem.now) }
     requires listed { index < length (generators (problem_view problem.now)) }
@@ -42,7 +42,7 @@ fn counterweight(alloc: Global, problem: &Problem, index: u32) -> Result<Unknown
     })
 }
 
-/// Puts the weights of all generators after the others, each turned.
+/// Appends the weights of all generators, with negated rows.
 fn push_counterweights(
     unknowns: &mut Vec<Unknown>,
     alloc: Global,
@@ -58,7 +58,7 @@ fn push_counterweights(
     Ok(())
 }
 
-/// The first phase: the factor, and the weights of the generators. They are to make the right side.
+/// The unknowns of the first phase: the factor, and the weights of the generators. They should sum to the right side.
 pub fn first_phase(alloc: Global, problem: &Problem, left: &Row) -> Result<Vec<Unknown>, AllocError>
     requires problem { IsProblem (problem_view problem.now) }
     ensures { IfOk result (λ v. unknown_views v.items ≡ first_phase (generators (problem_view problem.now)) left.now) }
@@ -73,7 +73,7 @@ pub fn first_phase(alloc: Global, problem: &Problem, left: &Row) -> Result<Vec<U
     Ok(unknowns)
 }
 
-/// The second phase: the weights of the generators. They are to make the left side turned.
+/// The unknowns of the second phase: the weights of the generators. They should sum to the negated left side.
 pub fn second_phase(alloc: Global, problem: &Problem) -> Result<Vec<Unknown>, AllocError>
     requires problem { IsProblem (problem_view problem.now) }
     ensures { IfOk result (λ v. unknown_views v.items ≡ generators (problem_view problem.now)) }
@@ -99,7 +99,7 @@ fn generator_rows(alloc: Global, problem: &Problem) -> Result<Vec<Row>, AllocErr
     Ok(rows)
 }
 
-/// The equation of the left side's value at the point, which is 1.
+/// The number of the equation of the left side's value at the point, which is 1.
 pub fn left_equation(problem: &Problem) -> u32
     requires problem { IsProblem (problem_view problem.now) }
     ensures value { result ≡ left_equation (size_of problem.now.space) (generators (problem_view problem.now)) }
@@ -108,7 +108,7 @@ pub fn left_equation(problem: &Problem) -> u32
     problem.space.size() + generator_count(problem) + 1
 }
 
-/// The equation of the right side's value at the point, which is the factor.
+/// The number of the equation of the right side's value at the point, which is the factor.
 pub fn right_equation(problem: &Problem) -> u32
     requires problem { IsProblem (problem_view problem.now) }
     ensures value { result ≡ right_equation (size_of problem.now.space) (generators (problem_view problem.now)) }
@@ -117,7 +117,7 @@ pub fn right_equation(problem: &Problem) -> u32
     problem.space.size() + generator_count(problem) + 2
 }
 
-/// The row with one term more after its own.
+/// `row` with the term `coefficient` at `coordinate` after its own.
 pub fn with_term(
     alloc: Global,
     row: &Row,
@@ -134,7 +134,7 @@ pub fn with_term(
     Ok(Row::new(terms))
 }
 
-/// The coefficients of a coordinate in rows, the first of which has an equation.
+/// The coefficients of `rows` at `coordinate`, as terms at the rows' equations, the first of which is `first`.
 fn coordinate_terms(
     alloc: Global,
     rows: &[Row],
@@ -156,7 +156,7 @@ fn coordinate_terms(
     Ok(terms)
 }
 
-/// The coefficients of a coordinate in the generators and in the sides.
+/// The coefficients of the generators and of the sides at `coordinate`, as a row over the equations.
 fn coordinate_row(
     alloc: Global,
     problem: &Problem,
@@ -183,7 +183,7 @@ fn coordinate_row(
     Ok(Row::new(terms))
 }
 
-/// Whether a coordinate's value is at least 0, as that of a set is, or any number, as a rate is.
+/// The kind of the value at `coordinate`: at least 0 for a set, any number for a rate.
 fn coordinate_kind(problem: &Problem, coordinate: u32) -> Kind
     requires problem { IsProblem (problem_view problem.now) }
     ensures { IsCoordinateKind problem.now.space.variables coordinate result }
@@ -195,7 +195,7 @@ fn coordinate_kind(problem: &Problem, coordinate: u32) -> Kind
     }
 }
 
-/// Puts the values of the point at all coordinates after the others.
+/// Appends the values of the point at all coordinates.
 fn push_values(
     unknowns: &mut Vec<Unknown>,
     alloc: Global,
@@ -216,7 +216,7 @@ fn push_values(
     Ok(())
 }
 
-/// Puts what an inequality has above 0 after the others; of an equation that is nothing.
+/// Appends the slack of an inequality; an equation has none.
 fn push_slack(
     unknowns: &mut Vec<Unknown>,
     alloc: Global,
@@ -238,7 +238,7 @@ fn push_slack(
     }
 }
 
-/// Puts what each inequality has above 0 at the point after the others.
+/// Appends the slack of each inequality at the point.
 fn push_slacks(
     unknowns: &mut Vec<Unknown>,
     alloc: Global,
@@ -254,8 +254,8 @@ fn push_slacks(
     Ok(())
 }
 
-/// The third phase: the factor, the weights of the generators, the values of a point, and what each inequality has above 0 there.
-/// They are to make the right side, and 1 at the equation of the left side's value.
+/// The unknowns of the third phase: the factor, the weights of the generators, the values of a point, and the slack of each inequality
+/// there. They should sum to the right side, with 1 at the equation of the left side's value.
 pub fn third_phase(
     alloc: Global,
     problem: &Problem,
