@@ -1,4 +1,4 @@
-//! Rows turned, and by the number of their generator.
+//! Negated rows, and the rows of generators by number.
 ghost use Rattle.std.specs.Prelude.{◌≡◌, ◌<◌, neg_ℤ, length, IfOk};
 ghost use Rattle.it_number.specs.Limit.{IsWithin};
 ghost use Rattle.it_space.specs.Problems.{IsProblem, problem_view};
@@ -9,7 +9,7 @@ use it_elemental::{count, row};
 use it_space::{Problem, Row};
 use std::alloc::{AllocError, Global};
 
-/// The term with its sign turned.
+/// The negated term.
 fn opposite_term(term: &(u32, i128)) -> (u32, i128)
     requires { IsWithin term.now.1 }
     ensures { result ≡ (term.now.0, neg_ℤ term.now.1) }
@@ -17,7 +17,7 @@ fn opposite_term(term: &(u32, i128)) -> (u32, i128)
     (term.0, -term.1)
 }
 
-/// Each term with its sign turned, in order.
+/// The negated terms, in order.
 fn opposite_terms(alloc: Global, terms: &[(u32, i128)]) -> Result<Vec<(u32, i128)>, AllocError>
     requires { IsCanonical terms.now }
     ensures { IfOk result (λ v. v.items ≡ negated_terms terms.now) }

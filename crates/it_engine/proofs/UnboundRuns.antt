@@ -41,7 +41,7 @@ pub run_begins : (columns : List Terms) (limit : ℕ) (old : List WholeRowView) 
 run_begins columns limit old basis h i = record { engine = h; height = refl; some = i; runs = λ p t s. record { last = t; stands = s; made = 0; serves = λ left e r. (left, r) } }
 
 module _ (columns : List Terms) (limit : ℕ) (old : List WholeRowView) (basis : List ℕ) (now : List WholeRowView) (now_basis : List ℕ) (w : IsRunUnderWay columns limit old basis now now_basis) where
-  -- what is said of the height now is said of the height at first
+  -- the claims about the present height hold for the first height
   by_same_height : (P : ℕ → Type 0) → P (length now_basis) → P (length basis)
   by_same_height P x = subst P w.height x
 

@@ -1,4 +1,4 @@
--- What a search without some rates is about.
+-- The frame of a search without some rates.
 use Rattle.std.proofs.Common.{◌≡◌, ℕ, zero, suc, ◌+◌, ◌^◌, ◌<◌, ◌≤◌, List, [], ◌∷◌, map, length, slice_index_or, Bool, true, false, nat_eq, if◌then◌else◌, sym, ap₂, subst, arith, All}
 use Rattle.std.specs.List.{list_any}
 use Rattle.std.proofs.lemmas.Nat.{pow_pos}

@@ -24,7 +24,7 @@ pub rows_kept : (ks : List (Terms × Need)) → kept_rows (map (λ k. (k.0, need
 rows_kept [] = refl
 rows_kept (k ∷ ks) = ap (λ xs. k.0 ∷ xs) (rows_kept ks)
 
--- The first i rows were visited: whatever the others end with, stands after what is there.
+-- The first i rows were visited: the results of the others are appended to what is there.
 pub record IsUnderWay (givens : ProblemView) (effort : Effort) (size : ℕ) (rows : List Terms) (kept : List (Terms × NeedView)) (dropped : List (Terms × CertificateView)) (i : ℕ) : Type 0 where
   pub more : (k : List (Terms × NeedView)) (d : List (Terms × CertificateView)) → Reduces givens effort (kept_rows kept) (drop i rows) k d → Reduces givens effort [] rows (kept ++ k) (dropped ++ d)
   pub few : length (kept_rows kept) ≤ i
@@ -91,7 +91,7 @@ module _ (givens : ProblemView) (kept : List (Terms × Need)) (line place : ℕ)
   abbrev xs : List Terms
   xs = map (λ k. k.0) kept
 
-  -- what stands before the row
+  -- the constraints before the row
   abbrev before : List Constraint
   before = givens.constraints ++ row_constraints 1 xs
 
@@ -145,7 +145,7 @@ module _ (givens p : ProblemView) (kept : List (Terms × Need)) (after : List Te
   visit_limits limits few count up ups = subst IsProblem (sym is) (problem_limits givens (map (λ k. k.0) kept ++ after) limits few
       (omega (arith, count, length-append (map (λ k. k.0) kept) after, length-map kept (λ (k : Terms × Need). k.0))) (All-append (IsOver (size_of givens.space)) (map (λ k. k.0) kept) after up ups))
 
-  -- what was made of the givens serves the problem
+  -- the closed problem of the givens serves the problem
   pub visit_closed : (c : ClosedProblem) → IsClosedProblem givens c → IsClosedProblem p c
   visit_closed c h = subst (λ q. IsClosedProblem q c) (sym is) (closed_after givens (map (λ k. k.0) kept ++ after) c h)
 

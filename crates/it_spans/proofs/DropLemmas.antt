@@ -1,4 +1,4 @@
--- Rows that go leave a hull of the same rays.
+-- Dropping rows leaves a hull of the same rays.
 use Rattle.std.proofs.Common.{◌≡◌, ◌↔◌, ℕ, suc, ◌+◌, ◌<◌, ◌≤◌, ℤ, pos, ◌≤ℤ◌, List, [], ◌∷◌, ◌++◌, length, take, drop, get_or, Bool, true, false, nat_lt, Option, Some, None, IfNone, is_some, Result, Ok, map, if◌then◌else◌, refl, sym, ap, ap₂, subst, ◌∙◌, arith, length-append, All}
 use Rattle.std.specs.List.{remove}
 use Rattle.std.proofs.lemmas.Bool.{ltb-true}
@@ -100,7 +100,7 @@ no_fault s ray number rows d e = by_test (nat_lt d.row (length rows)) refl e
 abbrev left_by : List Terms → Result (List Terms) Fault
 left_by rows = Ok rows
 
--- what holds of the rows, and of rows without one that goes, holds of the rows that drops leave
+-- what holds of the rows, and still holds when a row is dropped, holds of the rows that drops leave
 pub drops_keep : (s : Space) (ray : ℕ) (P : List Terms → Type 0) → ((rows : List Terms) (d : DropView) → P rows → d.row < length rows → drop_verdict s rows d ≡ Valid → P (remove rows d.row))
     → (number : ℕ) (rows : List Terms) (ds : List DropView) (left : List Terms) → P rows → after_drops s ray number rows ds ≡ Ok left → P left
 drops_keep s ray P goes number rows [] left p e = subst P (same_rows rows left e) p
@@ -117,7 +117,7 @@ drops_keep s ray P goes number rows (d ∷ ds) left p e = by_fault (drop_fault s
 
 -- ---- the loop over the drops
 
--- so many drops went, from the rows with which it began
+-- rows are left by the first i drops, from the rows begun
 pub record AreUnderWay (s : Space) (ray : ℕ) (begun : List Terms) (drops : List RowDrop) (i : ℕ) (rows : List Terms) : Type 0 where
   pub leads : after_drops s ray i rows (map drop_view (drop i drops)) ≡ after_drops s ray 0 begun (map drop_view drops)
   pub over : All (IsOver (size_of s)) rows

@@ -1,4 +1,4 @@
--- What steps make is the hull of their rays, and they have one end.
+-- The rows that steps leave are the hull of their rays, and steps have one end.
 use Rattle.std.proofs.Common.{◌≡◌, ℕ, ◌+◌, ◌^◌, ◌<◌, ◌≤◌, ℤ, List, [], ◌∷◌, ◌++◌, length, drop, get_or, Result, Ok, Err, refl, sym, ap, subst, ◌∙◌, arith, append_assoc, append-nil, All}
 use Rattle.std.specs.Prelude.{Contains}
 use Rattle.std.specs.List.{remove}
@@ -31,7 +31,7 @@ use Rattle.it_spans.specs.Spans.{GoesOn, SpanEnds, StepEnds, StepView, StepsEnd,
 use Rattle.it_spans.specs.Theorems.{AreKept, IsFrame, IsRightSpan, OneSpanEnd, SpansAreRight}
 use Rattle.it_spans.proofs.DropLemmas.{all-remove, drop_leaves_hull, drops_keep, fewer-remove}
 
--- ---- what steps make is right
+-- ---- the end of steps is right
 
 module _ (f : Frame) (h : IsFrame f) where
   -- rows of the space, few enough for a problem
