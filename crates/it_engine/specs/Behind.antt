@@ -114,7 +114,7 @@ pub record AreStillRows (rows : List WholeRowView) (place k : ℕ) (list : List 
   pub own : All (λ i. (i < k) × (right_side_of place rows i ≡ pos 0)) list
   pub all : (i : ℕ) → i < k → right_side_of place rows i ≡ pos 0 → Contains list i
 
--- the rows below a height with right side 0, by ascending basic column; rows that moved may stand anywhere among them
+-- the rows below height with right side 0, by ascending basic column; rows that moved may be anywhere among them
 pub record AreRanked (rows : List WholeRowView) (basis : List ℕ) (moved : List Bool) (height : ℕ) (ranked : List ℕ) : Type 0 where
   pub within : (k : ℕ) → k < length ranked → slice_index_or ranked k 0 < length basis
   pub still : (k : ℕ) → k < length ranked → has_moved moved (slice_index_or ranked k 0) ≡ false → right_side_of (length basis) rows (slice_index_or ranked k 0) ≡ pos 0

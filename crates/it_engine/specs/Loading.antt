@@ -62,7 +62,7 @@ pub record IsShortWhole (limit : ℕ) (q : Rational) (z : ℤ) : Type 0 where
   pub value_is : q ≡ integer z
   pub small : unsigned_abs z ≤ limit
 
--- row i of the start at the artificial columns and the right side, whichever the other columns are
+-- row is row i of the start at the artificial columns and the right side, for any other columns
 pub record IsReadRow (coordinates : List ℕ) (target : Terms) (limit i : ℕ) (row : WholeRowView) : Type 0 where
   pub length_is : length row.numbers ≡ length coordinates + 1
   pub each : (generators : List Terms) (k : ℕ) → k < length coordinates + 1

@@ -53,7 +53,7 @@ pub fn pivot(
     true
 }
 
-/// Takes out row `r`, which leaves, and divides it by its entry at the entering column. An empty row stands in its place.
+/// Takes out row `r`, which leaves, and divides it by its entry at the entering column. An empty row is left in its place.
 #[inline(always)]
 fn take_divided(alloc: Global, rows: &mut [WholeRow], entries: &[i64], r: usize) -> WholeRow
     requires row { r < length rows.old }

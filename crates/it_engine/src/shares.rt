@@ -17,7 +17,7 @@ pub fn share_at(rows: &[WholeRow], q: usize, multiple: u64) -> u64
     ensures { result ≡ share_of multiple rows.now q }
 {
     let bottom = bottom_at(rows, q);
-    // most denominators are 1 or the multiple, and a division is slow
+    // most denominators are 1 or the multiple, and divisions are slow
     if bottom == 1 {
         multiple
     } else if bottom == multiple {

@@ -19,7 +19,7 @@ use crate::sums::{parts_sum, whole_sum};
 use std::cmp::Ordering;
 use std::marker::Model;
 
-/// A number that an operation names is more than 2^127 - 1 in absolute value.
+/// A number that an operation forms is more than 2^127 - 1 in absolute value.
 #[derive(Debug, Clone, Copy, PartialEq, Eq)]
 pub struct Wide;
 

@@ -10,14 +10,14 @@ use crate::hulls::coordinate;
 use it_space::Space;
 use std::alloc::{AllocError, Global};
 
-/// Whether `rate` goes.
+/// Whether `rate` is one of `gone`.
 fn goes(gone: &[u8], rate: u8) -> bool
     ensures { result ≡ list_any (λ r. nat_eq r rate) gone.now }
 {
     gone.contains(&rate)
 }
 
-/// Appends the coordinate of `rate` to `kept`, unless the rate goes.
+/// Appends the coordinate of `rate` to `kept`, unless the rate is one of `gone`.
 fn push_kept(kept: &mut Vec<u32>, space: Space, gone: &[u8], rate: u8) -> Result<(), AllocError>
     requires { IsSpace space }
     ensures { OnOk result (kept.new.items ≡ kept.old.items ++ own_coordinate space gone.now rate) }

@@ -25,7 +25,7 @@ abbrev pub WeightsAscend : ℕ → List (ℕ × ℤ) → Type 0
 WeightsAscend from [] = Unit {0}
 WeightsAscend from (w ∷ ws) = (from ≤ w.0) × WeightsAscend (w.0 + 1) ws
 
--- a certificate over closed sets: ascending weights that may stand in a certificate, and that add up over closed sets
+-- a certificate over closed sets: ascending weights that are allowed in a certificate, and that add up over closed sets
 pub record IsCertificateOverClosed (q : ProblemView) (d : DependencesView) (target : Terms) (w : CertificateView) : Type 0 where
   pub order : WeightsAscend 0 w.weights
   pub allowed : All (IsAllowed (generators_of q)) w.weights

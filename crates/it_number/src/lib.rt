@@ -14,7 +14,7 @@ pub fn lcm_is_least()
     ensures { LcmIsLeast }
 {}
 
-/// What divides a product and is coprime to one factor divides the other (Euclid, Elements VII.30).
+/// A number that divides a product and is coprime to one factor divides the other (Euclid, Elements VII.30).
 #[tactic(auto, using(crate::proofs::Divisors::euclid))]
 pub fn euclids_lemma()
     ensures { EuclidsLemma }

@@ -71,7 +71,7 @@ pub enum Next {
     TooWide,
 }
 
-/// A pass that goes on with a hull and its rays, or its end.
+/// The result of a round: a hull and its rays with which the pass goes on, or the end of the pass.
 #[derive(Debug, Drop)]
 pub enum Round {
     Goes(System, Vec<Point>),

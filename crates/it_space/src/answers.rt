@@ -56,7 +56,7 @@ pub enum Answer {
     },
     /// Neither is known, and why.
     Undecided(Cause),
-    /// The rows of a region, each with what is known of it.
+    /// The rows of a region, each with its mark.
     Region(Vec<(Mark, Row)>),
     /// A set of the first region's variables for each auxiliary variable of the second region, and a proof of each obligation.
     Contained {
@@ -85,7 +85,7 @@ impl Drop for Answer {
     }
 }
 
-/// What is known of a region's row: nothing; that the other rows don't give it; or that this stayed undecided.
+/// What is known of a region's row: nothing; that it doesn't follow from the other rows; or that this stayed undecided.
 #[derive(Clone, Copy, Debug, PartialEq, Eq)]
 pub enum Mark {
     Plain,

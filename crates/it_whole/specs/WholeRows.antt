@@ -3,7 +3,7 @@ use Rattle.std.specs.Prelude.{◌≡◌, ℕ, ◌<◌, ◌≤◌, ◌^◌, ℤ, 
 use Rattle.it_rational.specs.Rational.{Rational, IsRatio}
 use Rattle.it_space.specs.Sums.{number_at}
 
--- what contracts see of a row of whole numbers over one denominator
+-- the contracts' view of a row of whole numbers over one denominator
 pub record WholeRowView : Type 0 where
   pub numbers : List ℤ
   pub bottom : ℕ
