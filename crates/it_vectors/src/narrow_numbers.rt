@@ -510,7 +510,7 @@ fn shared_part(row: &[i32], from: usize, to: usize, earlier: Divisor) -> Divisor
     }
 }
 
-/// The number of places that are tested before the search may end early.
+/// The number of places in a part of a row; a test of a row may stop after each part.
 const PART: usize = 64;
 
 /// The end of the part that begins at place `from`, of a row of `length` places.
