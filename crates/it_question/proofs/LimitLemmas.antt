@@ -83,7 +83,7 @@ some_allowed : (n : ℕ) → limit_flag n ≡ None → 1 ≤ n
 some_allowed zero e = absurd cc
 some_allowed (suc n) e = omega arith
 
--- at most so many constraints, over these names
+-- at most g `given` lines and r `row` lines, over these names
 record AreOwn (g r : ℕ) (v : NamesView) (own : OwnLinesView) : Type 0 where
   few_givens : length own.givens ≤ g
   few_rows : length own.rows ≤ r

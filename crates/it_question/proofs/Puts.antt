@@ -15,7 +15,7 @@ AreTokens (End ∷ ls) = ⊥
 AreTokens (Bad c ∷ ls) = ⊥
 AreTokens (l ∷ ls) = AreTokens ls
 
--- tokens and an end, so many times
+-- the letters of n lines: tokens and an end, n times
 abbrev pub HasLines : ℕ → List Letter → Type 0
 HasLines zero [] = Unit {0}
 HasLines zero (l ∷ ls) = ⊥

@@ -12,26 +12,26 @@ pub data NameSortView : Type 0 where
   Variable : NameSortView
   Rate : NameSortView
 
--- the names with one more of this sort, after the others of it
+-- the names with w as the next one of this sort
 abbrev pub with_name : NameSortView → NamesView → List ℕ → NamesView
 with_name Variable v w = record { variables = v.variables ++ w ∷ []; rates = v.rates }
 with_name Rate v w = record { variables = v.variables; rates = v.rates ++ w ∷ [] }
 
--- neither a variable nor a rate
+-- no variable and no rate
 abbrev pub no_names : NamesView
 no_names = record { variables = []; rates = [] }
 
--- whether a name is that of a variable or of a rate
+-- whether w is the name of a variable or of a rate
 unfoldable pub is_taken : NamesView → List ℕ → Bool
 is_taken v w = is_some (index_of v.variables w) || is_some (index_of v.rates w)
 
--- against a new name that may be no name, may be taken, and of which n are allowed
+-- the flag of a new name: `Word` if it is no name, `Twice` if it is taken, `Many` if n, the number still allowed, is 0
 abbrev pub new_flag : Bool → Bool → ℕ → Option Code
 new_flag true taken n = Some codes.Word
 new_flag false true n = Some codes.Twice
 new_flag false false n = limit_flag n
 
--- against a name by its number: it may be no name, be unknown, or have been named before
+-- the flag of a name, whose number is o: `Word` if it is no name, `Name` if it is unknown, `Twice` if it was named before
 abbrev pub once_flag : Bool → (ℕ → Bool) → Option ℕ → Option Code
 once_flag true named o = Some codes.Word
 once_flag false named None = Some codes.Name
