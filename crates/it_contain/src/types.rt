@@ -2,7 +2,7 @@
 use it_region::Candidate;
 use it_space::Certificate;
 
-/// How many variables the first region has, and how many auxiliaries of the second region need a set of them.
+/// The number of variables of the first region, and the number of auxiliaries of the second, each of which needs a set of them.
 #[derive(Clone, Copy, Debug, PartialEq, Eq)]
 pub struct Shape {
     pub variables: u8,
@@ -14,6 +14,6 @@ pub struct Shape {
 pub enum Contained {
     /// The first candidate of the plan that is proved, with a certificate for each obligation in order.
     Found(Candidate, Vec<Certificate>),
-    /// So many candidates were tried, and none is proved.
+    /// `tried` candidates were tried, and none is proved.
     Open { tried: u32 },
 }
