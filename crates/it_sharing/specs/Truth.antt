@@ -9,7 +9,7 @@ use Rattle.it_canon.specs.Sides.{left_form, right_form}
 use Rattle.it_sharing.specs.Sharings.{SharingView}
 use Rattle.it_sharing.specs.PerfectSharing.{SharesPerfectly}
 
--- the relation of the file holds at a polymatroid
+-- the relation of the file holds at h
 abbrev pub HoldsAt : SharingView → (ℕ → ℤ) → Type 0
 HoldsAt x h = Holds (length x.names.variables) h x.relation
 

@@ -14,7 +14,7 @@ pub fn made_question_is_of_perfect_sharing()
     ensures { MadeQuestionIsOfPerfectSharing }
 {}
 
-/// A file says one thing at most, or has at most one first fault, and not both.
+/// A file has at most one reading, or has at most one first fault, and not both.
 pub fn sharing_is_one()
     ensures one { SharingIsOne }
     ensures fault { SharingFaultIsOne }
