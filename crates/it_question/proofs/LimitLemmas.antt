@@ -263,7 +263,7 @@ region_keeps g r v few_g few_r few = λ l e m.
 
 -- ---- what a question wants
 
--- a table against which nothing is said
+-- a table that isn't flagged
 unflagged_is_small : (v : NamesView) (own : OwnLinesView) → size_flag v own ≡ None → table_size (problem_of_lines v own) ≤ most_entries
 unfolding size_flag
 unflagged_is_small v own e = by_test (nat_lt most_entries (table_size (problem_of_lines v own))) refl e
