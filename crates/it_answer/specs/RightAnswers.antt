@@ -46,7 +46,7 @@ ProofsAscend (Yes ws) = All (λ w. IsCanonical w.weights) ws
 ProofsAscend (Contained parts ws) = All (λ w. IsCanonical w.weights) ws
 ProofsAscend answer = Unit {0}
 
--- those of a right answer do
+-- the certificates of a right answer list their generators in ascending order
 abbrev pub AYesAscends : Type 0
 AYesAscends = (budgets : Budgets) (plans : List Plan) (q : BodyView) (reply : Reply) → IsRightAnswer budgets plans q reply → ProofsAscend reply.answer
 

@@ -1,4 +1,4 @@
--- What a search over boxes ends with.
+-- The ends of a search over boxes.
 use Rattle.std.specs.Prelude.{◌≡◌, ℕ, ◌<◌, List, [], ◌∷◌, ◌++◌, map, take, length, min, Vec, All, Contains}
 use Rattle.std.specs.Global.{Global}
 use Rattle.std.specs.List.{AllZip, flat_map}

@@ -1,4 +1,4 @@
-//! What proposes candidates.
+//! Proposers of candidates.
 ghost use Rattle.std.specs.Prelude.{◌≡◌, List, []};
 ghost use Rattle.it_contain.specs.Shapes.{IsShape};
 ghost use Rattle.it_contain.specs.Proposals.{Plan, Takes, Learns};

@@ -1,4 +1,4 @@
-//! What a search is about, and what it ends with.
+//! The shape of a search, and its end.
 use it_region::Candidate;
 use it_space::Certificate;
 
@@ -9,7 +9,7 @@ pub struct Shape {
     pub parts: u8,
 }
 
-/// What a search ends with.
+/// The end of a search.
 #[derive(Debug, Drop)]
 pub enum Contained {
     /// The first candidate of the plan that is proved, with a certificate for each obligation in order.

@@ -1,5 +1,5 @@
--- The grammar of files with a head, whose lines ask for copies. `Word` stands against H and I in the place of a name, `Many`
--- against the first letter past a limit.
+-- The grammar of files with a head, whose lines ask for copies. `Word` flags H and I in the place of a name, `Many` the first letter past
+-- a limit.
 use Rattle.std.specs.Prelude.{ℕ, ◌-◌, false, List, [], ◌∷◌, ◌++◌, length, codes}
 use Rattle.it_forms.specs.declared.types.Symbol.TheVariants.{Comma}
 use Rattle.it_syntax.specs.MeasureWords.{is_measure}

@@ -37,7 +37,7 @@ ShowsFactor q r best = IsRightBest (question_ground q) (left_form (variable_coun
 
 -- ---- by the runs
 
--- it is known of each number whether it is a factor
+-- `best` says of each number whether it is a factor: it isn't undecided
 abbrev pub IsKnown : BestView → Type 0
 IsKnown (Undecided cause) = ⊥
 IsKnown best = Unit {0}
@@ -73,6 +73,6 @@ OneRightReply = (effort : Effort) (q : BodyView) (a b : ReplyView) → effort.qu
 abbrev pub NeverOutOfSteps : Type 0
 NeverOutOfSteps = (effort : Effort) (q : BodyView) (k phase : ℕ) → effort.pivots ≡ None → IsRightReply effort q (Found (Undecided (Pivots k phase))) → ⊥
 
--- what shows what it says of the factors is true of them
+-- what is found of the factors is true of them if it shows what it says
 abbrev pub WhatIsShownIsTrue : Type 0
 WhatIsShownIsTrue = (q : BodyView) (r : RelationView) (best : BestView) → ShowsFactor q r best → IsTrueBest (HoldsFor q r) best

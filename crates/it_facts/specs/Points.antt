@@ -1,5 +1,6 @@
--- Facts that determine a point: values of its sets and rates, variables that are constant or functions of others, and sets of independent ones. The
--- other values follow by the axioms of polymatroids (R. W. Yeung, "A Framework for Linear Information Inequalities", 1997).
+-- Facts that determine a point: values of its sets and rates, variables that are constant or functions of others, and sets of
+-- independent ones. The other values follow by the axioms of polymatroids (R. W. Yeung, "A Framework for Linear Information
+-- Inequalities", 1997).
 use Rattle.std.specs.Prelude.{◌≡◌, ℕ, zero, suc, ◌+◌, ◌^◌, ◌<◌, ℤ, pos, ◌+ℤ◌, List, [], ◌++◌, length, map, slice_index_or, cond, false, bit_or, All, codes}
 use Rattle.std.specs.Fmt.{signed_decimal}
 use Rattle.it_space.specs.Rows.{point_of}

@@ -1,4 +1,4 @@
--- What lines demand.
+-- The demands of lines.
 use Rattle.std.specs.Prelude.{ℕ, List, ◌++◌, flat_map, map}
 use Rattle.it_demand.specs.Demands.{Demand, demand_of, demands}
 use Rattle.it_question.specs.Questions.{OwnLinesView}

@@ -1,6 +1,5 @@
--- The names that a question declares, and what is said against a name. `Word` stands against H or I in the place of a name,
--- `Twice` against a new name that is taken and against one that was named before, `Name` against one that is unknown, `Many`
--- against the first letter past a limit.
+-- The names that a question declares, and the flags of a name. `Word` flags H or I in the place of a name, `Twice` a new name that is
+-- taken and one that was named before, `Name` one that is unknown, `Many` the first letter past a limit.
 use Rattle.std.specs.Prelude.{ℕ, Bool, true, false, ◌||◌, List, [], ◌∷◌, ◌++◌, is_some, Option, Some, None, if◌then◌else◌}
 use Rattle.it_forms.specs.declared.types.Code.{Code}
 use Rattle.it_forms.specs.Words.{limit_flag}

@@ -1,6 +1,5 @@
--- The grammar of question files. `Word` stands against H or I in the place of a name, `Twice` against a name that is taken
--- or was named before, `Name` against one that is unknown, `Many` against the first letter past a limit, `Large` against the
--- word of a verb whose question's table is too large.
+-- The grammar of question files. `Word` flags H or I in the place of a name, `Twice` a name that is taken or was named before, `Name`
+-- one that is unknown, `Many` the first letter past a limit, `Large` the word of a verb whose question's table is too large.
 use Rattle.std.specs.Prelude.{ℕ, ◌+◌, ◌-◌, ◌==◌, Bool, true, false, List, [], ◌∷◌, ◌++◌, length, is_some, Option, Some, None, if◌then◌else◌, codes, unwrap_or, map}
 use Rattle.std.specs.List.{list_all, list_any}
 use Rattle.it_forms.specs.declared.types.Symbol.TheVariants.{Comma, Semicolon, Assign}

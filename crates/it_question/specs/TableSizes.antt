@@ -1,5 +1,5 @@
--- The problem that a question's lines pose, and the size of its table, with which the run about it begins. `Large` stands against
--- the word of a verb whose question's table is too large.
+-- The problem that a question's lines pose, and the size of its table, with which the run about it begins. `Large` flags the word of a
+-- verb whose question's table is too large.
 use Rattle.std.specs.Prelude.{ℕ, ◌≤◌, nat_lt, length, map, zip, Option, Some, None, if◌then◌else◌}
 use Rattle.it_space.specs.declared.spaces.Space.{Space}
 use Rattle.it_space.specs.declared.problems.Constraint.{Constraint}

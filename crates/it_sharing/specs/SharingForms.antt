@@ -1,6 +1,5 @@
--- The grammar of sharing files: the secret, the parties, one or more lists of parties who know the secret together, and what
--- is asked. `Name` stands against the secret in a list, `Many` against a ninth party and against the keyword of a list past
--- the limit.
+-- The grammar of sharing files: the secret, the parties, one or more lists of parties who know the secret together, and what is asked.
+-- `Name` flags the secret in a list, `Many` a ninth party and the keyword of a list past the limit.
 use Rattle.std.specs.Prelude.{ℕ, ◌+◌, ◌-◌, Bool, true, false, List, [], ◌∷◌, ◌++◌, length, codes}
 use Rattle.it_forms.specs.declared.types.Symbol.TheVariants as symbols
 use Rattle.it_syntax.specs.declared.types.Sign.TheVariants.{AtLeast}

@@ -1,5 +1,5 @@
--- What it means that an answer to what a sharing file asks is true, by the meaning of the file. Nothing here speaks of certificates, of
--- runs or of which answer is due.
+-- What it means that an answer to what a sharing file asks is true, by the meaning of the file. Nothing here speaks of certificates or of
+-- runs.
 use Rattle.std.specs.Prelude.{ℕ, ℤ, pos, ◌-ℤ◌, ◌*ℤ◌, ◌≤ℤ◌, length}
 use Rattle.it_space.specs.Answers.{AnswerView}
 use Rattle.it_space.specs.Answers.AnswerView.{Yes, No, Undecided}

@@ -26,7 +26,7 @@ pub fn sharing_has_one()
     ensures { SharingHasOne }
 {}
 
-/// What a file says is within the limits: what holds of what is within them holds of what a file says.
+/// What a file says is within the limits, so what holds of all that is within them holds of it.
 pub fn sharing_is_within()
     ensures { SharingIsWithin }
 {}

@@ -109,7 +109,7 @@ symbol_stops s item put a ls tail rest stop total e h so_far = each_stops (Punct
 pub symbol_ends : {A C : Type 0} (s : Symbol) (item : A → Form C) (put : A → C → A) (a : A) (ls : List Letter) (total : Reads A) → after (symbol s) ls ≡ None → read (each_after s item put a) ls ≡ total → total ≡ Ok (a, ls)
 symbol_ends s item put a ls total e so_far = each_ends (Punctuation s ∷ []) (λ a l. (None, tt)) (λ a u. item a) put a ls total e so_far
 
--- the same terminal under flags that hang on what it says
+-- a terminal whose flags depend on what it says
 pub after_with_flags : {B : Type 0} (ks : List Kind) (f : Letter → B) (m : B → Option Code) (b : B) (ls tail : List Letter) → after (record { kinds = ks; says = λ l. (None, f l) }) ls ≡ Some ((None, b), tail) → after (record { kinds = ks; says = λ l. (m (f l), f l) }) ls ≡ Some ((m b, b), tail)
 after_with_flags ks f m b [] tail e = absurd cc
 after_with_flags {B} ks f m b (l ∷ ls) tail e = by_test (is_among ks l) e

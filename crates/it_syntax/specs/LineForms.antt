@@ -1,6 +1,5 @@
--- The grammar of relations and of the constraints of `given` lines. `Name` stands against a name that is unknown, `Word`
--- against H or I in its place, `Many` against the first letter past a limit, `Number` against a denominator that is 0 or
--- with which the least common multiple passes the limit.
+-- The grammar of relations and of the constraints of `given` lines. `Name` flags a name that is unknown, `Word` H or I in its place,
+-- `Many` the first letter past a limit, `Number` a denominator that is 0 or with which the least common multiple passes the limit.
 use Rattle.it_syntax.specs.MeasureWords.{is_measure}
 use Rattle.std.specs.Prelude.{ℕ, ◌-◌, ◌^◌, bit_or, Bool, true, false, List, [], ◌∷◌, ◌++◌, length, None, codes, unwrap_or, if◌then◌else◌, Some}
 use Rattle.it_forms.specs.declared.types.Symbol.{Symbol}
