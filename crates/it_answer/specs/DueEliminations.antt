@@ -1,4 +1,4 @@
--- The answer to `eliminate` that reduced elimination of the rows of the text determines.
+-- The answer to `eliminate` that reduced elimination of the rows of the text ends with.
 use Rattle.std.specs.Prelude.{◌≡◌, ℕ, List, [], map}
 use Rattle.it_space.specs.declared.answers.Cause.TheVariants as causes
 use Rattle.it_space.specs.declared.answers.Mark.{Mark}

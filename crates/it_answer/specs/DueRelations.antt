@@ -1,4 +1,4 @@
--- The answer to `prove` that the runs about the rows of the relation's targets determine.
+-- The answer to `prove` that the runs about the rows of the relation's targets end with.
 use Rattle.std.specs.Prelude.{◌⊎◌, ℤ, List, [], ◌∷◌, map, Bool, true, false}
 use Rattle.it_space.specs.declared.answers.Cause.{Cause}
 use Rattle.it_space.specs.Answers.{AnswerView, CertificateView}
@@ -29,13 +29,13 @@ abbrev pub CauseIsDue : ProblemView → Effort → List Terms → Cause → Type
 CauseIsDue p effort [] cause = ⊥
 CauseIsDue p effort (t ∷ ts) cause = EndsWith p t effort (proof_views.Undecided cause) ⊎ (IsProven p effort t × CauseIsDue p effort ts cause)
 
--- the answer that the runs about the targets `ts` determine
+-- the answer that the runs about the targets `ts` end with
 abbrev pub IsDueByRuns : ProblemView → Effort → List Terms → AnswerView → Type 0
 IsDueByRuns p effort ts (Yes ws) = AreProofsOf p effort ts ws
 IsDueByRuns p effort ts (No is_back values) = PointIsDue p effort ts is_back values
 IsDueByRuns p effort ts (Undecided cause) = CauseIsDue p effort ts cause
 IsDueByRuns p effort ts answer = ⊥
 
--- the answer that the runs about the terms of the relation's targets determine, under the problem that the question poses
+-- the answer that the runs about the terms of the relation's targets end with, under the problem that the question poses
 abbrev pub IsDueRelation : Effort → BodyView → RelationView → AnswerView → Type 0
 IsDueRelation effort q r answer = IsDueByRuns (problem_of q) effort (map (terms_in q) (targets (variable_count q) r)) answer

@@ -1,4 +1,4 @@
--- Right answers: they show what they say, and they are due: runs, reduced elimination or the search determine them. And what follows.
+-- Right answers: they show what they say, and they are due: runs, reduced elimination or the search end with them. And what follows.
 use Rattle.std.specs.Prelude.{◌≡◌, ℕ, List, [], map, All, false}
 use Rattle.it_space.specs.declared.answers.Cause.TheVariants.{Width}
 use Rattle.it_space.specs.declared.answers.Answer.{Answer}
@@ -17,7 +17,7 @@ use Rattle.it_answer.specs.DueRelations.{IsDueRelation}
 use Rattle.it_answer.specs.Replies.{Reply}
 use Rattle.it_answer.specs.Shows.{Shows}
 
--- the reply is the one that runs, reduced elimination or the search determine for a question of this verb
+-- the reply is one that the runs, reduced elimination or the search end with, for a question of this verb
 abbrev pub IsDueBy : Budgets → List Plan → BodyView → VerbView → Reply → Type 0
 IsDueBy budgets plans q (Prove r) reply = IsDueRelation budgets.effort q r reply.answer × (reply.found ≡ [])
 IsDueBy budgets plans q (Eliminate rates) reply = IsDueElimination budgets q rates reply.answer × (reply.found ≡ [])

@@ -40,12 +40,12 @@ ShowsRows p ts (Region rows) = ⊥
 ShowsRows p ts (Contained parts proofs) = ⊥
 ShowsRows p ts (Open tried) = ⊥
 
--- the answer shows what it says of the rows `ts`, and is the one that the runs about them determine
+-- the answer shows what it says of the rows `ts`, and is one that the runs about them end with
 pub record AnswersRows (p : ProblemView) (effort : Effort) (ts : List Terms) (answer : AnswerView) : Type 0 where
   pub shows : ShowsRows p ts answer
   pub due : IsDueByRuns p effort ts answer
 
--- the answer shows what it says of rows of these forms, and is the one that the runs about them determine
+-- the answer shows what it says of rows of these forms, and is one that the runs about them end with
 pub record AnswersForms (p : ProblemView) (fs : List Form) (answer : AnswerView) (effort : Effort) : Type 0 where
   pub rows : List Terms
   pub are : AreRowsOf p.space fs rows

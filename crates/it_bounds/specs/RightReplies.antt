@@ -1,5 +1,5 @@
 -- Right replies to questions in mode `outer`: they show what they say, by the meaning of the question's text alone, and they are due: the
--- search and a reduction determine them. And what follows.
+-- search, and a reduction for the marks, end with them. And what follows.
 use Rattle.std.specs.Prelude.{◌≡◌, ℕ, ℤ, List, [], ◌∷◌, map, All, Option, Some, None, false}
 use Rattle.it_space.specs.declared.answers.Cause.TheVariants.{Pivots}
 use Rattle.it_space.specs.declared.answers.Mark.{Mark}

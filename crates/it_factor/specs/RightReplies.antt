@@ -1,5 +1,5 @@
 -- Right replies to questions in mode `best`: they show what they say, by the meaning of the question's text alone, and they are due: the
--- runs determine them. And what follows.
+-- runs find them. And what follows.
 use Rattle.std.specs.Prelude.{◌≡◌, ◌⊎◌, ℕ, Some, None, true, false}
 use Rattle.it_space.specs.Problems.{ProblemView}
 use Rattle.it_space.specs.Rows.{Terms}
