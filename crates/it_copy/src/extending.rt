@@ -70,8 +70,8 @@ fn unless_member(old: u8, over: VarSet) -> Option<(u8, VarSet)>
     }
 }
 
-/// The variable that `line` copies and the set that it copies it over, by their names; None if a name isn't that of a variable, or
-/// if the variable is in the set.
+/// The variable and the set that `line` names, by their numbers; None if a name isn't that of a variable, or if the variable is in
+/// the set.
 #[tactic(auto, unfolding(crate::specs::Extensions::named_parts))]
 fn named_parts(names: &Names, line: &CopyLine) -> Option<(u8, VarSet)>
     ensures { result ≡ named_parts names.now (copy_view line.now) }

@@ -9,7 +9,7 @@ use crate::settling::{
 use it_space::{Point, Space, VarSet};
 use std::alloc::{AllocError, Global};
 
-/// With more facts than these, none is tried to be left out.
+/// The most facts of which each one is tried whether the others do without it; more facts are all kept.
 const MOST_TRIED: usize = 64;
 
 /// The fact about one variable: that it is constant, that it and an earlier one are functions of each other, or its entropy.
