@@ -37,14 +37,14 @@ fn is_up_to(row: &Row, size: u32) -> bool
         .all(|(coordinate, _)| 1 <= *coordinate && *coordinate <= size)
 }
 
-/// Whether all rows do.
+/// Whether all rows use coordinates up to `size` alone.
 fn are_up_to(rows: &[Row], size: u32) -> bool
     ensures { OnTrue result (All (IsOver size) rows.now) }
 {
     rows.iter().all(|row| is_up_to(row, size))
 }
 
-/// One more constraint of a row.
+/// Appends the constraint of a row.
 fn push(
     alloc: Global,
     constraints: &mut Vec<Constraint>,
@@ -57,7 +57,7 @@ fn push(
     Ok(())
 }
 
-/// The rows as ones that are to be at least 0.
+/// Appends rows as constraints that are to be at least 0.
 fn push_rows(
     alloc: Global,
     constraints: &mut Vec<Constraint>,
@@ -75,7 +75,7 @@ fn push_rows(
     Ok(())
 }
 
-/// The givens.
+/// Appends the givens.
 fn push_givens(
     alloc: Global,
     constraints: &mut Vec<Constraint>,
@@ -87,7 +87,7 @@ fn push_givens(
     Ok(())
 }
 
-/// The givens, and the rows before and after one.
+/// The problem of the givens with the rows `before` and `after`.
 fn problem_around(
     alloc: Global,
     givens: &Problem,
@@ -137,7 +137,7 @@ fn follows(
     asking.proves(alloc, &problem, row)
 }
 
-/// A list without the rows that the others give, each by a call of its own.
+/// The list without the rows that follow from the others, each asked about by a call of its own.
 fn reduction_anew(
     alloc: Global,
     list: &System,
@@ -158,7 +158,7 @@ fn reduction_anew(
     })
 }
 
-/// A list without the rows that the others give, in one of the ways.
+/// The list without the rows that follow from the others, in one of the ways.
 fn reduction(
     alloc: Global,
     list: System,
@@ -206,8 +206,8 @@ fn after(
     }
 }
 
-/// The list after a rate without the rows that the others give, in one of the ways, and how many rows were asked about; None where
-/// there is no such list.
+/// The list after a rate without the rows that follow from the others, in one of the ways, and the number of rows that were asked
+/// about; None where there is no such list.
 fn reduced_after(
     alloc: Global,
     list: &System,
@@ -226,7 +226,7 @@ fn reduced_after(
     Ok(Some((reduction(alloc, after, givens, way, asking)?, asked)))
 }
 
-/// The rows of a question, and what they are under.
+/// The rows of a question, and the givens that they are under.
 fn rows_and_givens(alloc: Global, question: &Question) -> Result<(System, Problem), AllocError>
     requires { IsQuestion (question_body question.now) }
 {
@@ -234,7 +234,7 @@ fn rows_and_givens(alloc: Global, question: &Question) -> Result<(System, Proble
     Ok((rows, problem(alloc, question)?))
 }
 
-/// How many rows each rate leaves, up to a rate that has no list, and how often the solver was called.
+/// The numbers of rows that each rate leaves, up to a rate that has no list, and the number of calls of the solver.
 pub fn elimination(
     alloc: Global,
     question: &Question,
@@ -269,7 +269,7 @@ fn write_counts(out: &mut Output, counts: &[usize], calls: usize) {
     out.put('\n');
 }
 
-/// Eliminates the rates so many times, and writes the rows after each and the calls.
+/// Eliminates the rates `task.turns` times, and writes the rows after each and the calls.
 fn eliminate(
     alloc: Global,
     out: &mut Output,

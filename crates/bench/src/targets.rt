@@ -25,7 +25,7 @@ const DEFINED: Effort = Effort {
     pivots: None,
 };
 
-/// The run that is asked, about how many targets it was, and how many of them it settled.
+/// The run that is asked, the number of targets that it was asked about, and the number of them that it settled.
 #[derive(Drop)]
 pub struct Asking {
     quick: bool,
@@ -59,7 +59,7 @@ impl Asking {
         }
     }
 
-    /// What the run answers about a target.
+    /// The answer of the run about a target.
     fn answer(
         &mut self,
         alloc: Global,
@@ -121,7 +121,7 @@ fn proves_relation(
     Ok(true)
 }
 
-/// Writes what the run answers about a question.
+/// Writes the answer of the run about a question.
 fn answer(
     alloc: Global,
     out: &mut Output,
@@ -145,8 +145,8 @@ fn answer(
     Ok(())
 }
 
-/// Writes what the run answers about a question, about how many targets it was asked, and how many of them it settled; the last of so
-/// many times.
+/// Writes the answer of the run about a question, the number of targets that it was asked about, and the number of those that it
+/// settled.
 pub fn write(
     alloc: Global,
     out: &mut Output,

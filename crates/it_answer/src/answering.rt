@@ -26,8 +26,8 @@ use it_space::{Answer, Certificate, Problem};
 use it_syntax::types::{Relation, Sign};
 use std::alloc::{AllocError, Global};
 
-/// A right answer to a question, within the budgets. The boxes propose what a containment tries after its `try` lines; what it
-/// finds they know at later questions.
+/// A right answer to a question, within the budgets. The boxes propose what a containment tries after its `try` lines, and learn of
+/// the candidate that it finds, for later questions.
 pub fn answer(
     alloc: Global,
     question: &Question,

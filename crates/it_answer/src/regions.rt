@@ -18,9 +18,9 @@ use it_redundant::{Need, Projected, project};
 use it_space::{Answer, Cause, Mark, Problem, Row};
 use std::alloc::{AllocError, Global};
 
-/// The region that is left of the question's `row` lines without the rates. These are eliminated in the order of their list, and
-/// after each the rows go that the givens and the other rows give. Or why there is none: a rate leaves more rows than the budget
-/// has, or a row of it passes the limit. It finds nothing that boxes learn of.
+/// The region that the question's `row` lines leave without the rates `rates`. These are eliminated in their order, and after each
+/// one the rows that follow from the givens and the other rows are dropped. Or why there is no region: a rate leaves more rows than
+/// the budget allows, or a number of a row passes the limit. Boxes learn nothing from it.
 pub fn region(
     alloc: Global,
     question: &Question,
@@ -41,7 +41,7 @@ pub fn region(
     Ok(answer)
 }
 
-/// The answer that tells what reduced elimination ended with.
+/// The answer about the end of reduced elimination.
 fn answer_of_end(alloc: Global, end: Projected) -> Result<Answer, AllocError>
     ensures { IfOk result (λ a. answer_view a ≡ answer_of_end (projected_view end)) }
 {
@@ -66,7 +66,7 @@ pub fn marked_rows(alloc: Global, kept: Vec<(Row, Need)>) -> Result<Vec<(Mark, R
     Ok(marked)
 }
 
-/// Why a row stays, as its mark.
+/// The mark of a row with the need `need`.
 fn mark_of_need(need: &Need) -> Mark
     ensures { result ≡ mark_of_need (need_view need.now) }
 {

@@ -27,8 +27,8 @@ use it_space::{Problem, Space};
 use std::alloc::{AllocError, Global};
 
 /// The right reply to a question, and the problem that all its lines pose, `row` lines too: to one that asks to eliminate rates its outer
-/// bound, and `Other` to each other verb. The listed rates go, and all entropies with them; the other rates stay. The limits are those of
-/// the search: the most rows after one more ray, at most 65,535; the most rays; and the effort for each run.
+/// bound, and `Other` to each other verb. The listed rates are eliminated, and all entropies with them; the other rates stay. The limits
+/// are those of the search: the most rows after one more ray, at most 65,535; the most rays; and the effort for each run.
 pub fn reply(
     alloc: Global,
     question: &Question,
@@ -71,7 +71,7 @@ fn reply_under(
     }
 }
 
-/// The outer bound of a problem without some rates.
+/// The outer bound of `problem` without the rates `gone`.
 fn bound(alloc: Global, problem: &Problem, gone: &[u8], limits: Limits) -> Result<Reply, AllocError>
     requires problem { IsProblem (problem_view problem.now) }
     requires gone { All (λ r. r < problem.now.space.rates) gone.now }
@@ -90,7 +90,7 @@ fn bound(alloc: Global, problem: &Problem, gone: &[u8], limits: Limits) -> Resul
     }
 }
 
-/// Bounds with marks.
+/// The reply with these bounds, each row with its mark.
 fn marked(alloc: Global, space: Space, bounds: Bounds, effort: Effort) -> Result<Reply, AllocError>
     requires space { IsSpace space }
     requires rows { All (IsOver (size_of space)) bounds.hull.rows.items }

@@ -27,14 +27,14 @@ struct Made {
     rows: Vec<Row>,
 }
 
-/// Whether a row is the next one that goes.
+/// Whether `row` is number `next` of the rows that are dropped, counted from 0.
 fn goes_next(row: &Row, dropped: &[(Row, Certificate)], next: usize) -> bool
     ensures { result ≡ goes_first row.now (drop next dropped.now) }
 {
     next < dropped.len() && row.terms() == dropped[next].0.terms()
 }
 
-/// The rows that go, by their numbers in the list as it stands: those before a row, without those that went.
+/// The dropped rows, each by its number in the list as it stands then: the number of the rows before it that weren't dropped.
 fn numbered_drops(
     alloc: Global,
     rows: &[Row],
@@ -56,7 +56,7 @@ fn numbered_drops(
     Ok(drops)
 }
 
-/// The same point once more.
+/// A copy of `ray`.
 fn copied_ray(alloc: Global, space: Space, ray: &Point) -> Result<Point, AllocError>
     requires space { IsSpace space }
     requires ray { length ray.now ≡ size_of space }
@@ -66,7 +66,7 @@ fn copied_ray(alloc: Global, space: Space, ray: &Point) -> Result<Point, AllocEr
     Ok(Point::new(space, values))
 }
 
-/// A ray with the rows that go after it, of those that it leaves, and the rows that stay.
+/// The step of `ray`: it and the rows of `left` that a reduction drops; with the rows that stay.
 fn reduced_step(
     alloc: Global,
     left: &System,
@@ -90,7 +90,7 @@ fn reduced_step(
     })
 }
 
-/// A ray with the rows that go after it, if it leaves few enough, and those that stay.
+/// The step of `ray` after the rows `rows`, with the rows that stay; None where it leaves too many rows, or a number passes the limit.
 fn made_step(
     alloc: Global,
     frame: Frame,

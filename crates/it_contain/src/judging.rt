@@ -13,7 +13,7 @@ use it_region::{Candidate, Pair, fits, obligations};
 use it_space::{Certificate, Problem, Row};
 use std::alloc::{AllocError, Global};
 
-/// The certificate that a target ends with, if it does; without a run where the target is kept.
+/// The certificate with which the run about `target` ends, if it does. There is no run if its outcome is kept in `outcomes`.
 fn proof_of(
     alloc: Global,
     problem: &Problem,
@@ -36,7 +36,7 @@ fn proof_of(
     Ok(outcome)
 }
 
-/// The certificates of all targets in order, if each ends with one.
+/// The certificates of all targets, in order; None if the run about one of them ends with none.
 fn proofs_of(
     alloc: Global,
     problem: &Problem,
@@ -60,7 +60,7 @@ fn proofs_of(
     Ok(Some(proofs))
 }
 
-/// A certificate of each obligation, if the candidate fits and is proved.
+/// The certificates of the obligations of `candidate`, in order; None if it doesn't fit the pair or isn't proved.
 pub(crate) fn proofs_of_candidate(
     alloc: Global,
     pair: &Pair,

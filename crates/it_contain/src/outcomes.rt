@@ -12,11 +12,11 @@ use it_prove::{ClosedProblem, Effort, Proof};
 use it_space::{Certificate, Problem, Row};
 use std::alloc::{AllocError, Global};
 
-/// How many rows are kept at most.
+/// The most rows that are kept.
 const MOST_ROWS: usize = 4096;
 
-/// Rows that were targets under one problem, each with the certificate that it ended with, if it did. The first
-/// `MOST_ROWS` of them are kept. What is made once of the problem serves all these runs.
+/// Rows that were targets under one problem, each with the certificate with which its run ended, if it did. The first
+/// `MOST_ROWS` of them are kept. `closed` is made once of the problem and serves all these runs.
 pub(crate) struct Outcomes {
     pub(crate) by_row: IndexMap<Vec<(u32, i128)>, Option<Certificate>>,
     pub(crate) closed: ClosedProblem,
@@ -32,7 +32,7 @@ impl Drop for Outcomes {
 }
 
 impl Outcomes {
-    /// Those about a problem before any run.
+    /// No outcomes yet under `problem`.
     pub(crate) fn new(
         alloc: Global,
         problem: &Problem,
@@ -48,7 +48,7 @@ impl Outcomes {
         })
     }
 
-    /// The certificate that a target ends with, if it does.
+    /// The certificate with which the run about `target` ends, if it does.
     pub(crate) fn certificate_of(
         &mut self,
         alloc: Global,
@@ -69,7 +69,7 @@ impl Outcomes {
         }
     }
 
-    /// Keeps what a row ended with.
+    /// Keeps the outcome of `target`, unless `MOST_ROWS` rows are kept already.
     pub(crate) fn keep(
         &mut self,
         alloc: Global,
@@ -87,7 +87,7 @@ impl Outcomes {
     }
 }
 
-/// Copies an outcome.
+/// A copy of an outcome.
 pub(crate) fn copy_outcome(
     alloc: Global,
     outcome: &Option<Certificate>,

@@ -16,17 +16,17 @@ use it_region::{Candidate, Pair};
 use it_space::Certificate;
 use std::alloc::{AllocError, Global};
 
-/// What candidates are to show, and the effort that is spent on each of their targets.
+/// What a candidate has to show: that the first region of `pair` lies in the second; with the effort for each of its targets.
 #[derive(Drop)]
 struct Goal<'a> {
     pair: &'a Pair,
     effort: Effort,
 }
 
-/// Looks for a substitution that shows that the pair's first region lies in the second, with this effort for each target. All
-/// boxes are begun, and at most `tries` candidates are tried: those of `first`, then those of each box in order. A candidate that
-/// doesn't fit counts. What is found the boxes know at later questions; where nothing is, they plan as before. Where memory was
-/// wanted nothing is known of the boxes.
+/// Looks for a substitution that shows that the pair's first region lies in the second, with the effort `effort` for each target.
+/// All boxes are begun, and at most `tries` candidates are tried: those of `first`, then those of each box in order. A candidate that
+/// doesn't fit counts. The boxes learn of the candidate that is found, for later questions; if none is found, their plans stay. If
+/// memory runs out, nothing is known of the boxes.
 pub fn contain(
     alloc: Global,
     pair: &Pair,
@@ -49,7 +49,7 @@ pub fn contain(
     Ok(end)
 }
 
-/// Tries a candidate, and tells all boxes whether it is proved. The answer is its proofs, if it is.
+/// Tries a candidate, and tells all boxes whether it is proved. Gives its certificates, if it is.
 fn try_one(
     alloc: Global,
     goal: &Goal<'_>,
@@ -104,7 +104,7 @@ fn try_list(
     Ok(Contained::Open { tried: count })
 }
 
-/// Tries the first `tries` candidates of the box at a place.
+/// Tries the first `tries` candidates of box number `i`, counted from 0.
 fn try_box(
     alloc: Global,
     goal: &Goal<'_>,

@@ -25,10 +25,10 @@ use it_ratio::types::Best;
 use it_space::{Certificate, Point, Problem, Row, RowFault, value};
 use std::alloc::{AllocError, Global};
 
-/// At most so many numbers are tried.
+/// The most numbers that are tried.
 const ROUNDS: u32 = 64;
 
-/// What makes a factor the answer.
+/// The reason why a factor is the answer.
 #[derive(Drop)]
 pub enum Reason {
     /// A point at which it holds with equality, the left side being above 0 there, so that no smaller one holds.
@@ -37,25 +37,25 @@ pub enum Reason {
     Below(Certificate),
 }
 
-/// A number that may be a factor, and what makes it the answer if it is one.
+/// A number that may be a factor, and the reason why it is the answer if it is one.
 #[derive(Drop)]
 pub struct Trial {
     factor: Fraction,
     reason: Reason,
 }
 
-/// What a run leads to.
+/// The outcome of a run.
 #[derive(Drop)]
 pub enum Step {
     /// The answer.
     Found(Best),
     /// The next number.
     Next(Trial),
-    /// Neither.
+    /// Neither an answer nor a next number.
     Open,
 }
 
-/// The fraction below / above in lowest terms; none where it isn't one, or where a number passes the limit.
+/// The fraction `below` / `above` in lowest terms; None where it is no fraction, or where a number passes the limit.
 fn ratio(above: i128, below: i128) -> Option<Fraction>
     ensures { IfSome result (λ x. pos x.den *ℤ below ≡ x.num *ℤ above) }
 {
@@ -65,7 +65,7 @@ fn ratio(above: i128, below: i128) -> Option<Fraction>
     Some(Fraction::lowest(below, above))
 }
 
-/// The answer that a trial is whose number has a certificate.
+/// The answer of a trial whose number has the certificate `proof`.
 fn answer(trial: Trial, proof: Certificate) -> Best
     ensures { best_view result ≡ answer_view trial (certificate_view proof) }
 {
@@ -90,8 +90,8 @@ fn answer(trial: Trial, proof: Certificate) -> Best
     }
 }
 
-/// What a point leads to at which the left side is below 0 and a factor would hold with equality, after a trial. Where the left side was
-/// above 0 at a point too no factor holds.
+/// The outcome after a point at which the left side is below 0 and `factor` would hold with equality, after the trial `trial`. If the
+/// left side was above 0 at a point too, no factor holds.
 fn after_fall(
     alloc: Global,
     problem: &Problem,
@@ -123,7 +123,7 @@ fn after_fall(
     }
 }
 
-/// What a point leads to after the last trial, if there was one.
+/// The outcome after the point `point` and the last trial, if there was one.
 fn by_point(
     alloc: Global,
     problem: &Problem,
@@ -161,7 +161,7 @@ fn by_point(
     }
 }
 
-/// What the run about a trial's row leads to.
+/// The outcome of the run about the row of `trial`.
 fn by_row(
     alloc: Global,
     quick: &mut QuickProblem,
@@ -183,7 +183,7 @@ fn by_row(
     }
 }
 
-/// What the run about a trial leads to.
+/// The outcome of the run about `trial`.
 fn after(
     alloc: Global,
     quick: &mut QuickProblem,
@@ -203,7 +203,7 @@ fn after(
     }
 }
 
-/// The first number: the ratio at a point where the left side is above 0, and where it never is any number, as 0.
+/// The first number, as an outcome: the ratio at a point where the left side is above 0; where it never is, any number will do: 0.
 fn first(
     alloc: Global,
     quick: &mut QuickProblem,
@@ -225,8 +225,8 @@ fn first(
     }
 }
 
-/// What quick runs find of the factors by which the left side is at least the right one. None where they find nothing, which says
-/// nothing of the factors: where a run gives up, or a number passes the limit.
+/// What quick runs find of the factors by which the left side is at least the right one. None where a run gives up, or a number passes
+/// the limit; that says nothing of the factors.
 pub fn quick_factor(
     alloc: Global,
     problem: &Problem,

@@ -1,4 +1,4 @@
-//! What a question asks of the rates that stay.
+//! The rates that a question eliminates, and the problem that all its lines pose.
 ghost use Rattle.std.specs.Prelude.{◌≡◌, IfOk};
 ghost use Rattle.it_space.specs.Problems.{problem_view};
 ghost use Rattle.it_question.specs.Limits.{IsQuestion};
@@ -11,7 +11,7 @@ use it_question::types::{Question, Verb};
 use it_space::Problem;
 use std::alloc::{AllocError, Global};
 
-/// The rates that a verb eliminates, none where it asks for something else.
+/// The rates that a verb eliminates; none where it asks for something else.
 pub fn gone_rates(verb: &Verb) -> &[u8]
     ensures { result.now ≡ gone_rates (verb_view verb.now) }
 {

@@ -54,7 +54,7 @@ abbrev pub IsContainment : VerbView → Type 0
 IsContainment (Contain a b tries) = Unit {0}
 IsContainment verb = ⊥
 
--- a set of the first region's variables for each part
+-- the candidate has a set of the first region's variables for each part
 pub record FitsPair (p : Pair) (c : Candidate) : Type 0 where
   pub complete : length c.parts ≡ 4
   pub count : c.count ≡ p.parts
@@ -68,7 +68,7 @@ pair_coordinate p sets c = pulled_coordinate p.first.space.variables p.space.var
 abbrev pub candidate_sets : Pair → Candidate → List ℕ
 candidate_sets p c = substituted_sets p.common (take c.count c.parts)
 
--- the same by a candidate
+-- the coordinate of the first region that one of the second stands for, by a candidate
 abbrev pub candidate_coordinate : Pair → Candidate → ℕ → ℕ
 candidate_coordinate p c = pair_coordinate p (candidate_sets p c)
 

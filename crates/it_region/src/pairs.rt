@@ -20,7 +20,7 @@ pub fn pair(alloc: Global, question: &Question) -> Result<Pair, AllocError>
     pair_of(alloc, question)
 }
 
-/// The pair, without what follows for its limits.
+/// Like `pair`, without its clause on limits.
 fn pair_of(alloc: Global, question: &Question) -> Result<Pair, AllocError>
     requires question { IsQuestion (question_body question.now) }
     requires contains { IsContainment (question_body question.now).verb }

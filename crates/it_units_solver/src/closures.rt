@@ -42,7 +42,7 @@ fn functions(alloc: Global) -> Result<Problem, AllocError>
     })
 }
 
-/// What these functions make dependent.
+/// The dependences that these functions make.
 fn dependences(alloc: Global) -> Result<Dependences, AllocError>
     ensures { IfOk result (λ d. d.space ≡ record { variables = 3; rates = 0 }) }
 {
@@ -63,7 +63,7 @@ fn closes(alloc: Global, dependences: &Dependences, sets: &[u32]) -> bool
     }
 }
 
-/// Whether h(X,Z) - h(X) is nothing over closed sets.
+/// Whether h(X,Z) - h(X) is 0 over closed sets.
 fn vanishes(alloc: Global, dependences: &Dependences) -> bool
     requires { dependences.now.space ≡ record { variables = 3; rates = 0 } }
 {
