@@ -1,6 +1,5 @@
 use Rattle.std.proofs.Common.{◌≡◌, ℕ, ℤ, List, length, map, subst}
 use Rattle.it_space.specs.Answers.{certificate_view}
-use Rattle.it_space.specs.Problems.{problem_view}
 use Rattle.it_polymatroid.specs.Elementals.{elementals}
 use Rattle.it_origins.specs.Origins.{IsOrigin}
 use Rattle.it_question.specs.Questions.{question_body}
@@ -10,7 +9,7 @@ use Rattle.it_terms.proofs.row_origins.row_origin.Goals as goal
 
 pub returns : goal.returns
 returns c =
-    let p = problem_view c.in_ok-posed.posed in
+    let p = c.in_ok-posed.posed in
     let row = c.args.row.now in
     let certificate = c.in-Some.certificate in
     let weights = c.in_ok-weights.weights.items in

@@ -10,7 +10,7 @@ pub returns : goal.returns
 returns c =
     let v = c.args.names.now in
     let row = c.args.row.now in
-    let cs : List Constraint = c.args.problem.now.constraints.items in
+    let cs : List Constraint = c.args.problem.now.constraints in
     let g = forms_of (map of_constraint cs) in
     let needed : List ℕ = c.as_slice-needed.result.now in
     let lines : List ℕ = c.in_ok-lines.lines.items in
