@@ -196,7 +196,6 @@ fn own_line_comment(
 // ---- the lines
 
 /// The problem of a question without its constraints.
-#[tactic(auto, using(crate::proofs::OwnLineLemmas::free_problem))]
 fn free_problem(alloc: Global, question: &Question) -> Problem
     requires { IsQuestion (question_body question.now) }
     ensures { IsFreeProblem (question_body question.now) result }
@@ -213,6 +212,7 @@ fn is_by_shannon(problem: &Problem, row: &Row, proof: &Certificate) -> bool
     requires over { IsOver (size_of problem.now.space) row.now }
     ensures { OnTrue result (IsByShannon problem.now.space.variables (value row.now)) }
 {
+    problem.facts();
     check_yes(problem, row, proof) == Verdict::Valid
 }
 

@@ -14,5 +14,6 @@ returns c =
     let certificate = c.in-Some.certificate in
     let weights = c.in_ok-weights.weights.items in
     let origin : IsOrigin p row (certificate_view certificate) = rw c.in-Some.is at c.in_ok-certificate.ensures in
-    comes_from (question_body c.args.question.now) p row (certificate_view certificate) weights c.in_ok-posed.ensures c.if-not-is_over.ensures origin
-    (subst (λ (ws : List (ℕ × ℤ)). weights ≡ map (by_constraint (length (elementals p.space.variables))) ws) c.as_slice.ensures.value c.in_ok-weights.ensures)
+    let space = c.space-space.ensures.value in
+    comes_from (question_body c.args.question.now) p row (certificate_view certificate) weights c.in_ok-posed.ensures (rw space at c.if-not-is_over.ensures) origin
+    (subst (λ (ws : List (ℕ × ℤ)). weights ≡ map (by_constraint (length (elementals p.space.variables))) ws) c.as_slice.ensures.value (rw space at c.in_ok-weights.ensures))
