@@ -238,7 +238,7 @@ fn write_asked(alloc: Global, out: &mut Output, question: &Question) -> Result<(
 fn write_problem(alloc: Global, out: &mut Output, question: &Question) -> Result<(), AllocError>
     requires { IsQuestion (question_body question.now) }
 {
-    write_constraints(out, problem(alloc, question)?.constraints.as_slice());
+    write_constraints(out, problem(alloc, question)?.constraints());
     write_asked(alloc, out, question)
 }
 

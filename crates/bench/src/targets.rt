@@ -3,7 +3,6 @@
 ghost use Rattle.std.specs.Prelude.{◌≡◌};
 ghost use Rattle.it_question.specs.Limits.{IsQuestion};
 ghost use Rattle.it_question.specs.Questions.{Prove, question_body};
-ghost use Rattle.it_space.specs.Problems.{IsProblem, problem_view};
 ghost use Rattle.it_space.specs.Rows.{IsOver};
 ghost use Rattle.it_space.specs.Spaces.{size_of};
 ghost use Rattle.it_syntax.specs.Meaning.{relation_view};
@@ -66,7 +65,6 @@ impl Asking {
         problem: &Problem,
         target: &Row,
     ) -> Result<Option<Proof>, AllocError>
-        requires problem { IsProblem (problem_view problem.now) }
         requires target { IsOver (size_of problem.now.space) target.now }
     {
         if !self.quick {
@@ -88,7 +86,6 @@ impl Asking {
         problem: &Problem,
         target: &Row,
     ) -> Result<bool, AllocError>
-        requires problem { IsProblem (problem_view problem.now) }
         requires target { IsOver (size_of problem.now.space) target.now }
     {
         self.asked = self.asked.wrapping_add(1);
@@ -113,7 +110,7 @@ fn proves_relation(
     requires proves { (question_body question.now).verb ≡ Prove (relation_view relation.now) }
 {
     let problem = problem(alloc, question)?;
-    for target in target_rows(alloc, relation, problem.space)?.as_slice() {
+    for target in target_rows(alloc, relation, problem.space())?.as_slice() {
         if !asking.proves(alloc, &problem, target)? {
             return Ok(false);
         }

@@ -1,7 +1,6 @@
 //! The answer to a question that eliminates rates.
 ghost use Rattle.std.specs.Prelude.{◌≡◌, List, map, IfOk};
 ghost use Rattle.it_space.specs.Answers.{answer_view};
-ghost use Rattle.it_space.specs.Problems.{problem_view};
 ghost use Rattle.it_question.specs.Limits.{IsQuestion};
 ghost use Rattle.it_question.specs.Questions.{Eliminate, question_body};
 ghost use Rattle.it_canon.specs.QuestionDemands.{IsProblemOf};
@@ -30,7 +29,7 @@ pub fn region(
 ) -> Result<Answer, AllocError>
     requires question { IsQuestion (question_body question.now) }
     requires eliminates { (question_body question.now).verb ≡ Eliminate rates.now }
-    requires givens { IsProblemOf (question_body question.now) (problem_view givens.now) }
+    requires givens { IsProblemOf (question_body question.now) givens.now }
     ensures { IfOk result (λ a. (plans : List Plan) → IsAnswered budgets plans question.now a plans) }
 {
     let system = system(alloc, question)?;

@@ -1,7 +1,6 @@
 //! The unknowns of the three phases.
 ghost use Rattle.std.specs.Prelude.{◌≡◌, ◌≢◌, ◌<◌, ◌+◌, ◌^◌, ◌++◌, ◌∷◌, [], pos, List, length, map, All, IfOk, OnOk};
 ghost use Rattle.it_number.specs.Limit.{IsWithin};
-ghost use Rattle.it_space.specs.Problems.{IsProblem, problem_view};
 ghost use Rattle.it_space.specs.Rows.{IsOver, coefficient};
 ghost use Rattle.it_space.specs.Spaces.{size_of};
 ghost use Rattle.it_elemental.specs.Generators.{Generator, generators, generator_at};
@@ -17,9 +16,8 @@ use std::alloc::{AllocError, Global};
 
 /// The weight of generator `index` as an unknown.
 fn weight(alloc: Global, problem: &Problem, index: u32) -> Result<Unknown, AllocError>
-    requires problem { IsProblem (problem_view problem.now) }
-    requires listed { index < length (generators (problem_view problem.now)) }
-    ensures { IfOk result (λ u. unknown_view u ≡ generator_at (generators (problem_view problem.now)) index) }
+    requires listed { index < length (generators problem.now) }
+    ensures { IfOk result (λ u. unknown_view u ≡ generator_at (generators problem.now) index) }
 {
     let row = generator_row(alloc, problem, index)?;
     Ok(Unknown {
@@ -30,9 +28,8 @@ fn weight(alloc: Global, problem: &Problem, index: u32) -> Result<Unknown, Alloc
 
 /// The weight of generator `index` as an unknown that counts against the factor: with the generator's negated row.
 fn counterweight(alloc: Global, problem: &Problem, index: u32) -> Result<Unknown, AllocError>
-    requires problem { IsProblem (problem_view problem.now) }
-    requires listed { index < length (generators (problem_view problem.now)) }
-    ensures { IfOk result (λ u. unknown_view u ≡ counterweight (generator_at (generators (problem_view problem.now)) index)) }
+    requires listed { index < length (generators problem.now) }
+    ensures { IfOk result (λ u. unknown_view u ≡ counterweight (generator_at (generators problem.now) index)) }
 {
     let generator = weight(alloc, problem, index)?;
     let row = opposite_row(alloc, &generator.row)?;
@@ -48,8 +45,7 @@ fn push_counterweights(
     alloc: Global,
     problem: &Problem,
 ) -> Result<(), AllocError>
-    requires problem { IsProblem (problem_view problem.now) }
-    ensures { OnOk result (unknown_views unknowns.new.items ≡ unknown_views unknowns.old.items ++ map counterweight (generators (problem_view problem.now))) }
+    ensures { OnOk result (unknown_views unknowns.new.items ≡ unknown_views unknowns.old.items ++ map counterweight (generators problem.now)) }
 {
     for index in 0..generator_count(problem) {
         let unknown = counterweight(alloc, problem, index)?;
@@ -60,8 +56,7 @@ fn push_counterweights(
 
 /// The unknowns of the first phase: the factor, and the weights of the generators. They should sum to the right side.
 pub fn first_phase(alloc: Global, problem: &Problem, left: &Row) -> Result<Vec<Unknown>, AllocError>
-    requires problem { IsProblem (problem_view problem.now) }
-    ensures { IfOk result (λ v. unknown_views v.items ≡ first_phase (generators (problem_view problem.now)) left.now) }
+    ensures { IfOk result (λ v. unknown_views v.items ≡ first_phase (generators problem.now) left.now) }
 {
     let mut unknowns = Vec::new(alloc);
     let row = left.copy(alloc)?;
@@ -75,8 +70,7 @@ pub fn first_phase(alloc: Global, problem: &Problem, left: &Row) -> Result<Vec<U
 
 /// The unknowns of the second phase: the weights of the generators. They should sum to the negated left side.
 pub fn second_phase(alloc: Global, problem: &Problem) -> Result<Vec<Unknown>, AllocError>
-    requires problem { IsProblem (problem_view problem.now) }
-    ensures { IfOk result (λ v. unknown_views v.items ≡ generators (problem_view problem.now)) }
+    ensures { IfOk result (λ v. unknown_views v.items ≡ generators problem.now) }
 {
     let mut unknowns = Vec::new(alloc);
     for index in 0..generator_count(problem) {
@@ -88,8 +82,7 @@ pub fn second_phase(alloc: Global, problem: &Problem) -> Result<Vec<Unknown>, Al
 
 /// The rows of the generators, in order.
 fn generator_rows(alloc: Global, problem: &Problem) -> Result<Vec<Row>, AllocError>
-    requires problem { IsProblem (problem_view problem.now) }
-    ensures { IfOk result (λ v. v.items ≡ map (λ g. g.row) (generators (problem_view problem.now))) }
+    ensures { IfOk result (λ v. v.items ≡ map (λ g. g.row) (generators problem.now)) }
 {
     let mut rows = Vec::new(alloc);
     for index in 0..generator_count(problem) {
@@ -101,20 +94,20 @@ fn generator_rows(alloc: Global, problem: &Problem) -> Result<Vec<Row>, AllocErr
 
 /// The number of the equation of the left side's value at the point, which is 1.
 pub fn left_equation(problem: &Problem) -> u32
-    requires problem { IsProblem (problem_view problem.now) }
-    ensures value { result ≡ left_equation (size_of problem.now.space) (generators (problem_view problem.now)) }
+    ensures value { result ≡ left_equation (size_of problem.now.space) (generators problem.now) }
     ensures few { result < 2 ^ 22 }
 {
-    problem.space.size() + generator_count(problem) + 1
+    problem.facts();
+    problem.size() + generator_count(problem) + 1
 }
 
 /// The number of the equation of the right side's value at the point, which is the factor.
 pub fn right_equation(problem: &Problem) -> u32
-    requires problem { IsProblem (problem_view problem.now) }
-    ensures value { result ≡ right_equation (size_of problem.now.space) (generators (problem_view problem.now)) }
+    ensures value { result ≡ right_equation (size_of problem.now.space) (generators problem.now) }
     ensures few { result < 2 ^ 22 }
 {
-    problem.space.size() + generator_count(problem) + 2
+    problem.facts();
+    problem.size() + generator_count(problem) + 2
 }
 
 /// `row` with the term `coefficient` at `coordinate` after its own.
@@ -165,11 +158,11 @@ fn coordinate_row(
     right: &Row,
     coordinate: u32,
 ) -> Result<Row, AllocError>
-    requires problem { IsProblem (problem_view problem.now) }
-    requires rows { rows.now ≡ map (λ g. g.row) (generators (problem_view problem.now)) }
-    ensures { IfOk result (λ r. r ≡ coordinate_row (size_of problem.now.space) (generators (problem_view problem.now)) left.now right.now coordinate) }
+    requires rows { rows.now ≡ map (λ g. g.row) (generators problem.now) }
+    ensures { IfOk result (λ r. r ≡ coordinate_row (size_of problem.now.space) (generators problem.now) left.now right.now coordinate) }
 {
-    let mut terms = coordinate_terms(alloc, rows, problem.space.size() + 1, coordinate)?;
+    problem.facts();
+    let mut terms = coordinate_terms(alloc, rows, problem.size() + 1, coordinate)?;
     push_some(
         &mut terms,
         left_equation(problem),
@@ -185,10 +178,9 @@ fn coordinate_row(
 
 /// The kind of the value at `coordinate`: at least 0 for a set, any number for a rate.
 fn coordinate_kind(problem: &Problem, coordinate: u32) -> Kind
-    requires problem { IsProblem (problem_view problem.now) }
     ensures { IsCoordinateKind problem.now.space.variables coordinate result }
 {
-    if coordinate < 1 << problem.space.variables {
+    if coordinate < 1 << problem.space().variables {
         Kind::Inequality
     } else {
         Kind::Equation
@@ -204,11 +196,11 @@ fn push_values(
     left: &Row,
     right: &Row,
 ) -> Result<(), AllocError>
-    requires problem { IsProblem (problem_view problem.now) }
-    requires rows { rows.now ≡ map (λ g. g.row) (generators (problem_view problem.now)) }
-    ensures { OnOk result (unknown_views unknowns.new.items ≡ unknown_views unknowns.old.items ++ all_values (problem_view problem.now) left.now right.now) }
+    requires rows { rows.now ≡ map (λ g. g.row) (generators problem.now) }
+    ensures { OnOk result (unknown_views unknowns.new.items ≡ unknown_views unknowns.old.items ++ all_values problem.now left.now right.now) }
 {
-    for coordinate in 1..problem.space.size() + 1 {
+    problem.facts();
+    for coordinate in 1..problem.size() + 1 {
         let row = coordinate_row(alloc, problem, rows, left, right, coordinate)?;
         let kind = coordinate_kind(problem, coordinate);
         unknowns.push(Unknown { kind, row })?;
@@ -244,10 +236,10 @@ fn push_slacks(
     alloc: Global,
     problem: &Problem,
 ) -> Result<(), AllocError>
-    requires problem { IsProblem (problem_view problem.now) }
-    ensures { OnOk result (unknown_views unknowns.new.items ≡ unknown_views unknowns.old.items ++ all_slacks (problem_view problem.now)) }
+    ensures { OnOk result (unknown_views unknowns.new.items ≡ unknown_views unknowns.old.items ++ all_slacks problem.now) }
 {
-    let first = problem.space.size() + 1;
+    problem.facts();
+    let first = problem.size() + 1;
     for index in 0..generator_count(problem) {
         push_slack(unknowns, alloc, kind_at(problem, index), first + index)?;
     }
@@ -262,9 +254,8 @@ pub fn third_phase(
     left: &Row,
     right: &Row,
 ) -> Result<Vec<Unknown>, AllocError>
-    requires problem { IsProblem (problem_view problem.now) }
     requires left { IsOver (size_of problem.now.space) left.now }
-    ensures { IfOk result (λ v. unknown_views v.items ≡ third (problem_view problem.now) left.now right.now) }
+    ensures { IfOk result (λ v. unknown_views v.items ≡ third problem.now left.now right.now) }
 {
     let rows = generator_rows(alloc, problem)?;
     let mut unknowns = Vec::new(alloc);

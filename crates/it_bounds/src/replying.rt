@@ -1,6 +1,5 @@
 //! The replies to questions.
 ghost use Rattle.std.specs.Prelude.{◌≡◌, ◌<◌, ◌≤◌, All, IfOk, length};
-ghost use Rattle.it_space.specs.Problems.{IsProblem, problem_view};
 ghost use Rattle.it_space.specs.Rows.{IsOver};
 ghost use Rattle.it_space.specs.Spaces.{IsSpace, size_of};
 ghost use Rattle.it_question.specs.Limits.{IsQuestion};
@@ -37,9 +36,9 @@ pub fn reply(
     requires question { IsQuestion (question_body question.now) }
     requires few_rows { limits.rows ≤ 65535 }
     ensures space { IfOk result (λ a. a.problem.space ≡ space_of (question_body question.now).names) }
-    ensures problem { IfOk result (λ a. AreStated a.problem.space (question_origins (under_all_lines (question_body question.now))) (question_demands (under_all_lines (question_body question.now))) a.problem.constraints.items) }
+    ensures problem { IfOk result (λ a. AreStated a.problem.space (question_origins (under_all_lines (question_body question.now))) (question_demands (under_all_lines (question_body question.now))) a.problem.constraints) }
     ensures right { IfOk result (λ a. IsRightReply limits (question_body question.now) (reply_view a.reply)) }
-    ensures printable { IfOk result (λ a. IsPrintable (question_body question.now) (length a.problem.constraints.items) a.reply) }
+    ensures printable { IfOk result (λ a. IsPrintable (question_body question.now) (length a.problem.constraints) a.reply) }
     ensures told { IfOk result (λ a. IsToldReply (question_body question.now) a.reply) }
 {
     let problem = problem_of_lines(alloc, question)?;
@@ -55,10 +54,10 @@ fn reply_under(
     limits: Limits,
 ) -> Result<Reply, AllocError>
     requires question { IsQuestion (question_body question.now) }
-    requires problem { IsProblemOf (under_all_lines (question_body question.now)) (problem_view problem.now) }
+    requires problem { IsProblemOf (under_all_lines (question_body question.now)) problem.now }
     requires few_rows { limits.rows ≤ 65535 }
     ensures right { IfOk result (λ r. IsRightReply limits (question_body question.now) (reply_view r)) }
-    ensures printable { IfOk result (IsPrintable (question_body question.now) (length problem.now.constraints.items)) }
+    ensures printable { IfOk result (IsPrintable (question_body question.now) (length problem.now.constraints)) }
     ensures told { IfOk result (IsToldReply (question_body question.now)) }
 {
     match &question.verb {
@@ -73,19 +72,19 @@ fn reply_under(
 
 /// The outer bound of `problem` without the rates `gone`.
 fn bound(alloc: Global, problem: &Problem, gone: &[u8], limits: Limits) -> Result<Reply, AllocError>
-    requires problem { IsProblem (problem_view problem.now) }
     requires gone { All (λ r. r < problem.now.space.rates) gone.now }
     requires some { 1 ≤ length gone.now }
     requires few_rows { limits.rows ≤ 65535 }
-    ensures { IfOk result (λ r. IsReplyByRows limits (problem_view problem.now) gone.now (reply_view r)) }
+    ensures { IfOk result (λ r. IsReplyByRows limits problem.now gone.now (reply_view r)) }
 {
+    problem.facts();
     let size = size(alloc, problem)?;
     if MOST_ENTRIES < size {
         return Ok(Reply::Size);
     }
     let end = outer(alloc, problem, gone, limits)?;
     match end {
-        Outer::Bounds(bounds) => marked(alloc, problem.space, bounds, limits.effort),
+        Outer::Bounds(bounds) => marked(alloc, problem.space(), bounds, limits.effort),
         Outer::Undecided(cause) => Ok(Reply::Undecided(cause)),
     }
 }

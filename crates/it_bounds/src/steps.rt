@@ -1,7 +1,6 @@
 //! The steps by which the hull of rays is made again, for whoever judges it.
 ghost use Rattle.std.specs.Prelude.{◌≡◌, ◌≤◌, All, IfOk, drop, length, map, option_map};
 ghost use Rattle.it_space.specs.Answers.{certificate_view};
-ghost use Rattle.it_space.specs.Problems.{problem_view};
 ghost use Rattle.it_space.specs.Spaces.{IsSpace, size_of};
 ghost use Rattle.it_redundant.specs.Reduction.{IsSystemUnder};
 ghost use Rattle.it_hull.specs.Constants.{constants};
@@ -74,10 +73,10 @@ fn reduced_step(
     effort: Effort,
     ray: &Point,
 ) -> Result<Made, AllocError>
-    requires left { IsSystemUnder (problem_view givens.now) left.now }
+    requires left { IsSystemUnder givens.now left.now }
     requires few_rows { length left.now.rows.items ≤ 65535 }
     requires ray { length ray.now ≡ size_of left.now.space }
-    ensures { IfOk result (IsReducedStep (problem_view givens.now) effort left.now.rows.items ray.now) }
+    ensures { IfOk result (IsReducedStep givens.now effort left.now.rows.items ray.now) }
 {
     let reduced = reduce(alloc, left, givens, effort)?;
     let drops = numbered_drops(alloc, left.rows.as_slice(), reduced.dropped.as_slice())?;
@@ -100,7 +99,7 @@ fn made_step(
     ray: &Point,
 ) -> Result<Option<Made>, AllocError>
     requires frame { IsFrame frame }
-    requires givens { problem_view givens.now ≡ constants frame.space }
+    requires givens { givens.now ≡ constants frame.space }
     requires rows { AreHullRows frame rows.items }
     requires ray { length ray.now ≡ size_of frame.space }
     ensures { IfOk result (IsMadeStep frame effort rows.items ray.now) }

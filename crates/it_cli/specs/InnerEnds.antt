@@ -45,12 +45,12 @@ EndOfLineOrMemory old new before now line status result = EndOfLine old new befo
 
 -- the lines of an answer to question k, by the constraints of its problem
 abbrev pub text_lines_of : ℕ → BodyView → AnsweredProblem → List ℕ
-text_lines_of k q answered = answer_line k q (origins_of answered.problem.constraints.items) (answer_view answered.answer)
+text_lines_of k q answered = answer_line k q (origins_of answered.problem.constraints) (answer_view answered.answer)
 
 -- the same with the rows of its proofs
 abbrev pub proof_lines_of : ℕ → BodyView → AnsweredProblem → List ℕ
 proof_lines_of k q answered =
-    proof_text_by k q answered.problem.constraints.items (map (terms_in q) (answer_forms q (answer_view answered.answer))) (answer_view answered.answer)
+    proof_text_by k q answered.problem.constraints (map (terms_in q) (answer_forms q (answer_view answered.answer))) (answer_view answered.answer)
 
 -- the lines of a right answer to question k, by boxes with these plans before it and after it
 pub record IsAnswerText (budgets : Budgets) (plans : List Plan) (format : Format) (k : ℕ) (q : QuestionView) (plans_after : List Plan) (bytes : List ℕ) : Type 0 where

@@ -101,10 +101,10 @@ fn lines(
 ) -> Result<Vec<u8>, AllocError>
     requires limits { IsQuestion (question_body question.now) }
     requires ascii { IsAsciiQuestion (question_view question.now) }
-    requires stated { AreStated answered.now.problem.space (question_origins (question_body question.now)) (question_demands (question_body question.now)) answered.now.problem.constraints.items }
+    requires stated { AreStated answered.now.problem.space (question_origins (question_body question.now)) (question_demands (question_body question.now)) answered.now.problem.constraints }
     requires space { answered.now.problem.space ≡ space_of (problem_names (question_body question.now)) }
     requires fits { IsAnswerTo (question_body question.now) (answer_view answered.now.answer) }
-    requires printable { IsPrintable (question_body question.now) (length answered.now.problem.constraints.items) answered.now.answer }
+    requires printable { IsPrintable (question_body question.now) (length answered.now.problem.constraints) answered.now.answer }
     ensures { IfOk result (λ text. text.items ≡ answer_lines format k (question_view question.now) (answer_view answered.now.answer)) }
 {
     match format {
@@ -122,14 +122,14 @@ pub fn text_lines(
     answered: &AnsweredProblem,
 ) -> Result<Vec<u8>, AllocError>
     requires limits { IsQuestion (question_body question.now) }
-    requires printable { IsPrintable (question_body question.now) (length answered.now.problem.constraints.items) answered.now.answer }
+    requires printable { IsPrintable (question_body question.now) (length answered.now.problem.constraints) answered.now.answer }
     ensures { IfOk result (λ text. text.items ≡ text_lines_of k (question_body question.now) answered.now) }
 {
     answer_line(
         alloc,
         k,
         question,
-        answered.problem.constraints.as_slice(),
+        answered.problem.constraints(),
         &answered.answer,
     )
 }
@@ -154,10 +154,10 @@ fn proof_lines(
     answered: &AnsweredProblem,
 ) -> Result<Vec<u8>, AllocError>
     requires limits { IsQuestion (question_body question.now) }
-    requires stated { AreStated answered.now.problem.space (question_origins (question_body question.now)) (question_demands (question_body question.now)) answered.now.problem.constraints.items }
+    requires stated { AreStated answered.now.problem.space (question_origins (question_body question.now)) (question_demands (question_body question.now)) answered.now.problem.constraints }
     requires space { answered.now.problem.space ≡ space_of (problem_names (question_body question.now)) }
     requires fits { IsAnswerTo (question_body question.now) (answer_view answered.now.answer) }
-    requires printable { IsPrintable (question_body question.now) (length answered.now.problem.constraints.items) answered.now.answer }
+    requires printable { IsPrintable (question_body question.now) (length answered.now.problem.constraints) answered.now.answer }
     ensures { IfOk result (λ text. text.items ≡ proof_lines_of k (question_body question.now) answered.now) }
 {
     let targets = target_rows(alloc, question, &answered.answer)?;
@@ -165,7 +165,7 @@ fn proof_lines(
         alloc,
         k,
         question,
-        answered.problem.constraints.as_slice(),
+        answered.problem.constraints(),
         targets.as_slice(),
         &answered.answer,
     )

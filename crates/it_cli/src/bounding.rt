@@ -77,7 +77,7 @@ fn bound_lines(
         limits,
         k,
         question,
-        replied.problem.constraints.as_slice(),
+        replied.problem.constraints(),
         &replied.reply,
     )
 }

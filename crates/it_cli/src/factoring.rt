@@ -104,7 +104,7 @@ pub fn factor_line(
         alloc,
         k,
         question,
-        replied.problem.constraints.as_slice(),
+        replied.problem.constraints(),
         &replied.reply,
     )
 }

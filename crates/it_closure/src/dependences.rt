@@ -1,7 +1,6 @@
 //! The functional dependences among given equations, and the closure of a set under them.
 ghost use Rattle.std.specs.Prelude.{IfOk, ◌≡◌, ◌<◌, ◌^◌, All};
 ghost use Rattle.it_closure.specs.Closures.{closure, first_open, is_open};
-ghost use Rattle.it_space.specs.Problems.{IsProblem, problem_view};
 ghost use Rattle.it_closure.specs.DependencesViews.{AreOfSpace};
 ghost use Rattle.it_closure.specs.Reading.{dependences_of};
 
@@ -42,14 +41,14 @@ impl Model for Dependences {
 impl Dependences {
     /// The dependences among the given equations of `problem`.
     pub fn read(alloc: Global, problem: &Problem) -> Result<Dependences, AllocError>
-        requires { IsProblem (problem_view problem.now) }
         ensures space { IfOk result (λ d. d.space ≡ problem.now.space) }
-        ensures list { IfOk result (λ d. d.list ≡ dependences_of (problem_view problem.now)) }
+        ensures list { IfOk result (λ d. d.list ≡ dependences_of problem.now) }
     {
-        let n = problem.space.variables;
-        let list = read_all(alloc, n, count(n), problem.constraints.as_slice())?;
+        problem.facts();
+        let n = problem.space().variables;
+        let list = read_all(alloc, n, count(n), problem.constraints())?;
         Ok(Dependences {
-            space: problem.space,
+            space: problem.space(),
             list,
         })
     }

@@ -1,6 +1,5 @@
 //! The size of the table with which the run about a problem begins.
 ghost use Rattle.std.specs.Prelude.{◌≡◌, ◌≤◌, ◌*◌, length, IfOk};
-ghost use Rattle.it_space.specs.Problems.{IsProblem, problem_view};
 ghost use Rattle.it_closure.specs.Sizes.{column_count, constraint_columns, table_size};
 
 use crate::dependences::Dependences;
@@ -13,14 +12,14 @@ use std::alloc::{AllocError, Global};
 /// and each equation two, and each row an artificial one.
 #[tactic(auto, unfolding(crate::specs::Sizes::table_size))]
 pub fn size(alloc: Global, problem: &Problem) -> Result<u64, AllocError>
-    requires { IsProblem (problem_view problem.now) }
-    ensures { IfOk result (λ k. k ≡ table_size (problem_view problem.now)) }
+    ensures { IfOk result (λ k. k ≡ table_size problem.now) }
 {
+    problem.facts();
     let dependences = Dependences::read(alloc, problem)?;
-    let coordinates = dependences.closed(alloc, problem.space)?;
+    let coordinates = dependences.closed(alloc, problem.space())?;
     let rows = coordinates.len() as u64;
-    let constraints = constraint_columns(problem.constraints.as_slice());
-    let columns = count(problem.space.variables) as u64 + constraints + rows;
+    let constraints = constraint_columns(problem.constraints());
+    let columns = count(problem.space().variables) as u64 + constraints + rows;
     Ok(rows * columns)
 }
 

@@ -1,7 +1,6 @@
 //! Negated rows, and the rows of generators by number.
 ghost use Rattle.std.specs.Prelude.{◌≡◌, ◌<◌, neg_ℤ, length, IfOk};
 ghost use Rattle.it_number.specs.Limit.{IsWithin};
-ghost use Rattle.it_space.specs.Problems.{IsProblem, problem_view};
 ghost use Rattle.it_space.specs.Rows.{IsCanonical, negated_terms};
 ghost use Rattle.it_elemental.specs.Generators.{generators, generator_at};
 
@@ -39,16 +38,15 @@ pub fn opposite_row(alloc: Global, row: &Row) -> Result<Row, AllocError>
 
 /// The row of generator `index`: an elemental inequality below their count, from there on a constraint.
 pub fn generator_row(alloc: Global, problem: &Problem, index: u32) -> Result<Row, AllocError>
-    requires problem { IsProblem (problem_view problem.now) }
-    requires listed { index < length (generators (problem_view problem.now)) }
-    ensures { IfOk result (λ r. r ≡ (generator_at (generators (problem_view problem.now)) index).row) }
+    requires listed { index < length (generators problem.now) }
+    ensures { IfOk result (λ r. r ≡ (generator_at (generators problem.now) index).row) }
 {
-    let n = problem.space.variables;
+    let n = problem.space().variables;
     let elementals = count(n);
     if index < elementals {
         return row(alloc, n, index);
     }
-    problem.constraints[(index - elementals) as usize]
+    problem.constraints()[(index - elementals) as usize]
         .row
         .copy(alloc)
 }

@@ -4,7 +4,6 @@ use Rattle.std.specs.Global.{Global}
 use Rattle.std.specs.List.{AllZip, flat_map}
 use Rattle.it_space.specs.declared.answers.Certificate.{Certificate}
 use Rattle.it_space.specs.Answers.{CertificateView, certificate_view}
-use Rattle.it_space.specs.Problems.{problem_view}
 use Rattle.it_space.specs.Rows.{Terms}
 use Rattle.it_space.specs.Spaces.{size_of}
 use Rattle.it_demand.specs.RowsOfForms.{terms_of_form}
@@ -29,7 +28,7 @@ abbrev pub pair_goal : Pair → Effort → Goal
 pair_goal p effort = record {
   fits = FitsPair p;
   targets = λ c. map (terms_of_form (size_of p.first.space)) (pair_obligations p c);
-  ends = λ t o. EndsWith (problem_view p.first) t effort o;
+  ends = λ t o. EndsWith p.first t effort o;
 }
 
 -- the candidate fits, and its targets end with these certificates, in order

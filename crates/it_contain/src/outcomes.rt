@@ -2,7 +2,6 @@
 ghost use Rattle.std.specs.Prelude.{◌≡◌, IfOk, OnOk};
 ghost use Rattle.std.specs.Option.{option_map};
 ghost use Rattle.it_space.specs.Answers.{certificate_view};
-ghost use Rattle.it_space.specs.Problems.{IsProblem, problem_view};
 ghost use Rattle.it_space.specs.Rows.{IsOver};
 ghost use Rattle.it_space.specs.Spaces.{size_of};
 ghost use Rattle.it_contain.specs.SearchSteps.{AreOutcomes, IsKept, ProvesOne};
@@ -38,8 +37,7 @@ impl Outcomes {
         problem: &Problem,
         effort: Effort,
     ) -> Result<Outcomes, AllocError>
-        requires { IsProblem (problem_view problem.now) }
-        ensures { IfOk result (AreOutcomes (problem_view problem.now) effort) }
+        ensures { IfOk result (AreOutcomes problem.now effort) }
     {
         let closed = ClosedProblem::read(alloc, problem, effort)?;
         Ok(Outcomes {
@@ -56,11 +54,10 @@ impl Outcomes {
         target: &Row,
         effort: Effort,
     ) -> Result<Option<Certificate>, AllocError>
-        requires problem { IsProblem (problem_view problem.now) }
         requires target { IsOver (size_of problem.now.space) target.now }
-        requires outcomes { AreOutcomes (problem_view problem.now) effort self.old }
-        ensures proves { IfOk result (λ o. ProvesOne (problem_view problem.now) effort target.now o) }
-        ensures outcomes { OnOk result (AreOutcomes (problem_view problem.now) effort self.new) }
+        requires outcomes { AreOutcomes problem.now effort self.old }
+        ensures proves { IfOk result (λ o. ProvesOne problem.now effort target.now o) }
+        ensures outcomes { OnOk result (AreOutcomes problem.now effort self.new) }
     {
         match self.closed.prove(alloc, problem, target, effort)? {
             Proof::Yes(certificate) => Ok(Some(certificate)),

@@ -1,6 +1,5 @@
 //! The search for a candidate that is proved.
 ghost use Rattle.std.specs.Prelude.{◌≡◌, ◌<◌, ◌+◌, map, drop, vec_len, IfOk, OnOk};
-ghost use Rattle.it_space.specs.Problems.{problem_view};
 ghost use Rattle.it_region.specs.Pairs.{IsPair};
 ghost use Rattle.it_contain.specs.Shapes.{IsShape, shape_of};
 ghost use Rattle.it_contain.specs.Search.{pair_goal, PairEnds};
@@ -58,11 +57,11 @@ fn try_one(
     outcomes: &mut Outcomes,
 ) -> Result<Option<Vec<Certificate>>, AllocError>
     requires pair { IsPair goal.now.pair.now }
-    requires outcomes { AreOutcomes (problem_view goal.now.pair.now.first) goal.now.effort outcomes.old }
+    requires outcomes { AreOutcomes goal.now.pair.now.first goal.now.effort outcomes.old }
     ensures judges { IfOk result (λ o. Judges (pair_goal goal.now.pair.now goal.now.effort) candidate.now o) }
     ensures pending { IfOk result (λ o. KeepsPending o (map pending boxes.old.items) (map pending boxes.new.items)) }
     ensures plans { IfOk result (λ o. map plan boxes.new.items ≡ plans_after_try candidate.now o (map plan boxes.old.items)) }
-    ensures outcomes { OnOk result (AreOutcomes (problem_view goal.now.pair.now.first) goal.now.effort outcomes.new) }
+    ensures outcomes { OnOk result (AreOutcomes goal.now.pair.now.first goal.now.effort outcomes.new) }
 {
     match proofs_of_candidate(alloc, goal.pair, candidate, goal.effort, outcomes)? {
         Some(proof) => {
@@ -86,10 +85,10 @@ fn try_list(
     outcomes: &mut Outcomes,
 ) -> Result<Contained, AllocError>
     requires pair { IsPair goal.now.pair.now }
-    requires outcomes { AreOutcomes (problem_view goal.now.pair.now.first) goal.now.effort outcomes.old }
+    requires outcomes { AreOutcomes goal.now.pair.now.first goal.now.effort outcomes.old }
     ensures ends { IfOk result (λ r. ListEnds goal.now tries first.now (map plan boxes.old.items) r (map plan boxes.new.items)) }
     ensures later { IfOk result (λ r. KeepsLater r (map pending boxes.old.items) (map pending boxes.new.items)) }
-    ensures outcomes { OnOk result (AreOutcomes (problem_view goal.now.pair.now.first) goal.now.effort outcomes.new) }
+    ensures outcomes { OnOk result (AreOutcomes goal.now.pair.now.first goal.now.effort outcomes.new) }
 {
     let mut count: u32 = 0;
     for candidate in first {
@@ -114,11 +113,11 @@ fn try_box(
     outcomes: &mut Outcomes,
 ) -> Result<Contained, AllocError>
     requires pair { IsPair goal.now.pair.now }
-    requires outcomes { AreOutcomes (problem_view goal.now.pair.now.first) goal.now.effort outcomes.old }
+    requires outcomes { AreOutcomes goal.now.pair.now.first goal.now.effort outcomes.old }
     requires box_is { i < vec_len boxes.old }
     ensures ends { IfOk result (λ r. BoxEnds goal.now tries (map pending boxes.old.items) i (map plan boxes.old.items) r (map plan boxes.new.items)) }
     ensures later { IfOk result (λ r. KeepsLater r (drop (i + 1) (map pending boxes.old.items)) (drop (i + 1) (map pending boxes.new.items))) }
-    ensures outcomes { OnOk result (AreOutcomes (problem_view goal.now.pair.now.first) goal.now.effort outcomes.new) }
+    ensures outcomes { OnOk result (AreOutcomes goal.now.pair.now.first goal.now.effort outcomes.new) }
 {
     for count in 0..tries {
         let Some(candidate) = next_at(boxes, i) else {
@@ -143,7 +142,7 @@ fn try_all(
     outcomes: &mut Outcomes,
 ) -> Result<Contained, AllocError>
     requires pair { IsPair goal.now.pair.now }
-    requires outcomes { AreOutcomes (problem_view goal.now.pair.now.first) goal.now.effort outcomes.old }
+    requires outcomes { AreOutcomes goal.now.pair.now.first goal.now.effort outcomes.old }
     requires shape { IsShape shape }
     ensures { IfOk result (λ r. PairEnds goal.now.pair.now goal.now.effort tries first.now shape (map plan boxes.old.items) r (map plan boxes.new.items)) }
 {

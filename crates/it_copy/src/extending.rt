@@ -1,6 +1,5 @@
 //! Questions with copies of variables added.
 ghost use Rattle.std.specs.Prelude.{◌≡◌, ◌≤◌, ◌<◌, ◌^◌, ◌++◌, None, [], false, IfOk, IfErr, OnOk, bit_or, length, map, nat_le, nat_lt};
-ghost use Rattle.it_space.specs.Problems.{IsProblem, problem_view};
 ghost use Rattle.it_closure.specs.Sizes.{table_size};
 ghost use Rattle.it_syntax.specs.Givens.{given_view};
 ghost use Rattle.it_syntax.specs.Meaning.{relation_view};
@@ -143,8 +142,7 @@ fn add_copies(
 
 /// Whether the table of a problem is too large.
 fn is_large(alloc: Global, problem: &Problem) -> Result<bool, AllocError>
-    requires { IsProblem (problem_view problem.now) }
-    ensures { IfOk result (λ large. large ≡ nat_lt most_entries (table_size (problem_view problem.now))) }
+    ensures { IfOk result (λ large. large ≡ nat_lt most_entries (table_size problem.now)) }
 {
     let size = size(alloc, problem)?;
     Ok(MOST_ENTRIES < size)

@@ -1,6 +1,7 @@
 //! Rows as constraints of `row` lines, appended to a problem.
-ghost use Rattle.std.specs.Prelude.{◌≡◌, [], ◌∷◌, ◌++◌, ◌≤◌, length, OnOk, IfOk};
-ghost use Rattle.it_space.specs.Problems.{problem_view};
+ghost use Rattle.std.specs.Prelude.{◌≡◌, [], ◌∷◌, ◌++◌, ◌≤◌, length, All, OnOk, IfOk};
+ghost use Rattle.it_space.specs.Rows.{IsOver};
+ghost use Rattle.it_space.specs.Spaces.{size_of};
 ghost use Rattle.it_eliminate.specs.RowLines.{row_constraints, with_rows};
 
 use it_space::{Constraint, Kind, Origin, Problem, Row};
@@ -46,13 +47,16 @@ fn push_rows(
 
 /// The problem `givens`, with `rows` appended as constraints of `row` lines counted from 1.
 pub fn problem_with(alloc: Global, givens: &Problem, rows: &[Row]) -> Result<Problem, AllocError>
-    requires { length rows.now ≤ 65535 }
-    ensures { IfOk result (λ p. problem_view p ≡ with_rows (problem_view givens.now) rows.now) }
+    requires few_givens { length givens.now.constraints ≤ 65535 }
+    requires few_rows { length rows.now ≤ 65535 }
+    requires rows { All (IsOver (size_of givens.now.space)) rows.now }
+    ensures { IfOk result (λ p. p ≡ with_rows givens.now rows.now) }
 {
-    let mut constraints = copies(alloc, givens.constraints.as_slice())?;
+    givens.facts();
+    let mut constraints = copies(alloc, givens.constraints())?;
     push_rows(alloc, &mut constraints, rows)?;
     Ok(Problem {
-        space: givens.space,
+        space: givens.space(),
         constraints,
     })
 }

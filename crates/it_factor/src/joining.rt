@@ -2,7 +2,6 @@
 ghost use Rattle.std.specs.Prelude.{◌≡◌, All, IfOk, length};
 ghost use Rattle.std.specs.Option.{IfSome};
 ghost use Rattle.it_number.specs.Limit.{IsWithin};
-ghost use Rattle.it_space.specs.Problems.{problem_view};
 ghost use Rattle.it_space.specs.Rows.{negated_terms, value};
 ghost use Rattle.it_space.specs.Spaces.{size_of};
 ghost use Rattle.it_best.specs.Factors.{HasNoFactor, IsPoint, ground_of};
@@ -44,10 +43,10 @@ fn combined_values(
 /// `point`, if the left side is 0 there and the check finds that it meets the problem and that the right side is above 0. `turned` is
 /// the negation of the right side's row.
 fn judged(problem: &Problem, left: &Row, right: &Row, turned: &Row, point: Point) -> Option<Point>
-    requires sides { AreSides (problem_view problem.now) left.now right.now }
+    requires sides { AreSides problem.now left.now right.now }
     requires turned { turned.now ≡ negated_terms right.now }
     requires complete { length point ≡ size_of problem.now.space }
-    ensures { IfSome result (HasNoFactor (ground_of (problem_view problem.now)) (value left.now) (value right.now)) }
+    ensures { IfSome result (HasNoFactor (ground_of problem.now) (value left.now) (value right.now)) }
 {
     let Ok(zero) = value(left, &point) else {
         return None;
@@ -71,10 +70,10 @@ pub fn joined(
     above: &Point,
     below: &Point,
 ) -> Result<Option<Point>, AllocError>
-    requires sides { AreSides (problem_view problem.now) left.now right.now }
-    requires above { IsPoint (ground_of (problem_view problem.now)) above.now }
-    requires below { IsPoint (ground_of (problem_view problem.now)) below.now }
-    ensures { IfOk result (λ o. IfSome o (HasNoFactor (ground_of (problem_view problem.now)) (value left.now) (value right.now))) }
+    requires sides { AreSides problem.now left.now right.now }
+    requires above { IsPoint (ground_of problem.now) above.now }
+    requires below { IsPoint (ground_of problem.now) below.now }
+    ensures { IfOk result (λ o. IfSome o (HasNoFactor (ground_of problem.now) (value left.now) (value right.now))) }
 {
     let Ok(more) = value(left, above) else {
         return Ok(None);
@@ -87,10 +86,10 @@ pub fn joined(
         Err(RowFault::Wide) => return Ok(None),
         Err(RowFault::Memory) => return Err(AllocError),
     };
-    if values.len() != problem.space.size() as usize {
+    if values.len() != problem.size() as usize {
         return Ok(None);
     }
     let turned = opposite_row(alloc, right)?;
-    let point = Point::new(problem.space, values);
+    let point = Point::new(problem.space(), values);
     Ok(judged(problem, left, right, &turned, point))
 }

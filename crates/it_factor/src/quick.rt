@@ -7,7 +7,6 @@
 ghost use Rattle.std.specs.Prelude.{◌≡◌, ◌≢◌, ◌*ℤ◌, pos, IfOk};
 ghost use Rattle.std.specs.Option.{IfSome};
 ghost use Rattle.it_space.specs.Answers.{certificate_view};
-ghost use Rattle.it_space.specs.Problems.{problem_view};
 ghost use Rattle.it_space.specs.Spaces.{size_of};
 ghost use Rattle.it_ratio.specs.BestViews.{best_view};
 ghost use Rattle.it_best.specs.Ends.{factor_row};
@@ -101,10 +100,10 @@ fn after_fall(
     factor: Fraction,
     point: &Point,
 ) -> Result<Step, AllocError>
-    requires sides { AreSides (problem_view problem.now) left.now right.now }
-    requires trial { IsTrial (problem_view problem.now) left.now right.now trial }
-    requires point { IsPoint (ground_of (problem_view problem.now)) point.now }
-    ensures { IfOk result (IsStep (problem_view problem.now) left.now right.now) }
+    requires sides { AreSides problem.now left.now right.now }
+    requires trial { IsTrial problem.now left.now right.now trial }
+    requires point { IsPoint (ground_of problem.now) point.now }
+    ensures { IfOk result (IsStep problem.now left.now right.now) }
 {
     let Trial { factor: _, reason } = trial;
     match reason {
@@ -132,10 +131,10 @@ fn by_point(
     last: Option<Trial>,
     point: Point,
 ) -> Result<Step, AllocError>
-    requires sides { AreSides (problem_view problem.now) left.now right.now }
-    requires last { IfSome last (IsTrial (problem_view problem.now) left.now right.now) }
-    requires point { IsPoint (ground_of (problem_view problem.now)) point }
-    ensures { IfOk result (IsStep (problem_view problem.now) left.now right.now) }
+    requires sides { AreSides problem.now left.now right.now }
+    requires last { IfSome last (IsTrial problem.now left.now right.now) }
+    requires point { IsPoint (ground_of problem.now) point }
+    ensures { IfOk result (IsStep problem.now left.now right.now) }
 {
     let Ok(above) = value(left, &point) else {
         return Ok(Step::Open);
@@ -171,10 +170,10 @@ fn by_row(
     trial: Trial,
     row: &Row,
 ) -> Result<Step, AllocError>
-    requires sides { AreSides (problem_view problem.now) left.now right.now }
-    requires trial { IsTrial (problem_view problem.now) left.now right.now trial }
+    requires sides { AreSides problem.now left.now right.now }
+    requires trial { IsTrial problem.now left.now right.now trial }
     requires row { row.now ≡ factor_row (size_of problem.now.space) left.now right.now trial.factor }
-    ensures { IfOk result (IsStep (problem_view problem.now) left.now right.now) }
+    ensures { IfOk result (IsStep problem.now left.now right.now) }
 {
     match settle(alloc, quick, problem, row, QUICK_STEPS)? {
         Some(Proof::Yes(proof)) => Ok(Step::Found(answer(trial, proof))),
@@ -192,9 +191,9 @@ fn after(
     right: &Row,
     trial: Trial,
 ) -> Result<Step, AllocError>
-    requires sides { AreSides (problem_view problem.now) left.now right.now }
-    requires trial { IsTrial (problem_view problem.now) left.now right.now trial }
-    ensures { IfOk result (IsStep (problem_view problem.now) left.now right.now) }
+    requires sides { AreSides problem.now left.now right.now }
+    requires trial { IsTrial problem.now left.now right.now trial }
+    ensures { IfOk result (IsStep problem.now left.now right.now) }
 {
     match factor_row(alloc, problem, left, right, &trial.factor) {
         Ok(row) => by_row(alloc, quick, problem, left, right, trial, &row),
@@ -211,8 +210,8 @@ fn first(
     left: &Row,
     right: &Row,
 ) -> Result<Step, AllocError>
-    requires sides { AreSides (problem_view problem.now) left.now right.now }
-    ensures { IfOk result (IsStep (problem_view problem.now) left.now right.now) }
+    requires sides { AreSides problem.now left.now right.now }
+    ensures { IfOk result (IsStep problem.now left.now right.now) }
 {
     let row = opposite_row(alloc, left)?;
     match settle(alloc, quick, problem, &row, QUICK_STEPS)? {
@@ -233,8 +232,8 @@ pub fn quick_factor(
     left: &Row,
     right: &Row,
 ) -> Result<Option<Best>, AllocError>
-    requires { AreSides (problem_view problem.now) left.now right.now }
-    ensures { IfOk result (λ o. IfSome o (λ b. IsQuickBest (problem_view problem.now) left.now right.now (best_view b))) }
+    requires { AreSides problem.now left.now right.now }
+    ensures { IfOk result (λ o. IfSome o (λ b. IsQuickBest problem.now left.now right.now (best_view b))) }
 {
     let mut quick = QuickProblem::read(alloc, problem)?;
     let mut step = first(alloc, &mut quick, problem, left, right)?;

@@ -4,7 +4,6 @@ use Rattle.it_fraction.specs.declared.fraction.Wide.{Wide}
 use Rattle.it_space.specs.declared.answers.Certificate.{Certificate}
 use Rattle.it_space.specs.declared.problems.Problem.{Problem}
 use Rattle.it_space.specs.Answers.{certificate_view}
-use Rattle.it_space.specs.Problems.{problem_view}
 use Rattle.it_space.specs.Rows.{Terms, value, one_at}
 use Rattle.it_space.specs.Sums.{number_at}
 use Rattle.it_polymatroid.specs.Elementals.{span}
@@ -15,19 +14,19 @@ use Rattle.it_lift.specs.Lifts.{excess, moves, moves_of}
 
 -- the generators' coefficients at a set
 abbrev pub coefficients_at : Problem → ℕ → ℕ → ℤ
-coefficients_at q s i = (generators_of (problem_view q)).form i (one_at s)
+coefficients_at q s i = (generators_of q).form i (one_at s)
 
 -- the excess at a set
 abbrev pub excess_at : Problem → Terms → Certificate → ℕ → ℤ
-excess_at q target w s = excess (certificate_view w) (value target) (generators_of (problem_view q)) s
+excess_at q target w s = excess (certificate_view w) (value target) (generators_of q) s
 
 -- the excess at a set, or `Wide` exactly where a number that it is formed from passes the limit
 abbrev pub IsExcessOrWide : Problem → Terms → Certificate → ℕ → Result ℤ Wide → Type 0
-IsExcessOrWide q target w s result = OkIff result (ExcessFits (certificate_view w) (value target) (generators_of (problem_view q)) s) (excess_at q target w s)
+IsExcessOrWide q target w s result = OkIff result (ExcessFits (certificate_view w) (value target) (generators_of q) s) (excess_at q target w s)
 
 -- the numbers that are formed before any weight changes are within the limit
 abbrev pub ExcessesFit : Problem → DependencesView → Terms → Certificate → Type 0
-ExcessesFit q d target w = EmptyFits d.space.variables d.list (value target) (generators_of (problem_view q)) (certificate_view w)
+ExcessesFit q d target w = EmptyFits d.space.variables d.list (value target) (generators_of q) (certificate_view w)
 
 -- all amounts that are added to the weights
 abbrev pub all_moves : Problem → DependencesView → Terms → Certificate → List (ℕ × ℤ)

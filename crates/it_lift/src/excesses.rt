@@ -1,7 +1,6 @@
 //! The excess at a set: the difference that is left there when weights that add up over closed sets are used over all sets.
 ghost use Rattle.std.specs.Prelude.{◌≡◌, ◌<◌, ◌+◌, ℤ, pos, ◌+ℤ◌, ◌-ℤ◌, ◌*ℤ◌, cond, All, OkIff, OnOk, OnErr, IfOk};
 ghost use Rattle.it_number.specs.Limit.{IsWithin};
-ghost use Rattle.it_space.specs.Problems.{IsProblem, problem_view};
 ghost use Rattle.it_space.specs.Rows.{value};
 ghost use Rattle.it_polymatroid.specs.Certificates.{combination};
 ghost use Rattle.it_lift.specs.Fits.{FallFits};
@@ -22,8 +21,7 @@ pub fn excess(
     collapsed: &Certificate,
     set: VarSet,
 ) -> Result<i128, Wide>
-    requires problem { IsProblem (problem_view problem.now) }
-    requires listed { All (λ p. p.0 < (generators_of (problem_view problem.now)).count) collapsed.now.weights.items }
+    requires listed { All (λ p. p.0 < (generators_of problem.now).count) collapsed.now.weights.items }
     requires some { 0 < set }
     ensures { IsExcessOrWide problem.now target.now collapsed.now set result }
 {
@@ -38,8 +36,7 @@ fn left_of(
     set: VarSet,
     whole: i128,
 ) -> Result<i128, Wide>
-    requires problem { IsProblem (problem_view problem.now) }
-    requires listed { All (λ p. p.0 < (generators_of (problem_view problem.now)).count) weights.now }
+    requires listed { All (λ p. p.0 < (generators_of problem.now).count) weights.now }
     requires some { 0 < set }
     ensures { OkIff result (FallFits whole weights.now (coefficients_at problem.now set)) (whole -ℤ combination weights.now (coefficients_at problem.now set)) }
 {
@@ -52,8 +49,7 @@ fn left_of(
 
 /// The coefficient of generator `index` at `set`, which isn't empty.
 fn coefficient_at_set(problem: &Problem, index: u32, set: VarSet) -> i128
-    requires problem { IsProblem (problem_view problem.now) }
-    requires listed { index < (generators_of (problem_view problem.now)).count }
+    requires listed { index < (generators_of problem.now).count }
     requires some { 0 < set }
     ensures { result ≡ coefficients_at problem.now set index }
 {
@@ -75,17 +71,17 @@ pub fn empty_excess(
     target: &Row,
     collapsed: &Certificate,
 ) -> Result<i128, Wide>
-    requires problem { IsProblem (problem_view problem.now) }
     requires space { dependences.now.space ≡ problem.now.space }
-    requires listed { All (λ p. p.0 < (generators_of (problem_view problem.now)).count) collapsed.now.weights.items }
+    requires listed { All (λ p. p.0 < (generators_of problem.now).count) collapsed.now.weights.items }
     ensures fits { OnOk result (ExcessesFit problem.now dependences.now target.now collapsed.now) }
     ensures value { IfOk result (λ v. v ≡ with_empty dependences.now.space.variables dependences.now.list (excess_at problem.now target.now collapsed.now) 0) }
     ensures within { IfOk result IsWithin }
     ensures wide { OnErr result (¬ (ExcessesFit problem.now dependences.now target.now collapsed.now)) }
 {
+    problem.facts();
     let null = dependences.close(VarSet::empty());
     let mut total: i128 = 0;
-    for number in 1..1u16 << problem.space.variables {
+    for number in 1..1u16 << problem.space().variables {
         let set = VarSet::from_number(number);
         let left = excess(problem, target, collapsed, set)?;
         total = plus_if(total, dependences.close(set) == null, left)?;

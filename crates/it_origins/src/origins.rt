@@ -2,7 +2,6 @@
 ghost use Rattle.std.specs.Prelude.{◌≤◌, All, IfOk, IfSome};
 ghost use Rattle.std.specs.Bool.{OnTrue};
 ghost use Rattle.it_space.specs.Answers.{certificate_view};
-ghost use Rattle.it_space.specs.Problems.{IsProblem, problem_view};
 ghost use Rattle.it_space.specs.Rows.{IsOver};
 ghost use Rattle.it_space.specs.Spaces.{size_of};
 ghost use Rattle.it_origins.specs.Origins.{IsOfConstraint, IsOrigin};
@@ -64,11 +63,10 @@ pub fn origin(
     problem: &Problem,
     row: &Row,
 ) -> Result<Option<Certificate>, AllocError>
-    requires problem { IsProblem (problem_view problem.now) }
     requires row { IsOver (size_of problem.now.space) row.now }
-    ensures { IfOk result (λ o. IfSome o (λ w. IsOrigin (problem_view problem.now) row.now (certificate_view w))) }
+    ensures { IfOk result (λ o. IfSome o (λ w. IsOrigin problem.now row.now (certificate_view w))) }
 {
-    let variables = problem.space.variables;
+    let variables = problem.space().variables;
     let Some(choice) = short_sum(alloc, problem, row)? else {
         return Ok(None);
     };

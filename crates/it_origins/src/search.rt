@@ -1,5 +1,4 @@
 //! The search for constraints whose sum is a given row. The checker judges the result, so the functions here have no contracts about it.
-ghost use Rattle.it_space.specs.Problems.{IsProblem, problem_view};
 
 use crate::columns::{Column, all_columns, rows_of, used_coordinates};
 use crate::sums::{ColumnSum, column_sum};
@@ -31,10 +30,9 @@ fn sum_of(
     row: &Row,
     columns: Vec<Column>,
 ) -> Result<Option<Choice>, AllocError>
-    requires { IsProblem (problem_view problem.now) }
 {
-    let rows = rows_of(alloc, problem.constraints.as_slice(), columns.as_slice())?;
-    let coordinates = used_coordinates(alloc, problem.space, rows.as_slice(), row)?;
+    let rows = rows_of(alloc, problem.constraints(), columns.as_slice())?;
+    let coordinates = used_coordinates(alloc, problem.space(), rows.as_slice(), row)?;
     match column_sum(alloc, coordinates.as_slice(), rows.as_slice(), row)? {
         Some(sum) => Ok(Some(Choice { columns, sum })),
         None => Ok(None),
@@ -59,7 +57,6 @@ fn shorter(
     row: &Row,
     found: &Choice,
 ) -> Result<Option<Choice>, AllocError>
-    requires { IsProblem (problem_view problem.now) }
 {
     for weight in found.sum.weights.as_slice() {
         let others = without(alloc, found.columns.as_slice(), weight.0)?;
@@ -79,7 +76,6 @@ fn single(
     row: &Row,
     columns: &[Column],
 ) -> Result<Option<Choice>, AllocError>
-    requires { IsProblem (problem_view problem.now) }
 {
     for column in columns {
         let only = Vec::from_slice(alloc, &[*column])?;
@@ -93,9 +89,8 @@ fn single(
 /// A sum of constraints that equals `row`, up to a positive factor: a single one if there is one; else, if there are few, one without
 /// columns that could be left out.
 pub fn short_sum(alloc: Global, problem: &Problem, row: &Row) -> Result<Option<Choice>, AllocError>
-    requires { IsProblem (problem_view problem.now) }
 {
-    let columns = all_columns(alloc, problem.constraints.as_slice())?;
+    let columns = all_columns(alloc, problem.constraints())?;
     if let Some(choice) = single(alloc, problem, row, columns.as_slice())? {
         return Ok(Some(choice));
     }

@@ -3,7 +3,7 @@ use Rattle.std.specs.Prelude.{◌≡◌, ℕ, suc, ◌+◌, ◌^◌, ◌≤◌, 
 use Rattle.std.specs.Global.{Vec}
 use Rattle.it_space.specs.declared.problems.System.{System}
 use Rattle.it_space.specs.Answers.{certificate_view}
-use Rattle.it_space.specs.Problems.{ProblemView, IsSystem, problem_view}
+use Rattle.it_space.specs.Problems.{ProblemView, IsSystem}
 use Rattle.it_space.specs.Rows.{Terms}
 use Rattle.it_space.specs.Spaces.{size_of}
 use Rattle.it_eliminate.specs.Projections.{LacksCoordinate}
@@ -25,7 +25,7 @@ use Rattle.it_outer.specs.Theorems.{IsSearch}
 
 -- the search of a frame
 abbrev pub search_of : Frame → Search
-search_of f = record { problem = problem_view f.problem.now; spare = f.spare; kept = f.kept.items; limits = f.limits }
+search_of f = record { problem = f.problem.now; spare = f.spare; kept = f.kept.items; limits = f.limits }
 
 -- the numbers ascend, from at least `from` on
 abbrev pub AscendFrom : ℕ → List ℕ → Type 0
@@ -39,7 +39,7 @@ pub record ArePlaces (size : ℕ) (kept : List ℕ) : Type 0 where
 
 -- the frames that functions accept
 pub record IsFrame (f : Frame) : Type 0 where
-  pub constants : problem_view f.constants ≡ constants f.problem.now.space
+  pub constants : f.constants ≡ constants f.problem.now.space
   pub search : IsSearch (search_of f)
   pub places : ArePlaces (size_of f.problem.now.space) f.kept.items
 

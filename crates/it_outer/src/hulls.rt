@@ -20,7 +20,7 @@ fn first_hull(alloc: Global, frame: &Frame<'_>) -> Result<System, AllocError>
 {
     let rows = first_rows(alloc, frame.kept.as_slice())?;
     Ok(System {
-        space: frame.problem.space,
+        space: frame.problem.space(),
         rows,
     })
 }

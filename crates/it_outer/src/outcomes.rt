@@ -1,6 +1,6 @@
 //! The certificates of rows that were proved once: they stay valid when rays are added.
 ghost use Rattle.std.specs.Prelude.{◌≡◌, IfOk, OnOk};
-ghost use Rattle.it_space.specs.Problems.{IsProblem, ProblemView, problem_view};
+ghost use Rattle.it_space.specs.Problems.{ProblemView};
 ghost use Rattle.it_space.specs.Rows.{IsOver};
 ghost use Rattle.it_space.specs.Spaces.{size_of};
 ghost use Rattle.it_prove.specs.declared.types.Effort.{Effort};
@@ -30,8 +30,7 @@ impl Drop for Outcomes {
 impl Outcomes {
     /// The outcomes of `problem`, before any run.
     pub fn new(alloc: Global, problem: &Problem, effort: Effort) -> Result<Outcomes, AllocError>
-        requires { IsProblem (problem_view problem.now) }
-        ensures { IfOk result (AreOutcomes (problem_view problem.now) effort) }
+        ensures { IfOk result (AreOutcomes problem.now effort) }
     {
         let closed = ClosedProblem::read(alloc, problem, effort)?;
         Ok(Outcomes {
@@ -60,11 +59,10 @@ impl Outcomes {
         row: &Row,
         effort: Effort,
     ) -> Result<Proof, AllocError>
-        requires problem { IsProblem (problem_view problem.now) }
         requires row { IsOver (size_of problem.now.space) row.now }
-        requires outcomes { AreOutcomes (problem_view problem.now) effort self.old }
-        ensures ends { IfOk result (λ proof. EndsWith (problem_view problem.now) row.now effort (proof_view proof)) }
-        ensures outcomes { OnOk result (AreOutcomes (problem_view problem.now) effort self.new) }
+        requires outcomes { AreOutcomes problem.now effort self.old }
+        ensures ends { IfOk result (λ proof. EndsWith problem.now row.now effort (proof_view proof)) }
+        ensures outcomes { OnOk result (AreOutcomes problem.now effort self.new) }
     {
         if let Some(certificate) = self.by_row.get(row.terms()) {
             let kept = certificate.copy(alloc)?;

@@ -2,7 +2,6 @@
 ghost use Rattle.std.specs.Prelude.{◌≡◌, ◌<◌, ◌≤◌, [], length, All, IfOk};
 ghost use Rattle.it_space.specs.Rows.{IsOver};
 ghost use Rattle.it_space.specs.Spaces.{size_of};
-ghost use Rattle.it_space.specs.Problems.{IsProblem, problem_view};
 ghost use Rattle.it_outer.specs.Bounds.{IsRightOuter};
 ghost use Rattle.it_hull.specs.KeptRates.{kept_coordinates};
 ghost use Rattle.it_outer.specs.Outer.{outer_view, search_without};
@@ -25,15 +24,15 @@ fn frame<'a>(
     gone: &[u8],
     limits: Limits,
 ) -> Result<Frame<'a>, AllocError>
-    requires problem { IsProblem (problem_view problem.now) }
     requires gone { All (λ r. r < problem.now.space.rates) gone.now }
     requires some { 1 ≤ length gone.now }
     requires few_rows { limits.rows ≤ 65535 }
     ensures frame { IfOk result IsFrame }
-    ensures search { IfOk result (λ f. search_of f ≡ search_without (problem_view problem.now) gone.now limits) }
+    ensures search { IfOk result (λ f. search_of f ≡ search_without problem.now gone.now limits) }
 {
-    let constants = constants(alloc, problem.space)?;
-    let kept = kept_coordinates(alloc, problem.space, gone)?;
+    problem.facts();
+    let constants = constants(alloc, problem.space())?;
+    let kept = kept_coordinates(alloc, problem.space(), gone)?;
     Ok(Frame {
         problem,
         constants,
@@ -58,7 +57,7 @@ fn second_pass(
 {
     match extreme_rays(
         alloc,
-        frame.problem.space,
+        frame.problem.space(),
         frame.kept.as_slice(),
         first.hull.rows.as_slice(),
         first.rays.as_slice(),
@@ -108,13 +107,13 @@ pub fn outer(
     gone: &[u8],
     limits: Limits,
 ) -> Result<Outer, AllocError>
-    requires problem { IsProblem (problem_view problem.now) }
     requires gone { All (λ r. r < problem.now.space.rates) gone.now }
     requires some { 1 ≤ length gone.now }
     requires few_rows { limits.rows ≤ 65535 }
-    ensures ends { IfOk result (λ o. SearchEnds (search_without (problem_view problem.now) gone.now limits) (outer_view o)) }
-    ensures right { IfOk result (λ o. IsRightOuter (problem_view problem.now) (kept_coordinates problem.now.space gone.now) (outer_view o)) }
+    ensures ends { IfOk result (λ o. SearchEnds (search_without problem.now gone.now limits) (outer_view o)) }
+    ensures right { IfOk result (λ o. IsRightOuter problem.now (kept_coordinates problem.now.space gone.now) (outer_view o)) }
 {
+    problem.facts();
     let frame = frame(alloc, problem, gone, limits)?;
     let end = both_passes(alloc, &frame)?;
     Ok(end)

@@ -2,7 +2,7 @@
 ghost use Rattle.std.specs.Prelude.{◌≡◌, ◌≢◌, ℕ, true, IfOk, OnOk};
 ghost use Rattle.std.specs.Option.{IfNone, IfSome};
 ghost use Rattle.it_space.specs.declared.answers.Cause.TheVariants as causes;
-ghost use Rattle.it_space.specs.Problems.{IsProblem, ProblemView, problem_view};
+ghost use Rattle.it_space.specs.Problems.{ProblemView};
 ghost use Rattle.it_space.specs.Rows.{IsOver};
 ghost use Rattle.it_space.specs.Spaces.{size_of};
 ghost use Rattle.it_prove.specs.ClosedProblems.{IsClosedProblem};
@@ -26,9 +26,8 @@ impl ClosedProblem {
         target: &Row,
         effort: Effort,
     ) -> Result<Option<Proof>, AllocError>
-        requires problem { IsProblem (problem_view problem.now) }
         requires target { IsOver (size_of problem.now.space) target.now }
-        ensures settled { IfOk result (λ o. IfSome o (λ proof. (effort.quick ≡ true) × IsSettled (problem_view problem.now) target.now (proof_view proof))) }
+        ensures settled { IfOk result (λ o. IfSome o (λ proof. (effort.quick ≡ true) × IsSettled problem.now target.now (proof_view proof))) }
         ensures stays { OnOk result ((q : ProblemView) → IsClosedProblem q self.old → IsClosedProblem q self.new) }
     {
         if !effort.quick {
@@ -50,14 +49,14 @@ impl ClosedProblem {
         target: &Row,
         effort: Effort,
     ) -> Result<Proof, AllocError>
-        requires problem { IsProblem (problem_view problem.now) }
-        requires closed { IsClosedProblem (problem_view problem.now) self.old }
+        requires closed { IsClosedProblem problem.now self.old }
         requires target { IsOver (size_of problem.now.space) target.now }
-        ensures ends { IfOk result (λ proof. EndsWith (problem_view problem.now) target.now effort (proof_view proof)) }
+        ensures ends { IfOk result (λ proof. EndsWith problem.now target.now effort (proof_view proof)) }
         ensures unbound { IfNone effort.pivots (IfOk result (λ proof. (k : ℕ) → proof_view proof ≢ Undecided (causes.Pivots k))) }
-        ensures right { IfOk result (λ proof. IsRightProof (problem_view problem.now) target.now (proof_view proof)) }
+        ensures right { IfOk result (λ proof. IsRightProof problem.now target.now (proof_view proof)) }
         ensures stays { OnOk result ((q : ProblemView) → IsClosedProblem q self.old → IsClosedProblem q self.new) }
     {
+        problem.facts();
         match self.settled(alloc, problem, target, effort)? {
             Some(proof) => Ok(proof),
             None => self.defined(alloc, problem, target, effort.pivots),
@@ -76,11 +75,10 @@ pub fn prove(
     target: &Row,
     effort: Effort,
 ) -> Result<Proof, AllocError>
-    requires problem { IsProblem (problem_view problem.now) }
     requires target { IsOver (size_of problem.now.space) target.now }
-    ensures ends { IfOk result (λ proof. EndsWith (problem_view problem.now) target.now effort (proof_view proof)) }
+    ensures ends { IfOk result (λ proof. EndsWith problem.now target.now effort (proof_view proof)) }
     ensures unbound { IfNone effort.pivots (IfOk result (λ proof. (k : ℕ) → proof_view proof ≢ Undecided (causes.Pivots k))) }
-    ensures right { IfOk result (λ proof. IsRightProof (problem_view problem.now) target.now (proof_view proof)) }
+    ensures right { IfOk result (λ proof. IsRightProof problem.now target.now (proof_view proof)) }
 {
     let mut closed = ClosedProblem::read(alloc, problem, effort)?;
     let proof = closed.prove(alloc, problem, target, effort)?;

@@ -1,7 +1,6 @@
 //! Certificates from the weights of columns.
 ghost use Rattle.std.specs.Prelude.{◌≡◌, ◌<◌, ◌^◌, ℕ, ℤ, pos, ◌-ℤ◌, ◌≤ℤ◌, length, IfErr, IfOk, OnOk};
 ghost use Rattle.it_space.specs.Answers.{certificate_view};
-ghost use Rattle.it_space.specs.Problems.{IsProblem, problem_view};
 ghost use Rattle.it_space.specs.Rows.{coefficient};
 ghost use Rattle.it_space.specs.Sums.{terms_from};
 ghost use Rattle.it_run.specs.Readings.{AreWeights};
@@ -38,10 +37,10 @@ fn generator_weights(
     problem: &Problem,
     row: &Row,
 ) -> Result<Vec<(u32, i128)>, AllocError>
-    requires problem { IsProblem (problem_view problem.now) }
     requires positive { (c : ℕ) → pos 0 ≤ℤ coefficient row.now c }
-    ensures { IfOk result (λ v. v.items ≡ terms_from 0 (numbers_from (λ a b. a -ℤ b) 0 (generators (problem_view problem.now)) (coefficient row.now))) }
+    ensures { IfOk result (λ v. v.items ≡ terms_from 0 (numbers_from (λ a b. a -ℤ b) 0 (generators problem.now) (coefficient row.now))) }
 {
+    problem.facts();
     let mut weights = Vec::new(alloc);
     let mut column = 0;
     for index in 0..generator_count(problem) {
@@ -59,12 +58,12 @@ pub fn certificate(
     problem: &Problem,
     weights: &[(usize, Fraction)],
 ) -> Result<Certificate, RowFault>
-    requires problem { IsProblem (problem_view problem.now) }
-    requires ordered { AreWeights rationals (length (columns (generators (problem_view problem.now)))) 0 weights.now }
-    ensures value { IfOk result (λ c. certificate_view c ≡ certificate_of (generators (problem_view problem.now)) weights.now) }
+    requires ordered { AreWeights rationals (length (columns (generators problem.now))) 0 weights.now }
+    ensures value { IfOk result (λ c. certificate_view c ≡ certificate_of (generators problem.now) weights.now) }
     ensures fits { OnOk result (NumbersFit (numbers_of weights.now)) }
     ensures wide { IfErr result (λ f. f ≡ RowFault.Wide → ¬ (NumbersFit (numbers_of weights.now))) }
 {
+    problem.facts();
     let numbers = numbers(alloc, weights)?;
     let scale = common_scale(numbers.as_slice())?;
     let row = Row::new(terms(alloc, weights, scale)?);

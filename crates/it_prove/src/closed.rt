@@ -1,6 +1,5 @@
 //! A problem over closed sets, made once for runs about many targets under it and under problems with further constraints.
 ghost use Rattle.std.specs.Prelude.{◌≡◌, [], ◌++◌, IfErr, IfOk, OnOk};
-ghost use Rattle.it_space.specs.Problems.{IsProblem, problem_view};
 ghost use Rattle.it_prove.specs.Closed.{closed_generators};
 ghost use Rattle.it_prove.specs.ClosedProblems.{IsClosedProblem, SameRows};
 ghost use Rattle.it_prove.specs.Steps.{GeneratorsFit};
@@ -44,8 +43,7 @@ impl ClosedProblem {
         problem: &Problem,
         effort: Effort,
     ) -> Result<ClosedProblem, AllocError>
-        requires { IsProblem (problem_view problem.now) }
-        ensures { IfOk result (IsClosedProblem (problem_view problem.now)) }
+        ensures { IfOk result (IsClosedProblem problem.now) }
     {
         let mut closed = without_columns(alloc, problem)?;
         if effort.quick {
@@ -66,12 +64,11 @@ impl ClosedProblem {
 
 /// The closed problem of `problem`, before any column is made.
 fn without_columns(alloc: Global, problem: &Problem) -> Result<ClosedProblem, AllocError>
-    requires { IsProblem (problem_view problem.now) }
-    ensures closed { IfOk result (IsClosedProblem (problem_view problem.now)) }
+    ensures closed { IfOk result (IsClosedProblem problem.now) }
     ensures none { IfOk result (λ c. c.columns.items ≡ []) }
 {
     let dependences = Dependences::read(alloc, problem)?;
-    let coordinates = dependences.closed(alloc, problem.space)?;
+    let coordinates = dependences.closed(alloc, problem.space())?;
     Ok(ClosedProblem {
         dependences,
         coordinates,
@@ -88,11 +85,10 @@ pub fn other_columns(
     problem: &Problem,
     closed: &ClosedProblem,
 ) -> Result<Vec<Row>, RowFault>
-    requires problem { IsProblem (problem_view problem.now) }
-    requires closed { IsClosedProblem (problem_view problem.now) closed.now }
-    ensures same { IfOk result (λ v. SameRows (closed.now.columns.items ++ v.items) (columns (closed_generators (problem_view problem.now)))) }
-    ensures fits { OnOk result (GeneratorsFit (problem_view problem.now)) }
-    ensures wide { IfErr result (λ f. f ≡ RowFault.Wide → ¬ (GeneratorsFit (problem_view problem.now))) }
+    requires closed { IsClosedProblem problem.now closed.now }
+    ensures same { IfOk result (λ v. SameRows (closed.now.columns.items ++ v.items) (columns (closed_generators problem.now))) }
+    ensures fits { OnOk result (GeneratorsFit problem.now) }
+    ensures wide { IfErr result (λ f. f ≡ RowFault.Wide → ¬ (GeneratorsFit problem.now)) }
 {
     let mut columns = Vec::new(alloc);
     for index in closed.count..generator_count(problem) {

@@ -1,6 +1,5 @@
 //! Points over all coordinates from points over closed sets.
 ghost use Rattle.std.specs.Prelude.{◌≡◌, ◌<◌, ◌++◌, ◌∷◌, [], ℕ, pos, length, slice_index_or, IfErr, IfOk, OnOk, map};
-ghost use Rattle.it_space.specs.Problems.{IsProblem, problem_view};
 ghost use Rattle.it_space.specs.Rows.{IsCanonical, single_term};
 ghost use Rattle.it_space.specs.Spaces.{size_of};
 ghost use Rattle.it_closure.specs.Coordinates.{RiseTo};
@@ -100,16 +99,16 @@ pub fn whole_point(
     coordinates: &[u32],
     point: &[Fraction],
 ) -> Result<Point, RowFault>
-    requires problem { IsProblem (problem_view problem.now) }
     requires space { dependences.now.space ≡ problem.now.space }
-    requires list { dependences.now.list ≡ dependences_of (problem_view problem.now) }
-    requires coordinates { coordinates.now ≡ closed_places (problem_view problem.now) }
+    requires list { dependences.now.list ≡ dependences_of problem.now }
+    requires coordinates { coordinates.now ≡ closed_places problem.now }
     requires complete { length point.now ≡ length coordinates.now }
-    ensures value { IfOk result (λ p. p ≡ spread_point (problem_view problem.now) point.now) }
+    ensures value { IfOk result (λ p. p ≡ spread_point problem.now point.now) }
     ensures fits { OnOk result (NumbersFit point.now) }
     ensures wide { IfErr result (λ f. f ≡ RowFault.Wide → ¬ (NumbersFit point.now)) }
 {
+    problem.facts();
     let row = whole_row(alloc, coordinates, point)?;
     let values = spread_values(alloc, dependences, &row)?;
-    Ok(Point::new(problem.space, values))
+    Ok(Point::new(problem.space(), values))
 }

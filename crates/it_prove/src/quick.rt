@@ -3,7 +3,6 @@ ghost use Rattle.std.specs.Prelude.{◌≡◌, ◌≢◌, ◌≤◌, All, IfOk, 
 ghost use Rattle.std.specs.Bool.{OnTrue};
 ghost use Rattle.std.specs.Option.{IfSome};
 ghost use Rattle.it_number.specs.Limit.{IsWithin};
-ghost use Rattle.it_space.specs.Problems.{IsProblem, problem_view};
 ghost use Rattle.it_space.specs.Rows.{Ascends, IsOver};
 ghost use Rattle.it_space.specs.Spaces.{size_of};
 ghost use Rattle.it_prove.specs.ProofViews.{IsSettled, proof_view};
@@ -42,12 +41,12 @@ fn ascends(weights: &[(u32, i128)], from: u32) -> bool
 
 /// The proof by `certificate`, whose weights ascend, if the check finds it valid.
 fn judged_yes(problem: &Problem, target: &Row, certificate: Certificate) -> Option<Proof>
-    requires problem { IsProblem (problem_view problem.now) }
     requires target { IsOver (size_of problem.now.space) target.now }
     requires canonical { Ascends 0 certificate.weights.items }
     requires scale { IsWithin certificate.scale }
-    ensures { IfSome result (λ proof. IsSettled (problem_view problem.now) target.now (proof_view proof)) }
+    ensures { IfSome result (λ proof. IsSettled problem.now target.now (proof_view proof)) }
 {
+    problem.facts();
     match check_yes(problem, target, &certificate) {
         Verdict::Valid => Some(Proof::Yes(certificate)),
         _ => None,
@@ -56,9 +55,8 @@ fn judged_yes(problem: &Problem, target: &Row, certificate: Certificate) -> Opti
 
 /// The proof by `certificate`, if its weights ascend and the check finds it valid.
 fn checked_yes(problem: &Problem, target: &Row, certificate: Certificate) -> Option<Proof>
-    requires problem { IsProblem (problem_view problem.now) }
     requires target { IsOver (size_of problem.now.space) target.now }
-    ensures { IfSome result (λ proof. IsSettled (problem_view problem.now) target.now (proof_view proof)) }
+    ensures { IfSome result (λ proof. IsSettled problem.now target.now (proof_view proof)) }
 {
     if certificate.scale > 0 && ascends(certificate.weights.as_slice(), 0) {
         judged_yes(problem, target, certificate)
@@ -69,12 +67,12 @@ fn checked_yes(problem: &Problem, target: &Row, certificate: Certificate) -> Opt
 
 /// The refutation by `point`, which has a value for each coordinate, if the check finds it valid.
 fn judged_no(problem: &Problem, target: &Row, point: Point) -> Option<Proof>
-    requires problem { IsProblem (problem_view problem.now) }
     requires target { IsOver (size_of problem.now.space) target.now }
     requires complete { length point ≡ size_of problem.now.space }
     requires within { All IsWithin point }
-    ensures { IfSome result (λ proof. IsSettled (problem_view problem.now) target.now (proof_view proof)) }
+    ensures { IfSome result (λ proof. IsSettled problem.now target.now (proof_view proof)) }
 {
+    problem.facts();
     match check_no(problem, target, &point) {
         Verdict::Valid => Some(Proof::No(point)),
         _ => None,
@@ -83,11 +81,10 @@ fn judged_no(problem: &Problem, target: &Row, point: Point) -> Option<Proof>
 
 /// The refutation by `point`, if it has a value for each coordinate and the check finds it valid.
 fn checked_no(problem: &Problem, target: &Row, point: Point) -> Option<Proof>
-    requires problem { IsProblem (problem_view problem.now) }
     requires target { IsOver (size_of problem.now.space) target.now }
-    ensures { IfSome result (λ proof. IsSettled (problem_view problem.now) target.now (proof_view proof)) }
+    ensures { IfSome result (λ proof. IsSettled problem.now target.now (proof_view proof)) }
 {
-    if point.values().len() == problem.space.size() as usize {
+    if point.values().len() == problem.size() as usize {
         judged_no(problem, target, point)
     } else {
         None
@@ -96,9 +93,8 @@ fn checked_no(problem: &Problem, target: &Row, point: Point) -> Option<Proof>
 
 /// The proof or refutation by `proposal`, if the check finds it valid.
 fn checked(problem: &Problem, target: &Row, proposal: Proposal) -> Option<Proof>
-    requires problem { IsProblem (problem_view problem.now) }
     requires target { IsOver (size_of problem.now.space) target.now }
-    ensures { IfSome result (λ proof. IsSettled (problem_view problem.now) target.now (proof_view proof)) }
+    ensures { IfSome result (λ proof. IsSettled problem.now target.now (proof_view proof)) }
 {
     match proposal {
         Proposal::Yes(certificate) => checked_yes(problem, target, certificate),
@@ -115,9 +111,8 @@ pub fn settle(
     target: &Row,
     steps: u32,
 ) -> Result<Option<Proof>, AllocError>
-    requires problem { IsProblem (problem_view problem.now) }
     requires target { IsOver (size_of problem.now.space) target.now }
-    ensures { IfOk result (λ o. IfSome o (λ proof. IsSettled (problem_view problem.now) target.now (proof_view proof))) }
+    ensures { IfOk result (λ o. IfSome o (λ proof. IsSettled problem.now target.now (proof_view proof))) }
 {
     match quick.propose(alloc, problem, target, steps)? {
         Some(proposal) => Ok(checked(problem, target, proposal)),

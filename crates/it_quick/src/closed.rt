@@ -1,5 +1,4 @@
 //! The linear program about a target, over closed sets.
-ghost use Rattle.it_space.specs.Problems.{IsProblem, problem_view};
 
 use crate::closures::{Closures, Companions, with, without};
 use crate::places::Places;
@@ -161,9 +160,7 @@ impl ClosedProgram {
         alloc: Global,
         problem: &Problem,
         target: &Row,
-    ) -> Result<bool, AllocError>
-        requires { IsProblem (problem_view problem.now) }
-    {
+    ) -> Result<bool, AllocError> {
         let is_posed = self.put_constraints(alloc, problem)? && self.put_right(alloc, target)?;
         if !is_posed {
             // no run has these columns
@@ -173,13 +170,11 @@ impl ClosedProgram {
     }
 
     /// Replaces the columns of constraints by those of `problem`. `false` if a number is large.
-    fn put_constraints(&mut self, alloc: Global, problem: &Problem) -> Result<bool, AllocError>
-        requires { IsProblem (problem_view problem.now) }
-    {
+    fn put_constraints(&mut self, alloc: Global, problem: &Problem) -> Result<bool, AllocError> {
         self.program.put_costs_back();
         self.before = std::mem::replace(&mut self.program.others, Vec::new(alloc));
-        let mut generator = count(problem.space.variables);
-        for constraint in problem.constraints.as_slice() {
+        let mut generator = count(problem.space().variables);
+        for constraint in problem.constraints() {
             if !self.push_constraint(alloc, constraint, generator)? {
                 return Ok(false);
             }

@@ -51,7 +51,7 @@ impl Companions {
         for dependence in dependences.list() {
             companions.meet(dependences.close(dependence.from));
         }
-        for constraint in problem.constraints.as_slice() {
+        for constraint in problem.constraints() {
             companions.meet_row(dependences, &constraint.row);
         }
         companions.meet_row(dependences, target);

@@ -4,7 +4,6 @@
 //! The excess that is left at a set is then moved to its closure by the dependences.
 ghost use Rattle.std.specs.Prelude.{◌≡◌, ◌<◌, ◌≤◌, ◌^◌, bit_and};
 ghost use Rattle.std.specs.Bool.{OnTrue};
-ghost use Rattle.it_space.specs.Problems.{IsProblem, problem_view};
 
 use crate::closed::ClosedProgram;
 use crate::closures::{Closures, with, without};
@@ -290,10 +289,8 @@ fn excesses(
     target: &Row,
     scale: i128,
     weights: &Totals,
-) -> Result<Totals, RowFault>
-    requires { IsProblem (problem_view problem.now) }
-{
-    let n = problem.space.variables;
+) -> Result<Totals, RowFault> {
+    let n = problem.space().variables;
     let mut left = Totals::zeros(alloc, 1usize << n)?;
     left.add_row(target, scale)?;
     for generator in 0..count(n) {
@@ -303,7 +300,7 @@ fn excesses(
         }
     }
     let mut place = count(n) as usize;
-    for constraint in problem.constraints.as_slice() {
+    for constraint in problem.constraints() {
         left.add_row(&constraint.row, weights.at(place).wrapping_neg())?;
         place = place.saturating_add(1);
     }
@@ -343,14 +340,12 @@ fn generator_weights(
     closed: &ClosedProgram,
     weights: &[ColumnWeight],
     scale: u64,
-) -> Result<Totals, RowFault>
-    requires { IsProblem (problem_view problem.now) }
-{
+) -> Result<Totals, RowFault> {
     let mut all = Totals::zeros(alloc, generator_count(problem) as usize)?;
     for weight in weights {
         if weight.bottom != 0 {
             let amount = i128::from(scale / weight.bottom).wrapping_mul(i128::from(weight.number));
-            let n = problem.space.variables;
+            let n = problem.space().variables;
             add_column(alloc, &mut all, n, closed, weight.column, amount)?;
         }
     }
@@ -365,9 +360,7 @@ pub fn certificate(
     closed: &ClosedProgram,
     target: &Row,
     weights: &[ColumnWeight],
-) -> Result<Certificate, RowFault>
-    requires { IsProblem (problem_view problem.now) }
-{
+) -> Result<Certificate, RowFault> {
     let Some(scale) = common_denominator(weights) else {
         return Err(RowFault::Wide);
     };

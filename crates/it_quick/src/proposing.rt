@@ -2,7 +2,6 @@
 ghost use Rattle.std.specs.Prelude.{◌≡◌, All, IfOk, length};
 ghost use Rattle.std.specs.Option.{IfSome};
 ghost use Rattle.it_number.specs.Limit.{IsWithin};
-ghost use Rattle.it_space.specs.Problems.{IsProblem, problem_view};
 ghost use Rattle.it_space.specs.Spaces.{IsSpace, size_of};
 ghost use Rattle.it_quick.specs.Proposals.{IsOfSpace};
 
@@ -70,7 +69,6 @@ fn by_weights(
     target: &Row,
     weights: &[ColumnWeight],
 ) -> Result<Option<Proposal>, AllocError>
-    requires { IsProblem (problem_view problem.now) }
     ensures { IfOk result (λ o. IfSome o (IsOfSpace problem.now.space)) }
 {
     match certificate(alloc, problem, dependences, closed, target, weights) {
@@ -87,11 +85,10 @@ fn by_values(
     places: &Places,
     values: &[i32],
 ) -> Result<Option<Proposal>, AllocError>
-    requires { IsProblem (problem_view problem.now) }
     ensures { IfOk result (λ o. IfSome o (IsOfSpace problem.now.space)) }
 {
-    let values = spread(alloc, places, values, problem.space.size())?;
-    Ok(point(problem.space, values))
+    let values = spread(alloc, places, values, problem.size())?;
+    Ok(point(problem.space(), values))
 }
 
 /// The proposal by the end of a run; `None` if it gave up.
@@ -103,7 +100,6 @@ fn by_end(
     target: &Row,
     end: End,
 ) -> Result<Option<Proposal>, AllocError>
-    requires { IsProblem (problem_view problem.now) }
     ensures { IfOk result (λ o. IfSome o (IsOfSpace problem.now.space)) }
 {
     match end {
@@ -132,7 +128,6 @@ fn by_run(
     target: &Row,
     steps: u32,
 ) -> Result<Option<Proposal>, AllocError>
-    requires { IsProblem (problem_view problem.now) }
     ensures { IfOk result (λ o. IfSome o (IsOfSpace problem.now.space)) }
 {
     if !closed.pose(alloc, problem, target)? {
@@ -156,9 +151,7 @@ pub struct QuickProblem {
 
 impl QuickProblem {
     /// The problem before the first run.
-    pub fn read(alloc: Global, problem: &Problem) -> Result<QuickProblem, AllocError>
-        requires { IsProblem (problem_view problem.now) }
-    {
+    pub fn read(alloc: Global, problem: &Problem) -> Result<QuickProblem, AllocError> {
         Ok(QuickProblem {
             dependences: Dependences::read(alloc, problem)?,
             kept: None,
@@ -189,7 +182,6 @@ impl QuickProblem {
         target: &Row,
         steps: u32,
     ) -> Result<Option<Proposal>, AllocError>
-        requires { IsProblem (problem_view problem.now) }
         ensures { IfOk result (λ o. IfSome o (IsOfSpace problem.now.space)) }
     {
         let companions = Companions::read(alloc, &self.dependences, problem, target)?;

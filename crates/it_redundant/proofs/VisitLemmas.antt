@@ -1,7 +1,7 @@
 -- Rows visited one after the other.
 use Rattle.std.proofs.Common.{◌≡◌, ◌⊎◌, inl, inr, ℕ, ◌+◌, ◌<◌, ◌≤◌, List, [], ◌∷◌, ◌++◌, map, length, drop, refl, sym, ap, subst, ◌∙◌, arith, append_assoc, append-nil, length-append}
 use Rattle.std.proofs.lemmas.List.{length-map}
-use Rattle.std.proofs.lemmas.List.Elements.{All-append}
+use Rattle.std.proofs.lemmas.List.Elements.{All-append, All-cons, All-nil}
 use Rattle.it_space.specs.Answers.{CertificateView}
 use Rattle.it_space.specs.declared.problems.Constraint.{Constraint}
 use Rattle.it_space.specs.Problems.{ProblemView, IsProblem}
@@ -138,6 +138,15 @@ module _ (givens : ProblemView) (kept : List (Terms × Need)) (line place : ℕ)
     put_back cs is in_place = ap (λ (q : ProblemView). record { space = q.space; constraints = cs }) is
         ∙ as_problem cs (row ∷ after) (in_place before after before_place (ap (λ (q : ProblemView). q.constraints) is ∙ in_parts after))
         ∙ ap (with_rows givens) (sym (append_assoc xs (row ∷ []) after))
+
+-- with the row again the limits are kept
+pub limits_again : (givens p : ProblemView) (rows : List Terms) (row : Terms) (after : List Terms) → p ≡ with_rows givens ((rows ++ row ∷ []) ++ after) → IsProblem givens → length givens.constraints ≤ 65535
+    → length rows + length after < 65535 → AreRowsUpTo (size_of givens.space) rows → IsOver (size_of givens.space) row → AreRowsUpTo (size_of givens.space) after → IsProblem p
+limits_again givens p rows row after is limits few count up own ups =
+    let over = IsOver (size_of givens.space) in
+    subst IsProblem (sym is) (problem_limits givens ((rows ++ row ∷ []) ++ after) limits few
+    (omega (arith, count, length-append (rows ++ row ∷ []) after, length-append rows (row ∷ [])))
+    (All-append over (rows ++ row ∷ []) after (All-append over rows (row ∷ []) up (All-cons over row [] own (All-nil over))) ups))
 
 module _ (givens p : ProblemView) (kept : List (Terms × Need)) (after : List Terms) (is : p ≡ with_rows givens (map (λ k. k.0) kept ++ after)) where
   pub visit_limits : IsProblem givens → length givens.constraints ≤ 65535 → length kept + length after ≤ 65535 → AreRowsUpTo (size_of givens.space) (map (λ k. k.0) kept)

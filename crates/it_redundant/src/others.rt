@@ -1,5 +1,5 @@
 //! The problem under which a row is judged, from one row to the next: the givens, and all other rows that are still in the list.
-ghost use Rattle.std.specs.Prelude.{◌≡◌, ◌++◌, ◌+◌, ◌<◌, ◌≤◌, drop, length, take, OnOk};
+ghost use Rattle.std.specs.Prelude.{◌≡◌, ◌++◌, ◌+◌, ◌<◌, ◌≤◌, drop, length, take, OnErr, OnOk};
 ghost use Rattle.it_redundant.specs.ReductionSteps.{IsInserted, IsRemoved, numbered};
 
 use it_eliminate::row_constraint;
@@ -39,7 +39,8 @@ pub fn insert_row(
 ) -> Result<(), AllocError>
     requires place { place ≤ length constraints.old.items }
     requires few { line + length constraints.old.items ≤ 65535 + place }
-    ensures { OnOk result (IsInserted place line row.now constraints.old.items constraints.new.items) }
+    ensures put { OnOk result (IsInserted place line row.now constraints.old.items constraints.new.items) }
+    ensures stays { OnErr result (constraints.new.items ≡ constraints.old.items) }
 {
     let constraint = row_constraint(alloc, line, row)?;
     constraints.insert(place, constraint)?;

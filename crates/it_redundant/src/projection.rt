@@ -1,6 +1,5 @@
 //! Reduced elimination.
 ghost use Rattle.std.specs.Prelude.{◌≡◌, ◌<◌, ◌≤◌, [], length, map, All, IfOk};
-ghost use Rattle.it_space.specs.Problems.{IsProblem, problem_view};
 ghost use Rattle.it_space.specs.Spaces.{size_of};
 ghost use Rattle.it_redundant.specs.ProjectionSteps.{HasRowsUpTo, IsAfterRate, IsNext};
 ghost use Rattle.it_redundant.specs.Reduction.{IsSystemUnder};
@@ -24,13 +23,13 @@ pub fn project(
     rows: usize,
     effort: Effort,
 ) -> Result<Projected, AllocError>
-    requires system { IsSystemUnder (problem_view givens.now) system.now }
+    requires system { IsSystemUnder givens.now system.now }
     requires rates { All (λ r. r < system.now.space.rates) rates.now }
     requires some { 1 ≤ length rates.now }
-    requires sets { SpeakOfSets (problem_view givens.now) }
+    requires sets { SpeakOfSets givens.now }
     requires few_rows { rows ≤ 65535 }
-    ensures ends { IfOk result (λ e. ReducedEnds (problem_view givens.now) effort rows system.now.rows.items [] [] rates.now (projected_view e)) }
-    ensures region { IfOk result (λ e. RegionIsReduced (problem_view givens.now) rates.now system.now.rows.items (projected_view e)) }
+    ensures ends { IfOk result (λ e. ReducedEnds givens.now effort rows system.now.rows.items [] [] rates.now (projected_view e)) }
+    ensures region { IfOk result (λ e. RegionIsReduced givens.now rates.now system.now.rows.items (projected_view e)) }
 {
     // named before it is returned, so that the contract of the call is available at the return
     let end = reduced_elimination(alloc, system, rates, givens, rows, effort)?;
@@ -46,11 +45,11 @@ fn reduced_elimination(
     rows: usize,
     effort: Effort,
 ) -> Result<Projected, AllocError>
-    requires system { IsSystemUnder (problem_view givens.now) system.now }
+    requires system { IsSystemUnder givens.now system.now }
     requires rates { All (λ r. r < system.now.space.rates) rates.now }
     requires some { 1 ≤ length rates.now }
     requires few_rows { rows ≤ 65535 }
-    ensures { IfOk result (λ e. ReducedEnds (problem_view givens.now) effort rows system.now.rows.items [] [] rates.now (projected_view e)) }
+    ensures { IfOk result (λ e. ReducedEnds givens.now effort rows system.now.rows.items [] [] rates.now (projected_view e)) }
 {
     let mut end = after_rate(alloc, system, rates[0], givens, rows, effort)?;
     for i in 1..rates.len() {
@@ -70,15 +69,15 @@ fn next_end(
 ) -> Result<Projected, AllocError>
     requires end { HasRowsUpTo (size_of givens.now.space) (projected_view end) }
     requires rate { rate < givens.now.space.rates }
-    requires givens { IsProblem (problem_view givens.now) }
     requires few_rows { rows ≤ 65535 }
-    requires few_givens { length givens.now.constraints.items ≤ 65535 }
-    ensures next { IfOk result (λ e. IsNext (problem_view givens.now) effort rows rate (projected_view end) (projected_view e)) }
+    requires few_givens { length givens.now.constraints ≤ 65535 }
+    ensures next { IfOk result (λ e. IsNext givens.now effort rows rate (projected_view end) (projected_view e)) }
     ensures rows { IfOk result (λ e. HasRowsUpTo (size_of givens.now.space) (projected_view e)) }
 {
+    givens.facts();
     match end {
         Projected::Region(reduced) => {
-            let system = kept_system(alloc, givens.space, &reduced)?;
+            let system = kept_system(alloc, givens.space(), &reduced)?;
             after_rate(alloc, &system, rate, givens, rows, effort)
         }
         Projected::Rows { rate: other } => Ok(Projected::Rows { rate: other }),
@@ -107,10 +106,10 @@ fn after_rate(
     rows: usize,
     effort: Effort,
 ) -> Result<Projected, AllocError>
-    requires system { IsSystemUnder (problem_view givens.now) system.now }
+    requires system { IsSystemUnder givens.now system.now }
     requires rate { rate < system.now.space.rates }
     requires few_rows { rows ≤ 65535 }
-    ensures after { IfOk result (λ e. IsAfterRate (problem_view givens.now) effort rows system.now.rows.items rate (projected_view e)) }
+    ensures after { IfOk result (λ e. IsAfterRate givens.now effort rows system.now.rows.items rate (projected_view e)) }
     ensures rows { IfOk result (λ e. HasRowsUpTo (size_of givens.now.space) (projected_view e)) }
 {
     let end = step(alloc, system, rate, rows)?;

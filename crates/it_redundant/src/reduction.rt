@@ -1,7 +1,6 @@
 //! Reduction of a list of rows.
 ghost use Rattle.std.specs.Prelude.{◌≡◌, [], ◌∷◌, ◌++◌, ◌+◌, ◌<◌, ◌≤◌, length, map, OnOk, IfOk};
 ghost use Rattle.it_space.specs.Answers.{certificate_view};
-ghost use Rattle.it_space.specs.Problems.{IsProblem, problem_view};
 ghost use Rattle.it_space.specs.Rows.{IsOver};
 ghost use Rattle.it_space.specs.Spaces.{size_of};
 ghost use Rattle.it_prove.specs.ClosedProblems.{IsClosedProblem};
@@ -26,11 +25,11 @@ pub fn reduce(
     givens: &Problem,
     effort: Effort,
 ) -> Result<Reduced, AllocError>
-    requires system { IsSystemUnder (problem_view givens.now) system.now }
+    requires system { IsSystemUnder givens.now system.now }
     requires few_rows { length system.now.rows.items ≤ 65535 }
-    ensures reduces { IfOk result (λ r. Reduces (problem_view givens.now) effort [] system.now.rows.items (kept_view r) (dropped_view r)) }
-    ensures alike { IfOk result (λ r. HoldAlike (problem_view givens.now) system.now.rows.items (kept_rows (kept_view r))) }
-    ensures needed { IfOk result (λ r. AreNeeded (problem_view givens.now) (kept_view r)) }
+    ensures reduces { IfOk result (λ r. Reduces givens.now effort [] system.now.rows.items (kept_view r) (dropped_view r)) }
+    ensures alike { IfOk result (λ r. HoldAlike givens.now system.now.rows.items (kept_rows (kept_view r))) }
+    ensures needed { IfOk result (λ r. AreNeeded givens.now (kept_view r)) }
 {
     // named before it is returned, so that the contract of the call is available at the return
     let reduced = reduced_rows(alloc, system.rows.as_slice(), givens, effort)?;
@@ -44,11 +43,10 @@ fn reduced_rows(
     givens: &Problem,
     effort: Effort,
 ) -> Result<Reduced, AllocError>
-    requires givens { IsProblem (problem_view givens.now) }
     requires rows { AreRowsUpTo (size_of givens.now.space) rows.now }
     requires few_rows { length rows.now ≤ 65535 }
-    requires few_givens { length givens.now.constraints.items ≤ 65535 }
-    ensures { IfOk result (λ r. Reduces (problem_view givens.now) effort [] rows.now (kept_view r) (dropped_view r)) }
+    requires few_givens { length givens.now.constraints ≤ 65535 }
+    ensures { IfOk result (λ r. Reduces givens.now effort [] rows.now (kept_view r) (dropped_view r)) }
 {
     let mut closed = ClosedProblem::read(alloc, givens, effort)?;
     let mut problem = problem_with(alloc, givens, rows)?;
@@ -83,20 +81,20 @@ fn visit(
     after: &[Row],
     effort: Effort,
 ) -> Result<(), AllocError>
-    requires givens { IsProblem (problem_view givens.now) }
-    requires few_givens { length givens.now.constraints.items ≤ 65535 }
+    requires few_givens { length givens.now.constraints ≤ 65535 }
     requires few { length reduced.old.kept.items + length after.now < 65535 }
     requires row { IsOver (size_of givens.now.space) row.now }
     requires kept { AreRowsUpTo (size_of givens.now.space) (map (λ k. k.0) reduced.old.kept.items) }
     requires after { AreRowsUpTo (size_of givens.now.space) after.now }
-    requires closed { IsClosedProblem (problem_view givens.now) closed.old }
-    requires problem { problem_view problem.old ≡ with_rows (problem_view givens.now) (map (λ k. k.0) reduced.old.kept.items ++ row.now ∷ after.now) }
-    ensures visited { OnOk result (IsVisited (problem_view givens.now) effort row.now after.now reduced.old reduced.new) }
-    ensures closed { OnOk result (IsClosedProblem (problem_view givens.now) closed.new) }
-    ensures problem { OnOk result (problem_view problem.new ≡ with_rows (problem_view givens.now) (map (λ k. k.0) reduced.new.kept.items ++ after.now)) }
+    requires closed { IsClosedProblem givens.now closed.old }
+    requires problem { problem.old ≡ with_rows givens.now (map (λ k. k.0) reduced.old.kept.items ++ row.now ∷ after.now) }
+    ensures visited { OnOk result (IsVisited givens.now effort row.now after.now reduced.old reduced.new) }
+    ensures closed { OnOk result (IsClosedProblem givens.now closed.new) }
+    ensures problem { OnOk result (problem.new ≡ with_rows givens.now (map (λ k. k.0) reduced.new.kept.items ++ after.now)) }
 {
+    givens.facts();
     let line = reduced.kept.len() + 1;
-    let place = givens.constraints.len() + reduced.kept.len();
+    let place = givens.constraints().len() + reduced.kept.len();
     remove_row(&mut problem.constraints, place, line);
     let proof = closed.prove(alloc, problem, row, effort)?;
     put(alloc, reduced, row, proof)?;

@@ -7,7 +7,7 @@ use Rattle.std.proofs.lemmas.Nat.{pow_pos}
 use Rattle.it_space.specs.declared.spaces.Space.{Space}
 use Rattle.it_space.specs.Answers.{AnswerView, CertificateView, answer_view, certificate_view}
 use Rattle.it_space.specs.Answers.AnswerView.{Yes, No, Undecided, Region, Contained, Open}
-use Rattle.it_space.specs.Problems.{ProblemView, problem_view}
+use Rattle.it_space.specs.Problems.{ProblemView}
 use Rattle.it_space.specs.Rows.{IsOver, Terms}
 use Rattle.it_space.proofs.EveryLemmas.{all_of, every_of, every-map, every-same}
 use Rattle.it_space.specs.Spaces.{size_of}
@@ -385,8 +385,8 @@ module _ (q : BodyView) (p : Pair) (parts : List ℕ) (ws : List CertificateView
   pair_space : p.first.space ≡ space_of (problem_names q)
   pair_space = of_pair (p.first.space ≡ space_of (problem_names q)) (λ first second tries e o h. o.first_space ∙ sym (ap (λ v. space_of (names_under q.names v)) e))
 
-  pub pair_problem : IsProblemOf q (problem_view p.first)
-  pair_problem = record { space = pair_space; limits = l.problem; constraints = of_pair (AreStated p.first.space (question_origins q) (question_demands q) p.first.constraints.items) (λ first second tries e o h. o.first) }
+  pub pair_problem : IsProblemOf q p.first
+  pair_problem = record { space = pair_space; limits = l.problem; constraints = of_pair (AreStated p.first.space (question_origins q) (question_demands q) p.first.constraints) (λ first second tries e o h. o.first) }
 
   pub candidate_fits : (c : Candidate) → length c.parts ≡ 4 → c.count ≡ length parts → take c.count c.parts ≡ parts → FitsPair p c
   candidate_fits c four count same = of_pair (FitsPair p c) (λ first second tries e o h. parts_fit q first second p o c parts four count same h)

@@ -1,6 +1,5 @@
 //! The line about an outer bound.
 ghost use Rattle.std.specs.Prelude.{◌≡◌, ◌+◌, IfOk, length, All};
-ghost use Rattle.it_space.specs.Problems.{IsProblem, problem_view};
 ghost use Rattle.it_space.specs.Rows.{IsOver};
 ghost use Rattle.it_space.specs.Spaces.{size_of};
 ghost use Rattle.it_question.specs.Limits.{IsQuestion};
@@ -25,10 +24,9 @@ const MOST_ROWS: usize = 4096;
 
 /// The verdict on the certificates of the rows and on the points of the rays, in this order.
 fn parts_verdict(problem: &Problem, bounds: &ReportedBounds) -> Verdict
-    requires problem { IsProblem (problem_view problem.now) }
     requires rows { All (IsOver (size_of problem.now.space)) bounds.now.rows.items }
     requires rays { All (λ s. length s.ray ≡ size_of problem.now.space) bounds.now.steps.items }
-    ensures verdict { result ≡ parts_verdict (problem_view problem.now) (bounds_view bounds.now) }
+    ensures verdict { result ≡ parts_verdict problem.now (bounds_view bounds.now) }
     ensures over { IsVerdictOver (size_of problem.now.space + 1) result }
 {
     let verdict = proofs_verdict(problem, bounds.rows.as_slice(), bounds.proofs.as_slice());

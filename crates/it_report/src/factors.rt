@@ -1,7 +1,6 @@
 //! The verdict on what is said of factors, by the rows of both sides of the relation under a problem.
 ghost use Rattle.std.specs.Prelude.{◌≡◌, ◌+◌, ℕ, length, pos, IfOk, Some};
 ghost use Rattle.it_space.specs.Answers.{certificate_view};
-ghost use Rattle.it_space.specs.Problems.{IsProblem, problem_view};
 ghost use Rattle.it_space.specs.Rows.{IsOver, point_of};
 ghost use Rattle.it_space.specs.Spaces.{size_of};
 ghost use Rattle.it_elemental.specs.Generators.{generators};
@@ -34,12 +33,12 @@ pub enum FactorVerdict {
 
 /// Whether the row is 0 at the point.
 fn zero_verdict(problem: &Problem, row: &Row, point: &Point) -> FactorVerdict
-    requires problem { IsProblem (problem_view problem.now) }
     requires row { IsOver (size_of problem.now.space) row.now }
     requires complete { length point.now ≡ size_of problem.now.space }
-    ensures verdict { result ≡ zero_verdict (length (generators (problem_view problem.now)) + 1) (sum_within (pos 0) row.now (point_of point.now)) }
+    ensures verdict { result ≡ zero_verdict (length (generators problem.now) + 1) (sum_within (pos 0) row.now (point_of point.now)) }
     ensures over { IsFactorVerdictOver (size_of problem.now.space + 1) result }
 {
+    problem.facts();
     let Ok(value) = value(row, point) else {
         let place = generator_count(problem) + 1;
         return FactorVerdict::Checked(Verdict::Width { place });
@@ -53,11 +52,10 @@ fn zero_verdict(problem: &Problem, row: &Row, point: &Point) -> FactorVerdict
 
 /// Whether the point meets the problem with `below` at most -1 there, and `zero` 0.
 fn tight_verdict(problem: &Problem, below: &Row, zero: &Row, point: &Point) -> FactorVerdict
-    requires problem { IsProblem (problem_view problem.now) }
     requires below { IsOver (size_of problem.now.space) below.now }
     requires zero { IsOver (size_of problem.now.space) zero.now }
     requires complete { length point.now ≡ size_of problem.now.space }
-    ensures verdict { result ≡ tight_verdict (problem_view problem.now) below.now zero.now point.now }
+    ensures verdict { result ≡ tight_verdict problem.now below.now zero.now point.now }
     ensures over { IsFactorVerdictOver (size_of problem.now.space + 1) result }
 {
     let verdict = check_no(problem, below, point);
@@ -76,11 +74,10 @@ fn factor_verdict(
     proof: &Certificate,
     point: &Point,
 ) -> FactorVerdict
-    requires problem { IsProblem (problem_view problem.now) }
     requires factor { IsOver (size_of problem.now.space) factor.now }
     requires turned { IsOver (size_of problem.now.space) turned.now }
     requires complete { length point.now ≡ size_of problem.now.space }
-    ensures verdict { result ≡ first_wrong (proof_verdict (problem_view problem.now) factor.now (certificate_view proof.now)) (tight_verdict (problem_view problem.now) turned.now factor.now point.now) }
+    ensures verdict { result ≡ first_wrong (proof_verdict problem.now factor.now (certificate_view proof.now)) (tight_verdict problem.now turned.now factor.now point.now) }
     ensures over { IsFactorVerdictOver (size_of problem.now.space + 1) result }
 {
     let verdict = proof_verdict(problem, factor, proof);
@@ -99,10 +96,9 @@ fn both_verdict(
     proof: &Certificate,
     below: &Certificate,
 ) -> FactorVerdict
-    requires problem { IsProblem (problem_view problem.now) }
     requires factor { IsOver (size_of problem.now.space) factor.now }
     requires turned { IsOver (size_of problem.now.space) turned.now }
-    ensures verdict { result ≡ first_wrong (proof_verdict (problem_view problem.now) factor.now (certificate_view proof.now)) (Checked (proof_verdict (problem_view problem.now) turned.now (certificate_view below.now))) }
+    ensures verdict { result ≡ first_wrong (proof_verdict problem.now factor.now (certificate_view proof.now)) (Checked (proof_verdict problem.now turned.now (certificate_view below.now))) }
     ensures over { IsFactorVerdictOver (size_of problem.now.space + 1) result }
 {
     let verdict = proof_verdict(problem, factor, proof);
@@ -124,16 +120,16 @@ fn least_verdict(
     proof: &Certificate,
     point: &Point,
 ) -> Result<FactorVerdict, RowStop>
-    requires sides { AreSideRows (problem_view problem.now) left.now right.now }
+    requires sides { AreSideRows problem.now left.now right.now }
     requires complete { length point.now ≡ size_of problem.now.space }
-    ensures verdict { Gives result (least_verdict (problem_view problem.now) left.now right.now num.now den.now (certificate_view proof.now) point.now) }
+    ensures verdict { Gives result (least_verdict problem.now left.now right.now num.now den.now (certificate_view proof.now) point.now) }
     ensures over { IfOk result (IsFactorVerdictOver (size_of problem.now.space + 1)) }
 {
     if *den < 1 {
         return Ok(FactorVerdict::BelowOne { den: *den });
     }
-    let factor = side_row(alloc, problem.space, left, right, num, den)?;
-    let turned = side_row(alloc, problem.space, left, right, &-1, &0)?;
+    let factor = side_row(alloc, problem.space(), left, right, num, den)?;
+    let turned = side_row(alloc, problem.space(), left, right, &-1, &0)?;
     Ok(factor_verdict(problem, &factor, &turned, proof, point))
 }
 
@@ -145,12 +141,12 @@ fn never_verdict(
     right: &Row,
     point: &Point,
 ) -> Result<FactorVerdict, RowStop>
-    requires sides { AreSideRows (problem_view problem.now) left.now right.now }
+    requires sides { AreSideRows problem.now left.now right.now }
     requires complete { length point.now ≡ size_of problem.now.space }
-    ensures verdict { Gives result (never_verdict (problem_view problem.now) left.now right.now point.now) }
+    ensures verdict { Gives result (never_verdict problem.now left.now right.now point.now) }
     ensures over { IfOk result (IsFactorVerdictOver (size_of problem.now.space + 1)) }
 {
-    let turned = side_row(alloc, problem.space, left, right, &0, &1)?;
+    let turned = side_row(alloc, problem.space(), left, right, &0, &1)?;
     Ok(tight_verdict(problem, &turned, left, point))
 }
 
@@ -165,15 +161,15 @@ fn unbounded_verdict(
     proof: &Certificate,
     below: &Certificate,
 ) -> Result<FactorVerdict, RowStop>
-    requires { AreSideRows (problem_view problem.now) left.now right.now }
-    ensures verdict { Gives result (unbounded_verdict (problem_view problem.now) left.now right.now num.now den.now (certificate_view proof.now) (certificate_view below.now)) }
+    requires { AreSideRows problem.now left.now right.now }
+    ensures verdict { Gives result (unbounded_verdict problem.now left.now right.now num.now den.now (certificate_view proof.now) (certificate_view below.now)) }
     ensures over { IfOk result (IsFactorVerdictOver (size_of problem.now.space + 1)) }
 {
     if *den < 1 {
         return Ok(FactorVerdict::BelowOne { den: *den });
     }
-    let factor = side_row(alloc, problem.space, left, right, num, den)?;
-    let turned = side_row(alloc, problem.space, left, right, &-1, &0)?;
+    let factor = side_row(alloc, problem.space(), left, right, num, den)?;
+    let turned = side_row(alloc, problem.space(), left, right, &-1, &0)?;
     Ok(both_verdict(problem, &factor, &turned, proof, below))
 }
 
@@ -200,9 +196,9 @@ pub fn best_verdict(
     right: &Row,
     best: &Best,
 ) -> Result<Option<FactorVerdict>, AllocError>
-    requires sides { AreSideRows (problem_view problem.now) left.now right.now }
+    requires sides { AreSideRows problem.now left.now right.now }
     requires complete { IsComplete (size_of problem.now.space) (best_view best.now) }
-    ensures verdict { IfOk result (λ v. v ≡ best_verdict (problem_view problem.now) left.now right.now (best_view best.now)) }
+    ensures verdict { IfOk result (λ v. v ≡ best_verdict problem.now left.now right.now (best_view best.now)) }
     ensures over { IfOk result (λ o. (v : FactorVerdict) → o ≡ Some v → IsFactorVerdictOver (size_of problem.now.space + 1) v) }
 {
     let given = match best {

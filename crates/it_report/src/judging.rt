@@ -128,7 +128,7 @@ fn yes_line(
     ensures { IfOk result (λ j. IsJudgedAnswer k (question_body question.now) (Yes (map certificate_view proofs.now)) j.text.items j.invalid) }
 {
     let problem = problem(alloc, question)?;
-    let rows = target_rows(alloc, relation_of(question), problem.space)?;
+    let rows = target_rows(alloc, relation_of(question), problem.space())?;
     let verdict = proofs_verdict(&problem, rows.as_slice(), proofs);
     verdict_line(alloc, k, problem_names(question), &verdict)
 }
@@ -146,7 +146,7 @@ fn no_line(
     ensures { IfOk result (λ j. IsJudgedAnswer k (question_body question.now) (No back point.now) j.text.items j.invalid) }
 {
     let problem = problem(alloc, question)?;
-    let rows = target_rows(alloc, relation_of(question), problem.space)?;
+    let rows = target_rows(alloc, relation_of(question), problem.space())?;
     let verdict = point_verdict(&problem, rows.as_slice(), back, point);
     verdict_line(alloc, k, problem_names(question), &verdict)
 }
@@ -246,7 +246,7 @@ fn best_line(
     ensures { IfOk result (λ j. IsLineOf k (factor_line_verdict (question_body question.now) (best_view best.now)) j.text.items j.invalid) }
 {
     let problem = problem(alloc, question)?;
-    let (left, right) = sides(alloc, relation_of(question), problem.space)?;
+    let (left, right) = sides(alloc, relation_of(question), problem.space())?;
     match best_verdict(alloc, &problem, &left, &right, best)? {
         Some(verdict) => factor_line(alloc, k, problem_names(question), &verdict),
         None => skipped_line(alloc, k),

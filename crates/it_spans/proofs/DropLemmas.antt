@@ -1,12 +1,12 @@
 -- Dropping rows leaves a hull of the same rays.
-use Rattle.std.proofs.Common.{◌≡◌, ◌↔◌, ℕ, suc, ◌+◌, ◌<◌, ◌≤◌, ℤ, pos, ◌≤ℤ◌, List, [], ◌∷◌, ◌++◌, length, take, drop, get_or, Bool, true, false, nat_lt, Option, Some, None, IfNone, is_some, Result, Ok, map, if◌then◌else◌, refl, sym, ap, ap₂, subst, ◌∙◌, arith, length-append, All}
+use Rattle.std.proofs.Common.{◌≡◌, ◌↔◌, ℕ, suc, ◌+◌, ◌<◌, ◌≤◌, ℤ, pos, ◌≤ℤ◌, List, [], ◌∷◌, ◌++◌, length, take, drop, get_or, Bool, true, false, nat_lt, Option, Some, None, IfNone, is_some, Result, Ok, map, if◌then◌else◌, refl, sym, ap, subst, ◌∙◌, arith, length-append, All}
 use Rattle.std.specs.List.{remove}
 use Rattle.std.proofs.lemmas.Bool.{ltb-true}
 use Rattle.std.proofs.lemmas.List.{take-append-drop, drop_more, length-drop, length-take-le}
 use Rattle.std.proofs.lemmas.List.Elements.{All-append, All-cons, All-drop, All-take}
 use Rattle.it_space.specs.declared.spaces.Space.{Space}
 use Rattle.it_space.proofs.ListLemmas.{drop_item}
-use Rattle.it_space.specs.Problems.{ProblemView, IsProblem}
+use Rattle.it_space.specs.Problems.{IsProblem}
 use Rattle.it_space.specs.Rows.{Terms, IsOver, value}
 use Rattle.it_space.specs.Spaces.{IsSpace, size_of}
 use Rattle.it_eliminate.specs.Projections.{IsPointOf}
@@ -57,11 +57,8 @@ module _ (s : Space) (h : IsSpace s) (rows : List Terms) (d : DropView) (over : 
   own = get_or rows d.row []
 
   -- the problem under which the row is judged
-  pub drop_problem : IsProblem (with_rows (constants s) others)
+  drop_problem : IsProblem (with_rows (constants s) others)
   drop_problem = problem_limits (constants s) others (constants_are_problem s h) (let k = few_constants s h in omega (arith, k)) (let k = fewer-remove rows d.row listed in omega (arith, k, few)) (all-remove (IsOver (size_of s)) rows d.row over)
-
-  pub made_problem : (givens made : ProblemView) (left : List Terms) → givens ≡ constants s → left ≡ others → made ≡ with_rows givens left → IsProblem made
-  made_problem givens made left g l m = subst (λ (q : ProblemView). IsProblem q) (sym (m ∙ ap₂ (λ (q : ProblemView) (rs : List Terms). with_rows q rs) g l)) drop_problem
 
   rows_alike : drop_verdict s rows d ≡ Valid → (x : ℕ → ℤ) → IsZeroAtSets s.variables x → IsPointOf rows x ↔ IsPointOf others x
   rows_alike valid x zero = (λ a. all-remove (RowHolds x) rows d.row a, λ a. all_with (RowHolds x) rows d.row [] listed (own_holds a) a)

@@ -1,9 +1,8 @@
 //! Drops of rows from the list of a hull.
 ghost use Rattle.std.specs.Prelude.{◌≡◌, ◌<◌, ◌≤◌, length, map, All, IfOk, IfNone, OnOk};
 ghost use Rattle.std.specs.List.{remove};
-ghost use Rattle.it_space.specs.Problems.{problem_view};
 ghost use Rattle.it_space.specs.Rows.{IsOver};
-ghost use Rattle.it_space.specs.Spaces.{IsSpace, size_of};
+ghost use Rattle.it_space.specs.Spaces.{size_of};
 ghost use Rattle.it_hull.specs.Constants.{constants};
 ghost use Rattle.it_spans.specs.Drops.{after_drops, drop_fault, drop_verdict, drop_view, fault_or, verdict_fault};
 
@@ -20,14 +19,14 @@ fn take_row(
     rows: &mut Vec<Row>,
     drop: &RowDrop,
 ) -> Result<Verdict, AllocError>
-    requires space { IsSpace givens.now.space }
-    requires givens { problem_view givens.now ≡ constants givens.now.space }
+    requires givens { givens.now ≡ constants givens.now.space }
     requires over { All (IsOver (size_of givens.now.space)) rows.old.items }
     requires few { length rows.old.items ≤ 65535 }
     requires listed { drop.now.row < length rows.old.items }
     ensures verdict { IfOk result (λ v. v ≡ drop_verdict givens.now.space rows.old.items (drop_view drop.now)) }
     ensures rows { rows.new.items ≡ remove rows.old.items drop.now.row }
 {
+    givens.facts();
     let row = rows.remove(drop.row);
     let problem = problem_with(alloc, givens, rows.as_slice())?;
     Ok(check_yes(&problem, &row, &drop.proof))
@@ -56,8 +55,7 @@ fn drop_row(
     ray: usize,
     number: usize,
 ) -> Result<Option<Fault>, AllocError>
-    requires space { IsSpace givens.now.space }
-    requires givens { problem_view givens.now ≡ constants givens.now.space }
+    requires givens { givens.now ≡ constants givens.now.space }
     requires over { All (IsOver (size_of givens.now.space)) rows.old.items }
     requires few { length rows.old.items ≤ 65535 }
     ensures fault { IfOk result (λ f. f ≡ drop_fault givens.now.space ray number rows.old.items (drop_view drop.now)) }
@@ -78,8 +76,7 @@ pub fn drop_rows(
     drops: &[RowDrop],
     ray: usize,
 ) -> Result<Option<Fault>, AllocError>
-    requires space { IsSpace givens.now.space }
-    requires givens { problem_view givens.now ≡ constants givens.now.space }
+    requires givens { givens.now ≡ constants givens.now.space }
     requires over { All (IsOver (size_of givens.now.space)) rows.old.items }
     requires few { length rows.old.items ≤ 65535 }
     ensures { IfOk result (λ f. after_drops givens.now.space ray 0 rows.old.items (map drop_view drops.now) ≡ fault_or f (Ok rows.new.items)) }

@@ -1,8 +1,7 @@
 //! The hull of rays, one step after the other.
 ghost use Rattle.std.specs.Prelude.{◌≡◌, ◌≤◌, length, map, All, IfOk};
-ghost use Rattle.it_space.specs.Problems.{problem_view};
 ghost use Rattle.it_space.specs.Rows.{IsOver};
-ghost use Rattle.it_space.specs.Spaces.{IsSpace, size_of};
+ghost use Rattle.it_space.specs.Spaces.{size_of};
 ghost use Rattle.it_hull.specs.Constants.{constants};
 ghost use Rattle.it_spans.specs.Drops.{after_drops, drop_view};
 ghost use Rattle.it_spans.specs.HullRows.{AreHullRows};
@@ -32,8 +31,7 @@ fn after_drops(
     drops: &[RowDrop],
     ray: usize,
 ) -> Result<Spanned, AllocError>
-    requires space { IsSpace givens.now.space }
-    requires givens { problem_view givens.now ≡ constants givens.now.space }
+    requires givens { givens.now ≡ constants givens.now.space }
     requires over { All (IsOver (size_of givens.now.space)) system.rows.items }
     requires few { length system.rows.items ≤ 65535 }
     ensures { IfOk result (λ s. spanned_view s ≡ after_drops givens.now.space ray 0 system.rows.items (map drop_view drops.now)) }
@@ -55,7 +53,7 @@ fn after_step(
     ray: usize,
 ) -> Result<Spanned, AllocError>
     requires frame { IsFrame frame }
-    requires givens { problem_view givens.now ≡ constants frame.space }
+    requires givens { givens.now ≡ constants frame.space }
     requires rows { AreHullRows frame rows.items }
     requires ray { length step.now.ray ≡ size_of frame.space }
     ensures { IfOk result (λ s. StepEnds frame ray rows.items (step_view step.now) (spanned_view s)) }

@@ -11,8 +11,7 @@ use Rattle.it_space.specs.declared.problems.Constraint.{Constraint}
 use Rattle.it_space.specs.declared.problems.Kind.{Kind}
 use Rattle.it_space.specs.declared.problems.Kind.TheVariants.{Inequality, Equation}
 use Rattle.it_space.specs.declared.problems.Origin.{Origin}
-use Rattle.it_space.specs.declared.problems.Problem.{Problem}
-use Rattle.it_space.specs.Problems.{IsMet, IsProblem, problem_view}
+use Rattle.it_space.specs.Problems.{IsMet, IsProblem, ProblemView}
 use Rattle.it_space.specs.Answers.{CertificateView, certificate_view}
 use Rattle.it_space.specs.Answers.AnswerView.{Contained}
 use Rattle.it_space.specs.Rows.{IsOver, Terms, value}
@@ -50,23 +49,19 @@ use Rattle.it_tell.specs.declared.settings.Style.TheVariants.{Plain, Named, Whol
 
 -- ---- what Shannon's inequalities alone say
 
--- a problem without constraints
-pub free_problem : (q : BodyView) (p : Problem) → IsQuestion q → p.space ≡ space_of (problem_names q) → p.constraints.items ≡ [] → IsFreeProblem q p
+-- a space of the question's problem without constraints is a problem
+pub free_problem : (q : BodyView) (p : ProblemView) → IsQuestion q → p.space ≡ space_of (problem_names q) → p.constraints ≡ [] → IsProblem p
 free_problem q p question space none = record {
-  problem = record {
-    space = subst IsSpace (sym space) (space_is q question);
-    rows = subst (λ (cs : List Constraint). All (λ c. IsOver (size_of p.space) c.row) cs) (sym none) (All-nil (λ c. IsOver (size_of p.space) c.row));
-    few = subst (λ (cs : List Constraint). length cs ≤ 2 ^ 20) (sym none) (omega arith);
-  };
-  space = space;
-  none = none;
+  space = subst IsSpace (sym space) (space_is q question);
+  rows = subst (λ (cs : List Constraint). All (λ c. IsOver (size_of p.space) c.row) cs) (sym none) (All-nil (λ c. IsOver (size_of p.space) c.row));
+  few = subst (λ (cs : List Constraint). length cs ≤ 2 ^ 20) (sym none) (omega arith);
 }
 
 -- what a valid certificate from elemental inequalities alone proves
-pub valid_is_by_shannon : (p : Problem) (row : Terms) (w : CertificateView) (v : Verdict) → IsProblem (problem_view p) → p.constraints.items ≡ [] → IsOver (size_of p.space) row
-    → v ≡ yes_verdict (generators (problem_view p)) (size_of p.space) row w → v ≡ Valid → IsByShannon p.space.variables (value row)
+pub valid_is_by_shannon : (p : ProblemView) (row : Terms) (w : CertificateView) (v : Verdict) → IsProblem p → p.constraints ≡ [] → IsOver (size_of p.space) row
+    → v ≡ yes_verdict (generators p) (size_of p.space) row w → v ≡ Valid → IsByShannon p.space.variables (value row)
 valid_is_by_shannon p row w v posed none over is valid q k =
-    yes_is_true (problem_view p) row w posed over ((valid_yes_is (problem_view p) row w posed over).0 (sym is ∙ valid)).0 q k (subst (λ (cs : List Constraint). All (IsMet q) cs) (sym none) (All-nil (IsMet q)))
+    yes_is_true p row w posed over ((valid_yes_is p row w posed over).0 (sym is ∙ valid)).0 q k (subst (λ (cs : List Constraint). All (IsMet q) cs) (sym none) (All-nil (IsMet q)))
 
 -- such an obligation has no lines
 pub obligation_free : (q : BodyView) (options : Options) (s : Space) (row : Terms) (w : CertificateView) (old : List ℕ) → s ≡ space_of (problem_names q) → IsByShannon s.variables (value row) → AppendsObligation q options (value row, w) old old
@@ -308,7 +303,7 @@ module _ (q : BodyView) (parts : List ℕ) (ws : List CertificateView) (cs : Lis
       by_style Whole e = by_verb q.verb own are
 
 -- the obligations' rows are over the coordinates of the problem without constraints
-pub rows_over : (q : BodyView) (free : Problem) (parts : List ℕ) (ws : List CertificateView) (rows : List Terms) → IsFreeProblem q free → AreObligations q (Contained parts ws) rows → All (IsOver (size_of free.space)) rows
+pub rows_over : (q : BodyView) (free : ProblemView) (parts : List ℕ) (ws : List CertificateView) (rows : List Terms) → IsFreeProblem q free → AreObligations q (Contained parts ws) rows → All (IsOver (size_of free.space)) rows
 rows_over q free parts ws rows is are =
     subst (λ (s : Space). All (IsOver (size_of s)) rows) (sym is.space)
     (zip-right (IsPulledRow (space_of (problem_names q))) (IsOver (size_of (space_of (problem_names q)))) (λ f row pulled. pulled.coordinates) (answer_forms_by q q.verb (Contained parts ws)) rows are)

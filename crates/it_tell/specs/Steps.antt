@@ -7,8 +7,7 @@ use Rattle.it_space.specs.Rows.{Terms, value}
 use Rattle.it_region.specs.Obligations.{ArePulledRows, demand_obligations}
 use Rattle.it_space.specs.declared.problems.Constraint.{Constraint}
 use Rattle.it_space.specs.declared.problems.Kind.{Kind}
-use Rattle.it_space.specs.declared.problems.Problem.{Problem}
-use Rattle.it_space.specs.Problems.{IsProblem, problem_view}
+use Rattle.it_space.specs.Problems.{ProblemView}
 use Rattle.it_space.specs.declared.problems.Kind.TheVariants.{Inequality, Equation}
 use Rattle.it_space.specs.declared.problems.Origin.{Origin}
 use Rattle.it_demand.specs.Demands.{Demand}
@@ -133,10 +132,9 @@ abbrev pub AreOwnConstraints : BodyView → List Constraint → Type 0
 AreOwnConstraints q cs = AreOwnConstraintsBy q.verb cs
 
 -- the problem has the coordinates of the question's and no constraints
-pub record IsFreeProblem (q : BodyView) (p : Problem) : Type 0 where
-  pub problem : IsProblem (problem_view p)
+pub record IsFreeProblem (q : BodyView) (p : ProblemView) : Type 0 where
   pub space : p.space ≡ space_of (problem_names q)
-  pub none : p.constraints.items ≡ []
+  pub none : p.constraints ≡ []
 
 -- how many forms a constraint of this kind obliges to
 abbrev pub obliged : Kind → ℕ

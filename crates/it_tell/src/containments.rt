@@ -3,7 +3,6 @@ ghost use Rattle.std.specs.Prelude.{◌≡◌, ◌≤◌, ◌<◌, ◌+◌, ◌+
 ghost use Rattle.std.specs.Bool.{OnTrue};
 ghost use Rattle.it_space.specs.Answers.{certificate_view};
 ghost use Rattle.it_space.specs.Rows.{IsOver, value};
-ghost use Rattle.it_space.specs.Problems.{IsProblem, problem_view};
 ghost use Rattle.it_space.specs.Spaces.{size_of};
 ghost use Rattle.it_polymatroid.specs.Elementals.{elementals};
 ghost use Rattle.it_question.specs.Limits.{IsQuestion};
@@ -197,7 +196,6 @@ fn own_line_comment(
 // ---- the lines
 
 /// The problem of a question without its constraints.
-#[tactic(auto, using(crate::proofs::OwnLineLemmas::free_problem))]
 fn free_problem(alloc: Global, question: &Question) -> Problem
     requires { IsQuestion (question_body question.now) }
     ensures { IsFreeProblem (question_body question.now) result }
@@ -210,11 +208,11 @@ fn free_problem(alloc: Global, question: &Question) -> Problem
 /// Whether Shannon's inequalities alone say a row to be at least 0, by its certificate.
 #[tactic(auto, using(crate::proofs::OwnLineLemmas::valid_is_by_shannon))]
 fn is_by_shannon(problem: &Problem, row: &Row, proof: &Certificate) -> bool
-    requires problem { IsProblem (problem_view problem.now) }
-    requires none { problem.now.constraints.items ≡ [] }
+    requires none { problem.now.constraints ≡ [] }
     requires over { IsOver (size_of problem.now.space) row.now }
     ensures { OnTrue result (IsByShannon problem.now.space.variables (value row.now)) }
 {
+    problem.facts();
     check_yes(problem, row, proof) == Verdict::Valid
 }
 

@@ -48,7 +48,7 @@ fn answered_text(
     ensures { IfOk result (λ t. IsAnsweredText options k (question_body question.now) (answer_view answer.now) t.items) }
 {
     let problem = problem(alloc, question)?;
-    let constraints = problem.constraints.as_slice();
+    let constraints = problem.constraints();
     let mut text = head_line(alloc, k, question, constraints, answer)?;
     write_details(alloc, &mut text, question, options, constraints, answer)?;
     Ok(text)

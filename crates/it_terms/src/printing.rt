@@ -1,6 +1,5 @@
 //! Proofs as papers print them: over closed sets, with constraints by the names of their lines.
 ghost use Rattle.std.specs.Prelude.{◌≡◌, ◌≤◌, IfOk, IfSome, [], false, length};
-ghost use Rattle.it_space.specs.Problems.{IsProblem, problem_view};
 ghost use Rattle.it_space.specs.Rows.{IsOver, value};
 ghost use Rattle.it_space.specs.Spaces.{size_of};
 ghost use Rattle.it_demand.specs.QuestionSpaces.{space_of};
@@ -215,7 +214,6 @@ fn without(alloc: Global, lines: &[u32], line: u32) -> Result<Vec<u32>, AllocErr
 
 /// Whether a row is 0 where the functions hold that the constraints of these numbers say.
 fn is_nothing_by(alloc: Global, problem: &Problem, lines: &[u32], row: &Row) -> Result<bool, Untold>
-    requires problem { IsProblem (problem_view problem.now) }
     requires row { IsOver (size_of problem.now.space) row.now }
 {
     match functions_of(alloc, problem, lines)? {
@@ -246,7 +244,6 @@ fn needed_lines(
     lines: &[u32],
     row: &Row,
 ) -> Result<Vec<u32>, Untold>
-    requires problem { IsProblem (problem_view problem.now) }
     requires row { IsOver (size_of problem.now.space) row.now }
 {
     let mut needed = Vec::from_slice(alloc, lines)?;
@@ -269,15 +266,14 @@ fn printed_by(
     summands: &Summands,
 ) -> Result<Option<PrintedProof>, Untold>
     requires some { 1 ≤ length asked.now.names.now.variables }
-    requires problem { IsProblem (problem_view problem.now) }
     requires space { problem.now.space ≡ record { variables = length asked.now.names.now.variables; rates = length asked.now.names.now.rates } }
-    ensures { IfOk result (λ o. IfSome o (λ t. ArePrintedFrom asked.now.names.now (value asked.now.target.now) problem.now.constraints.items t.text.items t.whole.items t.by.items)) }
+    ensures { IfOk result (λ o. IfSome o (λ t. ArePrintedFrom asked.now.names.now (value asked.now.target.now) problem.now.constraints t.text.items t.whole.items t.by.items)) }
 {
     let whole = sides(alloc, asked, summands, false)?;
     let named = sides(alloc, asked, summands, true)?;
-    let constraints = problem.constraints.as_slice();
+    let constraints = problem.constraints();
     let row = sides_excess(alloc, asked.names, constraints, &whole)?;
-    let lines = function_lines(alloc, dependences, count(problem.space.variables))?;
+    let lines = function_lines(alloc, dependences, count(problem.space().variables))?;
     let lines = needed_lines(alloc, problem, lines.as_slice(), &row)?;
     let lines = lines.as_slice();
     let Some(text) = judged_under(alloc, asked.names, problem, lines, asked.target, &named)? else {
@@ -301,9 +297,8 @@ fn any_printed(
     short: bool,
 ) -> Result<Option<PrintedProof>, Untold>
     requires question { IsQuestion (question_body question.now) }
-    requires problem { IsProblem (problem_view problem.now) }
     requires space { problem.now.space ≡ space_of (problem_names (question_body question.now)) }
-    ensures { IfOk result (λ o. IfSome o (λ t. ArePrintedFrom (problem_names (question_body question.now)) (value target.now) problem.now.constraints.items t.text.items t.whole.items t.by.items)) }
+    ensures { IfOk result (λ o. IfSome o (λ t. ArePrintedFrom (problem_names (question_body question.now)) (value target.now) problem.now.constraints t.text.items t.whole.items t.by.items)) }
 {
     let names = names_of(question);
     let measures = measures(alloc, question.source.as_slice(), names)?;
@@ -314,7 +309,7 @@ fn any_printed(
         names,
         target,
         goal: &goal,
-        constraints: problem.constraints.as_slice(),
+        constraints: problem.constraints(),
     };
     let summands = summed_up(alloc, &asked, certificate)?;
     let dependences = Dependences::read(alloc, problem)?;

@@ -407,7 +407,7 @@ pub fn told_form(
 {
     let names = names_of(question);
     let posed = problem(alloc, question)?;
-    let constraints = posed.constraints.as_slice();
+    let constraints = posed.constraints();
     match any_proof(
         alloc,
         question,

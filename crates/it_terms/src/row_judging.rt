@@ -1,7 +1,6 @@
 //! Whether a text says what a row says where functions hold.
 ghost use Rattle.std.specs.Prelude.{◌≡◌, ◌≤◌, IfOk, IfSome, length, map};
 ghost use Rattle.std.specs.Bool.{OnTrue};
-ghost use Rattle.it_space.specs.Problems.{IsProblem, problem_view};
 ghost use Rattle.it_space.specs.Rows.{IsOver};
 ghost use Rattle.it_space.specs.declared.problems.Kind.TheVariants.{Equation};
 ghost use Rattle.it_space.specs.Spaces.{IsSpace, size_of};
@@ -110,9 +109,8 @@ pub fn tells_under(
     row: &Row,
 ) -> Result<bool, AllocError>
     requires some { 1 ≤ length names.now.variables }
-    requires problem { IsProblem (problem_view problem.now) }
     requires space { problem.now.space ≡ record { variables = length names.now.variables; rates = length names.now.rates } }
-    ensures { IfOk result (λ b. OnTrue b (TellsRowBy names.now (forms_of (map of_constraint problem.now.constraints.items)) lines.now row.now text.now)) }
+    ensures { IfOk result (λ b. OnTrue b (TellsRowBy names.now (forms_of (map of_constraint problem.now.constraints)) lines.now row.now text.now)) }
 {
     let Some(relation) = relation_text(alloc, text, names)? else {
         return Ok(false);

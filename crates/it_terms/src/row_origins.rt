@@ -47,13 +47,14 @@ pub fn row_origin(
     ensures { IfOk result (λ ws. ComesFrom (question_body question.now) row.now ws.items) }
 {
     let posed = problem_of_lines(alloc, question)?;
-    if !is_over(row, posed.space) {
+    let space = posed.space();
+    if !is_over(row, space) {
         return Ok(Vec::new(alloc));
     }
     let Some(certificate) = origin(alloc, &posed, row)? else {
         return Ok(Vec::new(alloc));
     };
-    let weights = by_constraints(alloc, certificate.weights.as_slice(), posed.space.variables)?;
+    let weights = by_constraints(alloc, certificate.weights.as_slice(), space.variables)?;
     Ok(weights)
 }
 
@@ -68,6 +69,6 @@ pub fn row_comment(
     ensures { IfOk result (λ t. t.items ≡ row_comment (question_origins (under_all_lines (question_body question.now))) weights.now lines.now) }
 {
     let posed = problem_of_lines(alloc, question)?;
-    let comment = origin_comment(alloc, posed.constraints.as_slice(), weights, lines)?;
+    let comment = origin_comment(alloc, posed.constraints(), weights, lines)?;
     Ok(comment)
 }

@@ -1,6 +1,5 @@
 //! Rows as papers print them: in few terms that are equal to them where the question's functions hold.
 ghost use Rattle.std.specs.Prelude.{◌≡◌, ◌≤◌, IfOk, IfSome, length};
-ghost use Rattle.it_space.specs.Problems.{IsProblem, problem_view};
 ghost use Rattle.it_demand.specs.QuestionSpaces.{space_of};
 ghost use Rattle.it_question.specs.Limits.{IsQuestion};
 ghost use Rattle.it_question.specs.Questions.{question_body};
@@ -54,15 +53,14 @@ fn few_terms(
 
 /// The numbers of the constraints of `given` lines that say functions.
 fn given_functions(alloc: Global, problem: &Problem) -> Result<Vec<u32>, AllocError>
-    requires { IsProblem (problem_view problem.now) }
 {
     let dependences = Dependences::read(alloc, problem)?;
-    let elementals = count(problem.space.variables);
+    let elementals = count(problem.space().variables);
     let mut lines = Vec::new(alloc);
     for dependence in dependences.list() {
         if dependence.generator >= elementals {
             let line = dependence.generator - elementals;
-            if is_given_at(problem.constraints.as_slice(), line) {
+            if is_given_at(problem.constraints(), line) {
                 lines.push(line)?;
             }
         }
@@ -138,7 +136,6 @@ fn needed_lines(
     text: &[u8],
 ) -> Result<Vec<u32>, AllocError>
     requires some { 1 ≤ length names.now.variables }
-    requires problem { IsProblem (problem_view problem.now) }
     requires space { problem.now.space ≡ record { variables = length names.now.variables; rates = length names.now.rates } }
 {
     let mut needed = Vec::from_slice(alloc, lines)?;
@@ -161,14 +158,13 @@ fn printed_by(
     text: Vec<u8>,
 ) -> Result<Option<PrintedRow>, AllocError>
     requires some { 1 ≤ length names.now.variables }
-    requires problem { IsProblem (problem_view problem.now) }
     requires space { problem.now.space ≡ record { variables = length names.now.variables; rates = length names.now.rates } }
-    ensures { IfOk result (λ o. IfSome o (λ t. IsPrintedRowFrom names.now row.now problem.now.constraints.items t.lines.items t.text.items)) }
+    ensures { IfOk result (λ o. IfSome o (λ t. IsPrintedRowFrom names.now row.now problem.now.constraints t.lines.items t.text.items)) }
 {
     let shown = text.as_slice();
     let lines = needed_lines(alloc, names, problem, lines, row, shown)?;
     let needed = lines.as_slice();
-    let constraints = problem.constraints.as_slice();
+    let constraints = problem.constraints();
     if !are_given_equations(constraints, needed) {
         return Ok(None);
     }
@@ -187,9 +183,8 @@ fn any_printed(
     row: &Row,
 ) -> Result<Option<PrintedRow>, Untold>
     requires question { IsQuestion (question_body question.now) }
-    requires problem { IsProblem (problem_view problem.now) }
     requires space { problem.now.space ≡ space_of (problem_names (question_body question.now)) }
-    ensures { IfOk result (λ o. IfSome o (λ t. IsPrintedRowFrom (problem_names (question_body question.now)) row.now problem.now.constraints.items t.lines.items t.text.items)) }
+    ensures { IfOk result (λ o. IfSome o (λ t. IsPrintedRowFrom (problem_names (question_body question.now)) row.now problem.now.constraints t.lines.items t.text.items)) }
 {
     let names = names_of(question);
     let lines = given_functions(alloc, problem)?;

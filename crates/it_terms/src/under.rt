@@ -1,7 +1,6 @@
 //! Whether an equation is true where functions hold.
 ghost use Rattle.std.specs.Prelude.{◌≡◌, ◌+ℤ◌, ◌-ℤ◌, ◌<◌, ◌≤◌, All, IfOk, IfSome, OnOk, length, map, pos};
 ghost use Rattle.std.specs.Bool.{OnTrue};
-ghost use Rattle.it_space.specs.Problems.{IsProblem, problem_view};
 ghost use Rattle.it_space.specs.Rows.{IsOver, value};
 ghost use Rattle.it_space.specs.Spaces.{IsSpace, size_of};
 ghost use Rattle.it_polymatroid.specs.Certificates.{combination};
@@ -99,18 +98,18 @@ pub fn functions_of(
     problem: &Problem,
     lines: &[u32],
 ) -> Result<Option<Dependences>, AllocError>
-    requires { IsProblem (problem_view problem.now) }
     ensures space { IfOk result (λ o. IfSome o (λ d. d.space ≡ problem.now.space)) }
-    ensures there { IfOk result (λ o. IfSome o (λ d. All (λ l. l < (forms_of (map of_constraint problem.now.constraints.items)).count) lines.now)) }
-    ensures said { IfOk result (λ o. IfSome o (λ d. All (IsSaid problem.now.space.variables (forms_of (map of_constraint problem.now.constraints.items)) lines.now) d.list)) }
+    ensures there { IfOk result (λ o. IfSome o (λ d. All (λ l. l < (forms_of (map of_constraint problem.now.constraints)).count) lines.now)) }
+    ensures said { IfOk result (λ o. IfSome o (λ d. All (IsSaid problem.now.space.variables (forms_of (map of_constraint problem.now.constraints)) lines.now) d.list)) }
 {
-    if lines.len() > problem.constraints.len() {
+    problem.facts();
+    if lines.len() > problem.constraints().len() {
         return Ok(None);
     }
-    match chosen(alloc, problem.constraints.as_slice(), lines)? {
+    match chosen(alloc, problem.constraints(), lines)? {
         Some(constraints) => {
             let few = Problem {
-                space: problem.space,
+                space: problem.space(),
                 constraints,
             };
             Ok(Some(Dependences::read(alloc, &few)?))

@@ -1,7 +1,6 @@
 //! Whether texts tell a proof where functions hold.
 ghost use Rattle.std.specs.Prelude.{◌≡◌, ◌<◌, ◌≤◌, ◌^◌, All, IfOk, IfSome, length, map};
 ghost use Rattle.std.specs.Bool.{OnTrue};
-ghost use Rattle.it_space.specs.Problems.{IsProblem, problem_view};
 ghost use Rattle.it_space.specs.Rows.{IsOver, value};
 ghost use Rattle.it_space.specs.Spaces.{size_of};
 ghost use Rattle.it_elemental.specs.Generators.{forms_of, of_constraint};
@@ -81,15 +80,14 @@ fn is_proof_under(
     target: &Row,
     sides: &Sides,
 ) -> Result<bool, AllocError>
-    requires problem { IsProblem (problem_view problem.now) }
     requires within { IsRelationOf problem.now.space.variables problem.now.space.rates (relation_view relation.now) }
     requires space { functions.now.space ≡ problem.now.space }
-    requires there { All (λ l. l < (forms_of (map of_constraint problem.now.constraints.items)).count) lines.now }
-    requires said { All (IsSaid problem.now.space.variables (forms_of (map of_constraint problem.now.constraints.items)) lines.now) functions.now.list }
-    ensures { IfOk result (λ b. OnTrue b (IsProofUnder problem.now.space.variables lines.now (relation_view relation.now) sides.now.named.items (value target.now) (forms_of (map of_constraint problem.now.constraints.items)))) }
+    requires there { All (λ l. l < (forms_of (map of_constraint problem.now.constraints)).count) lines.now }
+    requires said { All (IsSaid problem.now.space.variables (forms_of (map of_constraint problem.now.constraints)) lines.now) functions.now.list }
+    ensures { IfOk result (λ b. OnTrue b (IsProofUnder problem.now.space.variables lines.now (relation_view relation.now) sides.now.named.items (value target.now) (forms_of (map of_constraint problem.now.constraints)))) }
 {
-    let space = problem.space;
-    let constraints = problem.constraints.as_slice();
+    let space = problem.space();
+    let constraints = problem.constraints();
     let named = sides.named.as_slice();
     if !is_whole_equation(relation) || !are_allowed(constraints, named) {
         return Ok(false);
@@ -133,9 +131,8 @@ pub fn judged_under(
     sides: &Sides,
 ) -> Result<Option<Vec<u8>>, AllocError>
     requires some { 1 ≤ length names.now.variables }
-    requires problem { IsProblem (problem_view problem.now) }
     requires space { problem.now.space ≡ record { variables = length names.now.variables; rates = length names.now.rates } }
-    ensures { IfOk result (λ o. IfSome o (λ t. TellsProofUnder names.now (origins_of problem.now.constraints.items) lines.now sides.now.named.items (value target.now) (forms_of (map of_constraint problem.now.constraints.items)) t.items)) }
+    ensures { IfOk result (λ o. IfSome o (λ t. TellsProofUnder names.now (origins_of problem.now.constraints) lines.now sides.now.named.items (value target.now) (forms_of (map of_constraint problem.now.constraints)) t.items)) }
 {
     let Some(relation) = sides_relation(alloc, names, sides)? else {
         return Ok(None);
@@ -146,7 +143,7 @@ pub fn judged_under(
     if !is_proof_under(alloc, &relation, problem, &functions, lines, target, sides)? {
         return Ok(None);
     }
-    let text = named_text(alloc, problem.constraints.as_slice(), sides)?;
+    let text = named_text(alloc, problem.constraints(), sides)?;
     Ok(Some(text))
 }
 

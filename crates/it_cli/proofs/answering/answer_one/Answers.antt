@@ -14,7 +14,7 @@ lines-requires-clause-fits g c = is_answer_to c.args.budgets _ (question_body c.
 pub lines-requires-clause-printable : goal.lines-requires-clause-printable
 lines-requires-clause-printable g c =
     right_is_printable c.args.budgets _ (question_body c.args.question.now) _ c.in_ok-answered.answered.answer c.in_ok-answered.ensures.answered.found c.requires.limits
-    (few_constraints (question_body c.args.question.now) c.in_ok-answered.answered.problem.space c.in_ok-answered.answered.problem.constraints.items c.in_ok-answered.ensures.problem)
+    (few_constraints (question_body c.args.question.now) c.in_ok-answered.answered.problem.space c.in_ok-answered.answered.problem.constraints c.in_ok-answered.ensures.problem)
     c.in_ok-answered.ensures.answered.right
 
 pub returns : goal.returns

@@ -1,6 +1,5 @@
 use Rattle.std.proofs.Common.{◌≡◌, List, map, All, sym, ap, subst, ◌∙◌}
 use Rattle.it_space.specs.Answers.{answer_view, certificate_view}
-use Rattle.it_space.specs.Problems.{problem_view}
 use Rattle.it_space.specs.Rows.{IsOver, Terms}
 use Rattle.it_space.specs.Spaces.{size_of}
 use Rattle.it_space.specs.declared.spaces.Space.{Space}
@@ -27,7 +26,7 @@ returns c =
     let q = question_body c.args.question.now in
     let a = answer_view c.args.answer.now in
     let ws = map certificate_view c.args.origins.now in
-    let p = problem_view c.in_ok-problem.problem in
+    let p = c.in_ok-problem.problem in
     let v = c.proofs_verdict-verdict.result in
     let rows : rows_of a ≡ c.as_slice.result.now = ap rows_of c.rows_of.ensures ∙ sym c.in_ok-rows.ensures ∙ sym c.as_slice.ensures.value in
     let verdict : IsDerivedVerdict q a ws (Judged q.names v) = ap (Judged q.names)

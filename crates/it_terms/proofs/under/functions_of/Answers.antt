@@ -8,33 +8,33 @@ use Rattle.it_terms.specs.Sums.{AreChosen}
 use Rattle.it_terms.proofs.SaidLemmas.{chosen_are_said, chosen_are_there, chosen_over}
 use Rattle.it_terms.proofs.under.functions_of.Goals as goal
 
-pub read-requires : goal.read-requires
-read-requires c =
+pub invariant_of-few : goal.invariant_of-few
+invariant_of-few c =
     let s = c.args.problem.now.space in
-    let cs = c.args.problem.now.constraints.items in
+    let cs = c.args.problem.now.constraints in
     let lines = c.args.lines.now in
     let chosen = c.in-Some.constraints.items in
-    let are : AreChosen cs lines chosen = rw c.as_slice.ensures.value at rw c.in-Some.is at c.in_ok-constraints.ensures in
+    let are : AreChosen cs lines chosen = rw c.constraints.ensures.value at rw c.in-Some.is at c.in_ok-constraints.ensures in
     let counted : length chosen ≡ length lines = zip-length (λ line c. (line < length cs) × (c ≡ get_or cs line c)) lines chosen are in record {
-      space = c.requires.space;
-      rows = chosen_over (size_of s) cs lines chosen c.requires.rows are;
-      few = omega (arith, counted, c.requires.few, c.len.ensures);
+      space = c.facts.ensures.space;
+      rows = chosen_over (size_of s) cs lines chosen c.facts.ensures.rows are;
+      few = omega (arith, counted, c.facts.ensures.few, c.len.ensures);
     }
 
 pub returns-in_ok-read-in-Some-clause-said : goal.returns-in_ok-read-in-Some-clause-said
 returns-in_ok-read-in-Some-clause-said c =
     let s = c.args.problem.now.space in
-    let cs = c.args.problem.now.constraints.items in
+    let cs = c.args.problem.now.constraints in
     let lines = c.args.lines.now in
     let chosen = c.in-Some.constraints.items in
-    let are : AreChosen cs lines chosen = rw c.as_slice.ensures.value at rw c.in-Some.is at c.in_ok-constraints.ensures in
+    let are : AreChosen cs lines chosen = rw c.constraints.ensures.value at rw c.in-Some.is at c.in_ok-constraints.ensures in
     subst (λ (ds : List Dependence). All (IsSaid s.variables (forms_of (map of_constraint cs)) lines) ds) (sym c.in_ok-read-in-Some.ensures.list)
-    (chosen_are_said s cs chosen lines (chosen_over (size_of s) cs lines chosen c.requires.rows are) are)
+    (chosen_are_said s cs chosen lines (chosen_over (size_of s) cs lines chosen c.facts.ensures.rows are) are)
 
 pub returns-in_ok-read-in-Some-clause-there : goal.returns-in_ok-read-in-Some-clause-there
 returns-in_ok-read-in-Some-clause-there c =
-    let cs = c.args.problem.now.constraints.items in
+    let cs = c.args.problem.now.constraints in
     let lines = c.args.lines.now in
     let chosen = c.in-Some.constraints.items in
-    let are : AreChosen cs lines chosen = rw c.as_slice.ensures.value at rw c.in-Some.is at c.in_ok-constraints.ensures in
+    let are : AreChosen cs lines chosen = rw c.constraints.ensures.value at rw c.in-Some.is at c.in_ok-constraints.ensures in
     chosen_are_there cs lines chosen are
