@@ -96,7 +96,7 @@ row_there q style row =
 
 proof_there : (q : BodyView) (options : Options) (proof : Form × CertificateView) → (t : ProofTexts) × AreProofTexts q options proof t
 unfolding AreProofTexts IsProofText
-proof_there q options proof = (record { proof = codes "as weights " ++ certificate_text (problem_names q).variables (question_origins q) proof.1; steps = [] }, (inr (inr refl), inl refl))
+proof_there q options proof = (record { proof = codes "as weights " ++ certificate_text (problem_names q).variables (question_origins q) proof.1; steps = [] }, inr (inr refl, inl refl))
 
 point_there : (q : BodyView) (values : List ℤ) → (text : List ℕ) × IsPointText (problem_names q) values text
 unfolding IsPointText

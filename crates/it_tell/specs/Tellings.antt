@@ -31,6 +31,7 @@ use Rattle.it_terms.specs.Proofs.{TellsForm}
 use Rattle.it_terms.specs.FunctionProofs.{TellsFormUnder, by_comment}
 use Rattle.it_facts.specs.Points.{TellsPoint}
 use Rattle.it_terms.specs.ProofSteps.{TellsSteps}
+use Rattle.it_terms.specs.StepsUnder.{TellsStepsUnder}
 use Rattle.it_report.specs.Judging.{IsVerdict}
 use Rattle.it_rates.specs.Asked.{under_all_lines}
 use Rattle.it_region.specs.AnswerForms.{answer_forms}
@@ -104,18 +105,9 @@ MayName Plain named = ⊥
 MayName Named named = Unit {0}
 MayName Whole named = named ≡ []
 
--- a proof of a form where functions hold, and behind it the lines that say these
-pub record IsPrintedProof (q : BodyView) (style : Style) (target : Form) (text : List ℕ) : Type 0 where
-  pub lines : List ℕ
-  pub named : List (ℕ × ℤ)
-  pub proof : List ℕ
-  pub tells : TellsFormUnder q lines named target proof
-  pub names : MayName style named
-  pub is : text ≡ proof ++ by_comment (question_origins q) lines
-
--- a proof of a form in the question's own terms, true of every map or where functions hold, or the weights as answers have them
-unfoldable pub IsProofText : BodyView → Style → Form × CertificateView → List ℕ → Type 0
-IsProofText q style proof text = TellsForm q proof.0 text ⊎ (IsPrintedProof q style proof.0 text ⊎ (text ≡ weights_text q (question_origins q) proof.1))
+-- a proof of a form in the question's own terms, true of every map, or the weights as answers have them
+unfoldable pub IsProofText : BodyView → Form × CertificateView → List ℕ → Type 0
+IsProofText q proof text = TellsForm q proof.0 text ⊎ (text ≡ weights_text q (question_origins q) proof.1)
 
 -- a point by facts that determine it, or its values as answers have them and said to be that
 unfoldable pub IsPointText : NamesView → List ℤ → List ℕ → Type 0
@@ -134,9 +126,20 @@ proof_lines t = indented_line t.proof ++ flat_map step_line t.steps
 abbrev pub AreProofSteps : BodyView → Options → List ℕ → List (List ℕ) → Type 0
 AreProofSteps q options proof steps = (steps ≡ []) ⊎ ((options.steps ≡ true) × TellsSteps (problem_names q) proof steps)
 
--- texts of a proof: without steps, or with them
+-- a proof of a form where functions hold, and behind it the lines that say these; without steps, or where they are asked for with its steps
+-- where these functions hold
+pub record ArePrintedTexts (q : BodyView) (options : Options) (target : Form) (t : ProofTexts) : Type 0 where
+  pub lines : List ℕ
+  pub named : List (ℕ × ℤ)
+  pub own : List ℕ
+  pub tells : TellsFormUnder q lines named target own
+  pub names : MayName options.style named
+  pub proof_is : t.proof ≡ own ++ by_comment (question_origins q) lines
+  pub steps_are : (t.steps ≡ []) ⊎ ((options.steps ≡ true) × TellsStepsUnder q lines named own t.steps)
+
+-- texts of a proof: where functions hold, or of every map; without steps, or with them
 unfoldable pub AreProofTexts : BodyView → Options → Form × CertificateView → ProofTexts → Type 0
-AreProofTexts q options proof t = IsProofText q options.style proof t.proof × AreProofSteps q options t.proof t.steps
+AreProofTexts q options proof t = ArePrintedTexts q options proof.0 t ⊎ (IsProofText q proof t.proof × AreProofSteps q options t.proof t.steps)
 
 -- Shannon's inequalities alone say that the form is at least 0: it is so at each polymatroid of n variables.
 abbrev pub IsByShannon : ℕ → Form → Type 0

@@ -106,10 +106,8 @@ pub record TellsProofUnder (v : NamesView) (origins : List Origin) (lines : List
 abbrev pub TellsFormUnder : BodyView → List ℕ → List (ℕ × ℤ) → Form → List ℕ → Type 0
 TellsFormUnder q lines named target text = TellsProofUnder (problem_names q) (question_origins q) lines named target (constraints_of (question_demands q)) text
 
--- both texts tell such a proof, where the functions hold that the lines say which the comment names, the second one without any name
-pub record ArePrinted (q : BodyView) (target : Form) (text whole by : List ℕ) : Type 0 where
-  pub lines : List ℕ
-  pub named : List (ℕ × ℤ)
+-- both texts tell such a proof, where the functions hold that these lines say, which the comment names, the second one without any name
+pub record ArePrinted (q : BodyView) (target : Form) (lines : List ℕ) (named : List (ℕ × ℤ)) (text whole by : List ℕ) : Type 0 where
   pub text_tells : TellsFormUnder q lines named target text
   pub whole_tells : TellsFormUnder q lines [] target whole
   pub by_is : by ≡ by_comment (question_origins q) lines

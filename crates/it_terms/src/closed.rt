@@ -30,6 +30,45 @@ pub struct ClosedTerm {
     pub given: VarSet,
 }
 
+impl ClosedTerm {
+    /// The term as an atom with the closed sets themselves.
+    pub fn atom(&self) -> Atom {
+        if self.first == self.second {
+            return Atom::Entropy {
+                of: self.first,
+                given: self.given,
+            };
+        }
+        Atom::Mutual {
+            left: self.first,
+            right: self.second,
+            given: self.given,
+        }
+    }
+}
+
+/// The terms H(P|C), and I(P;Q|C) of sets of which none lies in the other, after others, given a set C inside each of the sets.
+fn put_terms(
+    terms: &mut Vec<ClosedTerm>,
+    above: &[VarSet],
+    given: VarSet,
+    most: usize,
+) -> Result<(), AllocError> {
+    for (i, first) in above.iter().enumerate() {
+        for second in &above[i..] {
+            let is_pair = !first.inside(*second) && !second.inside(*first);
+            if terms.len() <= most && (is_pair || first == second) {
+                terms.push(ClosedTerm {
+                    first: *first,
+                    second: *second,
+                    given,
+                })?;
+            }
+        }
+    }
+    Ok(())
+}
+
 /// How many members a set has.
 pub fn size(set: VarSet) -> u32 {
     set.number().count_ones()
@@ -78,6 +117,11 @@ impl Closures {
         }
     }
 
+    /// All sets, those of fewer members first.
+    pub fn sets(&self) -> &[VarSet] {
+        self.by_size.as_slice()
+    }
+
     /// A set of fewest members inside a closed set, without what is given, that with it has this closure.
     pub fn fewest(&self, closed: VarSet, given: VarSet) -> VarSet {
         for set in self.by_size.as_slice() {
@@ -87,6 +131,32 @@ impl Closures {
             }
         }
         closed.minus(given)
+    }
+
+    /// The closed sets inside which a set lies, and which aren't that set, those of fewer members first.
+    fn above(&self, alloc: Global, set: VarSet) -> Result<Vec<VarSet>, AllocError> {
+        let mut above = Vec::new(alloc);
+        for other in self.by_size.as_slice() {
+            if set.inside(*other) && *other != set && self.close(*other) == *other {
+                above.push(*other)?;
+            }
+        }
+        Ok(above)
+    }
+
+    /// All terms over closed sets, those with fewer members given first; None where they are more than so many.
+    pub fn terms(&self, alloc: Global, most: usize) -> Result<Option<Vec<ClosedTerm>>, AllocError> {
+        let mut terms = Vec::new(alloc);
+        for set in self.by_size.as_slice() {
+            if self.close(*set) == *set {
+                let above = self.above(alloc, *set)?;
+                put_terms(&mut terms, above.as_slice(), *set, most)?;
+            }
+            if terms.len() > most {
+                return Ok(None);
+            }
+        }
+        Ok(Some(terms))
     }
 
     /// I(P;Q|C) of closed sets, None where it is 0.
@@ -164,7 +234,7 @@ impl Closures {
     }
 
     /// The atom of a term in few names.
-    pub fn atom(&self, term: &ClosedTerm) -> Atom {
+    pub fn short_atom(&self, term: &ClosedTerm) -> Atom {
         let given = self.fewest(term.given, VarSet::empty());
         let left = self.fewest(term.first, given);
         if term.first == term.second {

@@ -129,7 +129,7 @@ pub fn atom_of(closures: &Closures, measures: &[Measure], term: &ClosedTerm) -> 
             return measure.atom;
         }
     }
-    closures.atom(term)
+    closures.short_atom(term)
 }
 
 /// A term as it is written.

@@ -18,7 +18,8 @@ use crate::measures::measures;
 use crate::names::by_comment;
 use crate::proof_judging::Split;
 use crate::proving::{
-    Asked, Summands, goal_of, least_summands, put_weighted, sum_of_numbers, summed_up,
+    Asked, Summands, goal_of, least_closed_summands, least_summands, put_weighted, sum_of_numbers,
+    summed_up,
 };
 use crate::telling::names_of;
 use crate::under::{functions_of, is_nothing_under};
@@ -35,12 +36,14 @@ use it_syntax::types::Term;
 use std::alloc::{AllocError, Global};
 
 /// A proof as papers print it: with names of constraints; whole, with their lines' own terms; and as a comment the lines that say the
-/// functions by which it is one.
+/// functions by which it is one. The lines by their numbers, and the weights of the constraints that are named.
 #[derive(Drop)]
 pub struct PrintedProof {
     pub text: Vec<u8>,
     pub whole: Vec<u8>,
     pub by: Vec<u8>,
+    pub lines: Vec<u32>,
+    pub named: Vec<(u32, i128)>,
 }
 
 /// Puts the weights of one sign after the others, but for those of constraints that are 0 over closed sets.
@@ -102,7 +105,28 @@ fn pieces(summands: &Summands) -> usize {
         .saturating_add(summands.weights.len())
 }
 
-/// What is summed up, over closed sets, or by a proof with the least sum of terms where that has no more terms and names then.
+/// Of a proof over closed sets and what another one sums up, if it was found, the one with fewer terms and names.
+fn shorter(
+    alloc: Global,
+    asked: &Asked<'_>,
+    closures: &Closures,
+    best: Summands,
+    other: Result<Summands, Untold>,
+) -> Result<Summands, Untold> {
+    let other = match other {
+        Ok(other) => folded(alloc, asked, closures, &other)?,
+        Err(Untold::NotFound) => return Ok(best),
+        Err(Untold::Memory) => return Err(Untold::Memory),
+    };
+    Ok(if pieces(&other) <= pieces(&best) {
+        other
+    } else {
+        best
+    })
+}
+
+/// What is summed up, over closed sets, or by a proof with the least sum of terms over sets or over closed sets where that has no
+/// more terms and names.
 fn short_folded(
     alloc: Global,
     asked: &Asked<'_>,
@@ -112,16 +136,11 @@ fn short_folded(
     let plain = folded(alloc, asked, closures, summands)?;
     let joined = joined_terms(alloc, summands.shannon.as_slice())?;
     let most = sum_of_numbers(joined.as_slice());
-    let least = match least_summands(alloc, asked, summands.scale, most) {
-        Ok(least) => folded(alloc, asked, closures, &least)?,
-        Err(Untold::NotFound) => return Ok(plain),
-        Err(Untold::Memory) => return Err(Untold::Memory),
-    };
-    Ok(if pieces(&least) <= pieces(&plain) {
-        least
-    } else {
-        plain
-    })
+    let least = least_summands(alloc, asked, summands.scale, most);
+    let best = shorter(alloc, asked, closures, plain, least)?;
+    let most = sum_of_numbers(best.shannon.as_slice());
+    let least = least_closed_summands(alloc, asked, closures, best.scale, most);
+    shorter(alloc, asked, closures, best, least)
 }
 
 /// The terms over sets, as they are without folding where nothing folds and that is no longer.
@@ -271,23 +290,32 @@ fn printed_by(
     requires some { 1 ≤ length asked.now.names.now.variables }
     requires problem { IsProblem (problem_view problem.now) }
     requires space { problem.now.space ≡ record { variables = length asked.now.names.now.variables; rates = length asked.now.names.now.rates } }
-    ensures { IfOk result (λ o. IfSome o (λ t. ArePrintedFrom asked.now.names.now (value asked.now.target.now) problem.now.constraints.items t.text.items t.whole.items t.by.items)) }
+    ensures { IfOk result (λ o. IfSome o (λ t. ArePrintedFrom asked.now.names.now (value asked.now.target.now) problem.now.constraints.items t.lines.items t.named.items t.text.items t.whole.items t.by.items)) }
 {
     let whole = sides(alloc, asked, summands, false)?;
     let named = sides(alloc, asked, summands, true)?;
     let constraints = problem.constraints.as_slice();
     let row = sides_excess(alloc, asked.names, constraints, &whole)?;
-    let lines = function_lines(alloc, dependences, count(problem.space.variables))?;
-    let lines = needed_lines(alloc, problem, lines.as_slice(), &row)?;
-    let lines = lines.as_slice();
-    let Some(text) = judged_under(alloc, asked.names, problem, lines, asked.target, &named)? else {
+    let all = function_lines(alloc, dependences, count(problem.space.variables))?;
+    let lines = needed_lines(alloc, problem, all.as_slice(), &row)?;
+    let by_lines = lines.as_slice();
+    let Some(text) = judged_under(alloc, asked.names, problem, by_lines, asked.target, &named)?
+    else {
         return Ok(None);
     };
-    let Some(whole) = judged_under(alloc, asked.names, problem, lines, asked.target, &whole)? else {
+    let Some(whole) = judged_under(alloc, asked.names, problem, by_lines, asked.target, &whole)?
+    else {
         return Ok(None);
     };
-    let by = by_comment(alloc, constraints, lines)?;
-    Ok(Some(PrintedProof { text, whole, by }))
+    let by = by_comment(alloc, constraints, by_lines)?;
+    let named = Vec::from_slice(alloc, named.named.as_slice())?;
+    Ok(Some(PrintedProof {
+        text,
+        whole,
+        by,
+        lines,
+        named,
+    }))
 }
 
 /// The proof of a row from a problem's constraints, by a certificate.
@@ -303,7 +331,7 @@ fn any_printed(
     requires question { IsQuestion (question_body question.now) }
     requires problem { IsProblem (problem_view problem.now) }
     requires space { problem.now.space ≡ space_of (problem_names (question_body question.now)) }
-    ensures { IfOk result (λ o. IfSome o (λ t. ArePrintedFrom (problem_names (question_body question.now)) (value target.now) problem.now.constraints.items t.text.items t.whole.items t.by.items)) }
+    ensures { IfOk result (λ o. IfSome o (λ t. ArePrintedFrom (problem_names (question_body question.now)) (value target.now) problem.now.constraints.items t.lines.items t.named.items t.text.items t.whole.items t.by.items)) }
 {
     let names = names_of(question);
     let measures = measures(alloc, question.source.as_slice(), names)?;
@@ -341,7 +369,7 @@ pub fn printed_form(
     short: bool,
 ) -> Result<Option<PrintedProof>, AllocError>
     requires { IsQuestion (question_body question.now) }
-    ensures { IfOk result (λ o. IfSome o (λ t. ArePrinted (question_body question.now) (value target.now) t.text.items t.whole.items t.by.items)) }
+    ensures { IfOk result (λ o. IfSome o (λ t. ArePrinted (question_body question.now) (value target.now) t.lines.items t.named.items t.text.items t.whole.items t.by.items)) }
 {
     let posed = problem(alloc, question)?;
     match any_printed(alloc, question, &posed, target, certificate, line, short) {

@@ -7,6 +7,7 @@ ghost use Rattle.it_question.specs.Questions.{question_body};
 ghost use Rattle.it_terms.specs.Proposals.{MayProve};
 ghost use Rattle.it_terms.specs.Proofs.{TellsForm};
 
+use crate::closed::Closures;
 use crate::constraints::{put_constraint, put_relation, put_side};
 use crate::drafts::row_terms;
 use crate::finding::{joint_sum, own_sum};
@@ -15,7 +16,7 @@ use crate::judging::is_same;
 use crate::measures::{Measure, measures};
 use crate::proof_judging::{Proposal, Split, tells_proof};
 use crate::reading::relation_text;
-use crate::shortest::shortest;
+use crate::shortest::{LeastSum, shortest, shortest_closed};
 use crate::telling::names_of;
 use crate::untold::Untold;
 use crate::writing::sums_text;
@@ -241,22 +242,18 @@ pub fn sum_of_numbers(terms: &[Term]) -> i128 {
     sum
 }
 
-/// What a proof with the least sum of terms over sets sums up: no more terms than so many.
-pub fn least_summands(
-    alloc: Global,
-    asked: &Asked<'_>,
-    scale: i128,
-    most: i128,
-) -> Result<Summands, Untold> {
-    let factor = asked.goal.factor;
-    let often = signed_product(scale, factor)?;
-    if factor <= 0 {
+/// How often a proof with the least sum is to have the target's row, for the goal so many times.
+fn times_of_goal(goal: &Goal, scale: i128) -> Result<i128, Untold> {
+    if goal.factor <= 0 {
         return Err(Untold::NotFound);
     }
-    let space = asked.names.space();
-    let least = shortest(alloc, space, asked.constraints, asked.target, often, most)?;
+    Ok(signed_product(scale, goal.factor)?)
+}
+
+/// What a proof with the least sum of terms sums up.
+fn summands_of(alloc: Global, asked: &Asked<'_>, least: &LeastSum) -> Result<Summands, Untold> {
     let mut summands = Summands {
-        scale: least.scale / factor,
+        scale: least.scale / asked.goal.factor.max(1),
         shannon: Vec::from_slice(alloc, least.terms.as_slice())?,
         rest: Vec::new(alloc),
         weights: Vec::new(alloc),
@@ -265,6 +262,40 @@ pub fn least_summands(
         put_weighted(&mut summands, asked, weight.0, weight.1)?;
     }
     Ok(summands)
+}
+
+/// What a proof with the least sum of terms over sets sums up: no more terms than so many.
+pub fn least_summands(
+    alloc: Global,
+    asked: &Asked<'_>,
+    scale: i128,
+    most: i128,
+) -> Result<Summands, Untold> {
+    let often = times_of_goal(asked.goal, scale)?;
+    let space = asked.names.space();
+    let least = shortest(alloc, space, asked.constraints, asked.target, often, most)?;
+    summands_of(alloc, asked, &least)
+}
+
+/// The same with terms over closed sets.
+pub fn least_closed_summands(
+    alloc: Global,
+    asked: &Asked<'_>,
+    closures: &Closures,
+    scale: i128,
+    most: i128,
+) -> Result<Summands, Untold> {
+    let often = times_of_goal(asked.goal, scale)?;
+    let least = shortest_closed(
+        alloc,
+        closures,
+        asked.names.space(),
+        asked.constraints,
+        asked.target,
+        often,
+        most,
+    )?;
+    summands_of(alloc, asked, &least)
 }
 
 /// The text of a proof with the least sum of terms over sets, where one is found that is no longer than these summands.

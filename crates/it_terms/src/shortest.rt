@@ -1,10 +1,12 @@
-//! A proof with the least sum of terms over sets, by the simplex method. What is found is judged by the text that it gives, so
-//! no clause says it here.
+//! A proof with the least sum of terms over sets, or over closed sets, by the simplex method. What is found is judged by the text
+//! that it gives, so no clause says it here.
 ghost use Rattle.std.specs.Prelude.{◌≡◌, ◌+◌, ◌*◌, ◌^◌, ◌≤◌, ◌<◌, length, IfOk, OnOk};
 ghost use Rattle.it_space.specs.Spaces.{IsSpace, size_of};
 ghost use Rattle.it_demand.specs.Coefficients.{largest};
 
+use crate::closed::{ClosedTerm, Closures};
 use crate::finding::{common_multiple, term_of, turned, weights_of};
+use crate::folding::vanishes;
 use crate::untold::Untold;
 use it_columns::opposite_row;
 use it_demand::Coefficients;
@@ -15,6 +17,11 @@ use std::alloc::{AllocError, Global};
 
 /// A proof is looked for among terms over the sets of so many variables at most.
 const MOST_VARIABLES: u8 = 6;
+
+/// A proof over closed sets is looked for on so many variables at most, where there are so many terms over them at most.
+const MOST_CLOSED_VARIABLES: u8 = 10;
+
+const MOST_CLOSED_TERMS: usize = 40000;
 
 /// So many terms at most are added up.
 const MOST_TERMS: usize = 1024;
@@ -36,9 +43,10 @@ impl Drop for LeastSum {
     }
 }
 
-/// Columns: first those of terms over sets, then those of constraints by their numbers with signs turned or not, and last one
-/// for what a sum of terms is less than its bound.
+/// Columns over these coordinates: first those of terms over sets, then those of constraints by their numbers with signs turned or
+/// not, and last one for what a sum of terms is less than its bound.
 struct Columns {
+    coordinates: Vec<u32>,
     terms: Vec<Term>,
     constraints: Vec<(u32, bool)>,
     rows: Vec<Row>,
@@ -47,6 +55,7 @@ struct Columns {
 impl Drop for Columns {
     fn drop(self) {
         let Columns {
+            coordinates: _,
             terms: _,
             constraints: _,
             rows: _,
@@ -54,11 +63,12 @@ impl Drop for Columns {
     }
 }
 
-/// The space with a rate more, in whose place each row has the sum of the terms over sets.
-fn wider_space(space: Space) -> Result<Space, Untold>
+/// The space of so many variables at most with a rate more, in whose place each row has the sum of the terms over sets.
+fn wider_space(space: Space, most_variables: u8) -> Result<Space, Untold>
+    requires { most_variables ≤ 10 }
     ensures { IfOk result IsSpace }
 {
-    if space.variables < 1 || space.variables > MOST_VARIABLES || space.rates > 15 {
+    if space.variables < 1 || space.variables > most_variables || space.rates > 15 {
         return Err(Untold::NotFound);
     }
     Ok(Space {
@@ -115,7 +125,7 @@ fn place(set: VarSet) -> u32 {
 }
 
 /// The terms of an entropy or a mutual information by sets; at the empty set for any other atom.
-fn atom_terms(atom: &Atom) -> [(u32, i128); 4] {
+pub fn atom_terms(atom: &Atom) -> [(u32, i128); 4] {
     match atom {
         Atom::Entropy { of, given } => [
             (place(of.union(*given)), 1),
@@ -201,18 +211,127 @@ fn put_constraint(
     Ok(())
 }
 
+/// No columns over these coordinates.
+fn no_columns(alloc: Global, coordinates: Vec<u32>) -> Columns {
+    Columns {
+        coordinates,
+        terms: Vec::new(alloc),
+        constraints: Vec::new(alloc),
+        rows: Vec::new(alloc),
+    }
+}
+
 /// All columns: terms over sets, constraints, and what a sum is less than its bound.
 fn all_columns(alloc: Global, space: Space, constraints: &[Constraint]) -> Result<Columns, Untold>
     requires { IsSpace space }
 {
-    let mut columns = Columns {
-        terms: Vec::new(alloc),
-        constraints: Vec::new(alloc),
-        rows: Vec::new(alloc),
-    };
+    let coordinates = (1..space.size() + 1).collect(alloc)?;
+    let mut columns = no_columns(alloc, coordinates);
     put_atoms(alloc, &mut columns, space, 1u16 << space.variables)?;
     for (i, constraint) in constraints.iter().enumerate() {
         put_constraint(alloc, &mut columns, constraint, (i % 65536) as u32)?;
+    }
+    columns.rows.push(row_with(alloc, space, &[], 1, 1)?)?;
+    Ok(columns)
+}
+
+/// The coordinates that are left over closed sets.
+fn closed_coordinates(
+    alloc: Global,
+    closures: &Closures,
+    space: Space,
+) -> Result<Vec<u32>, AllocError>
+    requires { IsSpace space }
+{
+    let mut coordinates = Vec::new(alloc);
+    for coordinate in 1..space.size() + 1 {
+        if closures.place(coordinate) == coordinate {
+            coordinates.push(coordinate)?;
+        }
+    }
+    Ok(coordinates)
+}
+
+/// The row over closed sets of terms so many times, with a number at the greatest coordinate.
+fn closed_row(
+    alloc: Global,
+    closures: &Closures,
+    space: Space,
+    terms: &[(u32, i128)],
+    times: i128,
+    last: i128,
+) -> Result<Row, Untold>
+    requires { IsSpace space }
+{
+    let mut folded = Vec::new(alloc);
+    for term in terms {
+        folded.push((closures.place(term.0), term.1))?;
+    }
+    row_with(alloc, space, folded.as_slice(), times, last)
+}
+
+/// Adds the terms over closed sets.
+fn put_closed_terms(
+    alloc: Global,
+    columns: &mut Columns,
+    closures: &Closures,
+    space: Space,
+    terms: &[ClosedTerm],
+) -> Result<(), Untold>
+    requires { IsSpace space }
+{
+    for term in terms {
+        let atom = term.atom();
+        let row = closed_row(alloc, closures, space, &atom_terms(&atom), 1, 1)?;
+        columns.rows.push(row)?;
+        columns.terms.push(term_of(1, atom)?)?;
+    }
+    Ok(())
+}
+
+/// Adds a constraint over closed sets, with its sign turned too where it is an equation.
+fn put_closed_constraint(
+    alloc: Global,
+    columns: &mut Columns,
+    closures: &Closures,
+    space: Space,
+    constraint: &Constraint,
+    number: u32,
+) -> Result<(), Untold>
+    requires { IsSpace space }
+{
+    let terms = constraint.row.terms();
+    let row = closed_row(alloc, closures, space, terms, 1, 0)?;
+    columns.rows.push(row)?;
+    columns.constraints.push((number, false))?;
+    if constraint.kind == Kind::Equation {
+        let row = closed_row(alloc, closures, space, terms, -1, 0)?;
+        columns.rows.push(row)?;
+        columns.constraints.push((number, true))?;
+    }
+    Ok(())
+}
+
+/// All columns over closed sets, without constraints that are 0 there.
+fn closed_columns(
+    alloc: Global,
+    closures: &Closures,
+    space: Space,
+    constraints: &[Constraint],
+) -> Result<Columns, Untold>
+    requires { IsSpace space }
+{
+    let Some(terms) = closures.terms(alloc, MOST_CLOSED_TERMS)? else {
+        return Err(Untold::NotFound);
+    };
+    let coordinates = closed_coordinates(alloc, closures, space)?;
+    let mut columns = no_columns(alloc, coordinates);
+    put_closed_terms(alloc, &mut columns, closures, space, terms.as_slice())?;
+    for (i, constraint) in constraints.iter().enumerate() {
+        if !vanishes(closures, constraint.row.terms())? {
+            let number = (i % 65536) as u32;
+            put_closed_constraint(alloc, &mut columns, closures, space, constraint, number)?;
+        }
     }
     columns.rows.push(row_with(alloc, space, &[], 1, 1)?)?;
     Ok(columns)
@@ -230,8 +349,12 @@ fn weights_within(
     requires { IsSpace space }
 {
     let row = row_with(alloc, space, target.terms(), scale, bound)?;
-    let coordinates: Vec<u32> = (1..space.size() + 1).collect(alloc)?;
-    weights_of(alloc, coordinates.as_slice(), columns.rows.as_slice(), &row)
+    weights_of(
+        alloc,
+        columns.coordinates.as_slice(),
+        columns.rows.as_slice(),
+        &row,
+    )
 }
 
 /// The weights for the least bound for which some are found, none of them above a bound for which there are.
@@ -314,8 +437,25 @@ pub fn shortest(
     scale: i128,
     most: i128,
 ) -> Result<LeastSum, Untold> {
-    let wider = wider_space(space)?;
+    let wider = wider_space(space, MOST_VARIABLES)?;
     let columns = all_columns(alloc, wider, constraints)?;
     let weights = least_weights(alloc, wider, &columns, target, scale, most)?;
+    sum_by_weights(alloc, &columns, weights.as_slice(), scale)
+}
+
+/// The same with terms over closed sets, where these are few enough: they add up to the target where the functions hold.
+pub fn shortest_closed(
+    alloc: Global,
+    closures: &Closures,
+    space: Space,
+    constraints: &[Constraint],
+    target: &Row,
+    scale: i128,
+    most: i128,
+) -> Result<LeastSum, Untold> {
+    let wider = wider_space(space, MOST_CLOSED_VARIABLES)?;
+    let columns = closed_columns(alloc, closures, wider, constraints)?;
+    let target = closed_row(alloc, closures, wider, target.terms(), 1, 0)?;
+    let weights = least_weights(alloc, wider, &columns, &target, scale, most)?;
     sum_by_weights(alloc, &columns, weights.as_slice(), scale)
 }

@@ -37,7 +37,7 @@ fn is_same_term(term: &Term, other: &Term) -> bool
 }
 
 /// Whether two sums have the same terms in the same order.
-fn are_same_terms(terms: &[Term], others: &[Term]) -> bool
+pub fn are_same_terms(terms: &[Term], others: &[Term]) -> bool
     ensures { OnTrue result (terms.now ≡ others.now) }
 {
     if terms.len() != others.len() {

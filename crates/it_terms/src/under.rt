@@ -20,20 +20,21 @@ use it_space::{Constraint, Problem, Row, RowFault, Space, Sums};
 use it_syntax::types::Relation;
 use std::alloc::{AllocError, Global};
 
-/// The row of what the right side of a relation with multiples of constraints is more than the left one, None where a number of it
-/// is too large.
+/// The row of what the left side of a relation with multiples of constraints is more than the right one, or turned the right side with
+/// these than the left one; None where a number of it is too large.
 pub fn excess(
     alloc: Global,
     relation: &Relation,
+    turned: bool,
     space: Space,
     constraints: &[Constraint],
     weights: &[(u32, i128)],
 ) -> Result<Option<Row>, AllocError>
     requires space { IsSpace space }
     requires within { IsRelationOf space.variables space.rates (relation_view relation.now) }
-    ensures { IfOk result (λ o. IfSome o (IsExcess space (relation_view relation.now) constraints.now weights.now)) }
+    ensures { IfOk result (λ o. IfSome o (IsExcess space (relation_view relation.now) turned constraints.now weights.now)) }
 {
-    let difference = difference(alloc, relation, true, space)?;
+    let difference = difference(alloc, relation, turned, space)?;
     let places = space.size() as usize + 1;
     let mut sums = Sums::zeros(alloc, places)?;
     match add_both(&mut sums, places, difference.terms(), constraints, weights) {

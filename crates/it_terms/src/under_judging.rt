@@ -35,7 +35,7 @@ pub struct Sides {
 }
 
 /// Two sides with `=` between them, the right one as `0` where nothing stands there.
-fn sides_text(alloc: Global, left: &[u8], right: &[u8]) -> Result<Vec<u8>, AllocError>
+pub fn sides_text(alloc: Global, left: &[u8], right: &[u8]) -> Result<Vec<u8>, AllocError>
     ensures { IfOk result (λ t. t.items ≡ sides_text left.now right.now) }
 {
     let mut out = Vec::from_slice(alloc, left)?;
@@ -49,21 +49,22 @@ fn sides_text(alloc: Global, left: &[u8], right: &[u8]) -> Result<Vec<u8>, Alloc
 }
 
 /// The relation that the sides are, None where they aren't read as one.
-fn sides_relation(
+pub fn sides_relation(
     alloc: Global,
     names: &Names,
-    sides: &Sides,
+    left: &[u8],
+    right: &[u8],
 ) -> Result<Option<Relation>, AllocError>
     requires some { 1 ≤ length names.now.variables }
-    ensures is { IfOk result (λ o. IfSome o (λ r. IsRelationText names.now (sides_text sides.now.left.items sides.now.right.items) (relation_view r))) }
+    ensures is { IfOk result (λ o. IfSome o (λ r. IsRelationText names.now (sides_text left.now right.now) (relation_view r))) }
     ensures limits { IfOk result (λ o. IfSome o (λ r. IsRelationOf (length names.now.variables) (length names.now.rates) (relation_view r))) }
 {
-    let text = sides_text(alloc, sides.left.as_slice(), sides.right.as_slice())?;
+    let text = sides_text(alloc, left, right)?;
     relation_text(alloc, text.as_slice(), names)
 }
 
 /// Whether a relation is an equation without denominators.
-fn is_whole_equation(relation: &Relation) -> bool
+pub fn is_whole_equation(relation: &Relation) -> bool
     requires some { 1 ≤ common_denominator (relation_view relation.now) }
     requires small { common_denominator (relation_view relation.now) ≤ 2 ^ 32 }
     ensures { OnTrue result ((relation.now.sign ≡ Equal) × (common_denominator (relation_view relation.now) ≡ 1)) }
@@ -98,7 +99,7 @@ fn is_proof_under(
     if !is_split {
         return Ok(false);
     }
-    let Some(row) = excess(alloc, relation, space, constraints, named)? else {
+    let Some(row) = excess(alloc, relation, true, space, constraints, named)? else {
         return Ok(false);
     };
     let is_nothing = is_nothing_under(alloc, functions, &row)?;
@@ -106,20 +107,17 @@ fn is_proof_under(
 }
 
 /// The text of sides with names of constraints behind the right one.
-fn named_text(
+pub fn named_text(
     alloc: Global,
     constraints: &[Constraint],
-    sides: &Sides,
+    left: &[u8],
+    right: &[u8],
+    named: &[(u32, i128)],
 ) -> Result<Vec<u8>, AllocError>
-    ensures { IfOk result (λ t. t.items ≡ named_sides_text (origins_of constraints.now) sides.now.named.items sides.now.left.items sides.now.right.items) }
+    ensures { IfOk result (λ t. t.items ≡ named_sides_text (origins_of constraints.now) named.now left.now right.now) }
 {
-    let right = with_names(
-        alloc,
-        sides.right.as_slice(),
-        constraints,
-        sides.named.as_slice(),
-    )?;
-    sides_text(alloc, sides.left.as_slice(), right.as_slice())
+    let right = with_names(alloc, right, constraints, named)?;
+    sides_text(alloc, left, right.as_slice())
 }
 
 /// The text of sides, where it tells a proof of a target where the functions hold that the constraints of these numbers say.
@@ -137,7 +135,9 @@ pub fn judged_under(
     requires space { problem.now.space ≡ record { variables = length names.now.variables; rates = length names.now.rates } }
     ensures { IfOk result (λ o. IfSome o (λ t. TellsProofUnder names.now (origins_of problem.now.constraints.items) lines.now sides.now.named.items (value target.now) (forms_of (map of_constraint problem.now.constraints.items)) t.items)) }
 {
-    let Some(relation) = sides_relation(alloc, names, sides)? else {
+    let left = sides.left.as_slice();
+    let right = sides.right.as_slice();
+    let Some(relation) = sides_relation(alloc, names, left, right)? else {
         return Ok(None);
     };
     let Some(functions) = functions_of(alloc, problem, lines)? else {
@@ -146,7 +146,8 @@ pub fn judged_under(
     if !is_proof_under(alloc, &relation, problem, &functions, lines, target, sides)? {
         return Ok(None);
     }
-    let text = named_text(alloc, problem.constraints.as_slice(), sides)?;
+    let named = sides.named.as_slice();
+    let text = named_text(alloc, problem.constraints.as_slice(), left, right, named)?;
     Ok(Some(text))
 }
 
@@ -160,12 +161,15 @@ pub fn sides_excess(
     requires some { 1 ≤ length names.now.variables }
     ensures { IfOk result (IsOver (size_of (record { variables = length names.now.variables; rates = length names.now.rates }))) }
 {
-    let Some(relation) = sides_relation(alloc, names, sides)? else {
+    let left = sides.left.as_slice();
+    let right = sides.right.as_slice();
+    let Some(relation) = sides_relation(alloc, names, left, right)? else {
         return Err(Untold::NotFound);
     };
     match excess(
         alloc,
         &relation,
+        true,
         names.space(),
         constraints,
         sides.named.as_slice(),
