@@ -13,19 +13,18 @@ use Rattle.it_copy.specs.CopyLines.{copy_view}
 use Rattle.it_settings.specs.declared.types.Settings.{Settings}
 use Rattle.it_settings.specs.Settings.{settings_of}
 use Rattle.it_settings.specs.declared.types.Format.{Format}
+use Rattle.it_settings.specs.declared.types.Format.TheVariants.{Derived}
 use Rattle.it_contain.specs.Proposals.{Plan, plan_after_all}
-use Rattle.it_space.specs.Answers.{AnswerView, answer_view}
+use Rattle.it_space.specs.Answers.{AnswerView, CertificateView, answer_view}
 use Rattle.it_region.specs.AnswerForms.{answer_forms}
 use Rattle.it_certificate.specs.Values.{SourceTexts, answer_members, report_text}
 use Rattle.it_print.specs.Lines.{answer_line, origins_of}
 use Rattle.it_print.specs.ProofLines.{proof_text_by}
 use Rattle.it_answer.specs.declared.types.AnsweredProblem.{AnsweredProblem}
 use Rattle.it_answer.specs.declared.types.Budgets.{Budgets}
-use Rattle.it_answer.specs.Replies.{Reply}
-use Rattle.it_answer.specs.RightAnswers.{IsRightAnswer}
 use Rattle.it_factor.specs.Replies.{ReplyView}
 use Rattle.it_factor.specs.RightReplies.{IsRightReply}
-use Rattle.it_cli.specs.Right.{answer_lines}
+use Rattle.it_cli.specs.ToldOrigins.{AreToldOrigins, IsRightTold, ToldReply, answer_lines, derived_line, told_lines}
 use Rattle.it_cli.specs.FactorReports.{reply_members}
 use Rattle.it_cli.specs.Copies.{CopyQuestion, IsRightProof, with_copies}
 use Rattle.it_cli.specs.Ends.{Ends, call_of}
@@ -52,12 +51,22 @@ abbrev pub proof_lines_of : ℕ → BodyView → AnsweredProblem → List ℕ
 proof_lines_of k q answered =
     proof_text_by k q answered.problem.constraints.items (map (terms_in q) (answer_forms q (answer_view answered.answer))) (answer_view answered.answer)
 
+-- the lines of an answer to question k, with what the format tells of its rows
+pub record IsToldText (format : Format) (k : ℕ) (q : QuestionView) (answer : AnswerView) (bytes : List ℕ) : Type 0 where
+  pub origins : Option (List CertificateView)
+  pub told : AreToldOrigins format q.body answer origins
+  pub is : bytes ≡ answer_lines format k q answer origins
+
+-- the line of an answer with certificates of its rows, or without
+abbrev pub IsDerivedLine : QuestionView → AnswerView → List ℕ → Type 0
+IsDerivedLine q answer bytes = (origins : Option (List CertificateView)) × AreToldOrigins Derived q.body answer origins × (bytes ≡ derived_line q answer origins)
+
 -- the lines of a right answer to question k, by boxes with these plans before it and after it
 pub record IsAnswerText (budgets : Budgets) (plans : List Plan) (format : Format) (k : ℕ) (q : QuestionView) (plans_after : List Plan) (bytes : List ℕ) : Type 0 where
-  pub reply : Reply
-  pub right : IsRightAnswer budgets plans q.body reply
-  pub learned : plans_after ≡ map (plan_after_all reply.found) plans
-  pub is : bytes ≡ answer_lines format k q reply.answer
+  pub told : ToldReply
+  pub right : IsRightTold format budgets plans q.body told
+  pub learned : plans_after ≡ map (plan_after_all told.reply.found) plans
+  pub is : bytes ≡ told_lines format k q told
 
 -- the lines of a right answer to question k, which is about a relation
 pub record IsProofText (effort : Effort) (k : ℕ) (q : BodyView) (bytes : List ℕ) : Type 0 where

@@ -1,7 +1,8 @@
 -- What follows from how a call ends and from what a right answer is.
-use Rattle.std.specs.Prelude.{◌≡◌, ℕ, ◌+◌, ◌≤◌, ◌<◌, List, [], ◌++◌, length, ◌⊎◌, Option, Some, None}
+use Rattle.std.specs.Prelude.{◌≡◌, ◌≢◌, ℕ, ◌+◌, ◌≤◌, ◌<◌, List, [], ◌++◌, length, ◌⊎◌, Option, Some, None}
 use Rattle.std.specs.List.{list_any}
 use Rattle.it_outside.specs.Causes.{next_count}
+use Rattle.it_settings.specs.declared.types.Format.TheVariants.{Derived}
 use Rattle.it_settings.specs.declared.types.Run.{Run}
 use Rattle.it_settings.specs.declared.types.Run.TheVariants.{Bland}
 use Rattle.it_settings.specs.declared.types.Settings.{Settings}
@@ -99,9 +100,9 @@ CountsAddUp = (budgets : Budgets) (plans : List Plan) (seed count : ℕ) (questi
     → IsFile (generated_file seed count) questions → AreCounted budgets plans [] no_counts questions counts
     → (counts.yes + counts.no + counts.undecided ≡ count) × (counts.regions ≡ 0) × (counts.contained ≡ 0) × (counts.left_open ≡ 0)
 
--- targets are decided by the defined run alone
+-- targets are decided by the defined run alone, and nothing is told that a search proposes
 abbrev pub AreByBland : Settings → Type 0
-AreByBland (Answer format run pivots rows tries) = run ≡ Bland
+AreByBland (Answer format run pivots rows tries) = (run ≡ Bland) × (format ≢ Derived)
 AreByBland Check = Unit {0}
 AreByBland (Bench seed count run pivots rows tries) = run ≡ Bland
 AreByBland (Copy report run pivots) = run ≡ Bland

@@ -1,5 +1,5 @@
 -- The modes, and what a whole input is answered with by the one that the words ask for.
-use Rattle.std.specs.Prelude.{◌≡◌, ℕ, List, [], ◌∷◌, flat_map, Bool, true, false, Option, Some, None}
+use Rattle.std.specs.Prelude.{◌≡◌, ℕ, List, [], ◌∷◌, flat_map, map, Bool, true, false, Option, Some, None}
 use Rattle.std.specs.List.{list_any}
 use Rattle.it_outside.specs.Traffic.{IsPrefix}
 use Rattle.it_settings.specs.declared.types.Format.{Format}
@@ -10,16 +10,16 @@ use Rattle.it_question.specs.Lines.{split_lines}
 use Rattle.it_question.specs.Questions.{QuestionView}
 use Rattle.it_copy.specs.Files.{CopyFileFaultAt}
 use Rattle.it_forms.specs.declared.types.Code.{Code}
-use Rattle.it_contain.specs.Proposals.{Plan}
+use Rattle.it_contain.specs.Proposals.{Plan, plan_after_all}
 use Rattle.it_answer.specs.declared.types.Budgets.{Budgets}
-use Rattle.it_answer.specs.Replies.{Reply}
 use Rattle.it_report.specs.Judging.{IsVerdict}
 use Rattle.it_report.specs.LineVerdicts.{LineVerdict, is_invalid, verdict_line}
 use Rattle.it_outer.specs.declared.types.Limits.{Limits}
 use Rattle.it_prove.specs.declared.types.Effort.{Effort}
-use Rattle.it_bounds.specs.Reports.{IsRightTold, told_lines}
+use Rattle.it_bounds.specs.Reports as bounds
 use Rattle.it_factor.specs.RightReplies.{IsRightReply}
-use Rattle.it_cli.specs.Right.{IsRightAfter, answer_lines, budgets_of, effort_of, limits_of}
+use Rattle.it_cli.specs.Right.{budgets_of, effort_of, limits_of}
+use Rattle.it_cli.specs.ToldOrigins.{IsRightTold, ToldReply, told_lines}
 use Rattle.it_cli.specs.Counts.{IsBenchLine}
 use Rattle.it_cli.specs.FactorReports.{best_lines}
 use Rattle.it_cli.specs.Copies.{AsksWithCopies, IsRightCopy, copy_lines}
@@ -50,11 +50,11 @@ done_mode {Item} {Reply} asks fault_at is_right text = record {
   status = λ replies. Done;
 }
 
--- one right answer to each question of a file, by boxes that had these plans before the first
+-- one right answer to each question of a file, by boxes that had these plans before the first, with what the format tells of its rows
 abbrev pub answer_mode : Budgets → List Plan → Format → Mode
 answer_mode budgets plans format = done_mode IsFile FileFaultAt
-    (λ (earlier : List Reply) (q : QuestionView) (reply : Reply). IsRightAfter budgets plans (flat_map (λ (r : Reply). r.found) earlier) q reply)
-    (λ k q reply. answer_lines format k q reply.answer)
+    (λ (earlier : List ToldReply) (q : QuestionView) told. IsRightTold format budgets (map (plan_after_all (flat_map (λ (t : ToldReply). t.reply.found) earlier)) plans) q.body told)
+    (told_lines format)
 
 -- the status after all verdicts are written
 abbrev pub verdict_status : Bool → Status
@@ -88,7 +88,7 @@ best_mode report effort = done_mode IsFile FileFaultAt (λ earlier (q : Question
 
 -- one right reply to each question of a file that asks for outer bounds, as a line of a report or not
 abbrev pub outer_mode : Bool → Limits → Mode
-outer_mode report limits = done_mode IsFile FileFaultAt (λ earlier q told. IsRightTold report limits q.body told) (told_lines report limits)
+outer_mode report limits = done_mode IsFile FileFaultAt (λ earlier q told. bounds.IsRightTold report limits q.body told) (bounds.told_lines report limits)
 
 -- one right reply to what a sharing file asks, as a line of a report or not
 abbrev pub sharing_mode : Bool → Effort → Mode

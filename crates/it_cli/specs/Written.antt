@@ -7,16 +7,16 @@ use Rattle.it_settings.specs.declared.types.Format.{Format}
 use Rattle.it_settings.specs.declared.types.Run.{Run}
 use Rattle.it_settings.specs.declared.types.Settings.{Settings}
 use Rattle.it_settings.specs.declared.types.Settings.TheVariants.{Answer, Copy, Best, Outer, Sharing}
-use Rattle.it_space.specs.Answers.{AnswerView}
 use Rattle.it_question.specs.Files.{IsFile}
 use Rattle.it_question.specs.Questions.{QuestionView}
 use Rattle.it_answer.specs.Shows.{Shows}
 use Rattle.it_answer.specs.Truth.{IsTrueAnswer}
 use Rattle.it_bounds.specs.Truth as true_bounds
-use Rattle.it_bounds.specs.Reports.{ToldReply, told_lines}
+use Rattle.it_bounds.specs.Reports as bounds
 use Rattle.it_factor.specs.Replies.{ReplyView}
 use Rattle.it_factor.specs.Truth.{IsTrueReply}
-use Rattle.it_cli.specs.Right.{answer_lines, limits_of}
+use Rattle.it_cli.specs.Right.{limits_of}
+use Rattle.it_cli.specs.ToldOrigins.{AreToldOrigins, ToldReply, told_lines}
 use Rattle.it_cli.specs.Copies.{AsksWithCopies, copy_lines}
 use Rattle.it_cli.specs.FactorReports.{best_lines}
 use Rattle.it_cli.specs.SharingReplies.{AsksOfSharing, SharingFile, SharingReply, sharing_lines}
@@ -43,13 +43,13 @@ WritesSuch settings IsSuch = (r : Call) (bytes old new : List ℕ) → Ends r Do
 
 -- ---- in each mode
 
--- the lines of an answer to each of a file's questions, which shows what it says
+-- the lines of an answer to each of a file's questions, which shows what it says; the certificates that are told of its rows prove these
 abbrev pub ShownAnswers : Format → List ℕ → List ℕ → Type 0
-ShownAnswers format = AreLinesFor IsFile (λ (q : QuestionView) (answer : AnswerView). Shows q.body answer) (answer_lines format)
+ShownAnswers format = AreLinesFor IsFile (λ (q : QuestionView) (told : ToldReply). Shows q.body told.reply.answer × AreToldOrigins format q.body told.reply.answer told.origins) (told_lines format)
 
 -- those of an answer that is true
 abbrev pub TrueAnswers : Format → List ℕ → List ℕ → Type 0
-TrueAnswers format = AreLinesFor IsFile (λ (q : QuestionView) (answer : AnswerView). IsTrueAnswer q.body answer) (answer_lines format)
+TrueAnswers format = AreLinesFor IsFile (λ (q : QuestionView) (told : ToldReply). IsTrueAnswer q.body told.reply.answer) (told_lines format)
 
 -- those of a true reply to each question of a file with a head, as lines of a report or not
 abbrev pub TrueCopies : Bool → List ℕ → List ℕ → Type 0
@@ -61,7 +61,7 @@ TrueFactors report = AreLinesFor IsFile (λ (q : QuestionView) (reply : ReplyVie
 
 -- those of a true reply to each question of a file that asks for outer bounds, made within these limits, as lines of a report or not
 abbrev pub TrueBounds : Bool → Limits → List ℕ → List ℕ → Type 0
-TrueBounds report limits = AreLinesFor IsFile (λ (q : QuestionView) (told : ToldReply). true_bounds.IsTrueReply q.body told.reply) (told_lines report limits)
+TrueBounds report limits = AreLinesFor IsFile (λ (q : QuestionView) (told : bounds.ToldReply). true_bounds.IsTrueReply q.body told.reply) (bounds.told_lines report limits)
 
 -- those of a true reply to what a sharing file asks, as a line of a report or not
 abbrev pub TrueSharing : Bool → List ℕ → List ℕ → Type 0
