@@ -21,19 +21,19 @@ module _ {P : Type 0} (terms : P → List Term) (tells : P → List ℕ → Rela
   steps_on sum middle total (p ∷ ps) us [] ks f h = absurd f
   steps_on sum middle total (p ∷ ps) us (l ∷ ls) ks f h = (f.0, (f.1.0, (f.1.1.0, steps_on f.0.right middle total ps us ls ks f.1.1.1 h)))
 
-  -- before the first one
+  -- before the first step
   pub no_step_of : (sum : List Term) → AreSteps terms tells sum [] sum []
   unfolding AreSteps
   no_step_of sum = refl
 
-  -- after one step more
+  -- after one more step
   pub step_more_of : (sum : List Term) (pieces : List P) (now after : List Term) (lines : List (List ℕ)) (i : ℕ) (piece : P) (line : List ℕ) → i < length pieces → piece ≡ get_or pieces i piece
       → AreSteps terms tells sum (take i pieces) now lines → AreSteps terms tells now (piece ∷ []) after (line ∷ []) → AreSteps terms tells sum (take (i + 1) pieces) after (lines ++ line ∷ [])
   step_more_of sum pieces now after lines i piece line within read h s =
       subst (λ (ps : List P). AreSteps terms tells sum ps after (lines ++ line ∷ [])) (sym ((take_at_read pieces i piece within).1 ∙ ap (λ (p : P). take i pieces ++ p ∷ []) (sym read)))
       (steps_on sum now after (take i pieces) (piece ∷ []) lines (line ∷ []) h s)
 
-  -- steps told so are told as what follows from that
+  -- steps remain steps where what is said of each line is replaced by what follows from it
   pub steps_weaker : (other : P → List ℕ → RelationView → Type 0) → ((p : P) (line : List ℕ) (s : RelationView) → tells p line s → other p line s) → (sum : List Term) (ps : List P) (total : List Term) (ls : List (List ℕ)) → AreSteps terms tells sum ps total ls
       → AreSteps terms other sum ps total ls
   unfolding AreSteps
@@ -44,15 +44,15 @@ module _ {P : Type 0} (terms : P → List Term) (tells : P → List ℕ → Rela
 
 -- ---- of terms
 
--- an equation with a sum and a term more on its left is a step
+-- an equation with a sum and one more term on its left is a step
 pub one_step : (v : NamesView) (sum : List Term) (term : Term) (text : List ℕ) (r : RelationView) → IsEquationText v text r → r.left ≡ sum ++ term ∷ [] → AreStepTexts v sum (term ∷ []) r.right (text ∷ [])
 one_step v sum term text r is left = step_of (λ (t : Term). t ∷ []) (λ (t : Term) (line : List ℕ) (s : RelationView). IsEquationText v line s) sum term text r is left
 
--- before the first one
+-- before the first step
 pub no_step : (v : NamesView) (sum : List Term) → AreStepTexts v sum [] sum []
 no_step v sum = no_step_of (λ (t : Term). t ∷ []) (λ (t : Term) (line : List ℕ) (s : RelationView). IsEquationText v line s) sum
 
--- after one step more
+-- after one more step
 pub one_step_more : (v : NamesView) (sum terms now after : List Term) (lines : List (List ℕ)) (i : ℕ) (term : Term) (line : List ℕ) → i < length terms → term ≡ get_or terms i term
     → AreStepTexts v sum (take i terms) now lines → AreStepTexts v now (term ∷ []) after (line ∷ []) → AreStepTexts v sum (take (i + 1) terms) after (lines ++ line ∷ [])
 one_step_more v sum terms now after lines i term line within read h s =

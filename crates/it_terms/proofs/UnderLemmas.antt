@@ -55,7 +55,7 @@ row_of_all s r turned cs ws difference row places zeros new count is none plus c
     sum_from_zero : (row new old difference rest signed : ℤ) → row ≡ new → new ≡ old +ℤ (difference +ℤ rest) → old ≡ pos 0 → difference ≡ signed → row ≡ signed +ℤ rest
     sum_from_zero row new old difference rest signed e f g h = omega (arith, ints, e, f, g, h)
 
--- a row that collapses to nothing is 0 under the functions
+-- a row that collapses to 0 is 0 under the functions
 pub nothing_collapsed : (n : ℕ) (ds : List Dependence) (row new : Terms) → IsCollapseOf n ds row new → new ≡ [] → AreSameUnder n ds (value row) (λ p. pos 0)
 nothing_collapsed n ds row new c e p z = sym (c p z) ∙ ap (λ (t : Terms). value t p) e
 

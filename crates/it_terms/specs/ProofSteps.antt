@@ -1,12 +1,13 @@
--- The steps of a proof, as it is read aloud: the sum of the pieces on its right side, one piece more in each step, up to its left side.
+-- The steps of a proof, as it is read aloud: the sum of the pieces on its right side, one more piece in each step, up to its
+-- left side.
 use Rattle.std.specs.Prelude.{◌≡◌, ℕ, List, [], ◌∷◌, ◌++◌, take, drop}
 use Rattle.it_syntax.specs.declared.types.Term.{Term}
 use Rattle.it_syntax.specs.Meaning.{RelationView}
 use Rattle.it_syntax.specs.NamesViews.{NamesView}
 use Rattle.it_terms.specs.Proofs.{IsEquationText}
 
--- From this sum on each of these pieces has a step, in order, and each line is the step of its piece, a relation: on the step's left are the
--- sum so far and the piece's terms, on its right is the sum after it. After the last step that is `total`.
+-- The lines are the steps of the pieces, in order. Each is a relation: on its left are the sum so far and the piece's terms, on
+-- its right is the sum after it. The first sum so far is `sum`, the one after the last step is `total`.
 unfoldable pub AreSteps : {P : Type 0} → (P → List Term) → (P → List ℕ → RelationView → Type 0) → List Term → List P → List Term → List (List ℕ) → Type 0
 AreSteps terms tells sum [] total [] = sum ≡ total
 AreSteps terms tells sum [] total (line ∷ lines) = ⊥

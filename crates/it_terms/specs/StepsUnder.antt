@@ -22,7 +22,7 @@ abbrev pub piece_terms : Piece → List Term
 piece_terms (Summand t) = t ∷ []
 piece_terms (Named w) = []
 
--- its constraints with their weights
+-- the constraints of a piece, with their weights
 abbrev pub piece_weights : Piece → List (ℕ × ℤ)
 piece_weights (Summand t) = []
 piece_weights (Named w) = w ∷ []
@@ -31,7 +31,8 @@ piece_weights (Named w) = w ∷ []
 abbrev pub or_zero : List ℕ → List ℕ
 or_zero side = if length side == 0 then codes "0" else side
 
--- under these names the text is this relation, but that these weights of constraints stand behind its left side by the names of their lines
+-- under these names the text is the relation `s` with the weights `named` of constraints behind its left side, by the names of
+-- their lines
 pub record IsStepText (v : NamesView) (origins : List Origin) (named : List (ℕ × ℤ)) (text : List ℕ) (s : RelationView) : Type 0 where
   pub left : List ℕ
   pub right : List ℕ

@@ -17,7 +17,7 @@ use Rattle.it_polymatroid.specs.Certificates.{Form, combination}
 use Rattle.it_elemental.specs.Generators.{forms_of, of_constraint}
 use Rattle.it_demand.specs.Coefficients.{dense_form, signed_by}
 
--- a form was added to the one of these coefficients, and none is past the limit for it
+-- `new` has the coefficients of the form of `old` plus `form`, and they are within the limit if those of `old` are
 pub record IsPlus (old new : List ℤ) (form : Form) : Type 0 where
   pub complete : length new ≡ length old
   pub within : All IsWithin old → All IsWithin new
@@ -27,12 +27,13 @@ pub record IsPlus (old new : List ℤ) (form : Form) : Type 0 where
 abbrev pub constraint_value : List Constraint → (ℕ → ℤ) → ℕ → ℤ
 constraint_value cs p i = (forms_of (map of_constraint cs)).form i p
 
--- the row of the space is what one side of a relation with multiples of constraints is more than the other: the left one, or turned the right one
+-- the row of the space is the left side of the relation less its right side, negated if `turned`, plus the constraints with
+-- weights `ws`
 pub record IsExcess (s : Space) (r : RelationView) (turned : Bool) (cs : List Constraint) (ws : List (ℕ × ℤ)) (row : Terms) : Type 0 where
   pub coordinates : IsOver (size_of s) row
   pub same : AreSame (value row) (λ p. signed_by turned (side_form s.variables r r.left p -ℤ side_form s.variables r r.right p) +ℤ combination ws (constraint_value cs p))
 
--- a weight by the number of its constraint, where so many elemental inequalities come before these
+-- a weight by the index of its constraint, where `count` generators come before the constraints
 abbrev pub by_constraint : ℕ → ℕ × ℤ → ℕ × ℤ
 by_constraint count w = (w.0 - count, w.1)
 

@@ -1,4 +1,4 @@
-//! Rows and proofs in the field's notation, as texts that are read back and judged before they are handed out.
+//! Rows and proofs in the field's notation, as texts that are read back and judged before they are returned.
 #![tactic(auto)]
 
 mod closed;
