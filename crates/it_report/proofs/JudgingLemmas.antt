@@ -139,7 +139,7 @@ invalid_coded k q a c t i is_no invalid judged = by_verdict judged.verdict judge
     by_verdict (OtherCode names s) is told = absurd is
     by_verdict (Hulled v) is told = absurd is
 
--- one that is valid and of the code is so with it
+-- a no that is valid and whose point is of the code is valid with the code
 pub valid_coded : (k : ℕ) (q : BodyView) (a : AnswerView) (c : ReportedCodeView) (t : List ℕ) (i : Bool) → IsNo a → i ≡ false → IsJudgedAnswer k q a t i → AreEntropies c.code c.times (values_of a) → IsJudgedCoded k q a c t i
 valid_coded k q a c t i is_no valid judged all = by_verdict judged.verdict judged.is judged.told
   where
