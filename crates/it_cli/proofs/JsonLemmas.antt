@@ -283,7 +283,7 @@ none_is_any P causes.Scale h = tt
 none_is_any P (causes.Rows r) h = absurd h
 none_is_any P (causes.WideRate r) h = absurd h
 
--- so what is due of a relation can be written with any names
+-- the answer that is due of a relation can be written with any names
 pub due_is_writable : (effort : Effort) (q : BodyView) (r : RelationView) (v : NamesView) (a : AnswerView) → IsDueRelation effort q r a → IsWritable v a
 due_is_writable effort q r v (Yes ws) due = tt
 due_is_writable effort q r v (No back values) due = tt

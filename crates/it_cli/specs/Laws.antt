@@ -58,7 +58,8 @@ abbrev pub IsThere : Call → Option ℕ → List ℕ → Type 0
 IsThere r (Some most) bytes = (r.left ≡ Some bytes) × (length bytes ≤ most)
 IsThere r None bytes = bytes ≡ []
 
--- With a reading, an input in which the mode is asked something, and no fault, the whole output is written or memory is wanted.
+-- With words that have a reading, an input in which the mode is asked something, and no fault, the whole output is written, or
+-- allocation failed.
 abbrev pub IsComplete : Type 0
 IsComplete = (r : Call) (s : Status) (settings : Settings) (bytes : List ℕ) (items : List (mode_of r.plans settings).Item) → Ends r s
     → settings_of r.words ≡ Some settings → IsThere r (most_bytes settings) bytes → (mode_of r.plans settings).Asks bytes items
@@ -69,7 +70,7 @@ IsComplete = (r : Call) (s : Status) (settings : Settings) (bytes : List ℕ) (i
 abbrev pub SureEnds : Type 0
 SureEnds = (r : Call) (s : Status) → Ends r s → r.read_faults_after ≡ 0 → r.write_faults_after ≡ 0 → (s ≡ ReadFault → ⊥) × (s ≡ WriteFault → ⊥)
 
--- ---- each answer comes where it is due, but for want of memory and for faults
+-- ---- the usage line and the refusals come where they are due, unless a read, a write or an allocation fails
 
 -- words without a reading have the usage line, and nothing is read for them
 abbrev pub UsageIsDue : Type 0
@@ -134,7 +135,8 @@ NoLineIsOutOfSteps = (budgets : Budgets) (plans : List Plan) (q : BodyView) (ste
 abbrev pub VerdictsArePrefix : Type 0
 VerdictsArePrefix = (plans : List Plan) (bytes out : List ℕ) → IsFirstOutput plans Check bytes out ⊎ IsOutputInPart plans Check bytes out → IsPrefixOfOutput plans Check bytes out
 
--- what is written of the line of counts where a write fails is a prefix of a whole output; where memory is wanted, nothing or a whole output
+-- what is written of the line of counts where a write fails is a prefix of a whole output; where allocation fails, nothing or a
+-- whole output
 abbrev pub CountsArePrefix : Type 0
 CountsArePrefix = (plans : List Plan) (seed count : ℕ) (run : Run) (pivots : Option ℕ) (rows tries : ℕ) (bytes out : List ℕ)
     → (IsOutputInPart plans (Bench seed count run pivots rows tries) bytes out → IsPrefixOfOutput plans (Bench seed count run pivots rows tries) bytes out)

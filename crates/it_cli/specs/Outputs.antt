@@ -1,4 +1,4 @@
--- The modes, and what a whole input is answered with by the one that the words ask for.
+-- The modes, and the output of the one that the words ask for.
 use Rattle.std.specs.Prelude.{◌≡◌, ℕ, List, [], ◌∷◌, flat_map, map, Bool, true, false, Option, Some, None}
 use Rattle.std.specs.List.{list_any}
 use Rattle.it_outside.specs.Traffic.{IsPrefix}
@@ -29,7 +29,7 @@ use Rattle.it_cli.specs.Modes.{FirstOutput, Mode, OutputInPart, Replies, WholeOu
 use Rattle.it_cli.specs.declared.status.Status.{Status}
 use Rattle.it_cli.specs.declared.status.Status.TheVariants.{Done, Invalid}
 
--- the most bytes of an input; none where the mode has no input
+-- the most bytes of an input; None where the mode has no input
 abbrev pub most_bytes : Settings → Option ℕ
 most_bytes Check = Some 67108864
 most_bytes (Bench seed count run pivots rows tries) = None
@@ -73,7 +73,7 @@ check_mode = record {
   status = λ verdicts. verdict_status (list_any is_invalid verdicts);
 }
 
--- the line of the counts for a generated file, which is one item; nothing is asked of an input
+-- the line of the counts for a generated file, which is one item; the input is ignored
 abbrev pub bench_mode : Budgets → List Plan → ℕ → ℕ → Mode
 bench_mode budgets plans seed count = done_mode (λ bytes items. items ≡ tt {0} ∷ []) (λ bytes line column code. ⊥)
     (λ earlier item line. IsBenchLine budgets plans seed count line) (λ k item line. line)
@@ -110,11 +110,12 @@ mode_of plans (Sharing report run pivots) = sharing_mode report (effort_of run p
 abbrev pub IsOutput : List Plan → Settings → List ℕ → List ℕ → Status → Type 0
 IsOutput plans settings bytes out status = WholeOutput (mode_of plans settings) bytes out status
 
--- what is written of it where memory was wanted: the lines of the first items
+-- the part of the output that is written where allocation failed: the lines of the first items
 abbrev pub IsFirstOutput : List Plan → Settings → List ℕ → List ℕ → Type 0
 IsFirstOutput plans settings bytes out = (later : List (mode_of plans settings).Item) × FirstOutput (mode_of plans settings) later bytes out
 
--- what is written of it where a write failed: the lines of the first items, and then a prefix of those of the next one
+-- the part of the output that is written where a write failed: the lines of the first items, and then a prefix of those of the
+-- next one
 abbrev pub IsOutputInPart : List Plan → Settings → List ℕ → List ℕ → Type 0
 IsOutputInPart plans settings bytes out = OutputInPart (mode_of plans settings) bytes out
 

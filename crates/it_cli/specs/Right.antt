@@ -16,20 +16,21 @@ use Rattle.it_answer.specs.RightAnswers.{IsRightAnswer}
 use Rattle.it_outer.specs.declared.types.Limits.{Limits}
 use Rattle.it_prove.specs.declared.types.Effort.{Effort}
 
--- what is done to decide a target: a quick run first, or not, and the steps of the defined run, if they are bounded
+-- the effort to decide a target: a quick run first, or not, and the steps of the defined run, if they are bounded
 abbrev pub effort_of : Run → Option ℕ → Effort
 effort_of Bland pivots = record { quick = false; pivots = pivots }
 effort_of Quick pivots = record { quick = true; pivots = pivots }
 
--- how much an answer may cost: the effort for a target, the rows after a rate and the candidates that are tried
+-- the budgets of an answer: the effort for a target, the rows after a rate and the candidates that are tried
 abbrev pub budgets_of : Run → Option ℕ → ℕ → ℕ → Budgets
 budgets_of run pivots rows tries = record { effort = effort_of run pivots; rows = rows; tries = tries }
 
--- how much a search for outer bounds may take: the rows that one more ray leaves, the rays, and the effort for a row
+-- the limits of a search for outer bounds: the rows that one more ray leaves, the rays, and the effort for a row
 abbrev pub limits_of : Run → Option ℕ → ℕ → ℕ → Limits
 limits_of run pivots rows tries = record { rows = rows; rays = tries; effort = effort_of run pivots }
 
--- the boxes had these plans before the first question, and know of the candidates that were found for earlier ones
+-- a right answer by boxes that had these plans before the first question, and know of the candidates `before` that were found
+-- for earlier ones
 abbrev pub IsRightAfter : Budgets → List Plan → List Candidate → QuestionView → Reply → Type 0
 IsRightAfter budgets plans before q reply = IsRightAnswer budgets (map (plan_after_all before) plans) q.body reply
 
