@@ -100,7 +100,7 @@ map-insert f [] (suc i) x = refl
 map-insert f (y ∷ xs) zero x = refl
 map-insert f (y ∷ xs) (suc i) x = ap (λ (ys : List _). f y ∷ ys) (map-insert f xs i x)
 
--- one row more in order
+-- one more row in order
 pub rates_more : (n : ℕ) (rows : List (Mark × Terms)) (i : ℕ) (row : Mark × Terms) → i < length rows → get_or rows i row ≡ row → rows_by_rates n (take (i + 1) rows) ≡ put_in_order n row (rows_by_rates n (take i rows))
 rates_more n rows i row h read =
     ap (rows_by_rates n) (take_more rows i row h ∙ ap (λ (r : Mark × Terms). take i rows ++ r ∷ []) read) ∙ fold-append (λ (sorted : List (Mark × Terms)) (r : Mark × Terms). put_in_order n r sorted) [] (take i rows) (row ∷ [])
@@ -157,7 +157,7 @@ pub row_put : (n : ℕ) (row : Bor (Mark × Terms)) (old shown new : List (Bor (
 row_put n row old shown new i same place is =
     ap rows_at is ∙ map-insert (λ (r : Bor (Mark × Terms)). r.now) old i row ∙ sym (subst (λ (rs : List (Bor (Mark × Terms))). put_in_order n row.now (rows_at rs) ≡ insert (rows_at rs) i row.now) same place)
 
--- one reference more
+-- one more reference
 pub turn_more : (rows : List (Mark × Terms)) (row : Bor (Mark × Terms)) (old new : List (Bor (Mark × Terms))) (i : ℕ) → i < length rows → row.now ≡ get_or rows i row.now → new ≡ old ++ row ∷ [] → rows_at old ≡ take i rows → rows_at new ≡ take (i + 1) rows
 turn_more rows row old new i h read is before =
     ap rows_at is ∙ map-append (λ (r : Bor (Mark × Terms)). r.now) old (row ∷ []) ∙ ap₂ (λ (xs ys : List (Mark × Terms)). xs ++ ys) before (ap (λ (r : Mark × Terms). r ∷ []) read) ∙ sym (take_more rows i row.now h)

@@ -131,7 +131,7 @@ all_proofs q options = all_rows proof_lines (AreProofTexts q options) (texts_car
 
 -- ---- obligations
 
--- those of the first i obligations are, without those that Shannon's inequalities say
+-- the lines of the first i obligations are appended, without those that Shannon's inequalities say
 abbrev pub ObligationsAppended : BodyView → Options → List Terms → List CertificateView → List ℕ → List ℕ → ℕ → Type 0
 ObligationsAppended q options rows ws old new i = (forms : List Form) → AreRowsFor forms rows → Appended obligation_lines (TellsObligation q options) old new (zip forms ws) i
 

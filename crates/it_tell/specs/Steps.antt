@@ -46,7 +46,7 @@ use Rattle.it_tell.specs.declared.settings.Style.TheVariants.{Plain, Named, Whol
 use Rattle.it_tell.specs.Settings.{settings_of}
 use Rattle.it_tell.specs.Ends.{Ends}
 
--- the text has the lines about line k, and `invalid` tells whether they say so
+-- the text has the lines about line `k`, and `invalid` says whether they say so
 pub record IsToldLine (options : Options) (k : ℕ) (line text : List ℕ) (invalid : Bool) : Type 0 where
   pub telling : Telling
   pub is : IsTelling options line telling
@@ -139,12 +139,12 @@ pub record IsFreeProblem (q : BodyView) (p : Problem) : Type 0 where
   pub space : p.space ≡ space_of (problem_names q)
   pub none : p.constraints.items ≡ []
 
--- how many forms a constraint of this kind obliges to
+-- the number of obligations of a constraint of this kind
 abbrev pub obliged : Kind → ℕ
 obliged Inequality = 1
 obliged Equation = 2
 
--- the constraints oblige to so many forms in all
+-- the constraints have `count` obligations in all
 abbrev pub HasObligations : List Constraint → ℕ → Type 0
 HasObligations [] count = count ≡ 0
 HasObligations (c ∷ cs) count = (obliged c.kind ≤ count) × HasObligations cs (count - obliged c.kind)
@@ -158,15 +158,15 @@ unfoldable pub AppendsOwnLine : BodyView → Options → List ℕ → Origin →
 AppendsOwnLine q options parts origin rows ws old new =
     (forms : List Form) → AreRowsFor forms rows → (out : List ℕ) × (AreOwnLineTexts q options parts (own_line origin forms ws) out × (new ≡ old ++ out))
 
--- the lines of what a line of the second region obliges to were appended, whichever forms the rows are of
+-- the lines of the obligations of a line of the second region were appended, whichever forms the rows are of
 unfoldable pub AppendsOwnProofs : BodyView → Options → List Terms → List CertificateView → List ℕ → List ℕ → Type 0
 AppendsOwnProofs q options rows ws old new = (forms : List Form) → AreRowsFor forms rows → AppendsEach obligation_lines (TellsObligation q options) (zip forms ws) old new
 
--- those of one obligation
+-- the lines of one obligation were appended
 unfoldable pub AppendsObligation : BodyView → Options → Form × CertificateView → List ℕ → List ℕ → Type 0
 AppendsObligation q options proof old new = (texts : Option ProofTexts) × (TellsObligation q options proof texts × (new ≡ old ++ obligation_lines texts))
 
--- the lines about all of them, whichever demands the constraints state and the rows are of
+-- the lines about all lines of the second region were appended, whichever demands the constraints state and the rows are of
 unfoldable pub AppendsEachOwnLine : BodyView → Options → List ℕ → List Constraint → List Terms → List CertificateView → List ℕ → List ℕ → Type 0
 AppendsEachOwnLine q options parts cs rows ws old new =
     (s t : Space) (f : ℕ → ℕ) (os : List Origin) (ds : List Demand) → AreStated s os ds cs → ArePulledRows t (demand_obligations f ds) rows
