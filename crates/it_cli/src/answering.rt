@@ -31,7 +31,7 @@ use it_settings::types::Format;
 use it_syntax::types::Code;
 use std::alloc::{AllocError, Global};
 
-/// What is done for the bytes of a question file.
+/// Answers a question file.
 pub fn answer_file<K: Sink>(
     alloc: Global,
     format: Format,
@@ -50,7 +50,7 @@ pub fn answer_file<K: Sink>(
     }
 }
 
-/// Writes the answers, each as soon as it is there.
+/// Writes each answer as soon as it is there.
 fn answer_all<K: Sink>(
     alloc: Global,
     format: Format,
@@ -74,7 +74,7 @@ fn answer_all<K: Sink>(
     Status::Done
 }
 
-/// The lines of the answer to question k, counted from 1.
+/// The lines of the answer to question `k`, counted from 1.
 fn answer_one(
     alloc: Global,
     format: Format,
@@ -91,7 +91,7 @@ fn answer_one(
     lines(alloc, format, k, question, &answered)
 }
 
-/// The lines of an answer in a format.
+/// The lines of an answer in `format`.
 fn lines(
     alloc: Global,
     format: Format,
