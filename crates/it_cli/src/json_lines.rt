@@ -35,8 +35,8 @@ pub fn json_line(alloc: Global, question: &Question, answer: &Answer) -> Result<
     Ok(line)
 }
 
-/// The line of an answer in the format `derived`: as in the format `json`; that of a region for each of whose rows a certificate from the
-/// question's lines is found has these certificates too.
+/// The line of an answer in the format `derived`: as in the format `json`. The line of a region has certificates too, if one is
+/// found for each row from the question's lines.
 pub fn derived_line(
     alloc: Global,
     question: &Question,
@@ -61,7 +61,7 @@ pub fn derived_line(
     }
 }
 
-/// Certificates of the rows of a region, where each has one; none of another answer.
+/// Certificates of the rows of a region, if one is found for each; None of another answer.
 fn told_origins(
     alloc: Global,
     question: &Question,
