@@ -104,7 +104,7 @@ struct Styled {
     named: Vec<(u32, i128)>,
 }
 
-/// A proof in a style where functions hold; None in the style without.
+/// The proof of `style` where functions hold; None in the plain style.
 fn in_style(
     alloc: Global,
     text: Vec<u8>,
@@ -145,7 +145,7 @@ fn steps_under(
     }
 }
 
-/// A proof with the comment behind it.
+/// `proof` with the comment `by` behind it.
 fn with_comment(mut proof: Vec<u8>, by: &[u8]) -> Result<Vec<u8>, AllocError>
     ensures { IfOk result (λ t. t.items ≡ proof.items ++ by.now) }
 {
@@ -153,7 +153,7 @@ fn with_comment(mut proof: Vec<u8>, by: &[u8]) -> Result<Vec<u8>, AllocError>
     Ok(proof)
 }
 
-/// The texts of a proof in a style where functions hold, None in the style without.
+/// The texts of a proof in the style of `options` where functions hold; None in the plain style.
 fn styled_texts(
     alloc: Global,
     question: &Question,
@@ -329,7 +329,7 @@ fn write_steps(out: &mut Vec<u8>, steps: &[Vec<u8>]) -> Result<(), AllocError>
     Ok(())
 }
 
-/// Appends the lines of the proof of a row; where the row is a target of a line, in its terms on the left.
+/// Appends the lines of the proof of a row; with the terms of `line` on the left, where the row is that of one of its targets.
 pub fn write_proof(
     alloc: Global,
     out: &mut Vec<u8>,
@@ -463,7 +463,7 @@ fn write_point(
     write_indented(out, text.as_slice())
 }
 
-/// Appends the lines below the first one of an answer: those of proofs with steps where they are asked for.
+/// Appends the lines below the first one of an answer: those of proofs with their steps, where these are asked for.
 #[tactic(auto, unfolding(crate::specs::Tellings::AreDetails))]
 pub fn write_details(
     alloc: Global,
