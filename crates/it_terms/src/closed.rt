@@ -1,5 +1,5 @@
-//! Sets that are closed under a question's functions, and terms over them. What comes of them is judged by the equation that it
-//! gives.
+//! Sets that are closed under a question's functions, and terms over them. The results are judged by the equations that they
+//! give.
 ghost use Rattle.std.specs.Prelude.{◌≤◌};
 
 use it_closure::Dependences;
@@ -7,7 +7,7 @@ use it_space::VarSet;
 use it_syntax::types::Atom;
 use std::alloc::{AllocError, Global};
 
-/// The closures of all sets of some variables by the sets' numbers, and the sets by how many members they have.
+/// The closures of all sets of some variables, by the sets' numbers, and these sets by the number of their members.
 pub struct Closures {
     table: Vec<VarSet>,
     by_size: Vec<VarSet>,
@@ -22,7 +22,7 @@ impl Drop for Closures {
     }
 }
 
-/// I(P;Q|C) of closed sets, C inside P and Q; H(P|C) where P and Q are one.
+/// I(P;Q|C) of closed sets, where C lies inside P and Q; H(P|C) where P and Q are equal.
 #[derive(Clone, Copy, PartialEq, Eq)]
 pub struct ClosedTerm {
     pub first: VarSet,
@@ -47,7 +47,8 @@ impl ClosedTerm {
     }
 }
 
-/// The terms H(P|C), and I(P;Q|C) of sets of which none lies in the other, after others, given a set C inside each of the sets.
+/// Appends the terms H(P|C), and I(P;Q|C) of sets of which neither lies in the other, of the sets P and Q in `above`, where C
+/// is `given`; stops once there are more than `most`.
 fn put_terms(
     terms: &mut Vec<ClosedTerm>,
     above: &[VarSet],
@@ -69,12 +70,12 @@ fn put_terms(
     Ok(())
 }
 
-/// How many members a set has.
+/// The number of members of a set.
 pub fn size(set: VarSet) -> u32 {
     set.number().count_ones()
 }
 
-/// The sets of so many variables, those of fewer members first.
+/// The sets of `variables` variables, those of fewer members first.
 fn sets_by_size(alloc: Global, variables: u8) -> Result<Vec<VarSet>, AllocError>
     requires { variables ≤ 10 }
 {
@@ -90,7 +91,7 @@ fn sets_by_size(alloc: Global, variables: u8) -> Result<Vec<VarSet>, AllocError>
     Ok(sets)
 }
 
-/// The closures of the sets of so many variables.
+/// The closures of the sets of `variables` variables.
 pub fn closures_of(
     alloc: Global,
     dependences: &Dependences,
@@ -107,7 +108,7 @@ pub fn closures_of(
 }
 
 impl Closures {
-    /// The closure of a set; of another one the set itself.
+    /// The closure of `set`; `set` itself if it isn't in the table.
     pub fn close(&self, set: VarSet) -> VarSet {
         let at = set.number() as usize;
         if at < self.table.len() {
@@ -122,7 +123,7 @@ impl Closures {
         self.by_size.as_slice()
     }
 
-    /// A set of fewest members inside a closed set, without what is given, that with it has this closure.
+    /// A set of fewest members inside `closed`, apart from `given`, whose union with `given` has the closure `closed`.
     pub fn fewest(&self, closed: VarSet, given: VarSet) -> VarSet {
         for set in self.by_size.as_slice() {
             let apart = set.meet(given) == VarSet::empty();
@@ -133,7 +134,7 @@ impl Closures {
         closed.minus(given)
     }
 
-    /// The closed sets inside which a set lies, and which aren't that set, those of fewer members first.
+    /// The closed sets that contain `set` and aren't `set`, those of fewer members first.
     fn above(&self, alloc: Global, set: VarSet) -> Result<Vec<VarSet>, AllocError> {
         let mut above = Vec::new(alloc);
         for other in self.by_size.as_slice() {
@@ -144,7 +145,7 @@ impl Closures {
         Ok(above)
     }
 
-    /// All terms over closed sets, those with fewer members given first; None where they are more than so many.
+    /// All terms over closed sets, those with fewer members given first; None if there are more than `most`.
     pub fn terms(&self, alloc: Global, most: usize) -> Result<Option<Vec<ClosedTerm>>, AllocError> {
         let mut terms = Vec::new(alloc);
         for set in self.by_size.as_slice() {
@@ -196,7 +197,8 @@ impl Closures {
         }
     }
 
-    /// What I(A;B|C) and another term are together by the chain rule for the side A: I(A;B|C) + I(A,B;S|B) = I(A;S|C).
+    /// The sum of I(A;B|C) and `second` by the chain rule I(A;B|C) + I(A,B;S|B) = I(A;S|C) for the side A, where C is `given`;
+    /// None where it doesn't apply.
     fn joined_side(
         &self,
         a: VarSet,
@@ -217,7 +219,8 @@ impl Closures {
         }
     }
 
-    /// What two terms are together by one chain rule, the second one being given more; H(P|C) + H(S|P) = H(S|C).
+    /// The sum of two terms by one chain rule, in which `second` is given more, for entropies H(P|C) + H(S|P) = H(S|C); None
+    /// where none applies.
     pub fn joined(&self, first: &ClosedTerm, second: &ClosedTerm) -> Option<ClosedTerm> {
         if first.first == first.second {
             let goes_on = second.first == second.second && second.given == first.first;
@@ -233,7 +236,7 @@ impl Closures {
         }
     }
 
-    /// The atom of a term in few names.
+    /// `term` as an atom of few names.
     pub fn short_atom(&self, term: &ClosedTerm) -> Atom {
         let given = self.fewest(term.given, VarSet::empty());
         let left = self.fewest(term.first, given);
@@ -252,7 +255,8 @@ impl Closures {
         }
     }
 
-    /// The place of a coordinate: the closure of a set, 0 where that is the closure of the empty set; a rate's own.
+    /// The place of `coordinate`: of a set the number of its closure, 0 where that is the closure of the empty set; of a rate
+    /// its own.
     pub fn place(&self, coordinate: u32) -> u32 {
         let at = coordinate as usize;
         if at >= self.table.len() {
