@@ -24,7 +24,7 @@ pub fn piece_weights(alloc: Global, piece: &Piece) -> Result<Vec<(u32, i128)>, A
     Ok(weights)
 }
 
-/// A sum with the terms of a piece after it.
+/// `sum` with the terms of `piece` after it.
 pub fn with_piece(alloc: Global, sum: &[Term], piece: &Piece) -> Result<Vec<Term>, AllocError>
     ensures { IfOk result (λ ts. ts.items ≡ sum.now ++ piece_terms piece.now) }
 {
@@ -35,7 +35,7 @@ pub fn with_piece(alloc: Global, sum: &[Term], piece: &Piece) -> Result<Vec<Term
     Ok(terms)
 }
 
-/// Terms and then constraints as pieces.
+/// `terms` and then the constraints `named` as pieces.
 fn pieces_of(alloc: Global, terms: &[Term], named: &[(u32, i128)]) -> Result<Vec<Piece>, AllocError>
     ensures { IfOk result (λ ps. ps.items ≡ map Summand terms.now ++ map Named named.now) }
 {
@@ -49,7 +49,7 @@ fn pieces_of(alloc: Global, terms: &[Term], named: &[(u32, i128)]) -> Result<Vec
     Ok(pieces)
 }
 
-/// The pieces of a right side: the terms of its text, none where nothing stands there, and then constraints with these weights.
+/// The pieces of a right side: the terms of its text, none if it is empty, and then the constraints `named`.
 pub fn right_pieces(
     alloc: Global,
     right: &[u8],
@@ -65,7 +65,7 @@ pub fn right_pieces(
     }
 }
 
-/// The sum before the first piece: none, or `0` where no terms stand on the right side.
+/// The sum before the first piece: no terms; if `right` is empty, `terms`, which are then those of `0`.
 pub fn first_sum<'a>(right: &[u8], terms: &'a [Term]) -> &'a [Term]
     ensures { result.now ≡ first_sum right.now terms.now }
 {
