@@ -35,8 +35,12 @@ use it_space::{Certificate, Problem, Row};
 use it_syntax::types::Term;
 use std::alloc::{AllocError, Global};
 
-/// A proof as papers print it: with names of constraints; whole, with their lines' own terms; and as a comment the lines that say the
-/// functions by which it is one. The lines by their numbers, and the weights of the constraints that are named.
+/// A proof as papers print it.
+/// `text`: with names of constraints.
+/// `whole`: with the terms of these constraints' lines instead.
+/// `by`: as a comment, the lines that say the functions where it holds.
+/// `lines`: these lines by their numbers.
+/// `named`: the weights of the constraints that `text` names.
 #[derive(Drop)]
 pub struct PrintedProof {
     pub text: Vec<u8>,
@@ -46,7 +50,8 @@ pub struct PrintedProof {
     pub named: Vec<(u32, i128)>,
 }
 
-/// Puts the weights of one sign after the others, but for those of constraints that are 0 over closed sets.
+/// Adds the constraints with a weight below 0 if `negative`, else those with another weight, without constraints that are 0
+/// over closed sets.
 fn put_weights(
     summands: &mut Summands,
     asked: &Asked<'_>,
@@ -67,7 +72,7 @@ fn put_weights(
     Ok(())
 }
 
-/// What is summed up, over closed sets.
+/// The summands over closed sets.
 fn folded(
     alloc: Global,
     asked: &Asked<'_>,
@@ -97,7 +102,7 @@ fn folded(
     Ok(folded)
 }
 
-/// How many terms and names a proof has.
+/// The number of terms and names of a proof.
 fn pieces(summands: &Summands) -> usize {
     summands
         .shannon
@@ -105,7 +110,8 @@ fn pieces(summands: &Summands) -> usize {
         .saturating_add(summands.weights.len())
 }
 
-/// Of a proof over closed sets and what another one sums up, if it was found, the one with fewer terms and names.
+/// The one of `best`, a proof over closed sets, and `other`, if that was found, with fewer terms and names; `other`, over
+/// closed sets, if both have as many.
 fn shorter(
     alloc: Global,
     asked: &Asked<'_>,
@@ -125,8 +131,8 @@ fn shorter(
     })
 }
 
-/// What is summed up, over closed sets, or by a proof with the least sum of terms over sets or over closed sets where that has no
-/// more terms and names.
+/// The summands over closed sets, or those of a proof with the least sum of terms over sets or over closed sets, where that has
+/// no more terms and names.
 fn short_folded(
     alloc: Global,
     asked: &Asked<'_>,
@@ -143,7 +149,8 @@ fn short_folded(
     shorter(alloc, asked, closures, best, least)
 }
 
-/// The terms over sets, as they are without folding where nothing folds and that is no longer.
+/// The terms over sets joined without folding, where there are no functions, `folded` has no constraints, and these are no more
+/// terms; else `folded`.
 fn unfolded(
     alloc: Global,
     dependences: &Dependences,
@@ -165,7 +172,7 @@ fn unfolded(
     })
 }
 
-/// The weights of constraints, where they stand by name.
+/// `weights` if `named`, else none.
 fn names_of_weights(
     alloc: Global,
     weights: &[(u32, i128)],
@@ -180,7 +187,7 @@ fn names_of_weights(
     }
 }
 
-/// The sides of a proof: with the terms of constraints behind those over sets, or with their names.
+/// The sides of a proof, with the constraints behind the terms over sets: by name if `named`, else by their own terms.
 fn sides(
     alloc: Global,
     asked: &Asked<'_>,
@@ -221,7 +228,7 @@ fn sides(
     })
 }
 
-/// The numbers without this one.
+/// `lines` without `line`.
 fn without(alloc: Global, lines: &[u32], line: u32) -> Result<Vec<u32>, AllocError> {
     let mut others = Vec::new(alloc);
     for other in lines {
@@ -232,7 +239,7 @@ fn without(alloc: Global, lines: &[u32], line: u32) -> Result<Vec<u32>, AllocErr
     Ok(others)
 }
 
-/// Whether a row is 0 where the functions hold that the constraints of these numbers say.
+/// Whether `row` is 0 where the functions hold that the constraints `lines` say.
 fn is_nothing_by(alloc: Global, problem: &Problem, lines: &[u32], row: &Row) -> Result<bool, Untold>
     requires problem { IsProblem (problem_view problem.now) }
     requires row { IsOver (size_of problem.now.space) row.now }
@@ -258,7 +265,8 @@ fn function_lines(
     Ok(lines)
 }
 
-/// Of the constraints that say functions those by which a row is 0: each is left out in turn, and kept where it isn't 0 without it.
+/// Those of `lines`, constraints that say functions, by which `row` is 0: each is left out in turn, and kept where the row
+/// isn't 0 without it.
 fn needed_lines(
     alloc: Global,
     problem: &Problem,
@@ -278,7 +286,7 @@ fn needed_lines(
     Ok(needed)
 }
 
-/// The proof that summands make, where it is one.
+/// The proof by these summands; None where their texts aren't judged to be one.
 #[tactic(auto, using(crate::proofs::UnderLemmas::both_printed, crate::proofs::UnderLemmas::over_of_space))]
 fn printed_by(
     alloc: Global,
@@ -318,7 +326,7 @@ fn printed_by(
     }))
 }
 
-/// The proof of a row from a problem's constraints, by a certificate.
+/// The proof of `target` from the constraints of `problem`, by a certificate.
 fn any_printed(
     alloc: Global,
     question: &Question,
@@ -356,10 +364,10 @@ fn any_printed(
     printed_by(alloc, &asked, problem, &dependences, &summands)
 }
 
-/// The proof of a row from the lines of a question, by a certificate, as papers print it; None where none was found. Over sets that
-/// are closed under the functions that the question's `given` lines say, terms that these make 0 are left out, and others are
-/// joined by the chain rules; constraints stand behind them by the names of their lines. The left side is that of `told_form`. Where
-/// a short one is asked for, one with the least sum of terms is looked for as well, which may take long.
+/// The proof of `target` from the lines of a question, by a certificate, as papers print it; None where none was found. Over
+/// sets that are closed under the functions that the question's `given` lines say, terms that these make 0 are left out, and
+/// others are joined by the chain rules; constraints stand behind them by the names of their lines. The left side is that of
+/// `told_form`. With `short`, a proof with the least sum of terms is looked for as well, which may take long.
 pub fn printed_form(
     alloc: Global,
     question: &Question,
