@@ -1,5 +1,5 @@
-//! A proof with the least sum of terms over sets, or over closed sets, by the simplex method. What is found is judged by the text
-//! that it gives, so no clause says it here.
+//! Finds a proof with the least sum of terms over sets, or over closed sets, by the simplex method. What is found is judged by
+//! the text that it gives, so no clause says it here.
 ghost use Rattle.std.specs.Prelude.{◌≡◌, ◌+◌, ◌*◌, ◌^◌, ◌≤◌, ◌<◌, length, IfOk, OnOk};
 ghost use Rattle.it_space.specs.Spaces.{IsSpace, size_of};
 ghost use Rattle.it_demand.specs.Coefficients.{largest};
@@ -15,18 +15,19 @@ use it_space::{Constraint, Kind, Row, Space, VarSet};
 use it_syntax::types::{Atom, Term};
 use std::alloc::{AllocError, Global};
 
-/// A proof is looked for among terms over the sets of so many variables at most.
+/// A proof is looked for among terms over the sets of at most this many variables.
 const MOST_VARIABLES: u8 = 6;
 
-/// A proof over closed sets is looked for on so many variables at most, where there are so many terms over them at most.
+/// A proof over closed sets is looked for with at most this many variables, and with at most `MOST_CLOSED_TERMS` terms over
+/// closed sets.
 const MOST_CLOSED_VARIABLES: u8 = 10;
 
 const MOST_CLOSED_TERMS: usize = 40000;
 
-/// So many terms at most are added up.
+/// The most terms of a row that are added up.
 const MOST_TERMS: usize = 1024;
 
-/// A sum of terms over sets and of constraints, by their numbers, that is a target so many times.
+/// A sum of terms over sets and of constraints, by their indexes with weights, that is `scale` times a target.
 pub struct LeastSum {
     pub scale: i128,
     pub terms: Vec<Term>,
@@ -43,8 +44,8 @@ impl Drop for LeastSum {
     }
 }
 
-/// Columns over these coordinates: first those of terms over sets, then those of constraints by their numbers with signs turned or
-/// not, and last one for what a sum of terms is less than its bound.
+/// Columns over `coordinates`: those of terms over sets, then those of constraints by their indexes, negated where the flag is
+/// set, and last one for how far the sum of the terms stays below its bound.
 struct Columns {
     coordinates: Vec<u32>,
     terms: Vec<Term>,
@@ -63,7 +64,8 @@ impl Drop for Columns {
     }
 }
 
-/// The space of so many variables at most with a rate more, in whose place each row has the sum of the terms over sets.
+/// `space` with one more rate, at which each row has the sum of its terms over sets; `NotFound` unless it has 1 to
+/// `most_variables` variables and at most 15 rates.
 fn wider_space(space: Space, most_variables: u8) -> Result<Space, Untold>
     requires { most_variables ≤ 10 }
     ensures { IfOk result IsSpace }
@@ -77,7 +79,7 @@ fn wider_space(space: Space, most_variables: u8) -> Result<Space, Untold>
     })
 }
 
-/// Adds a number below 2^64 at a coordinate below so many.
+/// Adds `times`, whose absolute value has to be below 2^64, at `coordinate`, which has to be below `places`; else `NotFound`.
 fn put(
     coefficients: &mut Coefficients,
     places: usize,
@@ -96,7 +98,7 @@ fn put(
     Ok(())
 }
 
-/// The row of terms so many times, with a number at the greatest coordinate.
+/// The row of `times` times `terms`, with `last` at the greatest coordinate.
 fn row_with(
     alloc: Global,
     space: Space,
@@ -124,7 +126,7 @@ fn place(set: VarSet) -> u32 {
     set.number() as u32
 }
 
-/// The terms of an entropy or a mutual information by sets; at the empty set for any other atom.
+/// The terms of an entropy or a mutual information, by sets; zeros at the empty set for any other atom.
 pub fn atom_terms(atom: &Atom) -> [(u32, i128); 4] {
     match atom {
         Atom::Entropy { of, given } => [
@@ -143,7 +145,7 @@ pub fn atom_terms(atom: &Atom) -> [(u32, i128); 4] {
     }
 }
 
-/// Adds a term over sets.
+/// Adds the column of a term over sets.
 fn put_atom(alloc: Global, columns: &mut Columns, space: Space, atom: Atom) -> Result<(), Untold>
     requires { IsSpace space }
 {
@@ -158,7 +160,8 @@ fn meets(set: VarSet, other: VarSet) -> bool {
     set.meet(other) != VarSet::empty()
 }
 
-/// Adds H(A|C) and each I(A;B|C) with B after A, for a set A apart from C.
+/// Adds the columns of H(A|C) and of each I(A;B|C), where A is `left`, C is `given`, and B has a greater number than A; all
+/// three are disjoint.
 fn put_atoms_of(
     alloc: Global,
     columns: &mut Columns,
@@ -179,7 +182,7 @@ fn put_atoms_of(
     Ok(())
 }
 
-/// Adds each H(A|C) and each I(A;B|C) of sets that are apart.
+/// Adds the columns of each H(A|C) and each I(A;B|C) of disjoint sets.
 fn put_atoms(alloc: Global, columns: &mut Columns, space: Space, sets: u16) -> Result<(), Untold>
     requires { IsSpace space }
 {
@@ -195,7 +198,7 @@ fn put_atoms(alloc: Global, columns: &mut Columns, space: Space, sets: u16) -> R
     Ok(())
 }
 
-/// Adds a constraint, with its sign turned too where it is an equation.
+/// Adds the column of a constraint; of an equation also the negated one.
 fn put_constraint(
     alloc: Global,
     columns: &mut Columns,
@@ -211,7 +214,7 @@ fn put_constraint(
     Ok(())
 }
 
-/// No columns over these coordinates.
+/// No columns, over `coordinates`.
 fn no_columns(alloc: Global, coordinates: Vec<u32>) -> Columns {
     Columns {
         coordinates,
@@ -221,7 +224,7 @@ fn no_columns(alloc: Global, coordinates: Vec<u32>) -> Columns {
     }
 }
 
-/// All columns: terms over sets, constraints, and what a sum is less than its bound.
+/// All columns: those of terms over sets, those of constraints, and the one for how far a sum stays below its bound.
 fn all_columns(alloc: Global, space: Space, constraints: &[Constraint]) -> Result<Columns, Untold>
     requires { IsSpace space }
 {
@@ -252,7 +255,7 @@ fn closed_coordinates(
     Ok(coordinates)
 }
 
-/// The row over closed sets of terms so many times, with a number at the greatest coordinate.
+/// The row over closed sets of `times` times `terms`, with `last` at the greatest coordinate.
 fn closed_row(
     alloc: Global,
     closures: &Closures,
@@ -270,7 +273,7 @@ fn closed_row(
     row_with(alloc, space, folded.as_slice(), times, last)
 }
 
-/// Adds the terms over closed sets.
+/// Adds the columns of terms over closed sets.
 fn put_closed_terms(
     alloc: Global,
     columns: &mut Columns,
@@ -289,7 +292,7 @@ fn put_closed_terms(
     Ok(())
 }
 
-/// Adds a constraint over closed sets, with its sign turned too where it is an equation.
+/// Adds the column of a constraint over closed sets; of an equation also the negated one.
 fn put_closed_constraint(
     alloc: Global,
     columns: &mut Columns,
@@ -337,7 +340,7 @@ fn closed_columns(
     Ok(columns)
 }
 
-/// Weights of the columns that add up to a target, with terms over sets of a sum that is at most a bound.
+/// Weights of the columns that add up to `scale` times `target`, where the sum of the terms over sets is at most `bound`.
 fn weights_within(
     alloc: Global,
     space: Space,
@@ -357,7 +360,7 @@ fn weights_within(
     )
 }
 
-/// The weights for the least bound for which some are found, none of them above a bound for which there are.
+/// The weights for the least whole bound up to `most` for which some are found, by bisection.
 fn least_weights(
     alloc: Global,
     space: Space,
@@ -388,7 +391,7 @@ fn least_weights(
     Ok(best)
 }
 
-/// Adds what a column stands for so many times.
+/// Adds `times` times what `column` stands for.
 fn put_times(
     found: &mut LeastSum,
     columns: &Columns,
@@ -407,7 +410,8 @@ fn put_times(
     Ok(())
 }
 
-/// The sum that weights of the columns make of a target so many times, as often as makes each weight a whole number.
+/// The sum that `weights` of the columns for `scale` times a target make, times the least common multiple of their
+/// denominators.
 fn sum_by_weights(
     alloc: Global,
     columns: &Columns,
@@ -427,8 +431,8 @@ fn sum_by_weights(
     Ok(sum)
 }
 
-/// Terms over sets with a plus and weights of constraints that add up to a multiple of a target: with the least sum of such
-/// terms for the target so many times, where there are some whose sum is at most a bound.
+/// Terms over sets with a plus and weights of constraints that add up to a multiple of `target`, with the least sum of terms.
+/// `NotFound` where none are found whose sum is at most `most` for `scale` times the target.
 pub fn shortest(
     alloc: Global,
     space: Space,
@@ -443,7 +447,8 @@ pub fn shortest(
     sum_by_weights(alloc, &columns, weights.as_slice(), scale)
 }
 
-/// The same with terms over closed sets, where these are few enough: they add up to the target where the functions hold.
+/// Like `shortest`, with terms over closed sets, where these are few enough: they add up to the target where the functions
+/// hold.
 pub fn shortest_closed(
     alloc: Global,
     closures: &Closures,
