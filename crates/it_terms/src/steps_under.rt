@@ -1,4 +1,4 @@
-//! The steps of a proof where functions hold, each judged before it is handed out.
+//! The steps of a proof where functions hold, each judged before it is returned.
 ghost use Rattle.std.specs.Prelude.{◌≡◌, ◌≤◌, ◌∷◌, ◌++◌, ◌==◌, [], length, map, IfOk, IfSome};
 ghost use Rattle.std.specs.Bool.{OnTrue};
 ghost use Rattle.it_demand.specs.QuestionSpaces.{space_of};
@@ -49,7 +49,7 @@ struct StepSides {
     right: Vec<u8>,
 }
 
-/// A problem with its names, and the functions that the constraints of these numbers say; and how sums are written.
+/// A problem with its names, the functions that its constraints `lines` say, and how sums are written.
 #[derive(Drop)]
 struct Under<'a> {
     names: &'a Names,
@@ -60,7 +60,7 @@ struct Under<'a> {
     closures: &'a Closures,
 }
 
-/// A side as it is read without names: `0` where nothing else stands there.
+/// A side as it is read without names: `0` if it is empty.
 fn or_zero(alloc: Global, side: &[u8]) -> Result<Vec<u8>, AllocError>
     ensures { IfOk result (λ t. t.items ≡ or_zero side.now) }
 {
@@ -71,7 +71,7 @@ fn or_zero(alloc: Global, side: &[u8]) -> Result<Vec<u8>, AllocError>
     }
 }
 
-/// Whether an equation with weights of constraints on its left is true where functions hold.
+/// Whether `relation` with the weights `named` of constraints on its left is an equation that is true where the functions hold.
 fn is_equation_under(
     alloc: Global,
     under: &Under<'_>,
@@ -94,7 +94,7 @@ fn is_equation_under(
     Ok(is_nothing)
 }
 
-/// The text of a step with names of constraints behind its left side.
+/// The text of a step, with the names of constraints behind its left side.
 fn step_text(
     alloc: Global,
     constraints: &[Constraint],
@@ -121,7 +121,8 @@ fn step_relation(
     sides_relation(alloc, names, left.as_slice(), sides.right.as_slice())
 }
 
-/// The step that sides are, where they are an equation that is true where the functions hold, with the sum and the piece on its left.
+/// The step with these sides, where they are an equation that is true where the functions hold, with `sum` and `piece` on its
+/// left; else None.
 #[tactic(auto, using(crate::proofs::PieceLemmas::step_of_piece, crate::proofs::PieceLemmas::relation_read_under))]
 fn judged(
     alloc: Global,
@@ -165,7 +166,7 @@ fn add_piece(tally: &mut Tally, under: &Under<'_>, piece: &Piece) -> Result<(), 
     }
 }
 
-/// Whether a sum is read off `0`.
+/// Whether a sum is the one that `0` is read as.
 fn is_zero(sum: &[Term]) -> bool {
     match sum {
         [term] => term.atom == Atom::Nothing,
@@ -173,7 +174,7 @@ fn is_zero(sum: &[Term]) -> bool {
     }
 }
 
-/// The left side of a step: the sum and a term after it, and before a name nothing where that is `0`.
+/// The left side of a step: `sum` and then the term of `piece`; empty where the sum is `0` and the piece a constraint.
 fn left_text(
     alloc: Global,
     under: &Under<'_>,
@@ -189,7 +190,8 @@ fn left_text(
     }
 }
 
-/// The sides of the step that adds a piece to a sum: on the right side is the total in the last step.
+/// The sides of the step that adds `piece` to `sum`. On the right side is `total`, if given, as in the last step; else the sum
+/// of `tally`, to which the piece is added first.
 fn step_sides(
     alloc: Global,
     under: &Under<'_>,
@@ -212,7 +214,7 @@ fn step_sides(
     Ok(StepSides { left, right })
 }
 
-/// The step that adds a piece to a sum, None where it isn't found.
+/// The step that adds `piece` to `sum`, None where it isn't found.
 fn next_step(
     alloc: Global,
     under: &Under<'_>,
@@ -231,7 +233,7 @@ fn next_step(
     }
 }
 
-/// The lines of the steps from a sum, by these pieces, to the total, whose text this is; None where one isn't found.
+/// The lines of the steps from `first`, by `pieces`, to `total`, whose text is `total_text`; None where one isn't found.
 fn piece_steps(
     alloc: Global,
     under: &Under<'_>,
@@ -263,7 +265,7 @@ fn piece_steps(
     }
 }
 
-/// The place of the first ` = ` of a text, its end where there is none.
+/// The index of the first ` = ` of a text, the text's length if there is none.
 fn place_of_equals(text: &[u8]) -> usize {
     for at in 0..text.len() {
         if text[at..].starts_with(b" = ") {
@@ -273,7 +275,7 @@ fn place_of_equals(text: &[u8]) -> usize {
     text.len()
 }
 
-/// The sides of a proof without the names of constraints with these weights behind the right one.
+/// The sides of a proof, the right one without the names of constraints with the weights `named` at its end.
 fn proof_sides(
     alloc: Global,
     constraints: &[Constraint],
@@ -293,14 +295,14 @@ fn proof_sides(
     Ok(StepSides { left, right })
 }
 
-/// Whether two texts are the same.
+/// Whether two texts are equal.
 fn is_same_text(text: &[u8], other: &[u8]) -> bool
     ensures { OnTrue result (text.now ≡ other.now) }
 {
     text == other
 }
 
-/// The steps of a proof with constraints of these weights by name.
+/// The steps of a proof that names constraints with the weights `named`.
 #[tactic(auto, using(crate::proofs::PieceLemmas::steps_of_proof))]
 fn told_pieces(
     alloc: Global,
@@ -335,7 +337,7 @@ fn told_pieces(
     Ok(Some(steps))
 }
 
-/// The steps of a proof from a problem's constraints where the functions hold that those of these numbers say.
+/// The steps of a proof from the constraints of `problem`, where the functions hold that its constraints `lines` say.
 #[tactic(auto, using(crate::proofs::PieceLemmas::read_under))]
 fn steps_from(
     alloc: Global,
@@ -367,9 +369,10 @@ fn steps_from(
     told_pieces(alloc, &under, proof, named)
 }
 
-/// The steps of a proof that `printed_form` gave of a question, a line each: the sum of the pieces on its right side, one piece more in
-/// each line, up to its left side; a piece is a term, or a constraint by the name of its line. Each sum is told in joint entropies of sets
-/// that are closed under the functions that the lines of these numbers say. None where a step isn't found, or the proof has one piece.
+/// The steps of a proof that `printed_form` gave of a question, one line for each: the sum of the pieces on its right side, one
+/// more piece in each line, up to its left side; a piece is a term, or a constraint by the name of its line. Each sum is told
+/// in joint entropies of sets that are closed under the functions that the lines of the numbers `lines` say. None where a step
+/// isn't found, or the proof has fewer than two pieces.
 pub fn printed_steps(
     alloc: Global,
     question: &Question,
