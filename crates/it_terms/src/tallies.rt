@@ -1,4 +1,4 @@
-//! Sums so far in joint entropies of closed sets. What comes of them is judged by the equation that it gives.
+//! Sums so far, in joint entropies of closed sets. The results are judged by the equations that they give.
 ghost use Rattle.std.specs.Prelude.{◌≤◌};
 
 use crate::closed::{ClosedTerm, Closures};
@@ -31,7 +31,7 @@ fn rate_coordinate(space: Space, rate: u8) -> u32
 }
 
 impl Tally {
-    /// Nothing, over the coordinates of a space.
+    /// A sum of no terms, over the coordinates of a space.
     pub fn nothing(alloc: Global, space: Space) -> Result<Tally, AllocError>
         requires { space.variables ≤ 10 }
     {
@@ -42,7 +42,7 @@ impl Tally {
         Ok(Tally { sums })
     }
 
-    /// Adds the place of a coordinate so many times, unless it is 0.
+    /// Adds `times` at the place of `coordinate`; nothing if that is 0.
     fn add(&mut self, closures: &Closures, coordinate: u32, times: i128) -> Result<(), Untold> {
         let place = closures.place(coordinate) as usize;
         if place >= self.sums.len() {
@@ -54,7 +54,7 @@ impl Tally {
         Ok(())
     }
 
-    /// Adds terms by coordinate so many times.
+    /// Adds `times` times `terms`, by coordinate.
     pub fn add_terms(
         &mut self,
         closures: &Closures,
@@ -89,7 +89,7 @@ impl Tally {
         }
     }
 
-    /// Puts the rates after other terms.
+    /// Appends the terms of rates.
     fn put_rates(&self, terms: &mut Vec<Term>, space: Space) -> Result<(), Untold>
         requires { space.variables ≤ 10 }
     {
@@ -102,7 +102,7 @@ impl Tally {
         Ok(())
     }
 
-    /// Puts the joint entropies of one sign after other terms, those of fewer members first.
+    /// Appends the joint entropies with a minus if `negative`, else those with a plus; those of fewer members first.
     fn put_sets(
         &self,
         terms: &mut Vec<Term>,
