@@ -20,8 +20,8 @@ use it_space::{Constraint, Problem, Row, RowFault, Space, Sums};
 use it_syntax::types::Relation;
 use std::alloc::{AllocError, Global};
 
-/// The row of what the left side of a relation with multiples of constraints is more than the right one, or turned the right side with
-/// these than the left one; None where a number of it is too large.
+/// The row of the left side of `relation` less its right side, negated if `turned`, plus the constraints with `weights`; None
+/// where one of its numbers is too large.
 pub fn excess(
     alloc: Global,
     relation: &Relation,
@@ -43,7 +43,7 @@ pub fn excess(
     }
 }
 
-/// Adds the terms of a row, and multiples of constraints.
+/// Adds the row of `terms`, and the sum of the constraints with `weights`.
 fn add_both(
     sums: &mut Sums,
     places: usize,
@@ -59,7 +59,7 @@ fn add_both(
     Ok(())
 }
 
-/// Whether a row is 0 over closed sets, and no number on the way is too large.
+/// Whether `row` is 0 over closed sets; `false` where a number on the way is too large.
 pub fn is_nothing_under(
     alloc: Global,
     functions: &Dependences,
@@ -75,7 +75,7 @@ pub fn is_nothing_under(
     }
 }
 
-/// The constraints of these numbers, None where one isn't there or they are more than all.
+/// The constraints of the indexes `lines`, None where there is none of such an index.
 fn chosen(
     alloc: Global,
     constraints: &[Constraint],
@@ -94,7 +94,8 @@ fn chosen(
     Ok(Some(chosen))
 }
 
-/// The functions that the constraints of these numbers say, None where one isn't there.
+/// The functions that the constraints of the indexes `lines` say; None where there is none of such an index, or these are more
+/// than the constraints.
 pub fn functions_of(
     alloc: Global,
     problem: &Problem,
