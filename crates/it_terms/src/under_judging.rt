@@ -24,7 +24,7 @@ use it_syntax::types::{Relation, Sign};
 use it_syntax::{Names, common_denominator};
 use std::alloc::{AllocError, Global};
 
-/// A proof that is proposed where functions hold: the texts of its sides, what these are, and the weights of the constraints that
+/// A proposed proof where functions hold: the texts of its sides, how these are split, and the weights of the constraints that
 /// stand behind the right side by the names of their lines.
 #[derive(Drop)]
 pub struct Sides {
@@ -34,7 +34,7 @@ pub struct Sides {
     pub named: Vec<(u32, i128)>,
 }
 
-/// Two sides with `=` between them, the right one as `0` where nothing stands there.
+/// Two sides with `=` between them, the right one as `0` if it is empty.
 pub fn sides_text(alloc: Global, left: &[u8], right: &[u8]) -> Result<Vec<u8>, AllocError>
     ensures { IfOk result (λ t. t.items ≡ sides_text left.now right.now) }
 {
@@ -48,7 +48,7 @@ pub fn sides_text(alloc: Global, left: &[u8], right: &[u8]) -> Result<Vec<u8>, A
     Ok(out)
 }
 
-/// The relation that the sides are, None where they aren't read as one.
+/// The relation of these sides, None where they aren't read as one.
 pub fn sides_relation(
     alloc: Global,
     names: &Names,
@@ -72,7 +72,7 @@ pub fn is_whole_equation(relation: &Relation) -> bool
     relation.sign == Sign::Equal && common_denominator(relation) == 1
 }
 
-/// Whether an equation with weights of constraints proves a target where functions hold.
+/// Whether `relation`, with the weights of constraints that `sides` names, is a proof of `target` where the functions hold.
 fn is_proof_under(
     alloc: Global,
     relation: &Relation,
@@ -106,7 +106,7 @@ fn is_proof_under(
     Ok(is_nothing)
 }
 
-/// The text of sides with names of constraints behind the right one.
+/// The text of sides, with the names of constraints behind the right one.
 pub fn named_text(
     alloc: Global,
     constraints: &[Constraint],
@@ -120,7 +120,8 @@ pub fn named_text(
     sides_text(alloc, left, right.as_slice())
 }
 
-/// The text of sides, where it tells a proof of a target where the functions hold that the constraints of these numbers say.
+/// The text of `sides`, where it tells a proof of `target` where the functions hold that the constraints `lines` say; else
+/// None.
 #[tactic(auto, using(crate::proofs::UnderLemmas::told_by_sides, crate::proofs::UnderLemmas::relation_of_space))]
 pub fn judged_under(
     alloc: Global,
@@ -151,7 +152,7 @@ pub fn judged_under(
     Ok(Some(text))
 }
 
-/// The row that has to be 0 where functions hold for the sides to be a proof.
+/// The row that has to be 0 where functions hold, for the sides to be a proof.
 pub fn sides_excess(
     alloc: Global,
     names: &Names,
