@@ -104,7 +104,7 @@ fn elemental_atom(n: u8, index: u32) -> Atom
     }
 }
 
-/// Adds `times` times the constraint of index `index`: its terms, and its weight.
+/// Adds `times` times the constraint with index `index`: its terms, and its weight.
 pub fn put_weighted(
     summands: &mut Summands,
     asked: &Asked<'_>,
