@@ -75,7 +75,7 @@ pub fn is_nothing_under(
     }
 }
 
-/// The constraints of the indexes `lines`, None where there is none of such an index.
+/// The constraints with the indexes `lines`, None where there is none with such an index.
 fn chosen(
     alloc: Global,
     constraints: &[Constraint],
@@ -94,7 +94,7 @@ fn chosen(
     Ok(Some(chosen))
 }
 
-/// The functions that the constraints of the indexes `lines` say; None where there is none of such an index, or these are more
+/// The functions that the constraints with the indexes `lines` say; None where there is none with such an index, or these are more
 /// than the constraints.
 pub fn functions_of(
     alloc: Global,
