@@ -71,7 +71,7 @@ fn row_of(alloc: Global, measures: &[Measure], names: &Names, sum: &[Term]) -> R
     }
 }
 
-/// A sum that is the part of `row` over sets: of the question's own measures if it is one with whole numbers, else of joint
+/// A sum equal to the part of `row` over sets: of the question's own measures if it is one with whole numbers, else of joint
 /// entropies.
 fn whole_sum(alloc: Global, measures: &[Measure], row: &Row, space: Space) -> Result<Found, Untold>
     requires { space.variables ≤ 10 }
