@@ -128,7 +128,7 @@ few_names q k = by_verb q.verb k.verb
     by_verb (Eliminate rates) over = (k.few, k.few_rates)
     by_verb (Contain a b tries) over = (over.0.few_variables, subst (λ (rs : List (List ℕ)). length rs ≤ 16) (sym over.0.rates) k.few_rates)
 
--- and at least one variable
+-- a question has at least one variable
 pub some_names : (q : BodyView) → IsQuestion q → 1 ≤ variable_count q
 some_names q k = by_verb q.verb k.verb
   where

@@ -89,7 +89,7 @@ line_without q (Open tried) = refl
 
 -- ---- the rows of a right answer
 
--- they are of the question's names
+-- the rows of a shown answer are over the question's coordinates
 rows_by_verb : (q : BodyView) (verb : VerbView) (answer : AnswerView) → ShowsBy q verb answer → All (IsOver (size_of (space_of q.names))) (rows_of answer)
 rows_by_verb q verb (Yes proofs) shown = All-nil (IsOver (size_of (space_of q.names)))
 rows_by_verb q verb (No back values) shown = All-nil (IsOver (size_of (space_of q.names)))

@@ -115,7 +115,7 @@ AreByBland (Sharing report run pivots) = run ≡ Bland
 abbrev pub ModesHaveOneReading : Type 0
 ModesHaveOneReading = (plans : List Plan) (settings : Settings) → HasOneReading (mode_of plans settings)
 
--- and where targets are decided by the defined run alone, an item has one right reply after others
+-- where targets are decided by the defined run alone, each mode is determined: an item has one right reply after others
 abbrev pub ModesAreDetermined : Type 0
 ModesAreDetermined = (plans : List Plan) (settings : Settings) → AreByBland settings → IsDetermined (mode_of plans settings)
 

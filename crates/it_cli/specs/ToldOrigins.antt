@@ -50,6 +50,6 @@ answer_lines Json k q a origins = answer_text q.text q.body.names a ++ codes "\n
 answer_lines Proof k q a origins = proof_text k q.body (question_origins q.body) (question_generators q.body) (map (terms_in q.body) (answer_forms q.body a)) a
 answer_lines Derived k q a origins = derived_line q a origins
 
--- those of what is told of it
+-- the lines of what is told of a question
 abbrev pub told_lines : Format → ℕ → QuestionView → ToldReply → List ℕ
 told_lines format k q told = answer_lines format k q told.reply.answer told.origins

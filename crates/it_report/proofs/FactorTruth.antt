@@ -263,7 +263,7 @@ asks_relation q r e = by_verb q.verb refl e
     by_verb (Eliminate rates) about e = absurd (cc)
     by_verb (Contain first second tries) about e = absurd (cc)
 
--- where it asks by `prove`, the problem has its own names
+-- where a question asks by `prove`, its problem has its own names
 own_names : (q : BodyView) (r : RelationView) → q.verb ≡ Prove r → problem_names q ≡ q.names
 own_names q r about = ap (λ v. names_under q.names v) about
 

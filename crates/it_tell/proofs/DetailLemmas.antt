@@ -39,7 +39,7 @@ module _ {X A : Type 0} (shown : A → List ℕ) (tells : X → A → Type 0) wh
 
 -- ---- a proof
 
--- its line is appended, and then those of its steps
+-- the line of a proof is appended, and then those of its steps
 pub proof_appended : (q : BodyView) (options : Options) (proof : Form × CertificateView) (old now new text : List ℕ) (steps : List (List ℕ)) → AreProofTexts q options proof (record { proof = text; steps = steps })
     → now ≡ old ++ indented_line text → new ≡ now ++ flat_map step_line steps → AppendsProof q options proof old new
 unfolding proof_lines

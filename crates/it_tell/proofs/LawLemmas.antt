@@ -200,7 +200,7 @@ told_answers_are_true options line source a details (h, lines) = by_verdict h.ve
         let same = same_read is.reading (reports.Answered source a) (one_reading line (Ok is.reading) (Ok (reports.Answered source a)) is.reads h.reads) in
         absurd (subst (λ (x : Reading). IsReadingVerdict x (Hulled v)) same is.verdict)
 
--- of a no with a code
+-- what a told no with a code claims is true
 pub told_codes_are_true : ToldCodesAreTrue
 told_codes_are_true options line source back values code details (h, lines) = by_verdict h.verdict h.is h.accepted
   where

@@ -73,7 +73,7 @@ place_goes_on n row other rows i h read later e = e ∙ rw add-one (more rows i 
     more (r ∷ rows) zero h read = ap (λ (t : Bool). if t then row ∷ r ∷ rows else r ∷ put_in_order n row rows) (ap (λ (x : Mark × Terms). is_before (order_key n row.1) (order_key n x.1)) read ∙ later)
     more (r ∷ rows) (suc i) h read = ap (λ (rs : List (Mark × Terms)). r ∷ rs) (more rows i (omega arith) read)
 
--- and the row stands before the first one that it comes before
+-- a row is put before the first one before which it comes
 pub place_found : (n : ℕ) (row other : Mark × Terms) (rows : List (Mark × Terms)) (i : ℕ) → i < length rows → get_or rows i other ≡ other → is_before (order_key n row.1) (order_key n other.1) ≡ true
     → put_in_order n row rows ≡ take i rows ++ put_in_order n row (drop i rows) → put_in_order n row rows ≡ insert rows i row
 place_found n row other rows i h read earlier e = e ∙ here rows i h read
@@ -83,7 +83,7 @@ place_found n row other rows i h read earlier e = e ∙ here rows i h read
     here (r ∷ rows) zero h read = ap (λ (t : Bool). if t then row ∷ r ∷ rows else r ∷ put_in_order n row rows) (ap (λ (x : Mark × Terms). is_before (order_key n row.1) (order_key n x.1)) read ∙ earlier)
     here (r ∷ rows) (suc i) h read = ap (λ (rs : List (Mark × Terms)). r ∷ rs) (here rows i (omega arith) read)
 
--- else behind all
+-- a row that comes before none is put behind all
 pub place_behind : (n : ℕ) (row : Mark × Terms) (rows : List (Mark × Terms)) (i : ℕ) → length rows ≤ i → i ≤ length rows → put_in_order n row rows ≡ take i rows ++ put_in_order n row (drop i rows)
     → put_in_order n row rows ≡ insert rows (length rows) row
 place_behind n row rows i h k e = e ∙ behind rows i h k

@@ -137,7 +137,7 @@ zip_front [] (y ∷ ys) = refl
 zip_front (x ∷ xs) [] = refl
 zip_front (x ∷ xs) (y ∷ ys) = ap (λ (ps : List _). (x, y) ∷ ps) (zip_front xs ys)
 
--- its comment and below it its proofs
+-- the comment of a line is appended, and below it its proofs
 pub own_line_appended : (q : BodyView) (options : Options) (parts : List ℕ) (origin : Origin) (rows : List Terms) (ws : List CertificateView) (relation below comment old mid new : List ℕ)
     → SaysOrNothing (problem_names q) (map value rows) relation → AppendsOwnProofs q options rows ws [] below → comment ≡ own_line_comment q parts origin relation (length below == 0) → mid ≡ old ++ indented_line comment
     → new ≡ mid ++ below → AppendsOwnLine q options parts origin rows ws old new

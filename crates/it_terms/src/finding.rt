@@ -90,7 +90,7 @@ fn used_coordinates(
     Ok(coordinates)
 }
 
-/// The rows of the measures of the indexes `places`, each followed by its negation.
+/// The rows of the measures with the indexes `places`, each followed by its negation.
 fn columns(alloc: Global, measures: &[Measure], places: &[usize]) -> Result<Vec<Row>, AllocError> {
     let mut columns = Vec::new(alloc);
     for place in places {
@@ -114,7 +114,7 @@ pub fn weights_of(
     weights.ok_or(Untold::NotFound)
 }
 
-/// The measures of the indexes `places`, with weights by which they add up to `row` at `coordinates`.
+/// The measures with the indexes `places`, with weights by which they add up to `row` at `coordinates`.
 fn sum_of(
     alloc: Global,
     coordinates: &[u32],
@@ -127,7 +127,7 @@ fn sum_of(
     Ok(Choice { places, weights })
 }
 
-/// `places` without the item of index `number`.
+/// `places` without the item with index `number`.
 fn without(alloc: Global, places: &[usize], number: usize) -> Result<Vec<usize>, AllocError> {
     let mut others = Vec::new(alloc);
     for (i, place) in places.iter().enumerate() {
@@ -164,7 +164,7 @@ fn shorter(
 /// A sum is made shorter at most this many times.
 const MOST_ROUNDS: u32 = 16;
 
-/// A sum of `measures` that is the part of `row` over sets. Measures are left out of it one by one as long as that makes it
+/// A sum of `measures` equal to the part of `row` over sets. Measures are left out of it one by one as long as that makes it
 /// shorter, at most `MOST_ROUNDS` times.
 fn short_sum(alloc: Global, measures: &[Measure], row: &Row, space: Space) -> Result<Choice, Untold>
     requires { space.variables ≤ 10 }
@@ -218,7 +218,7 @@ fn weight_term(
     term_of(times, measures[places[column / 2]].atom)
 }
 
-/// A sum of several of `measures` that is the part of `row` over sets.
+/// A sum of several of `measures` equal to the part of `row` over sets.
 fn found_sum(alloc: Global, measures: &[Measure], row: &Row, space: Space) -> Result<Found, Untold>
     requires { space.variables ≤ 10 }
 {
@@ -244,7 +244,8 @@ fn is_multiple(terms: &[(u32, i128)], times: i128, others: &[(u32, i128)]) -> bo
     true
 }
 
-/// The factor by which `terms` is `others`, a measure's terms, of which the first one is 1 or -1; `NotFound` if there is none.
+/// The factor that makes `terms` of `others`, the terms of a measure, of which the first one is 1 or -1; `NotFound` if there is
+/// none.
 fn multiple_of(terms: &[(u32, i128)], others: &[(u32, i128)]) -> Result<i128, Untold> {
     match (terms, others) {
         ([term, ..], [other, ..]) => {
@@ -343,7 +344,7 @@ pub fn joint_sum(alloc: Global, row: &Row, space: Space) -> Result<Found, Untold
     Ok(Found { scale: 1, terms })
 }
 
-/// A sum that is the part of `row` over sets: one of `measures`, the question's own, or one measure of any sets; else several
+/// A sum equal to the part of `row` over sets: one of `measures`, the question's own, or one measure of any sets; else several
 /// of `measures`.
 pub fn own_sum(
     alloc: Global,

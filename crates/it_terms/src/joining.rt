@@ -21,8 +21,9 @@ fn mutual(one: VarSet, other: VarSet, given: VarSet) -> Atom {
     }
 }
 
-/// The sum of I(A;B|C) and `second`, an atom given B and C, by the chain rule for the side A; None where none applies: I(A;B|C)
-/// + I(A;D|B,C) = I(A;B,D|C), where D has none of the variables before, and I(A;B|C) + H(A|B,C) = H(A|C).
+/// The sum of I(A;B|C) and `second`, an atom given B and C, by a chain rule for the side A; None where none applies. The rules:
+/// I(A;B|C) + I(A;D|B,C) = I(A;B,D|C), where D has none of the variables before;
+/// I(A;B|C) + H(A|B,C) = H(A|C).
 fn joined_side(a: VarSet, b: VarSet, c: VarSet, second: &Atom) -> Option<Atom> {
     let before = b.union(c);
     match second {

@@ -10,7 +10,7 @@ use it_space::{Constraint, Origin};
 use itoa::Buffer;
 use std::alloc::{AllocError, Global};
 
-/// The origin of the constraint of index `line`; that of `row` line 0 if there is none.
+/// The origin of the constraint with index `line`; that of `row` line 0 if there is none.
 fn origin_at(constraints: &[Constraint], line: u32) -> Origin
     ensures { result ≡ slice_index_or (origins_of constraints.now) line (Rate 0) }
 {

@@ -36,8 +36,8 @@ fn by_constraints(
 }
 
 /// The lines of a question, `row` lines among them, whose sum `row` is, up to a positive factor: weights by the indexes of what
-/// the lines demand, in order; none is 0, and only those of equations are below 0. Without weights where none were found. Where
-/// `row` is a multiple of one of the lines it is that one, and few others are named where few are enough.
+/// the lines demand, in order; none is 0, and only those of equations are below 0. No weights where none were found. If `row`
+/// is a multiple of one line, it is that line alone; else few lines if few are enough.
 #[tactic(auto, using(crate::proofs::OriginLemmas::not_told))]
 pub fn row_origin(
     alloc: Global,

@@ -50,7 +50,7 @@ pub fn add_terms(
     Ok(())
 }
 
-/// Adds `weight.1` times the constraint of index `weight.0` to `sums`; `NotFound` if there is none, or on overflow.
+/// Adds `weight.1` times the constraint with index `weight.0` to `sums`; `NotFound` if there is none, or on overflow.
 fn add_constraint(
     sums: &mut Sums,
     places: usize,
