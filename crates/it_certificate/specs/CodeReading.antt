@@ -1,4 +1,5 @@
--- The linear code that a report line says a point to be of: its keys, each as far as its shape goes, and the shape of what is read.
+-- The linear code that a report line claims for a point: its keys, each as far as its shape goes, and the shape of what is
+-- read.
 use Rattle.std.specs.Prelude.{◌≡◌, ℕ, ◌+◌, ◌^◌, ◌≤◌, ◌==◌, List, length, Bool, false, ◌&&◌, if◌then◌else◌, codes, Option, Some, None, option_map, option_and_then, is_some, nat_le, Result, ok_or}
 use Rattle.std.specs.Option.{option_map_or}
 use Rattle.std.specs.Str.{bytes_eq}

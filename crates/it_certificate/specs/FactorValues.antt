@@ -31,7 +31,7 @@ phase_of (Width step phase) = phase
 phase_of Scale = 0
 phase_of Size = 0
 
--- the members of what is found, without the question; the keys in alphabetical order
+-- the members of what is found, without what it is about; the keys in alphabetical order
 unfoldable pub best_members : BestView → Members
 best_members (Least num den proof values) =
     member (codes "answer") (string (codes "best"))

@@ -52,7 +52,7 @@ verb_answer v verb kind d = Err keys.Answer
 
 -- what a line says
 -- `Answered`: an answer to what the line is about
--- `Coded`: a no, with a code of which its point is said to be
+-- `Coded`: a no, with the code claimed for its point
 -- `Derived`: a region, with a certificate for each of its rows
 -- `Factored`: what is found of the factors of the relation
 -- `Bounded`: an outer bound

@@ -61,8 +61,8 @@ step_or_rate_word v Scale = codes "0"
 step_or_rate_word v (Rows r) = slice_index_or v.rates r []
 step_or_rate_word v (WideRate r) = slice_index_or v.rates r []
 
--- the members of an answer, without those of the question, by whose names causes name rates; the keys in alphabetical order.
--- The side is `back` where it is the second target that is violated.
+-- the members of an answer, without what it is about; `v` has the names of the question that is asked, by which causes name
+-- rates. The keys are in alphabetical order. The side is `back` where it is the second target that is violated.
 unfoldable pub answer_members : NamesView → AnswerView → Members
 answer_members v (Yes proofs) =
     member (codes "answer") (string (codes "yes"))

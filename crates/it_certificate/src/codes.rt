@@ -1,4 +1,4 @@
-//! The linear code of a report: what its point is said to be of.
+//! The linear code that a report claims for its point.
 ghost use Rattle.std.specs.Prelude.{◌≡◌, ◌≤◌, map, option_and_then, option_map};
 ghost use Rattle.serde_json.specs.View.{items_view, view};
 ghost use Rattle.it_codes.specs.Codes.{functions_of, size};

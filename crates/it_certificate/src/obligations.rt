@@ -59,7 +59,7 @@ fn rows_form_count(rows: &[Relation]) -> usize
     count
 }
 
-/// The number of obligations that the lines of the second region make: of forms that they say to be at least 0.
+/// The number of obligations that the lines of `region`, a second region, make: of forms that they say to be at least 0.
 pub fn obligation_count(region: &Region) -> usize
     requires { AreLinesOver region.now.names (region_view region.now).lines }
     ensures { result ≡ obligation_count (region_view region.now) }

@@ -32,7 +32,7 @@ impl Drop for ReportedBounds {
     }
 }
 
-/// The linear code of which a report says a point to be, and what one symbol counts in the point's values.
+/// The linear code that a report claims for a point, and what one symbol counts in the point's values.
 pub struct ReportedCode {
     pub code: LinearCode,
     pub times: u32,
@@ -45,9 +45,13 @@ impl Drop for ReportedCode {
     }
 }
 
-/// What a report says, right or not: a question with an answer of the shape that it wants; with a no and the code of which its
-/// point is said to be; with a region and a certificate for each of its rows; with what is said of its factors; with an outer
-/// bound; or that a question can't have what is asked for.
+/// What a report says, right or not.
+/// `Answered`: an answer to the question, of the shape that this wants.
+/// `Coded`: a no, with the code claimed for its point.
+/// `Derived`: a region, with a certificate for each of its rows.
+/// `Factored`: what is found of the factors of the question's relation.
+/// `Bounded`: an outer bound.
+/// `Misfit`: that a question can't have what is asked for.
 pub enum Reported {
     Answered {
         question: Question,

@@ -39,7 +39,7 @@ pub data CopyReply : Type 0 where
 abbrev pub IsRightProof : Effort → BodyView → AnswerView → Type 0
 IsRightProof effort q answer = IsRightAnswer (record { effort = effort; rows = 1; tries = 1 }) [] q (record { answer = answer; found = [] })
 
--- a right reply; that allocation fails isn't one
+-- a right reply; `Memory` is no reason
 abbrev pub IsRightCopy : Effort → CopyQuestion → CopyReply → Type 0
 IsRightCopy effort x (Misfit fault) = (fault ≡ Memory → ⊥) × IsMisfit x.question.body x.copies fault
 IsRightCopy effort x (Extended e answer) = IsExtension x.question.body x.copies e × IsRightProof effort e answer

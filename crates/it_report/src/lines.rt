@@ -120,7 +120,7 @@ pub fn factor_line(
     })
 }
 
-/// The line about a no whose point has another value at `set` than its code.
+/// The line about a no with a code, by which the value of `set` is another than the point's.
 pub fn other_line(
     alloc: Global,
     k: usize,

@@ -28,7 +28,7 @@ EachLineIsTold = (options : Options) (line : List ℕ) → (telling : Telling) �
 abbrev pub ToldAnswersAreTrue : Type 0
 ToldAnswersAreTrue = (options : Options) (line : List ℕ) (source : Source) (answer : AnswerView) (details : List ℕ) → IsTelling options line (Answered source answer details) → IsClaimTrue (asked source).body answer
 
--- Where a no with a code is told, its relation fails at the entropies of the code's variables.
+-- Where a no with a code is told, its relation fails at the entropies of the code's variables, as many times as the line says.
 abbrev pub ToldCodesAreTrue : Type 0
 ToldCodesAreTrue = (options : Options) (line : List ℕ) (source : Source) (back : Bool) (values : List ℤ) (code : ReportedCodeView) (details : List ℕ) → IsTelling options line (Coded source (No back values) code details)
     → IsClaimTrue (asked source).body (No back values) × AreEntropies code.code code.times values

@@ -7,7 +7,7 @@ use Rattle.it_tell.specs.declared.settings.Style.{Style}
 use Rattle.it_tell.specs.declared.settings.Style.TheVariants.{Plain, Named, Whole}
 use Rattle.it_tell.specs.declared.settings.Settings.TheVariants.{Tell, Help, Version}
 
--- whether the style is the plain one, which is no word's
+-- whether the style is the plain one, for which no word asks
 abbrev pub is_plain : Style → Bool
 is_plain Plain = true
 is_plain Named = false
@@ -30,7 +30,7 @@ with_words o (word ∷ words) = option_and_then (λ p. with_words p words) (with
 abbrev pub no_options : Options
 no_options = record { steps = false; short = false; style = Plain }
 
--- what a word asks for that is the only one
+-- what `word` asks for where it is the only word
 unfoldable pub alone : List ℕ → Option Settings
 alone word =
     if bytes_eq word (codes "--help") then Some Help else

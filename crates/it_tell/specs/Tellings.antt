@@ -1,7 +1,7 @@
 -- What is told of a line of a report: the verdict's own line where that is invalid, else the first line of its answer and below
--- it, line by line, the answer's rows, its proofs, with their steps where these are asked for, or its point with the code that
--- it is of. Where the style isn't plain, rows are sorted, and a containment's obligations stand under their lines of the second
--- region.
+-- it, line by line, the answer's rows, its proofs, with their steps where these are asked for, or its point, with its code if
+-- it has one. Where the style isn't plain, rows are sorted, and a containment's obligations stand under their lines of the
+-- second region.
 use Rattle.std.specs.Prelude.{◌≡◌, ℕ, ℤ, List, [], ◌++◌, length, Bool, true, false, ◌⊎◌, Ok, codes, decimal, pos, ◌≤ℤ◌, if◌then◌else◌, ◌==◌, Option, Some, None}
 use Rattle.std.specs.Fmt.{signed_decimal}
 use Rattle.std.specs.List.{flat_map, zip}

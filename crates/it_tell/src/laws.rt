@@ -20,7 +20,7 @@ pub fn told_answers_are_true()
 {}
 
 /// Where a no with a code is told, its relation fails at random variables: the values of the point are the entropies of the
-/// code's variables.
+/// code's variables, as many times as the line says.
 pub fn told_codes_are_true()
     ensures { ToldCodesAreTrue }
 {}

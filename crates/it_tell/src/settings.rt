@@ -35,7 +35,7 @@ const NO_OPTIONS: Options = Options {
     style: Style::Plain,
 };
 
-/// Whether `style` is the plain one, which is no word's.
+/// Whether `style` is the plain one, for which no word asks.
 pub fn is_plain(style: Style) -> bool
     ensures { result ≡ is_plain style }
 {
@@ -87,7 +87,7 @@ fn with_words(words: &[&str]) -> Option<Options>
     Some(options)
 }
 
-/// What a word asks for that is the only one.
+/// What `word` asks for where it is the only word.
 #[tactic(auto, unfolding(crate::specs::Settings::alone))]
 fn alone(word: &str) -> Option<Settings>
     ensures { result ≡ alone word.now }

@@ -46,7 +46,7 @@ pub record IsEquationText (v : NamesView) (text : List ℕ) (r : RelationView) :
   pub identity : IsIdentity (length v.variables) r
 
 -- On the left of an equation of n variables is a multiple of the target; on its right are terms with a plus over sets, and then
--- multiples of constraints, negative for equations alone.
+-- multiples of constraints, negative only for equations.
 pub record IsProofOf (n : ℕ) (r : RelationView) (target : Form) (g : Generators) : Type 0 where
   pub shannon : List Term
   pub rest : List Term
