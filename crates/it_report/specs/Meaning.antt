@@ -59,8 +59,8 @@ abbrev pub ValidIsTrue : Type 0
 ValidIsTrue = (line : List ℕ) (names : NamesView) (source : Source) (answer : AnswerView)
     → IsVerdict line (Judged names Valid) → ReadsReport line (Ok (Answered source answer)) → IsClaimTrue (asked source).body answer
 
--- Where a valid no has a code, its relation fails at random variables: the point is such a place, and the value of each set of variables is
--- the entropy of those of the code, as many times as the line says.
+-- Where a valid no has a code, its relation fails at random variables: the point is such a place, and the value of each set of
+-- variables is the entropy of those of the code, as many times as the line says.
 abbrev pub ValidCodeIsTrue : Type 0
 ValidCodeIsTrue = (line : List ℕ) (names : NamesView) (source : Source) (back : Bool) (values : List ℤ) (c : ReportedCodeView)
     → IsVerdict line (Judged names Valid) → ReadsReport line (Ok (Coded source (No back values) c))

@@ -128,8 +128,8 @@ proof_lines t = indented_line t.proof ++ flat_map step_line t.steps
 abbrev pub AreProofSteps : BodyView → Options → List ℕ → List (List ℕ) → Type 0
 AreProofSteps q options proof steps = (steps ≡ []) ⊎ ((options.steps ≡ true) × TellsSteps (problem_names q) proof steps)
 
--- a proof of a form where functions hold, and behind it the lines that say these; without steps, or where they are asked for with its steps
--- where these functions hold
+-- a proof of a form where functions hold, and behind it the lines that say these; without steps, or where they are asked for
+-- with its steps where these functions hold
 pub record ArePrintedTexts (q : BodyView) (options : Options) (target : Form) (t : ProofTexts) : Type 0 where
   pub lines : List ℕ
   pub named : List (ℕ × ℤ)

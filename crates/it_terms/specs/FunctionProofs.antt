@@ -33,9 +33,10 @@ pub record IsSaid (n : ℕ) (g : Generators) (lines : List ℕ) (d : Dependence)
 abbrev pub AreSameUnder : ℕ → List Dependence → Form → Form → Type 0
 AreSameUnder n ds f g = (p : ℕ → ℤ) → p 0 ≡ pos 0 → f (spread_out n ds p) ≡ g (spread_out n ds p)
 
--- The equation of n variables, without denominators, has on its left a multiple of the target, on its right terms with a plus over sets and
--- multiples of constraints. With these weights of named constraints on its right, of which only equations have a minus, it is true of
--- each map with one value at sets of one closure under functions that these lines say, which are lines that are there.
+-- The equation of n variables, without denominators, has on its left a multiple of the target, on its right terms with a plus
+-- over sets and multiples of constraints. With the weights `named` of constraints on its right, negative only for equations, it
+-- is true of each map with one value at sets of one closure under the functions that the constraints `lines` say, which are all
+-- there.
 pub record IsProofUnder (n : ℕ) (lines : List ℕ) (r : RelationView) (named : List (ℕ × ℤ)) (target : Form) (g : Generators) : Type 0 where
   pub equality : r.sign ≡ Equal
   pub whole : common_denominator r ≡ 1

@@ -66,8 +66,8 @@ right_pieces right terms named = map Summand (if length right == 0 then [] else 
 abbrev pub first_sum : List ℕ → List Term → List Term
 first_sum right terms = if length right == 0 then terms else []
 
--- under these names the proof is an equation with constraints of these weights by name, and the texts are its steps, from the first piece on
--- its right side to its left side, where the functions hold that these lines say
+-- under these names the proof is an equation with the weights `named` of constraints by name, and the texts are its steps, from
+-- the first piece on its right side to its left side, where the functions hold that these lines say
 pub record TellsPieceSteps (v : NamesView) (origins : List Origin) (g : Generators) (lines : List ℕ) (named : List (ℕ × ℤ)) (proof : List ℕ) (texts : List (List ℕ)) : Type 0 where
   pub relation : RelationView
   pub is : IsNamedText v origins named proof relation
