@@ -9,7 +9,6 @@ use Rattle.it_question.specs.Files.{IsFile}
 use Rattle.it_question.specs.Lines.{split_lines}
 use Rattle.it_question.specs.Questions.{QuestionView}
 use Rattle.it_question.proofs.TextLaws.{text_reads_back}
-use Rattle.it_answer.specs.Replies.{Reply}
 use Rattle.it_certificate.specs.Laws.{ReadsBack}
 use Rattle.it_certificate.specs.Values.{answer_text}
 use Rattle.it_contain.specs.Proposals.{Plan, plan_after_all}
@@ -19,6 +18,7 @@ use Rattle.it_cli.specs.Accepted.{OutputIsAccepted}
 use Rattle.it_cli.specs.Modes.{Replies}
 use Rattle.it_cli.specs.Outputs.{answer_mode, check_mode, verdict_status}
 use Rattle.it_cli.specs.Right.{budgets_of, effort_of}
+use Rattle.it_cli.specs.ToldOrigins.{ToldReply}
 use Rattle.it_cli.proofs.AcceptLemmas.{right_accepted}
 use Rattle.it_cli.proofs.FeedLemmas.{split_one}
 use Rattle.it_cli.proofs.ShortTexts.{texts_are_short}
@@ -26,15 +26,15 @@ use Rattle.it_cli.proofs.ReplyLemmas.{RepliesFrom, any_more}
 use Rattle.it_cli.proofs.RightLemmas.{found_in}
 
 module _ (back : ReadsBack) (budgets : Budgets) (plans : List Plan) (few : IfSome budgets.effort.pivots (λ n. n < 2 ^ 32)) (few_tries : budgets.tries < 2 ^ 32) (bytes : List ℕ) (short : length bytes ≤ 1048576) (whole : List QuestionView) (file : IsFile bytes whole) where
-  none_invalid : (k j : ℕ) (prefix qs : List QuestionView) (s t : List Reply) (before verdicts : List LineVerdict) (out told : List ℕ) → whole ≡ prefix ++ qs → All (λ q. length q.text ≤ length bytes + 1) qs
+  none_invalid : (k j : ℕ) (prefix qs : List QuestionView) (s t : List ToldReply) (before verdicts : List LineVerdict) (out told : List ℕ) → whole ≡ prefix ++ qs → All (λ q. length q.text ≤ length bytes + 1) qs
       → RepliesFrom (answer_mode budgets plans Json) k s qs t out → list_any is_invalid before ≡ false → RepliesFrom check_mode j before (split_lines out) verdicts told
       → list_any is_invalid verdicts ≡ false
   none_invalid k j prefix [] s t before verdicts out told e lengths g clean v =
       ap (list_any is_invalid) (subst (λ (o : List ℕ). RepliesFrom check_mode j before (split_lines o) verdicts told) g.1 v).0 ∙ clean
   none_invalid k j prefix (q ∷ qs) s t before verdicts out told e lengths g clean v =
       let long = All-head (λ (q : QuestionView). length q.text ≤ length bytes + 1) q qs lengths in
-      let fine = right_accepted back budgets (map (plan_after_all (found_in s)) plans) q g.0 few few_tries (omega (arith, long, short)) (text_reads_back bytes whole qs q prefix file e) g.2 in
-      let line = answer_text q.text q.body.names g.0.answer in
+      let fine = right_accepted back budgets (map (plan_after_all (found_in s)) plans) q g.0.reply few few_tries (omega (arith, long, short)) (text_reads_back bytes whole qs q prefix file e) g.2.reply in
+      let line = answer_text q.text q.body.names g.0.reply.answer in
       let cut : split_lines out ≡ line ∷ split_lines g.1 = ap split_lines g.4 ∙ split_one line g.1 fine.clear in
       let w = subst (λ (ls : List (List ℕ)). RepliesFrom check_mode j before ls verdicts told) cut v in
       let ok = fine.verdicts w.0 w.2 in

@@ -35,7 +35,7 @@ due_alone b plans q (Contain first second tries) a found proof h = absurd proof
 pub right_alone : (b : Budgets) (plans : List Plan) (q : BodyView) (a : AnswerView) (found : List Candidate) → IsProof q.verb → IsRightAnswer b plans q (record { answer = a; found = found }) → IsRightProof b.effort q a
 right_alone b plans q a found proof right = record { shows = right.shows; due = due_alone b plans q q.verb a found proof right.due }
 
--- and it can be written with any names
+-- a right answer to a question about a relation can be written with any names
 writable_by : (b : Budgets) (plans : List Plan) (q : BodyView) (verb : VerbView) (v : NamesView) (a : AnswerView) (found : List Candidate) → IsProof verb → IsDueBy b plans q verb (record { answer = a; found = found }) → IsWritable v a
 writable_by b plans q (Prove r) v a found proof (due, none) = due_is_writable b.effort q r v a due
 writable_by b plans q (Eliminate rates) v a found proof h = absurd proof
@@ -50,7 +50,7 @@ pub misfit_text : {E : Type 0} (effort : Effort) (x : CopyQuestion) (k : ℕ) (f
 misfit_text effort x k fault (Ok t) misfit told some = record { reply = Misfit fault; right = (some, misfit); is = told }
 misfit_text effort x k fault (Err e) misfit told some = tt
 
--- and so is that of a report
+-- the line of a report that says why there is no such question is a right reply
 pub misfit_reported : {E : Type 0} (effort : Effort) (x : CopyQuestion) (k : ℕ) (fault : CopyFault) (texts : SourceTexts) (r : Result (Vec ℕ) E) → texts ≡ copy_texts x → IsMisfit x.question.body x.copies fault
     → IfOk r (λ t. t.items ≡ report_text texts (misfit_members (misfit_words fault)) ++ codes "\n") → IfOk r (λ t. fault ≡ Memory → ⊥) → IfOk r (λ t. IsTextOf (copy_mode true effort) [] k x t.items)
 misfit_reported effort x k fault texts (Ok t) same misfit told some = record {

@@ -23,3 +23,4 @@ pub mod ShortTexts
 pub mod AcceptedOutput
 pub mod TruthLemmas
 pub mod WrittenLemmas
+pub mod OriginLemmas

@@ -1,7 +1,7 @@
 -- Each mode is determined, and so an input has one output.
-use Rattle.std.proofs.Common.{Bool, ◌≡◌, ℕ, ◌+◌, List, [], ◌∷◌, ◌++◌, map, flat_map, Option, false, refl, sym, ap, ap₂, subst, ◌∙◌, arith}
+use Rattle.std.proofs.Common.{Bool, ◌≡◌, ◌≢◌, ℕ, ◌+◌, List, [], ◌∷◌, ◌++◌, map, flat_map, Option, None, false, refl, sym, ap, ap₂, subst, ◌∙◌, arith}
 use Rattle.std.proofs.lemmas.Bool.{false≢true}
-use Rattle.it_space.specs.Answers.{AnswerView}
+use Rattle.it_space.specs.Answers.{AnswerView, CertificateView}
 use Rattle.it_question.specs.Questions.{BodyView, QuestionView}
 use Rattle.it_question.specs.Files.{FileFaultIsOne, FileIsOne, FileOrFault}
 use Rattle.it_copy.specs.CopyLines.{CopyView}
@@ -18,6 +18,7 @@ use Rattle.it_sharing.specs.SharingFiles.{SharingFaultIsOne, SharingIsOne, Shari
 use Rattle.it_sharing.specs.Sharings.{SharingView, made_question}
 use Rattle.it_report.specs.Meaning as reports
 use Rattle.it_settings.specs.declared.types.Format.{Format}
+use Rattle.it_settings.specs.declared.types.Format.TheVariants.{Text, Json, Proof, Derived}
 use Rattle.it_settings.specs.declared.types.Run.{Run}
 use Rattle.it_settings.specs.declared.types.Run.TheVariants.{Bland, Quick}
 use Rattle.it_settings.specs.declared.types.Settings.TheVariants.{Answer, Check, Bench, Copy, Best, Outer, Sharing}
@@ -29,6 +30,7 @@ use Rattle.it_cli.specs.Laws.{ModesAreDetermined, ModesHaveOneReading, OneOutput
 use Rattle.it_cli.specs.Modes.{HasOneReading, IsDetermined, Mode, Replies, WholeOutput}
 use Rattle.it_cli.specs.Outputs.{answer_mode, bench_mode, best_mode, check_mode, copy_mode, mode_of, outer_mode, sharing_mode}
 use Rattle.it_cli.specs.Right.{budgets_of, effort_of, limits_of}
+use Rattle.it_cli.specs.ToldOrigins.{AreToldOrigins, IsRightTold, ToldReply}
 use Rattle.it_cli.specs.SharingReplies.{Answered, Factored, IsRightSharing, Many, SharingReply, said_by}
 use Rattle.it_cli.specs.declared.status.Status.{Status}
 use Rattle.it_cli.proofs.CountLemmas.{one_count}
@@ -122,6 +124,22 @@ not_quick : (run : Run) (pivots : Option ℕ) → run ≡ Bland → (effort_of r
 not_quick Bland pivots e = refl
 not_quick Quick pivots e = absurd (cc)
 
+-- no certificates are told in another format
+none_told : (format : Format) → format ≢ Derived → (q : BodyView) (answer : AnswerView) (origins : Option (List CertificateView)) → AreToldOrigins format q answer origins → origins ≡ None
+none_told Text other q answer origins told = told
+none_told Json other q answer origins told = told
+none_told Proof other q answer origins told = told
+none_told Derived other q answer origins told = absurd (other refl)
+
+told_of : Reply → Option (List CertificateView) → ToldReply
+told_of reply origins = record { reply = reply; origins = origins }
+
+one_told : (format : Format) → format ≢ Derived → OneRightAnswer → (budgets : Budgets) → budgets.effort.quick ≡ false → (plans : List Plan) (q : BodyView) (a b : ToldReply) → IsRightTold format budgets plans q a → IsRightTold format budgets plans q b
+    → a ≡ b
+one_told format other one_answer budgets defined plans q a b f g =
+    ap₂ told_of (one_answer budgets plans q a.reply b.reply defined f.reply g.reply)
+    (none_told format other q a.reply.answer a.origins f.origins ∙ sym (none_told format other q b.reply.answer b.origins g.origins))
+
 one_line : OneRightAnswer → FileIsOne → (budgets : Budgets) → budgets.effort.quick ≡ false → (plans : List Plan) (seed count : ℕ) (line other : List ℕ)
     → IsBenchLine budgets plans seed count line → IsBenchLine budgets plans seed count other → line ≡ other
 one_line one_answer one_file budgets defined plans seed count line other a b =
@@ -158,7 +176,7 @@ module _ (reading : ModesHaveOneReading) (one_answer : OneRightAnswer) (one_file
   modes_are_determined plans (Answer format run pivots rows tries) bland = record {
     reading = reading plans (Answer format run pivots rows tries);
     one_reply = λ s x a b f g.
-        one_answer (budgets_of run pivots rows tries) (map (plan_after_all (flat_map (λ (r : Reply). r.found) s)) plans) x.body a b (not_quick run pivots bland) f g;
+        one_told format bland.1 one_answer (budgets_of run pivots rows tries) (not_quick run pivots bland.0) (map (plan_after_all (flat_map (λ (t : ToldReply). t.reply.found) s)) plans) x.body a b f g;
   }
   modes_are_determined plans Check bland = record { reading = reading plans Check; one_reply = λ s x a b f g. one_verdict x a b f g }
   modes_are_determined plans (Bench seed count run pivots rows tries) bland = record {

@@ -20,7 +20,7 @@ pub made_is_proof : (x : SharingView) (q : QuestionView) → q ≡ made_question
 unfolding made_question
 made_is_proof x q made = subst (λ (y : QuestionView). IsProof y.body.verb) (sym made) tt
 
--- with the file's names
+-- a made question has the file's names
 names_of_made : (x : SharingView) (q : QuestionView) → q ≡ made_question x → q.body.names ≡ x.names
 unfolding made_question
 names_of_made x q made = ap (λ (y : QuestionView). y.body.names) made

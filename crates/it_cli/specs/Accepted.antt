@@ -22,7 +22,7 @@ ReportsAreAccepted = (budgets : Budgets) (plans : List Plan) (q : QuestionView) 
     → IsFile q.text (q ∷ []) → IsRightAnswer budgets plans q.body reply
     → (v : LineVerdict) → IsVerdict (answer_text q.text q.body.names reply.answer) v → is_invalid v ≡ false
 
--- Where the whole output for a question file is checked as a report, the status is `Done`; the boxes had any plans.
+-- Where the whole output for a question file is checked as a report, the status is `Done`, whatever the plans of the boxes.
 abbrev pub OutputIsAccepted : Type 0
 OutputIsAccepted = (plans : List Plan) (run : Run) (pivots : Option ℕ) (rows tries : ℕ) (bytes out told : List ℕ) (answered checked : Status) → IfSome pivots (λ n. n < 2 ^ 32) → tries < 2 ^ 32 → length bytes ≤ 1048576
     → IsOutput plans (Answer Json run pivots rows tries) bytes out answered → IsOutput plans Check out told checked → checked ≡ Done

@@ -13,7 +13,7 @@ abbrev pub reply_members : ReplyView → Members
 reply_members (Found best) = best_members best
 reply_members Other = misfit_members (codes "other")
 
--- the line of a reply to question k, or the line of a report
+-- the line of a reply to question `k`; if `report`, the line of a report
 abbrev pub best_lines : Bool → ℕ → QuestionView → ReplyView → List ℕ
 best_lines true k q reply = report_text (OfQuestion q.text) (reply_members reply) ++ codes "\n"
 best_lines false k q reply = reply_line k q.body (question_origins q.body) reply

@@ -1,5 +1,6 @@
 pub mod Refusals
 pub mod Right
+pub mod ToldOrigins
 pub mod Counts
 pub mod CountSteps
 pub mod Modes

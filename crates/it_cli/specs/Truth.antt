@@ -1,5 +1,5 @@
--- What it means that a reply in mode `copy` or `sharing` is true, by the meaning of the file. Nothing here speaks of certificates, of
--- runs or of which reply is due.
+-- What it means that a reply in mode `copy` or `sharing` is true, by the meaning of the file. Nothing here depends on
+-- certificates, on runs, or on which reply is due.
 use Rattle.std.specs.Prelude.{ℕ, ◌+◌, ◌<◌, ℤ, ◌≡◌, length}
 use Rattle.it_space.specs.Answers.{AnswerView}
 use Rattle.it_space.specs.Answers.AnswerView.{Yes}

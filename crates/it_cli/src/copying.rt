@@ -21,7 +21,7 @@ use it_prove::Effort;
 use it_question::types::{FileFault, Question};
 use std::alloc::{AllocError, Global};
 
-/// What is done for the bytes of a file with a head.
+/// Answers the questions of a file with a head, with the copies that the head asks for.
 pub fn answer_with_copies<K: Sink>(
     alloc: Global,
     report: bool,
@@ -46,7 +46,7 @@ pub fn answer_with_copies<K: Sink>(
     }
 }
 
-/// Writes the lines of each question, as soon as they are there.
+/// Writes the lines of each question as soon as they are there.
 fn reply_all<K: Sink>(
     alloc: Global,
     report: bool,
@@ -71,7 +71,8 @@ fn reply_all<K: Sink>(
     Status::Done
 }
 
-/// The lines of question k, counted from 1: those of a right answer with the copies, or why it can't have them.
+/// The lines of question `k`, counted from 1: a right answer with the copies, or why it can't have them; with `report` the line
+/// of a report instead.
 fn reply(
     alloc: Global,
     report: bool,
@@ -92,7 +93,7 @@ fn reply(
     }
 }
 
-/// The lines of text.
+/// The lines of question `k` as text.
 fn reply_lines(
     alloc: Global,
     effort: Effort,
@@ -111,7 +112,7 @@ fn reply_lines(
     }
 }
 
-/// The line of a report.
+/// The line of a report on question `k`.
 fn reply_report(
     alloc: Global,
     effort: Effort,
@@ -136,7 +137,7 @@ fn reply_report(
     }
 }
 
-/// The lines of a right answer to a question about a relation.
+/// The lines of a right answer to question `k`, which is about a relation.
 pub fn proof_lines(
     alloc: Global,
     effort: Effort,

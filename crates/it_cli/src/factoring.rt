@@ -16,7 +16,7 @@ use it_question::questions;
 use it_question::types::{FileFault, Question};
 use std::alloc::{AllocError, Global};
 
-/// What is done for the bytes of a question file.
+/// Writes the best factors of the relations of a question file.
 pub fn find_factors<K: Sink>(
     alloc: Global,
     report: bool,
@@ -34,7 +34,7 @@ pub fn find_factors<K: Sink>(
     }
 }
 
-/// Writes the line of each question, as soon as it is there.
+/// Writes the line of each question as soon as it is there.
 fn reply_all<K: Sink>(
     alloc: Global,
     report: bool,
@@ -56,7 +56,7 @@ fn reply_all<K: Sink>(
     Status::Done
 }
 
-/// The line of the right reply to question k, counted from 1, or the line of a report.
+/// The line of the right reply to question `k`, counted from 1; with `report` the line of a report instead.
 fn text(
     alloc: Global,
     report: bool,
@@ -74,7 +74,7 @@ fn text(
     }
 }
 
-/// The line of a report of the right reply to a question, whatever its number.
+/// The line of a report on the right reply to a question; it doesn't depend on `k`.
 fn report_line(
     alloc: Global,
     effort: Effort,

@@ -37,7 +37,7 @@ fn parts_verdict(problem: &Problem, bounds: &ReportedBounds) -> Verdict
     }
 }
 
-/// The verdict on the rows as the hull of the rays: multipliers stand at the first rate that goes.
+/// The verdict on the rows as the hull of the rays. Multipliers stand at the first rate that is eliminated.
 fn hull_verdict(
     alloc: Global,
     question: &Question,
@@ -65,8 +65,8 @@ fn hull_verdict(
     Ok(verdict)
 }
 
-/// The line about an outer bound: what is wrong first with a certificate of a row or with a point of a ray; where nothing is, whether the
-/// rows are the hull of the rays. All lines of the question are constraints, `row` lines too.
+/// The line about an outer bound: the first thing wrong with a certificate of a row or with a point of a ray; if nothing is,
+/// whether the rows are the hull of the rays. All lines of the question are constraints, `row` lines too.
 pub fn bounds_line(
     alloc: Global,
     k: usize,

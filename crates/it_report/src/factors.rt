@@ -19,19 +19,20 @@ use it_ratio::{RowStop, side_row};
 use it_space::{Certificate, Point, Problem, Row, value};
 use std::alloc::{AllocError, Global};
 
-/// What is wrong with what is said of factors, or that nothing is.
+/// The verdict on what is said of factors: what is wrong with it, or that nothing is.
 #[derive(Clone, Copy)]
 pub enum FactorVerdict {
     /// The factor's denominator is below 1.
     BelowOne { den: i128 },
-    /// What the checker finds of a certificate or of a point; `Valid` where nothing is wrong. `Width` comes too where a coefficient of a
-    /// row passes the limit, with its coordinate, and where the sum that is to be 0 does, with the place after that of a point's target.
+    /// What the checker finds of a certificate or of a point; `Valid` where nothing is wrong. `Width` also where a coefficient
+    /// of a row passes the limit, with its coordinate, and where the sum that has to be 0 does, with the place after that of a
+    /// point's target.
     Checked(Verdict),
-    /// What is to be 0 at the point has this value.
+    /// The row that has to be 0 at the point has this value there.
     NotZero { value: i128 },
 }
 
-/// Whether the row is 0 at the point.
+/// The verdict on whether `row` is 0 at `point`.
 fn zero_verdict(problem: &Problem, row: &Row, point: &Point) -> FactorVerdict
     requires row { IsOver (size_of problem.now.space) row.now }
     requires complete { length point.now ≡ size_of problem.now.space }
@@ -50,7 +51,7 @@ fn zero_verdict(problem: &Problem, row: &Row, point: &Point) -> FactorVerdict
     }
 }
 
-/// Whether the point meets the problem with `below` at most -1 there, and `zero` 0.
+/// The verdict on whether `point` meets `problem`, with `below` at most -1 there and `zero` 0.
 fn tight_verdict(problem: &Problem, below: &Row, zero: &Row, point: &Point) -> FactorVerdict
     requires below { IsOver (size_of problem.now.space) below.now }
     requires zero { IsOver (size_of problem.now.space) zero.now }
@@ -66,7 +67,7 @@ fn tight_verdict(problem: &Problem, below: &Row, zero: &Row, point: &Point) -> F
     }
 }
 
-/// The certificate of the factor's row, and then the point.
+/// The verdict on the certificate of the row `factor`, and then on the point.
 fn factor_verdict(
     problem: &Problem,
     factor: &Row,
@@ -88,7 +89,7 @@ fn factor_verdict(
     }
 }
 
-/// The certificates of two rows.
+/// The verdict on the certificates of two rows, the first one first.
 fn both_verdict(
     problem: &Problem,
     factor: &Row,
@@ -109,7 +110,7 @@ fn both_verdict(
     }
 }
 
-/// What is wrong with a least factor.
+/// The verdict on a least factor.
 fn least_verdict(
     alloc: Global,
     problem: &Problem,
@@ -133,7 +134,7 @@ fn least_verdict(
     Ok(factor_verdict(problem, &factor, &turned, proof, point))
 }
 
-/// What is wrong with a point at which no factor holds.
+/// The verdict on a point that shows that no factor holds.
 fn never_verdict(
     alloc: Global,
     problem: &Problem,
@@ -150,7 +151,7 @@ fn never_verdict(
     Ok(tight_verdict(problem, &turned, left, point))
 }
 
-/// What is wrong with a factor where there is no least one.
+/// The verdict on a factor where there is no least one.
 fn unbounded_verdict(
     alloc: Global,
     problem: &Problem,
@@ -173,7 +174,7 @@ fn unbounded_verdict(
     Ok(both_verdict(problem, &factor, &turned, proof, below))
 }
 
-/// A verdict by rows; where one isn't formed, that a number is wide at the coordinate.
+/// The verdict `given`; where a row wasn't formed, `Width` with the coordinate of its wide number.
 fn verdict_or_wide(given: Result<FactorVerdict, RowStop>) -> Result<FactorVerdict, AllocError>
     ensures verdict { (v : FactorVerdict) → Gives given v → IfOk result (λ w. w ≡ v) }
     ensures over { (bound : ℕ) → IfOk given (IsFactorVerdictOver bound) → IfOk result (IsFactorVerdictOver bound) }
@@ -187,8 +188,9 @@ fn verdict_or_wide(given: Result<FactorVerdict, RowStop>) -> Result<FactorVerdic
     }
 }
 
-/// The verdict on what is found of the factors between two rows; none where nothing is claimed. `Width` comes with the coordinate at
-/// which a row isn't formed within the limit, else with the place that the checker gives, or with the one after that of a point's target.
+/// The verdict on what is found of the factors between two rows; None where nothing is claimed. `Width` comes with the
+/// coordinate at which a row isn't formed within the limit, else with the place that the checker gives, or with the one after
+/// that of a point's target.
 pub fn best_verdict(
     alloc: Global,
     problem: &Problem,

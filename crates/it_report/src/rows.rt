@@ -47,14 +47,14 @@ pub fn proofs_verdict(problem: &Problem, rows: &[Row], proofs: &[Certificate]) -
     Verdict::Valid
 }
 
-/// The place of the row that a no is about: 1 where `back` is set, otherwise 0.
+/// The index of the row that a no is about: 1 if `back`, otherwise 0.
 fn place_named(back: bool) -> usize
     ensures { result ≡ place_named back }
 {
     if back { 1 } else { 0 }
 }
 
-/// The verdict on a point, which is to violate the second row where `back` is set, otherwise the first.
+/// The verdict on a point that has to violate the second row if `back`, otherwise the first.
 #[tactic(auto, using(crate::proofs::VerdictLemmas::no_over), unfolding(crate::specs::RowVerdicts::point_verdict))]
 pub fn point_verdict(problem: &Problem, rows: &[Row], back: bool, point: &Point) -> Verdict
     requires rows { All (IsOver (size_of problem.now.space)) rows.now }
@@ -66,7 +66,7 @@ pub fn point_verdict(problem: &Problem, rows: &[Row], back: bool, point: &Point)
     check_no(problem, &rows[place_named(back)], point)
 }
 
-/// The verdict on a ray's point, which is to meet the problem.
+/// The verdict on a ray's point, which has to meet the problem.
 fn ray_verdict(problem: &Problem, ray: &Point) -> Verdict
     requires complete { length ray.now ≡ size_of problem.now.space }
     ensures verdict { result ≡ ray_verdict problem.now ray.now }

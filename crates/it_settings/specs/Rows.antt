@@ -43,6 +43,7 @@ pub record FormsAreRead : Type 0 where
   pub joined : AreReadAs (codes "answer" ∷ codes "--format=json" ∷ []) (settings.Answer formats.Json runs.Bland (Some 20000) 512 256)
   pub text : AreReadAs (codes "answer" ∷ codes "--format" ∷ codes "text" ∷ []) (settings.Answer formats.Text runs.Bland (Some 20000) 512 256)
   pub proof : AreReadAs (codes "answer" ∷ codes "--format" ∷ codes "proof" ∷ []) (settings.Answer formats.Proof runs.Bland (Some 20000) 512 256)
+  pub derived : AreReadAs (codes "answer" ∷ codes "--format" ∷ codes "derived" ∷ []) (settings.Answer formats.Derived runs.Bland (Some 20000) 512 256)
   pub capitals : HaveNoReading (codes "answer" ∷ codes "--format" ∷ codes "JSON" ∷ [])
   pub before_mode : AreReadAs (codes "--tries" ∷ codes "1" ∷ codes "answer" ∷ []) (settings.Answer formats.Text runs.Bland (Some 20000) 512 1)
   pub all_options : AreReadAs (codes "answer" ∷ codes "--tries=7" ∷ codes "--rows" ∷ codes "6" ∷ codes "--format" ∷ codes "json" ∷ codes "--pivots" ∷ codes "5" ∷ []) (settings.Answer formats.Json runs.Bland (Some 5) 6 7)

@@ -29,7 +29,7 @@ pivots_of text = if bytes_eq text (codes "none") then Some None else option_map 
 
 -- a format by its name
 unfoldable pub format_of : Text → Option Format
-format_of text = lookup (bytes_eq text) ((codes "text", formats.Text) ∷ (codes "json", formats.Json) ∷ (codes "proof", formats.Proof) ∷ [])
+format_of text = lookup (bytes_eq text) ((codes "text", formats.Text) ∷ (codes "json", formats.Json) ∷ (codes "proof", formats.Proof) ∷ (codes "derived", formats.Derived) ∷ [])
 
 -- a run by its name
 unfoldable pub run_of : Text → Option Run

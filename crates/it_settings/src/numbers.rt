@@ -107,6 +107,7 @@ fn format(text: &str) -> Option<Format>
         "text" => Some(Format::Text),
         "json" => Some(Format::Json),
         "proof" => Some(Format::Proof),
+        "derived" => Some(Format::Derived),
         _ => None,
     }
 }

@@ -6,6 +6,8 @@ pub enum Format {
     Text,
     Json,
     Proof,
+    /// As `Json`, with a certificate of each row of a region from the question's lines, where each has one.
+    Derived,
 }
 
 /// How a target is decided.

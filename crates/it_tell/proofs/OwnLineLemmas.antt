@@ -74,7 +74,7 @@ obligation_proved q options row w old new h = (Some h.texts, (h.are, h.new_is))
 
 -- ---- the comment
 
--- the sets that stand for auxiliary variables, one more
+-- one more set that stands for an auxiliary variable
 pub sets_more : (variables names : List (List ℕ)) (sets : List ℕ) (from i : ℕ) (out mid new all : List ℕ) → from + i < length names → i < length sets
     → mid ≡ out ++ (if i == 0 then codes " with" else codes ",") → new ≡ mid ++ part_for variables (get_or names (from + i) []) (get_or sets i 0) → out ++ sets_with (i == 0) variables (drop (from + i) names) (drop i sets) ≡ all
     → new ++ sets_with (i + 1 == 0) variables (drop (from + (i + 1)) names) (drop (i + 1) sets) ≡ all
@@ -132,7 +132,7 @@ zip_front [] (y ∷ ys) = refl
 zip_front (x ∷ xs) [] = refl
 zip_front (x ∷ xs) (y ∷ ys) = ap (λ (ps : List _). (x, y) ∷ ps) (zip_front xs ys)
 
--- its comment and below it its proofs
+-- the comment of a line is appended, and below it its proofs
 pub own_line_appended : (q : BodyView) (options : Options) (parts : List ℕ) (origin : Origin) (rows : List Terms) (ws : List CertificateView) (relation below comment old mid new : List ℕ)
     → SaysOrNothing (problem_names q) (map value rows) relation → AppendsOwnProofs q options rows ws [] below → comment ≡ own_line_comment q parts origin relation (length below == 0) → mid ≡ old ++ indented_line comment
     → new ≡ mid ++ below → AppendsOwnLine q options parts origin rows ws old new
@@ -242,7 +242,7 @@ pub lines_go_on : (q : BodyView) (options : Options) (parts : List ℕ) (own : L
 lines_go_on q options parts own i c rows proofs old now new h read first later =
     subst (λ (cs : List Constraint). AppendsEachOwnLine q options parts cs rows (map certificate_view proofs) old new) (sym (rest_from own i c h read)) (line_more q options parts c (drop (i + 1) own) rows proofs old now new first later)
 
--- the same where a call has split the rows and the proofs
+-- `lines_go_on` where a call has split the rows and the proofs
 pub lines_after : (q : BodyView) (options : Options) (parts : List ℕ) (own : List Constraint) (i : ℕ) (c : Constraint) (rows front back : List Terms) (proofs proofs_front proofs_back : List Certificate) (count : ℕ) (old now new : List ℕ)
     → i < length own → c ≡ get_or own i c → count ≡ obliged c.kind → front ≡ take count rows → back ≡ drop count rows → proofs_front ≡ take count proofs → proofs_back ≡ drop count proofs
     → AppendsOwnLine q options parts c.origin front (map certificate_view proofs_front) old now → AppendsEachOwnLine q options parts (drop (i + 1) own) back (map certificate_view proofs_back) now new
@@ -252,11 +252,11 @@ lines_after q options parts own i c rows front back proofs proofs_front proofs_b
     (subst₂ (λ (rs : List Terms) (ps : List Certificate). AppendsOwnLine q options parts c.origin rs (map certificate_view ps) old now) (f ∙ ap (λ (k : ℕ). take k rows) e) (pf ∙ ap (λ (k : ℕ). take k proofs) e) first)
     (subst₂ (λ (rs : List Terms) (ps : List Certificate). AppendsEachOwnLine q options parts (drop (i + 1) own) rs (map certificate_view ps) now new) (b ∙ ap (λ (k : ℕ). drop k rows) e) (pb ∙ ap (λ (k : ℕ). drop k proofs) e) later)
 
--- what the constraints from a place on oblige to
+-- the obligations of the constraints from a place on
 pub obligations_go_on : (own : List Constraint) (i : ℕ) (c : Constraint) (count : ℕ) → i < length own → c ≡ get_or own i c → HasObligations (drop i own) count → (obliged c.kind ≤ count) × HasObligations (drop (i + 1) own) (count - obliged c.kind)
 obligations_go_on own i c count h read all = subst (λ (cs : List Constraint). HasObligations cs count) (rest_from own i c h read) all
 
--- what the constraints oblige to
+-- the obligations of the constraints
 obligations_there : (s t : Space) (f : ℕ → ℕ) (ds : List Demand) (cs : List Constraint) (rows : List Terms) → AllZip (States s) ds cs → ArePulledRows t (demand_obligations f ds) rows → HasObligations cs (length rows)
 obligations_there s t f [] [] [] a b = refl
 obligations_there s t f [] [] (row ∷ rows) a b = absurd b

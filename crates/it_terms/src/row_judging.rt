@@ -60,7 +60,7 @@ fn low_row(alloc: Global, functions: &Dependences, row: &Row) -> Result<Option<R
     }
 }
 
-/// Whether two rows are the same over closed sets in lowest terms.
+/// Whether two rows are equal over closed sets in lowest terms.
 #[tactic(auto, using(crate::proofs::RowLemmas::same_closed))]
 fn is_same_closed(
     alloc: Global,
@@ -79,7 +79,8 @@ fn is_same_closed(
     Ok(is_same(&low, &other_low))
 }
 
-/// Whether an inequality says just what a row says, of the maps that have one value at sets of one closure.
+/// Whether `relation` is an inequality that holds exactly where `row` is at least 0, of the maps that have one value at sets of
+/// one closure.
 fn says_under(
     alloc: Global,
     relation: &Relation,

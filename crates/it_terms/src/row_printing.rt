@@ -23,7 +23,7 @@ use it_space::{Constraint, Problem, Row};
 use it_syntax::Names;
 use std::alloc::{AllocError, Global};
 
-/// A row as papers print it, and the lines, by their numbers, by which it is that row.
+/// A row as papers print it, and the lines, by their numbers, that say the functions by which it is that row.
 #[derive(Drop)]
 pub struct PrintedRow {
     pub text: Vec<u8>,
@@ -68,7 +68,7 @@ fn given_functions(alloc: Global, problem: &Problem) -> Result<Vec<u32>, AllocEr
     Ok(lines)
 }
 
-/// How much a row is to read in the question's own measures, where it is a sum of these.
+/// The length of `row` as `own_sum` writes it, None where that finds no sum.
 fn own_length(
     alloc: Global,
     measures: &[Measure],
@@ -82,7 +82,7 @@ fn own_length(
     }
 }
 
-/// The text of a row over closed sets, where there is less of it to read than without them.
+/// The text of `row` over closed sets; `NotFound` unless there is less of it to read than without them.
 fn shorter_text(
     alloc: Global,
     question: &Question,
@@ -115,7 +115,7 @@ fn shorter_text(
     written(alloc, measures, names, row, Ok(found))
 }
 
-/// The numbers without this one.
+/// `lines` without `line`.
 fn without(alloc: Global, lines: &[u32], line: u32) -> Result<Vec<u32>, AllocError> {
     let mut others = Vec::new(alloc);
     for other in lines {
@@ -126,7 +126,8 @@ fn without(alloc: Global, lines: &[u32], line: u32) -> Result<Vec<u32>, AllocErr
     Ok(others)
 }
 
-/// Of these lines those by which a text tells a row: each is left out in turn, and kept where the text doesn't tell it without.
+/// Those of `lines` by which `text` tells `row`: each is left out in turn, and kept where the text doesn't tell the row without
+/// it.
 fn needed_lines(
     alloc: Global,
     names: &Names,
@@ -148,7 +149,7 @@ fn needed_lines(
     Ok(needed)
 }
 
-/// A text with the lines that it needs, where it tells the row by these.
+/// `text` with those of `lines` that it needs, where it tells `row` by these.
 fn printed_by(
     alloc: Global,
     names: &Names,
@@ -175,7 +176,7 @@ fn printed_by(
     Ok(Some(PrintedRow { text, lines }))
 }
 
-/// A row in few terms by a problem's functions.
+/// `row` in few terms by the functions that `problem` says.
 fn any_printed(
     alloc: Global,
     question: &Question,
@@ -200,8 +201,9 @@ fn any_printed(
     Ok(printed)
 }
 
-/// A row under the names of a question's problem in fewer terms, or in terms with fewer names, than `told_row` has, with the `given` lines
-/// by whose functions these are equal to it; rates stand on the left. None where no such text was found: without functions there is none.
+/// `row` under the names of a question's problem in fewer terms, or in terms with fewer names, than `told_row` has, with the
+/// `given` lines by whose functions the two are equal; rates stand on the left. None where no such text was found, so always
+/// where the lines say no functions.
 pub fn printed_row(
     alloc: Global,
     question: &Question,

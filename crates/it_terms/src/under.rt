@@ -19,20 +19,21 @@ use it_space::{Constraint, Problem, Row, RowFault, Space, Sums};
 use it_syntax::types::Relation;
 use std::alloc::{AllocError, Global};
 
-/// The row of what the right side of a relation with multiples of constraints is more than the left one, None where a number of it
-/// is too large.
+/// The row of the left side of `relation` less its right side, negated if `turned`, plus the constraints with `weights`; None
+/// where one of its numbers is too large.
 pub fn excess(
     alloc: Global,
     relation: &Relation,
+    turned: bool,
     space: Space,
     constraints: &[Constraint],
     weights: &[(u32, i128)],
 ) -> Result<Option<Row>, AllocError>
     requires space { IsSpace space }
     requires within { IsRelationOf space.variables space.rates (relation_view relation.now) }
-    ensures { IfOk result (λ o. IfSome o (IsExcess space (relation_view relation.now) constraints.now weights.now)) }
+    ensures { IfOk result (λ o. IfSome o (IsExcess space (relation_view relation.now) turned constraints.now weights.now)) }
 {
-    let difference = difference(alloc, relation, true, space)?;
+    let difference = difference(alloc, relation, turned, space)?;
     let places = space.size() as usize + 1;
     let mut sums = Sums::zeros(alloc, places)?;
     match add_both(&mut sums, places, difference.terms(), constraints, weights) {
@@ -41,7 +42,7 @@ pub fn excess(
     }
 }
 
-/// Adds the terms of a row, and multiples of constraints.
+/// Adds the row of `terms`, and the sum of the constraints with `weights`.
 fn add_both(
     sums: &mut Sums,
     places: usize,
@@ -57,7 +58,7 @@ fn add_both(
     Ok(())
 }
 
-/// Whether a row is 0 over closed sets, and no number on the way is too large.
+/// Whether `row` is 0 over closed sets; `false` where a number on the way is too large.
 pub fn is_nothing_under(
     alloc: Global,
     functions: &Dependences,
@@ -73,7 +74,7 @@ pub fn is_nothing_under(
     }
 }
 
-/// The constraints of these numbers, None where one isn't there or they are more than all.
+/// The constraints with the indexes `lines`, None where there is none with such an index.
 fn chosen(
     alloc: Global,
     constraints: &[Constraint],
@@ -92,7 +93,8 @@ fn chosen(
     Ok(Some(chosen))
 }
 
-/// The functions that the constraints of these numbers say, None where one isn't there.
+/// The functions that the constraints with the indexes `lines` say; None where there is none with such an index, or these are more
+/// than the constraints.
 pub fn functions_of(
     alloc: Global,
     problem: &Problem,

@@ -1,4 +1,4 @@
-use Rattle.std.proofs.Common.{All, List, ℕ, ℤ, map, pos, subst, subst₂}
+use Rattle.std.proofs.Common.{All, List, ℕ, ℤ, map, pos, subst, subst₂, true}
 use Rattle.std.proofs.lemmas.Bool.{OnTrue_at, OnTrue_from}
 use Rattle.it_space.specs.declared.spaces.Space.{Space}
 use Rattle.it_space.specs.declared.problems.Constraint.{Constraint}
@@ -29,5 +29,5 @@ returns c =
     (subst₂ (λ (xs : List Constraint) (z : Space). IsProofFrom z.variables r c.args.target.now xs) all space (OnTrue_at c.if-not-is_split.false c.in_ok-is_split.ensures))
     (subst₂ (λ (xs : List Constraint) (ws : List (ℕ × ℤ)). All (IsAllowed (forms_of (map of_constraint xs))) ws) all weights c.if-not-are_allowed.ensures)
     c.requires.there c.requires.said
-    (subst (λ (z : Space). IsExcess z r cs named row) space (subst₂ (λ (xs : List Constraint) (ws : List (ℕ × ℤ)). IsExcess c.space-space.result r xs ws row) all weights (rw c.in-Some.is at c.in_ok-row.ensures)))
+    (subst (λ (z : Space). IsExcess z r true cs named row) space (subst₂ (λ (xs : List Constraint) (ws : List (ℕ × ℤ)). IsExcess c.space-space.result r true xs ws row) all weights (rw c.in-Some.is at c.in_ok-row.ensures)))
     (subst (λ (z : Space). AreSameUnder z.variables ds (value row) (λ p. pos 0)) c.requires.space (OnTrue_at e c.in_ok-is_nothing.ensures)))
