@@ -105,15 +105,14 @@ pub fn functions_of(
     ensures said { IfOk result (λ o. IfSome o (λ d. All (IsSaid problem.now.space.variables (forms_of (map of_constraint problem.now.constraints)) lines.now) d.list)) }
 {
     problem.facts();
-    if lines.len() > problem.constraints().len() {
+    let space = problem.space();
+    let all = problem.constraints();
+    if lines.len() > all.len() {
         return Ok(None);
     }
-    match chosen(alloc, problem.constraints(), lines)? {
+    match chosen(alloc, all, lines)? {
         Some(constraints) => {
-            let few = Problem {
-                space: problem.space(),
-                constraints,
-            };
+            let few = Problem { space, constraints };
             Ok(Some(Dependences::read(alloc, &few)?))
         }
         None => Ok(None),
