@@ -12,9 +12,9 @@ use Rattle.it_syntax.specs.NamesViews.{NamesView}
 use Rattle.it_question.specs.Questions.{BodyView}
 use Rattle.it_question.specs.ProblemLines.{problem_names}
 use Rattle.it_terms.specs.FunctionProofs.{ArePrinted, TellsFormUnder}
-use Rattle.it_tell.specs.Tellings.{AreDetails, ArePrintedTexts, AreProofTexts, IsMarkedRowText, IsPointText, MayName, indented_line, proof_lines, step_line, told_rows}
+use Rattle.it_tell.specs.Tellings.{AreDetails, ArePrintedSteps, ArePrintedTexts, AreProofTexts, IsMarkedRowText, IsPointText, MayName, indented_line, proof_lines, step_line, told_rows}
 use Rattle.it_canon.specs.TrueLines.{variable_count}
-use Rattle.it_tell.specs.Steps.{AppendsDetails, AppendsEach, AppendsPoint, AppendsProof, ArePrintedSteps, IsStyled}
+use Rattle.it_tell.specs.Steps.{AppendsDetails, AppendsEach, AppendsPoint, AppendsProof, IsStyled}
 use Rattle.it_tell.specs.declared.settings.Options.{Options}
 use Rattle.it_tell.specs.declared.settings.Style.{Style}
 use Rattle.it_tell.specs.declared.settings.Style.TheVariants.{Plain, Named, Whole}

@@ -1,5 +1,5 @@
 -- No public clause cites this module: what the calls inside `tell` give.
-use Rattle.std.specs.Prelude.{◌≡◌, ◌≤◌, ℕ, ◌-◌, ℤ, List, ◌∷◌, ◌++◌, length, Bool, true, [], map, codes, ◌⊎◌, Option, Some}
+use Rattle.std.specs.Prelude.{◌≡◌, ◌≤◌, ℕ, ◌-◌, ℤ, List, ◌∷◌, ◌++◌, length, Bool, [], map, codes, ◌⊎◌, Option, Some}
 use Rattle.std.specs.List.{zip}
 use Rattle.std.specs.Borrow.{Bor}
 use Rattle.it_space.specs.declared.spaces.Space.{Space}
@@ -17,7 +17,6 @@ use Rattle.it_question.specs.LineDemands.{line_demands}
 use Rattle.it_question.specs.LineOrigins.{line_origins}
 use Rattle.it_question.specs.ProblemLines.{problem_names}
 use Rattle.it_terms.specs.Tells.{TellsForms}
-use Rattle.it_terms.specs.StepsUnder.{TellsStepsUnder}
 use Rattle.it_tell.specs.OwnLines.{own_line, own_lines_by}
 use Rattle.it_space.specs.Answers.{AnswerView, CertificateView, answer_view, certificate_view}
 use Rattle.it_polymatroid.specs.Certificates.{Form}
@@ -181,7 +180,3 @@ abbrev pub IsStyled : Style → List (ℕ × ℤ) → List ℕ → List ℕ → 
 IsStyled Plain named text whole own_named own = ⊥
 IsStyled Named named text whole own_named own = (own_named ≡ named) × (own ≡ text)
 IsStyled Whole named text whole own_named own = (own_named ≡ []) × (own ≡ whole)
-
--- no steps of a proof where functions hold, or its steps where they are asked for
-abbrev pub ArePrintedSteps : BodyView → Options → List ℕ → List (ℕ × ℤ) → List ℕ → List (List ℕ) → Type 0
-ArePrintedSteps q options lines named proof steps = (steps ≡ []) ⊎ ((options.steps ≡ true) × TellsStepsUnder q lines named proof steps)

@@ -128,6 +128,10 @@ proof_lines t = indented_line t.proof ++ flat_map step_line t.steps
 abbrev pub AreProofSteps : BodyView → Options → List ℕ → List (List ℕ) → Type 0
 AreProofSteps q options proof steps = (steps ≡ []) ⊎ ((options.steps ≡ true) × TellsSteps (problem_names q) proof steps)
 
+-- no steps, or, where steps are asked for, those of a proof where the functions hold that `lines` say
+abbrev pub ArePrintedSteps : BodyView → Options → List ℕ → List (ℕ × ℤ) → List ℕ → List (List ℕ) → Type 0
+ArePrintedSteps q options lines named proof steps = (steps ≡ []) ⊎ ((options.steps ≡ true) × TellsStepsUnder q lines named proof steps)
+
 -- a proof of a form where functions hold, and behind it the lines that say these; without steps, or where they are asked for
 -- with its steps where these functions hold
 pub record ArePrintedTexts (q : BodyView) (options : Options) (target : Form) (t : ProofTexts) : Type 0 where
@@ -137,7 +141,7 @@ pub record ArePrintedTexts (q : BodyView) (options : Options) (target : Form) (t
   pub tells : TellsFormUnder q lines named target own
   pub names : MayName options.style named
   pub proof_is : t.proof ≡ own ++ by_comment (question_origins q) lines
-  pub steps_are : (t.steps ≡ []) ⊎ ((options.steps ≡ true) × TellsStepsUnder q lines named own t.steps)
+  pub steps_are : ArePrintedSteps q options lines named own t.steps
 
 -- texts of a proof: where functions hold, or of every map; without steps, or with them
 unfoldable pub AreProofTexts : BodyView → Options → Form × CertificateView → ProofTexts → Type 0

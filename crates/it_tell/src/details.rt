@@ -16,8 +16,8 @@ ghost use Rattle.it_print.specs.Lines.{AreListed, IsPrintable, origins_of, value
 ghost use Rattle.it_polymatroid.specs.Certificates.{Form};
 ghost use Rattle.it_report.specs.Steps.{IsAboutRelation};
 ghost use Rattle.it_terms.specs.FunctionProofs.{ArePrinted};
-ghost use Rattle.it_tell.specs.Tellings.{ArePrintedTexts, AreProofSteps, AreProofTexts, IsPointText, IsProofText, indented_line, step_line, weights_text};
-ghost use Rattle.it_tell.specs.Steps.{AppendsDetails, AppendsPoint, AppendsProof, AppendsProofs, AreFormRows, ArePrintedSteps, IsStyled, form_with_proof};
+ghost use Rattle.it_tell.specs.Tellings.{ArePrintedSteps, ArePrintedTexts, AreProofSteps, AreProofTexts, IsPointText, IsProofText, indented_line, step_line, weights_text};
+ghost use Rattle.it_tell.specs.Steps.{AppendsDetails, AppendsPoint, AppendsProof, AppendsProofs, AreFormRows, IsStyled, form_with_proof};
 
 use crate::containments::{Containment, write_contained};
 use crate::regions::write_rows;
