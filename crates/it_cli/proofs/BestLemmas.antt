@@ -1,7 +1,6 @@
 -- What mode `best` writes.
-use Rattle.std.proofs.Common.{◌≡◌, ℕ, List, [], ◌∷◌, ◌++◌, length, eqb, map, Result, Ok, Err, IfOk, codes, true, false, refl, sym, ap, ap₂, subst, ◌∙◌}
+use Rattle.std.proofs.Common.{◌≡◌, ℕ, List, [], ◌∷◌, ◌++◌, length, map, Result, Ok, Err, IfOk, codes, true, false, refl, sym, ap, ap₂, subst, ◌∙◌}
 use Rattle.std.specs.Global.{Vec}
-use Rattle.std.proofs.lemmas.Bool.{eqb-true, false≢true}
 use Rattle.std.proofs.lemmas.List.{nil_from_length}
 use Rattle.it_prove.specs.declared.types.Effort.{Effort}
 use Rattle.it_question.specs.Questions.{BodyView}
@@ -16,12 +15,12 @@ use Rattle.it_cli.specs.Outputs.{best_mode}
 
 -- ---- with copies, or without any
 
-pub no_copies : (lines : List CopyLine) → eqb (length lines) 0 ≡ true → map copy_view lines ≡ []
-no_copies lines e = ap (map copy_view) (nil_from_length lines (eqb-true (length lines) 0 e))
+pub no_copies : (lines : List CopyLine) → length lines ≡ 0 → map copy_view lines ≡ []
+no_copies lines e = ap (map copy_view) (nil_from_length lines e)
 
-pub some_copies : (lines : List CopyLine) → eqb (length lines) 0 ≡ false → map copy_view lines ≡ [] → ⊥
-some_copies [] e none = false≢true (sym e)
-some_copies (c ∷ lines) e none = cc
+pub some_copies : (lines : List CopyLine) → (length lines ≡ 0 → ⊥) → map copy_view lines ≡ [] → ⊥
+some_copies [] some none = some refl
+some_copies (c ∷ lines) some none = cc
 
 pub asked_alone : (q : BodyView) (cs : List CopyView) → cs ≡ [] → IsAskedWith q cs q
 asked_alone q cs none = subst (λ (ds : List CopyView). IsAskedWith q ds q) (sym none) refl
