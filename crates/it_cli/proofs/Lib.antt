@@ -22,6 +22,7 @@ pub mod NameFits
 pub mod FeedLemmas
 pub mod AcceptLemmas
 pub mod ShortTexts
+pub mod AcceptedOrigins
 pub mod AcceptedOutput
 pub mod TruthLemmas
 pub mod WrittenLemmas

@@ -21,7 +21,6 @@ use Rattle.it_demand.proofs.ZipLemmas.{zip-append}
 use Rattle.it_canon.specs.QuestionDemands.{IsProblemOf}
 use Rattle.it_canon.proofs.PosesLemmas.{one_problem}
 use Rattle.it_contain.specs.Proposals.{Plan}
-use Rattle.it_origins.specs.Origins.{IsOrigin}
 use Rattle.it_rates.specs.Asked.{under_all_lines}
 use Rattle.it_certificate.specs.OriginReading.{IsRegion, rows_of}
 use Rattle.it_certificate.specs.Values.{answer_text}
@@ -30,7 +29,7 @@ use Rattle.it_answer.specs.Replies.{Reply}
 use Rattle.it_answer.specs.RightAnswers.{IsRightAnswer}
 use Rattle.it_answer.specs.Shows.{ShowsBy}
 use Rattle.it_answer.specs.Truth.{region_rows}
-use Rattle.it_cli.specs.ToldOrigins.{AreToldOrigins, derived_line}
+use Rattle.it_cli.specs.ToldOrigins.{AreToldOrigins, IsToldOrigin, told_report}
 
 -- ---- the loop over the rows
 
@@ -41,17 +40,17 @@ module _ (p : ProblemView) where
       subst (IsOver (size_of p.space)) (get_or-map (λ (r : Mark × Terms). r.1) rows i row row.1 l ∙ ap (λ (r : Mark × Terms). r.1) (sym at)) (all i row.1 (simp length-map l))
 
   -- one more row with its certificate
-  pub origins_more : (rows : List (Mark × Terms)) (ws new : List CertificateView) (i : ℕ) (row : Mark × Terms) (w : CertificateView) → i < length rows → row ≡ get_or rows i row → IsOrigin p row.1 w → new ≡ ws ++ w ∷ []
-      → AllZip (IsOrigin p) (region_rows (take i rows)) ws → AllZip (IsOrigin p) (region_rows (take (i + 1) rows)) new
+  pub origins_more : (rows : List (Mark × Terms)) (ws new : List CertificateView) (i : ℕ) (row : Mark × Terms) (w : CertificateView) → i < length rows → row ≡ get_or rows i row → IsToldOrigin p row.1 w → new ≡ ws ++ w ∷ []
+      → AllZip (IsToldOrigin p) (region_rows (take i rows)) ws → AllZip (IsToldOrigin p) (region_rows (take (i + 1) rows)) new
   origins_more rows ws new i row w l at proves is z =
       let longer : take (i + 1) rows ≡ take i rows ++ row ∷ [] = (take_at_read rows i row l).1 ∙ ap (λ (r : Mark × Terms). take i rows ++ r ∷ []) (sym at) in
       let own : region_rows (take (i + 1) rows) ≡ region_rows (take i rows) ++ row.1 ∷ [] = ap (λ (rs : List (Mark × Terms)). region_rows rs) longer ∙ map-append (λ (r : Mark × Terms). r.1) (take i rows) (row ∷ []) in
-      subst (λ (rs : List Terms). AllZip (IsOrigin p) rs new) (sym own) (subst (λ (xs : List CertificateView). AllZip (IsOrigin p) (region_rows (take i rows) ++ row.1 ∷ []) xs) (sym is)
-      (zip-append (IsOrigin p) (region_rows (take i rows)) (row.1 ∷ []) ws (w ∷ []) z (proves, tt)))
+      subst (λ (rs : List Terms). AllZip (IsToldOrigin p) rs new) (sym own) (subst (λ (xs : List CertificateView). AllZip (IsToldOrigin p) (region_rows (take i rows) ++ row.1 ∷ []) xs) (sym is)
+      (zip-append (IsToldOrigin p) (region_rows (take i rows)) (row.1 ∷ []) ws (w ∷ []) z (proves, tt)))
 
   -- all rows have theirs
-  pub origins_all : (rows : List (Mark × Terms)) (ws : List CertificateView) (i : ℕ) → length rows ≤ i → AllZip (IsOrigin p) (region_rows (take i rows)) ws → AllZip (IsOrigin p) (region_rows rows) ws
-  origins_all rows ws i l z = subst (λ (rs : List (Mark × Terms)). AllZip (IsOrigin p) (region_rows rs) ws) (take_all i rows l) z
+  pub origins_all : (rows : List (Mark × Terms)) (ws : List CertificateView) (i : ℕ) → length rows ≤ i → AllZip (IsToldOrigin p) (region_rows (take i rows)) ws → AllZip (IsToldOrigin p) (region_rows rows) ws
+  origins_all rows ws i l z = subst (λ (rs : List (Mark × Terms)). AllZip (IsToldOrigin p) (region_rows rs) ws) (take_all i rows l) z
 
 -- ---- what is told
 
@@ -60,11 +59,11 @@ module _ (q : BodyView) (p : ProblemView) (posed : IsProblemOf (under_all_lines 
   pub rows_of_problem : (rows : List (Mark × Terms)) → All (IsOver (size_of (space_of q.names))) (region_rows rows) → All (IsOver (size_of p.space)) (region_rows rows)
   rows_of_problem rows all = subst (λ (s : Space). All (IsOver (size_of s)) (region_rows rows)) (sym posed.space) all
 
-  origins_told : (rows : List (Mark × Terms)) (ws : List CertificateView) → AllZip (IsOrigin p) (region_rows rows) ws → AreToldOrigins Derived q (Region rows) (Some ws)
-  origins_told rows ws z = subst (λ (r : ProblemView). AllZip (IsOrigin r) (region_rows rows) ws) (one_problem (under_all_lines q) p posed) z
+  origins_told : (rows : List (Mark × Terms)) (ws : List CertificateView) → AllZip (IsToldOrigin p) (region_rows rows) ws → AreToldOrigins Derived q (Region rows) (Some ws)
+  origins_told rows ws z = subst (λ (r : ProblemView). AllZip (IsToldOrigin r) (region_rows rows) ws) (one_problem (under_all_lines q) p posed) z
 
   -- certificates that were found are told
-  pub told_where_found : (rows : List (Mark × Terms)) (found : Option (Vec Certificate)) → IfSome found (λ v. AllZip (IsOrigin p) (region_rows rows) (map certificate_view v.items))
+  pub told_where_found : (rows : List (Mark × Terms)) (found : Option (Vec Certificate)) → IfSome found (λ v. AllZip (IsToldOrigin p) (region_rows rows) (map certificate_view v.items))
       → AreToldOrigins Derived q (Region rows) (option_map (λ v. map certificate_view v.items) found)
   told_where_found rows None h = refl
   told_where_found rows (Some v) h = origins_told rows (map certificate_view v.items) h
@@ -78,14 +77,14 @@ told_of_region q (Region rows) ws told = tt
 told_of_region q (Contained parts proofs) ws told = absurd (cc)
 told_of_region q (Open tried) ws told = absurd (cc)
 
--- a line without certificates is that of the format `json`
-pub line_without : (q : QuestionView) (answer : AnswerView) → derived_line q answer None ≡ answer_text q.text q.body.names answer ++ codes "\n"
-line_without q (Yes proofs) = refl
-line_without q (No back values) = refl
-line_without q (Undecided cause) = refl
-line_without q (Region rows) = refl
-line_without q (Contained parts proofs) = refl
-line_without q (Open tried) = refl
+-- a report without certificates is that of the format `json`
+pub report_without : (q : QuestionView) (answer : AnswerView) → told_report q answer None ≡ answer_text q.text q.body.names answer
+report_without q (Yes proofs) = refl
+report_without q (No back values) = refl
+report_without q (Undecided cause) = refl
+report_without q (Region rows) = refl
+report_without q (Contained parts proofs) = refl
+report_without q (Open tried) = refl
 
 -- ---- the rows of a right answer
 

@@ -26,7 +26,7 @@ use Rattle.it_answer.specs.declared.types.Budgets.{Budgets}
 use Rattle.it_factor.specs.Replies.{ReplyView}
 use Rattle.it_factor.specs.RightReplies.{IsRightReply}
 use Rattle.it_factor.specs.Lines.{reply_line}
-use Rattle.it_cli.specs.ToldOrigins.{AreToldOrigins, IsRightTold, ToldReply, answer_lines, derived_line, told_lines}
+use Rattle.it_cli.specs.ToldOrigins.{AreToldOrigins, IsRightTold, ToldReply, answer_lines, told_report, told_lines}
 use Rattle.it_cli.specs.BestReplies.{IsRightBestReply, best_lines, reply_members}
 use Rattle.it_cli.specs.Copies.{AsksWithCopies, CopyQuestion, IsRightCopy, IsRightProof, ReplyWith, copy_lines, with_copies}
 use Rattle.it_cli.specs.Ends.{Ends, call_of}
@@ -64,7 +64,7 @@ pub record IsToldText (format : Format) (k : ℕ) (q : QuestionView) (answer : A
 
 -- the line of an answer with certificates of its rows, or without
 abbrev pub IsDerivedLine : QuestionView → AnswerView → List ℕ → Type 0
-IsDerivedLine q answer bytes = (origins : Option (List CertificateView)) × AreToldOrigins Derived q.body answer origins × (bytes ≡ derived_line q answer origins)
+IsDerivedLine q answer bytes = (origins : Option (List CertificateView)) × AreToldOrigins Derived q.body answer origins × (bytes ≡ told_report q answer origins ++ codes "\n")
 
 -- the lines of a right answer to question k, by boxes with these plans before it and after it
 pub record IsAnswerText (budgets : Budgets) (plans : List Plan) (format : Format) (k : ℕ) (q : QuestionView) (plans_after : List Plan) (bytes : List ℕ) : Type 0 where

@@ -5,12 +5,15 @@ use Rattle.it_settings.specs.declared.types.Format.{Format}
 use Rattle.it_settings.specs.declared.types.Format.TheVariants.{Text, Json, Proof, Derived}
 use Rattle.it_space.specs.Answers.{AnswerView, CertificateView}
 use Rattle.it_space.specs.Answers.AnswerView.{Region}
+use Rattle.it_space.specs.Problems.{ProblemView}
+use Rattle.it_space.specs.Rows.{Terms}
 use Rattle.it_question.specs.Questions.{BodyView, QuestionView}
 use Rattle.it_canon.specs.QuestionDemands.{problem_of, question_origins, terms_in}
 use Rattle.it_region.specs.AnswerForms.{answer_forms}
 use Rattle.it_contain.specs.Proposals.{Plan}
 use Rattle.it_origins.specs.Origins.{IsOrigin}
 use Rattle.it_rates.specs.Asked.{under_all_lines}
+use Rattle.it_certificate.specs.AnswerShapes.{IsNumbered}
 use Rattle.it_certificate.specs.Values.{answer_text, derived_text}
 use Rattle.it_print.specs.Lines.{answer_line}
 use Rattle.it_print.specs.ProofLines.{proof_text}
@@ -25,10 +28,13 @@ pub record ToldReply : Type 0 where
   pub reply : Reply
   pub origins : Option (List CertificateView)
 
--- Certificates are told of a region alone, in the format `derived`: each proves its row by constraints alone, where all lines of the
--- question are constraints.
+-- a certificate of the row by constraints alone, with numbers that a report can have
+abbrev pub IsToldOrigin : ProblemView → Terms → CertificateView → Type 0
+IsToldOrigin p row w = IsOrigin p row w × IsNumbered w
+
+-- Certificates are told of a region alone, in the format `derived`: each is one of its row, where all lines of the question are constraints.
 abbrev pub AreToldOrigins : Format → BodyView → AnswerView → Option (List CertificateView) → Type 0
-AreToldOrigins Derived q (Region rows) (Some ws) = AllZip (IsOrigin (problem_of (under_all_lines q))) (region_rows rows) ws
+AreToldOrigins Derived q (Region rows) (Some ws) = AllZip (IsToldOrigin (problem_of (under_all_lines q))) (region_rows rows) ws
 AreToldOrigins format q answer origins = origins ≡ None
 
 -- a right answer to a question, with what is told of its rows
@@ -38,17 +44,17 @@ pub record IsRightTold (format : Format) (budgets : Budgets) (plans : List Plan)
 
 -- ---- its lines
 
--- the line of JSON of an answer, with the certificates of its rows, if these are told
-abbrev pub derived_line : QuestionView → AnswerView → Option (List CertificateView) → List ℕ
-derived_line q (Region rows) (Some ws) = derived_text q.text q.body.names rows ws ++ codes "\n"
-derived_line q answer origins = answer_text q.text q.body.names answer ++ codes "\n"
+-- the report of an answer, with the certificates of its rows, if these are told; the line's end isn't part of it
+abbrev pub told_report : QuestionView → AnswerView → Option (List CertificateView) → List ℕ
+told_report q (Region rows) (Some ws) = derived_text q.text q.body.names rows ws
+told_report q answer origins = answer_text q.text q.body.names answer
 
 -- the lines of an answer to question k
 abbrev pub answer_lines : Format → ℕ → QuestionView → AnswerView → Option (List CertificateView) → List ℕ
 answer_lines Text k q a origins = answer_line k q.body (question_origins q.body) a
 answer_lines Json k q a origins = answer_text q.text q.body.names a ++ codes "\n"
 answer_lines Proof k q a origins = proof_text k q.body (question_origins q.body) (question_generators q.body) (map (terms_in q.body) (answer_forms q.body a)) a
-answer_lines Derived k q a origins = derived_line q a origins
+answer_lines Derived k q a origins = told_report q a origins ++ codes "\n"
 
 -- those of what is told of it
 abbrev pub told_lines : Format → ℕ → QuestionView → ToldReply → List ℕ

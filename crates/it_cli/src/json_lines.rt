@@ -1,5 +1,6 @@
 //! Lines of JSON: the formats `json` and `derived` of mode `answer`.
 ghost use Rattle.std.specs.Prelude.{◌≡◌, ◌++◌, All, IfOk, IfSome, IsAscii, Some, codes, map, option_map};
+ghost use Rattle.std.specs.Bool.{OnTrue};
 ghost use Rattle.std.specs.List.{AllZip};
 ghost use Rattle.it_settings.specs.declared.types.Format.TheVariants.{Derived};
 ghost use Rattle.it_space.specs.Answers.{answer_view, certificate_view};
@@ -9,12 +10,12 @@ ghost use Rattle.it_space.specs.Spaces.{size_of};
 ghost use Rattle.it_question.specs.Limits.{IsQuestion};
 ghost use Rattle.it_question.specs.Questions.{question_body, question_view};
 ghost use Rattle.it_demand.specs.QuestionSpaces.{space_of};
-ghost use Rattle.it_origins.specs.Origins.{IsOrigin};
 ghost use Rattle.it_answer.specs.Truth.{region_rows};
+ghost use Rattle.it_certificate.specs.AnswerShapes.{IsNumbered, IsNumberedAmount};
 ghost use Rattle.it_certificate.specs.OriginReading.{IsRegion, rows_of};
 ghost use Rattle.it_certificate.specs.Values.{IsWritable, answer_text};
 ghost use Rattle.it_cli.specs.InnerEnds.{IsDerivedLine};
-ghost use Rattle.it_cli.specs.ToldOrigins.{AreToldOrigins, derived_line};
+ghost use Rattle.it_cli.specs.ToldOrigins.{AreToldOrigins, IsToldOrigin, told_report};
 
 use it_certificate::{answer_json, derived_json};
 use it_origins::origin;
@@ -93,17 +94,58 @@ fn row_origins(
 ) -> Result<Option<Vec<Certificate>>, AllocError>
     requires problem { IsProblem (problem_view problem.now) }
     requires rows { All (IsOver (size_of problem.now.space)) (region_rows rows.now) }
-    ensures { IfOk result (λ o. IfSome o (λ v. AllZip (IsOrigin (problem_view problem.now)) (region_rows rows.now) (map certificate_view v.items))) }
+    ensures { IfOk result (λ o. IfSome o (λ v. AllZip (IsToldOrigin (problem_view problem.now)) (region_rows rows.now) (map certificate_view v.items))) }
 {
     let mut origins = Vec::new(alloc);
     for row in rows {
-        let found = origin(alloc, problem, &row.1)?;
+        let found = told_origin(alloc, problem, &row.1)?;
         match found {
             Some(certificate) => origins.push(certificate)?,
             None => return Ok(None),
         }
     }
     Ok(Some(origins))
+}
+
+/// A certificate of a row from a problem's constraints alone, with numbers that a report can have; None where none is found.
+fn told_origin(
+    alloc: Global,
+    problem: &Problem,
+    row: &Row,
+) -> Result<Option<Certificate>, AllocError>
+    requires problem { IsProblem (problem_view problem.now) }
+    requires row { IsOver (size_of problem.now.space) row.now }
+    ensures { IfOk result (λ o. IfSome o (λ w. IsToldOrigin (problem_view problem.now) row.now (certificate_view w))) }
+{
+    let Some(certificate) = origin(alloc, problem, row)? else {
+        return Ok(None);
+    };
+    if !is_numbered(&certificate) {
+        return Ok(None);
+    }
+    Ok(Some(certificate))
+}
+
+/// Whether a report can have the numbers of a certificate: none of them is the least of its type.
+fn is_numbered(certificate: &Certificate) -> bool
+    ensures { OnTrue result (IsNumbered (certificate_view certificate.now)) }
+{
+    certificate.scale != i128::MIN && are_amounts(certificate.weights.as_slice())
+}
+
+/// The same of weights.
+fn are_amounts(weights: &[(u32, i128)]) -> bool
+    ensures { OnTrue result (All IsNumberedAmount weights.now) }
+{
+    weights.iter().all(is_amount)
+}
+
+/// The same of one.
+fn is_amount(weight: &(u32, i128)) -> bool
+    ensures { OnTrue result (IsNumberedAmount weight.now) }
+{
+    let (_, number) = *weight;
+    number != i128::MIN
 }
 
 /// The line of a region with certificates of its rows.
@@ -115,7 +157,7 @@ fn region_line(
 ) -> Result<Vec<u8>, AllocError>
     requires ascii { IsAscii (question_view question.now).text }
     requires region { IsRegion (answer_view answer.now) }
-    ensures { IfOk result (λ line. line.items ≡ derived_line (question_view question.now) (answer_view answer.now) (Some (map certificate_view origins.now))) }
+    ensures { IfOk result (λ line. line.items ≡ told_report (question_view question.now) (answer_view answer.now) (Some (map certificate_view origins.now)) ++ codes "\n") }
 {
     let Answer::Region(rows) = answer else {
         unreachable!()

@@ -6,7 +6,7 @@ ghost use Rattle.it_cli.specs.Written.{AnswersAreTrue, AnswersShow, BoundsAreTru
 
 use it_answer::{answers_are_determined, shown_answers_are_true};
 use it_bounds::shown_bounds_are_true;
-use it_certificate::answers_read_back;
+use it_certificate::{answers_read_back, origins_read_back};
 use it_copy::{copied_questions_are_within, copies_are_determined, heads_are_one, yes_by_copies};
 use it_factor::{replies_are_determined, shown_factors_are_true};
 use it_gen::generated_is_file;
@@ -170,16 +170,18 @@ pub fn no_step_is_zero()
     it_answer::no_step_is_zero();
 }
 
-/// The line of a right answer in the format `json`, where it is checked, is valid or skipped.
+/// The line of a right answer in the formats `json` and `derived`, where it is checked, is valid or skipped.
 pub fn reports_are_accepted()
     ensures { ReportsAreAccepted }
 {
     answers_read_back();
+    origins_read_back();
 }
 
-/// Where the output of mode `answer` in the format `json` is checked as a report, the status is `Done`.
+/// Where the output of mode `answer` in the format `json` or `derived` is checked as a report, the status is `Done`.
 pub fn output_is_accepted()
     ensures { OutputIsAccepted }
 {
     answers_read_back();
+    origins_read_back();
 }

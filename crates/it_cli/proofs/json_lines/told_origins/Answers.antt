@@ -9,7 +9,7 @@ use Rattle.it_space.specs.Rows.{IsOver, Terms}
 use Rattle.it_space.specs.Spaces.{size_of}
 use Rattle.it_question.specs.Questions.{question_body}
 use Rattle.it_demand.specs.QuestionSpaces.{space_of}
-use Rattle.it_origins.specs.Origins.{IsOrigin}
+use Rattle.it_cli.specs.ToldOrigins.{IsToldOrigin}
 use Rattle.it_answer.specs.Truth.{region_rows}
 use Rattle.it_certificate.specs.OriginReading.{rows_of}
 use Rattle.it_cli.proofs.OriginLemmas.{rows_of_problem, told_where_found}
@@ -23,4 +23,4 @@ row_origins-requires-clause-rows c = let q = question_body c.args.question.now i
 pub returns-in_ok-origins-in-Region : goal.returns-in_ok-origins-in-Region
 returns-in_ok-origins-in-Region c = let p = problem_view c.in_ok-problem-in-Region.problem in
     rw c.in-Region.is (told_where_found (question_body c.args.question.now) p c.in_ok-problem-in-Region.ensures c.in-Region.rows.items c.in_ok-origins-in-Region.origins
-    (subst (λ (rows : List (Mark × Terms)). IfSome c.in_ok-origins-in-Region.origins (λ v. AllZip (IsOrigin p) (region_rows rows) (map certificate_view v.items))) c.as_slice.ensures.value c.in_ok-origins-in-Region.ensures))
+    (subst (λ (rows : List (Mark × Terms)). IfSome c.in_ok-origins-in-Region.origins (λ v. AllZip (IsToldOrigin p) (region_rows rows) (map certificate_view v.items))) c.as_slice.ensures.value c.in_ok-origins-in-Region.ensures))
