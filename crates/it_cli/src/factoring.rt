@@ -76,7 +76,12 @@ fn reply_report(
 {
     let text = question.text(alloc)?;
     if copies.is_empty() {
-        return factor_report(alloc, effort, SourceText::Question(text.as_slice()), question);
+        return factor_report(
+            alloc,
+            effort,
+            SourceText::Question(text.as_slice()),
+            question,
+        );
     }
     let head = head_text(alloc, copies)?;
     let source = SourceText::Copies {
