@@ -193,18 +193,26 @@ fn reply<K: Sink>(
             report,
             run,
             pivots,
-        } => {
-            let effort = effort_of(run, pivots);
-            reply_to_file(alloc, Wanted::Answers, report, effort, bytes, sink)
-        }
+        } => reply_to_file(
+            alloc,
+            Wanted::Answers,
+            report,
+            effort_of(run, pivots),
+            bytes,
+            sink,
+        ),
         Settings::Best {
             report,
             run,
             pivots,
-        } => {
-            let effort = effort_of(run, pivots);
-            reply_to_file(alloc, Wanted::Factors, report, effort, bytes, sink)
-        }
+        } => reply_to_file(
+            alloc,
+            Wanted::Factors,
+            report,
+            effort_of(run, pivots),
+            bytes,
+            sink,
+        ),
         Settings::Outer {
             report,
             run,
