@@ -11,6 +11,8 @@ pub mod OutputLemmas
 pub mod PrefixLemmas
 pub mod CheckLemmas
 pub mod CopyLemmas
+pub mod CopyFactors
+pub mod BestLemmas
 pub mod SharingLemmas
 pub mod JsonLemmas
 pub mod ContainedFits

@@ -18,23 +18,21 @@ use Rattle.it_bounds.specs.Replies.{ReplyView as BoundsView}
 use Rattle.it_bounds.specs.RightReplies as right_bounds
 use Rattle.it_bounds.specs.Truth as true_bounds
 use Rattle.it_bounds.specs.Reports as bounds
-use Rattle.it_factor.specs.Replies.{ReplyView}
 use Rattle.it_factor.specs.RightReplies as factors
-use Rattle.it_factor.specs.Truth.{IsTrueReply}
-use Rattle.it_cli.specs.FactorReports.{best_lines}
+use Rattle.it_cli.specs.BestReplies.{best_lines}
 use Rattle.it_cli.specs.Copies.{AsksWithCopies, CopyQuestion, copy_lines, with_copies}
 use Rattle.it_cli.specs.Modes.{Mode, WholeOutput}
 use Rattle.it_cli.specs.Outputs.{IsOutput, answer_mode, best_mode, copy_mode, most_bytes, outer_mode, sharing_mode}
 use Rattle.it_cli.specs.Right.{budgets_of, effort_of, limits_of}
 use Rattle.it_cli.specs.ToldOrigins.{AreToldOrigins, ToldReply, told_lines}
 use Rattle.it_cli.specs.SharingReplies.{AsksOfSharing, SharingFile, SharingReply, said_by, sharing_lines}
-use Rattle.it_cli.specs.Truth.{IsTrueCopy, IsTrueSharing}
+use Rattle.it_cli.specs.Truth.{IsTrueBestReply, IsTrueCopy, IsTrueSharing}
 use Rattle.it_cli.specs.Written.{AnswersAreTrue, AnswersShow, AreLinesFor, AreReplyLines, BoundsAreTrue, CopiesAreTrue, FactorsAreTrue, SharingIsTrue, ShownAnswers, TrueAnswers, TrueBounds, TrueCopies, TrueFactors, TrueSharing, WritesSuch}
 use Rattle.it_cli.specs.declared.status.Status.{Status}
 use Rattle.it_cli.specs.declared.status.Status.TheVariants.{Done}
 use Rattle.it_cli.proofs.LawLemmas.{headline}
 use Rattle.it_cli.proofs.ReplyLemmas.{RepliesFrom}
-use Rattle.it_cli.proofs.TruthLemmas.{right_copy_is_true, right_reply_is_true, right_sharing_is_true}
+use Rattle.it_cli.proofs.TruthLemmas.{right_best_is_true, right_copy_is_true, right_sharing_is_true}
 
 -- ---- in any mode
 
@@ -84,10 +82,9 @@ pub copies_are_true : answers.WhatIsShownIsTrue → YesByCopies → CopiedQuesti
 copies_are_true shown_is_true by_copies are_within report run pivots = writes_such (Copy report run pivots) 1048576 (TrueCopies report) refl (λ plans bytes out o.
     lines_for (copy_mode report (effort_of run pivots)) (λ reply. reply) (copy_lines report) (λ k x reply. refl) IsWithinLimits IsTrueCopy (λ earlier. right_copy_is_true shown_is_true by_copies (effort_of run pivots)) (copied_within are_within) bytes out Done o)
 
-pub factors_are_true : factors.WhatIsShownIsTrue → FactorsAreTrue
-factors_are_true shown_is_true report run pivots = writes_such (Best report run pivots) 1048576 (TrueFactors report) refl (λ plans bytes out o.
-    lines_for (best_mode report (effort_of run pivots)) (λ reply. reply) (best_lines report) (λ k q reply. refl) Any (λ (q : QuestionView) (reply : ReplyView). IsTrueReply q.body reply)
-    (λ earlier q reply any. right_reply_is_true shown_is_true (effort_of run pivots) q.body reply) (λ bytes qs asked i d l. tt) bytes out Done o)
+pub factors_are_true : factors.WhatIsShownIsTrue → CopiedQuestionsAreWithin → FactorsAreTrue
+factors_are_true shown_is_true are_within report run pivots = writes_such (Best report run pivots) 1048576 (TrueFactors report) refl (λ plans bytes out o.
+    lines_for (best_mode report (effort_of run pivots)) (λ reply. reply) (best_lines report) (λ k x reply. refl) IsWithinLimits IsTrueBestReply (λ earlier. right_best_is_true shown_is_true (effort_of run pivots)) (copied_within are_within) bytes out Done o)
 
 -- what a reply to the question shows is true
 abbrev IsTrueWhereShown : QuestionView → Type 0

@@ -30,10 +30,14 @@ pub record AsksWithCopies (bytes : List ℕ) (items : List CopyQuestion) : Type 
   pub read : IsCopyFile bytes copies questions
   pub are : items ≡ map (with_copies copies) questions
 
--- why the question can't have the copies, or the question with them and an answer to it
-pub data CopyReply : Type 0 where
-  Misfit : (fault : CopyFault) → CopyReply
-  Extended : (question : BodyView) (answer : AnswerView) → CopyReply
+-- why the question can't have the copies, or the question that is asked, with them, and what is told of it
+pub data ReplyWith (Told : Type 0) : Type 0 where
+  Misfit : (fault : CopyFault) → ReplyWith Told
+  Extended : (question : BodyView) (told : Told) → ReplyWith Told
+
+-- what is told is an answer
+abbrev pub CopyReply : Type 0
+CopyReply = ReplyWith AnswerView
 
 -- a right answer to a question about a relation, which tries no candidates and eliminates nothing
 abbrev pub IsRightProof : Effort → BodyView → AnswerView → Type 0

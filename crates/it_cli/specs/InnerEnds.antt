@@ -1,5 +1,5 @@
 -- How the calls inside the top call end, by which its end is proved. No public clause cites this module.
-use Rattle.std.specs.Prelude.{◌≡◌, ℕ, List, [], ◌++◌, ◌⊎◌, map, codes, Option, Some}
+use Rattle.std.specs.Prelude.{◌≡◌, ℕ, List, [], ◌++◌, ◌⊎◌, Bool, map, codes, Option, Some}
 use Rattle.std.specs.Borrow.{Bor}
 use Rattle.it_outside.specs.Causes.{next_count}
 use Rattle.it_outside.specs.Traffic.{Gains, TookPrefix}
@@ -10,6 +10,7 @@ use Rattle.it_question.specs.Questions.{BodyView, QuestionView, question_view}
 use Rattle.it_canon.specs.QuestionDemands.{terms_in, question_origins}
 use Rattle.it_copy.specs.declared.types.CopyLine.{CopyLine}
 use Rattle.it_copy.specs.CopyLines.{copy_view}
+use Rattle.it_copy.specs.Files.{CopyFileFaultAt}
 use Rattle.it_settings.specs.declared.types.Settings.{Settings}
 use Rattle.it_settings.specs.Settings.{settings_of}
 use Rattle.it_settings.specs.declared.types.Format.{Format}
@@ -24,12 +25,16 @@ use Rattle.it_answer.specs.declared.types.AnsweredProblem.{AnsweredProblem}
 use Rattle.it_answer.specs.declared.types.Budgets.{Budgets}
 use Rattle.it_factor.specs.Replies.{ReplyView}
 use Rattle.it_factor.specs.RightReplies.{IsRightReply}
+use Rattle.it_factor.specs.Lines.{reply_line}
 use Rattle.it_cli.specs.ToldOrigins.{AreToldOrigins, IsRightTold, ToldReply, answer_lines, told_report, told_lines}
-use Rattle.it_cli.specs.FactorReports.{reply_members}
-use Rattle.it_cli.specs.Copies.{CopyQuestion, IsRightProof, with_copies}
+use Rattle.it_cli.specs.BestReplies.{IsRightBestReply, best_lines, reply_members}
+use Rattle.it_cli.specs.Copies.{AsksWithCopies, CopyQuestion, IsRightCopy, IsRightProof, ReplyWith, copy_lines, with_copies}
 use Rattle.it_cli.specs.Ends.{Ends, call_of}
 use Rattle.it_cli.specs.Modes.{FirstOutput, Mode, OutputInPart, WholeOutput}
+use Rattle.it_cli.specs.Outputs.{done_mode}
 use Rattle.it_cli.specs.Refusals.{fault_line}
+use Rattle.it_cli.specs.declared.heads.Wanted.{Wanted}
+use Rattle.it_cli.specs.declared.heads.Wanted.TheVariants.{Answers, Factors}
 use Rattle.it_cli.specs.declared.status.Status.{Status}
 use Rattle.it_cli.specs.declared.status.Status.TheVariants.{Done, Invalid, Refused, WriteFault, Memory}
 
@@ -80,7 +85,13 @@ pub record IsReportOf (effort : Effort) (texts : SourceTexts) (q : BodyView) (by
   pub right : IsRightProof effort q answer
   pub is : bytes ≡ report_text texts (answer_members q.names answer) ++ codes "\n"
 
--- the line of a report on a right reply about factors; `texts` are what is asked
+-- the line of a right reply about factors to question k
+pub record IsFactorText (effort : Effort) (k : ℕ) (q : BodyView) (bytes : List ℕ) : Type 0 where
+  pub reply : ReplyView
+  pub right : IsRightReply effort q reply
+  pub is : bytes ≡ reply_line k q (question_origins q) reply
+
+-- the line of a report of a right reply about factors, about what these texts ask
 pub record IsFactorReportOf (effort : Effort) (texts : SourceTexts) (q : BodyView) (bytes : List ℕ) : Type 0 where
   pub reply : ReplyView
   pub right : IsRightReply effort q reply
@@ -131,7 +142,28 @@ EndOfItems m old new before now items s = (bytes : List ℕ) → m.Asks bytes it
 abbrev pub questions_with : List CopyLine → List Question → List CopyQuestion
 questions_with copies questions = map (with_copies (map copy_view copies)) (map question_view questions)
 
--- ---- these ends of a sink, by its meaning and its states before and after
+-- ---- what is wanted of the questions of a file with a head
+
+-- what is told of a question
+abbrev pub ToldFor : Wanted → Type 0
+ToldFor Answers = AnswerView
+ToldFor Factors = ReplyView
+
+-- a right reply
+abbrev pub IsRightFor : (wanted : Wanted) → Effort → CopyQuestion → ReplyWith (ToldFor wanted) → Type 0
+IsRightFor Answers = IsRightCopy
+IsRightFor Factors = IsRightBestReply
+
+-- its lines, or the line of a report
+abbrev pub lines_for : (wanted : Wanted) → Bool → ℕ → CopyQuestion → ReplyWith (ToldFor wanted) → List ℕ
+lines_for Answers = copy_lines
+lines_for Factors = best_lines
+
+-- mode `copy` or `best`
+abbrev pub head_mode : Wanted → Bool → Effort → Mode
+head_mode wanted report effort = done_mode AsksWithCopies CopyFileFaultAt (λ (earlier : List (ReplyWith (ToldFor wanted))). IsRightFor wanted effort) (lines_for wanted report)
+
+-- ---- the same of a sink, by its meaning and its states before and after
 
 -- how a call ends that ran the mode on these bytes
 abbrev pub EndsForBytes : {K : Type 0} → (K → Option (List ℕ)) → (K → ℕ) → Mode → K → K → List ℕ → Status → Type 0

@@ -6,7 +6,7 @@ pub mod CountSteps
 pub mod Modes
 pub mod Misfits
 pub mod Copies
-pub mod FactorReports
+pub mod BestReplies
 pub mod SharingReplies
 pub mod Truth
 pub mod Outputs

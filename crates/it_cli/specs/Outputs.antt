@@ -17,11 +17,10 @@ use Rattle.it_report.specs.LineVerdicts.{LineVerdict, is_invalid, verdict_line}
 use Rattle.it_outer.specs.declared.types.Limits.{Limits}
 use Rattle.it_prove.specs.declared.types.Effort.{Effort}
 use Rattle.it_bounds.specs.Reports as bounds
-use Rattle.it_factor.specs.RightReplies.{IsRightReply}
 use Rattle.it_cli.specs.Right.{budgets_of, effort_of, limits_of}
 use Rattle.it_cli.specs.ToldOrigins.{IsRightTold, ToldReply, told_lines}
 use Rattle.it_cli.specs.Counts.{IsBenchLine}
-use Rattle.it_cli.specs.FactorReports.{best_lines}
+use Rattle.it_cli.specs.BestReplies.{IsRightBestReply, best_lines}
 use Rattle.it_cli.specs.Copies.{AsksWithCopies, IsRightCopy, copy_lines}
 use Rattle.it_sharing.specs.SharingFiles.{SharingFaultAt}
 use Rattle.it_cli.specs.SharingReplies.{AsksOfSharing, IsRightSharing, sharing_lines}
@@ -82,9 +81,9 @@ bench_mode budgets plans seed count = done_mode (λ bytes items. items ≡ tt {0
 abbrev pub copy_mode : Bool → Effort → Mode
 copy_mode report effort = done_mode AsksWithCopies CopyFileFaultAt (λ earlier. IsRightCopy effort) (copy_lines report)
 
--- one right reply to each question of a file that asks for factors, as a line of a report or not
+-- one right reply about factors to each question of a file with a head, which may be empty, as a line of a report or not
 abbrev pub best_mode : Bool → Effort → Mode
-best_mode report effort = done_mode IsFile FileFaultAt (λ earlier (q : QuestionView) reply. IsRightReply effort q.body reply) (best_lines report)
+best_mode report effort = done_mode AsksWithCopies CopyFileFaultAt (λ earlier. IsRightBestReply effort) (best_lines report)
 
 -- one right reply to each question of a file that asks for outer bounds, as a line of a report or not
 abbrev pub outer_mode : Bool → Limits → Mode

@@ -12,7 +12,7 @@ use Rattle.it_sharing.specs.SharingFiles.{IsSharingFile}
 use Rattle.it_sharing.specs.Sharings.{SharingView, made_question, maximal_count, minimal_count}
 use Rattle.it_certificate.specs.Values.{OfSharing, answer_members, misfit_members, report_text}
 use Rattle.it_cli.specs.Copies.{IsRightProof}
-use Rattle.it_cli.specs.FactorReports.{reply_members}
+use Rattle.it_cli.specs.BestReplies.{reply_members}
 use Rattle.it_canon.specs.QuestionDemands.{question_origins}
 
 -- a sharing file: its bytes and what it says

@@ -13,14 +13,12 @@ use Rattle.it_answer.specs.Shows.{Shows}
 use Rattle.it_answer.specs.Truth.{IsTrueAnswer}
 use Rattle.it_bounds.specs.Truth as true_bounds
 use Rattle.it_bounds.specs.Reports as bounds
-use Rattle.it_factor.specs.Replies.{ReplyView}
-use Rattle.it_factor.specs.Truth.{IsTrueReply}
 use Rattle.it_cli.specs.Right.{limits_of}
 use Rattle.it_cli.specs.ToldOrigins.{AreToldOrigins, ToldReply, told_lines}
 use Rattle.it_cli.specs.Copies.{AsksWithCopies, copy_lines}
-use Rattle.it_cli.specs.FactorReports.{best_lines}
+use Rattle.it_cli.specs.BestReplies.{best_lines}
 use Rattle.it_cli.specs.SharingReplies.{AsksOfSharing, SharingFile, SharingReply, sharing_lines}
-use Rattle.it_cli.specs.Truth.{IsTrueCopy, IsTrueSharing}
+use Rattle.it_cli.specs.Truth.{IsTrueBestReply, IsTrueCopy, IsTrueSharing}
 use Rattle.it_cli.specs.Ends.{Call, Ends}
 use Rattle.it_cli.specs.declared.status.Status.TheVariants.{Done}
 
@@ -55,9 +53,9 @@ TrueAnswers format = AreLinesFor IsFile (λ (q : QuestionView) (told : ToldReply
 abbrev pub TrueCopies : Bool → List ℕ → List ℕ → Type 0
 TrueCopies report = AreLinesFor AsksWithCopies IsTrueCopy (copy_lines report)
 
--- the lines of a true reply to each question of a file that asks for factors, as lines of a report or not
+-- those of a true reply about factors to each question of such a file, as lines of a report or not
 abbrev pub TrueFactors : Bool → List ℕ → List ℕ → Type 0
-TrueFactors report = AreLinesFor IsFile (λ (q : QuestionView) (reply : ReplyView). IsTrueReply q.body reply) (best_lines report)
+TrueFactors report = AreLinesFor AsksWithCopies IsTrueBestReply (best_lines report)
 
 -- the lines of a true reply to each question of a file that asks for outer bounds, made within these limits, as lines of a
 -- report or not

@@ -105,13 +105,15 @@ pub fn copies_are_true()
     copied_questions_are_within();
 }
 
-/// Each reply whose lines are written after `Done` in mode `best` is true of its question. A least factor holds wherever the
-/// question's lines are true, and no smaller one does; if the reply is that there is none, none holds; if it is that there is
-/// no least one, the one that it names and all smaller ones hold.
+/// Each reply whose lines are written after `Done` in mode `best` is true of its question. A least factor holds wherever the question's
+/// lines are true, and no smaller one does; where none is told, none holds; where no least one is, the one that is told and all smaller
+/// ones hold. With copies this is said of the factors that hold for the question's relation wherever there are such copies, and a misfit
+/// is why the question can't have them.
 pub fn factors_are_true()
     ensures { FactorsAreTrue }
 {
     shown_factors_are_true();
+    copied_questions_are_within();
 }
 
 /// Each reply whose lines are written after `Done` in mode `outer` is true of its question. Its rows hold exactly at the rates

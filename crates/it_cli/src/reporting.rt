@@ -8,7 +8,7 @@ ghost use Rattle.it_copy.specs.Extensions.{IsProof};
 ghost use Rattle.it_print.specs.Lines.{joined_texts, or_zero};
 ghost use Rattle.it_cli.specs.Copies.{copy_line, head_text};
 ghost use Rattle.it_factor.specs.Replies.{reply_view};
-ghost use Rattle.it_cli.specs.FactorReports.{reply_members};
+ghost use Rattle.it_cli.specs.BestReplies.{reply_members};
 ghost use Rattle.it_cli.specs.InnerEnds.{IsFactorReportOf, IsReportOf};
 
 use it_answer::{Budgets, answer};

@@ -11,8 +11,7 @@ use crate::answering::answer_file;
 use crate::benching::bench;
 use crate::bounding::find_bounds;
 use crate::checking::check_report;
-use crate::copying::answer_with_copies;
-use crate::factoring::find_factors;
+use crate::heads::{Wanted, reply_to_file};
 use crate::refusals::LONG;
 use crate::sharing::answer_sharing;
 use crate::status::Status;
@@ -194,12 +193,26 @@ fn reply<K: Sink>(
             report,
             run,
             pivots,
-        } => answer_with_copies(alloc, report, effort_of(run, pivots), bytes, sink),
+        } => reply_to_file(
+            alloc,
+            Wanted::Answers,
+            report,
+            effort_of(run, pivots),
+            bytes,
+            sink,
+        ),
         Settings::Best {
             report,
             run,
             pivots,
-        } => find_factors(alloc, report, effort_of(run, pivots), bytes, sink),
+        } => reply_to_file(
+            alloc,
+            Wanted::Factors,
+            report,
+            effort_of(run, pivots),
+            bytes,
+            sink,
+        ),
         Settings::Outer {
             report,
             run,
