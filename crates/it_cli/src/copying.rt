@@ -19,7 +19,8 @@ use it_prove::Effort;
 use it_question::types::Question;
 use std::alloc::{AllocError, Global};
 
-/// The lines of question k, counted from 1: those of a right answer with the copies, or why it can't have them.
+/// The lines of question `k`, counted from 1: a right answer with the copies, or why it can't have them; with `report` the line
+/// of a report instead.
 pub fn answer_text(
     alloc: Global,
     report: bool,

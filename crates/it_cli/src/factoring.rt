@@ -18,7 +18,7 @@ use it_prove::Effort;
 use it_question::types::Question;
 use std::alloc::{AllocError, Global};
 
-/// The line of the right reply to question k, counted from 1, or the line of a report.
+/// The line of the right reply to question `k`, counted from 1; with `report` the line of a report instead.
 pub fn factor_text(
     alloc: Global,
     report: bool,
@@ -39,7 +39,7 @@ pub fn factor_text(
     }
 }
 
-/// The line of text.
+/// The line of the right reply to question `k` as text.
 fn reply_text(
     alloc: Global,
     effort: Effort,
@@ -61,7 +61,7 @@ fn reply_text(
     }
 }
 
-/// The line of a report, whatever the question's number.
+/// The line of a report on the right reply to a question; it doesn't depend on its number.
 fn reply_report(
     alloc: Global,
     effort: Effort,
@@ -94,7 +94,7 @@ fn reply_report(
     }
 }
 
-/// The line of the right reply to question k, counted from 1, without copies.
+/// The line of the right reply to question `k`, counted from 1, without copies.
 pub fn factor_line(
     alloc: Global,
     effort: Effort,

@@ -1,4 +1,4 @@
-//! Files whose head may ask for copies: what modes `copy` and `best` do for their bytes.
+//! Modes `copy` and `best`: replies to the questions of a file whose head may ask for copies.
 ghost use Rattle.std.specs.Prelude.{[], ◌≤◌, All, IfOk, length, map};
 ghost use Rattle.it_question.specs.Limits.{IsQuestion};
 ghost use Rattle.it_question.specs.Questions.{question_body, question_view};
@@ -17,7 +17,7 @@ use it_prove::Effort;
 use it_question::types::{FileFault, Question};
 use std::alloc::{AllocError, Global};
 
-/// What is wanted of the questions of such a file.
+/// What is asked of each question of such a file.
 #[derive(Clone, Copy)]
 pub enum Wanted {
     /// Their answers, in mode `copy`.
@@ -26,7 +26,7 @@ pub enum Wanted {
     Factors,
 }
 
-/// What is done for the bytes of a file with a head.
+/// Answers the questions of a file with a head, or finds their factors.
 pub fn reply_to_file<K: Sink>(
     alloc: Global,
     wanted: Wanted,
@@ -53,7 +53,7 @@ pub fn reply_to_file<K: Sink>(
     }
 }
 
-/// Writes the lines of each question, as soon as they are there.
+/// Writes the lines of each question as soon as they are there.
 fn reply_all<K: Sink>(
     alloc: Global,
     wanted: Wanted,
@@ -79,7 +79,7 @@ fn reply_all<K: Sink>(
     Status::Done
 }
 
-/// The lines of the right reply to question k, counted from 1, with the copies.
+/// The lines of the right reply to question `k`, counted from 1, with the copies.
 fn text(
     alloc: Global,
     wanted: Wanted,
