@@ -134,7 +134,7 @@ none_told Json other q answer origins told = told
 none_told Proof other q answer origins told = told
 none_told Derived other q answer origins told = absurd (other refl)
 
-told_of : Reply → Option (List CertificateView) → ToldReply
+abbrev told_of : Reply → Option (List CertificateView) → ToldReply
 told_of reply origins = record { reply = reply; origins = origins }
 
 one_told : (format : Format) → format ≢ Derived → OneRightAnswer → (budgets : Budgets) → budgets.effort.quick ≡ false → (plans : List Plan) (q : BodyView) (a b : ToldReply) → IsRightTold format budgets plans q a → IsRightTold format budgets plans q b

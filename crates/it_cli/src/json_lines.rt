@@ -144,8 +144,16 @@ fn are_amounts(weights: &[(u32, i128)]) -> bool
 fn is_amount(weight: &(u32, i128)) -> bool
     ensures { OnTrue result (IsNumberedAmount weight.now) }
 {
-    let (_, number) = *weight;
-    number != i128::MIN
+    // asked for the range of its result
+    let _generator = generator(weight);
+    weight.1 != i128::MIN
+}
+
+/// The generator of a weight, by number.
+fn generator(weight: &(u32, i128)) -> u32
+    ensures { result ≡ weight.now.0 }
+{
+    weight.0
 }
 
 /// The line of a region with certificates of its rows.
