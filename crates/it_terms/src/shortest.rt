@@ -1,7 +1,7 @@
 //! Finds a proof with the least sum of terms over sets, or over closed sets, by the simplex method. What is found is judged by
 //! the text that it gives, so no clause says it here.
 ghost use Rattle.std.specs.Prelude.{◌≡◌, ◌+◌, ◌*◌, ◌^◌, ◌≤◌, ◌<◌, length, IfOk, OnOk};
-ghost use Rattle.it_space.specs.Spaces.{IsSpace, size_of};
+ghost use Rattle.it_space.specs.Spaces.{IsSpace};
 ghost use Rattle.it_demand.specs.Coefficients.{largest};
 
 use crate::closed::{ClosedTerm, Closures};

@@ -1,5 +1,5 @@
 //! Whether an equation is true where functions hold.
-ghost use Rattle.std.specs.Prelude.{◌≡◌, ◌+ℤ◌, ◌-ℤ◌, ◌<◌, ◌≤◌, All, IfOk, IfSome, OnOk, length, map, pos};
+ghost use Rattle.std.specs.Prelude.{◌≡◌, ◌+ℤ◌, ◌<◌, All, IfOk, IfSome, OnOk, length, map, pos};
 ghost use Rattle.std.specs.Bool.{OnTrue};
 ghost use Rattle.it_space.specs.Rows.{IsOver, value};
 ghost use Rattle.it_space.specs.Spaces.{IsSpace, size_of};
@@ -8,7 +8,6 @@ ghost use Rattle.it_elemental.specs.Generators.{forms_of, of_constraint};
 ghost use Rattle.it_syntax.specs.Givens.{IsRelationOf};
 ghost use Rattle.it_syntax.specs.Meaning.{relation_view};
 ghost use Rattle.it_terms.specs.FunctionProofs.{AreSameUnder, IsSaid};
-ghost use Rattle.it_terms.specs.Proofs.{side_form};
 ghost use Rattle.it_terms.specs.Sums.{AreChosen, IsExcess, IsPlus, constraint_value};
 
 use crate::sums::{add_constraints, add_terms};

@@ -1,4 +1,4 @@
-use Rattle.std.proofs.Common.{All, List, ℕ, ℤ, false, map, pos, subst, sym}
+use Rattle.std.proofs.Common.{All, List, false, map, pos, subst}
 use Rattle.std.proofs.lemmas.Bool.{OnTrue_at, OnTrue_from}
 use Rattle.it_space.specs.declared.spaces.Space.{Space}
 use Rattle.it_space.specs.declared.problems.Constraint.{Constraint}
