@@ -29,8 +29,7 @@ fn sum_of(
     problem: &Problem,
     row: &Row,
     columns: Vec<Column>,
-) -> Result<Option<Choice>, AllocError>
-{
+) -> Result<Option<Choice>, AllocError> {
     let rows = rows_of(alloc, problem.constraints(), columns.as_slice())?;
     let coordinates = used_coordinates(alloc, problem.space(), rows.as_slice(), row)?;
     match column_sum(alloc, coordinates.as_slice(), rows.as_slice(), row)? {
@@ -56,8 +55,7 @@ fn shorter(
     problem: &Problem,
     row: &Row,
     found: &Choice,
-) -> Result<Option<Choice>, AllocError>
-{
+) -> Result<Option<Choice>, AllocError> {
     for weight in found.sum.weights.as_slice() {
         let others = without(alloc, found.columns.as_slice(), weight.0)?;
         if let Some(choice) = sum_of(alloc, problem, row, others)? {
@@ -75,8 +73,7 @@ fn single(
     problem: &Problem,
     row: &Row,
     columns: &[Column],
-) -> Result<Option<Choice>, AllocError>
-{
+) -> Result<Option<Choice>, AllocError> {
     for column in columns {
         let only = Vec::from_slice(alloc, &[*column])?;
         if let Some(choice) = sum_of(alloc, problem, row, only)? {
@@ -87,8 +84,11 @@ fn single(
 }
 
 /// A sum of constraints that the row is: of one alone where there is one, else without columns that can be left out one by one.
-pub fn short_sum(alloc: Global, problem: &Problem, row: &Row) -> Result<Option<Choice>, AllocError>
-{
+pub fn short_sum(
+    alloc: Global,
+    problem: &Problem,
+    row: &Row,
+) -> Result<Option<Choice>, AllocError> {
     let columns = all_columns(alloc, problem.constraints())?;
     if let Some(choice) = single(alloc, problem, row, columns.as_slice())? {
         return Ok(Some(choice));

@@ -52,8 +52,7 @@ fn few_terms(
 }
 
 /// The numbers of the constraints of `given` lines that say functions.
-fn given_functions(alloc: Global, problem: &Problem) -> Result<Vec<u32>, AllocError>
-{
+fn given_functions(alloc: Global, problem: &Problem) -> Result<Vec<u32>, AllocError> {
     let dependences = Dependences::read(alloc, problem)?;
     let elementals = count(problem.space().variables);
     let mut lines = Vec::new(alloc);
