@@ -1,6 +1,5 @@
 use Rattle.std.proofs.Common.{◌<◌, ◌-◌, ◌∙◌, sym, ap, subst, arith, length, get_or, OkIff, ℕ}
 use Rattle.it_space.specs.Rows.{ValueFits, point_of, value, IsOver}
-use Rattle.it_space.specs.Spaces.{size_of}
 use Rattle.it_elemental.specs.Generators.{Generator}
 use Rattle.it_elemental.proofs.GeneratorLemmas.{length-listed, front_is, after_is}
 use Rattle.it_check.proofs.values.generator_value.Goals as goal

@@ -1,4 +1,4 @@
-use Rattle.std.proofs.Common.{◌≡◌, ◌∙◌, sym, ap, arith, ◌-◌, get_or, IfOk}
+use Rattle.std.proofs.Common.{◌≡◌, ◌∙◌, sym, ap, arith, ◌-◌, get_or}
 use Rattle.it_space.specs.Rows.{Terms}
 use Rattle.it_polymatroid.specs.Elementals.{elemental_at}
 use Rattle.it_elemental.specs.Rows.{elemental_row}

@@ -1,7 +1,6 @@
 use Rattle.std.proofs.Common.{◌∙◌, sym, ap, arith, ◌-◌, length, get_or, rules, FitsSigned, to_z-of_z}
 use Rattle.it_space.specs.Rows.{coefficient}
-use Rattle.it_polymatroid.specs.Elementals.{elementals, elemental_at}
-use Rattle.it_elemental.specs.Rows.{elemental_row}
+use Rattle.it_polymatroid.specs.Elementals.{elementals}
 use Rattle.it_elemental.proofs.GeneratorLemmas.{length-listed, front_is, after_is}
 use Rattle.it_elemental.proofs.generators.coefficient_at.Goals as goal
 use mir.Syntax.{w128}

@@ -1,6 +1,5 @@
-use Rattle.std.proofs.Common.{◌∙◌, sym, ap, arith, ◌-◌, length, get_or, ◌≡◌, List}
+use Rattle.std.proofs.Common.{◌∙◌, sym, ap, arith, ◌-◌, length, get_or}
 use Rattle.it_polymatroid.specs.Elementals.{elementals}
-use Rattle.it_space.specs.declared.problems.Constraint.{Constraint}
 use Rattle.it_elemental.proofs.GeneratorLemmas.{length-listed, front_is, after_is}
 use Rattle.it_elemental.proofs.generators.kind_at.Goals as goal
 
