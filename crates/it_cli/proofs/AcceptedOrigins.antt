@@ -1,7 +1,6 @@
 -- A report that tells certificates of a region's rows is accepted, and so is one in any format.
-use Rattle.std.proofs.Common.{◌≡◌, ◌≢◌, ℕ, ◌<◌, ◌≤◌, ◌^◌, ℤ, pos, List, [], ◌∷◌, ◌++◌, map, filter, length, All, Bool, true, Option, Some, None, IfSome, Ok, cond, codes, if◌then◌else◌, refl, sym, ap, subst, ◌∙◌}
+use Rattle.std.proofs.Common.{◌≡◌, ℕ, ◌<◌, ◌≤◌, ◌^◌, ℤ, List, [], ◌∷◌, ◌++◌, map, filter, length, All, Option, Some, None, IfSome, Ok, cond, codes, if◌then◌else◌, refl, sym, ap, subst, ◌∙◌}
 use Rattle.std.specs.List.{AllZip}
-use Rattle.std.proofs.lemmas.List.{length-map}
 use Rattle.std.proofs.lemmas.List.Elements.{All-nil, All-cons, All-head, All-tail}
 use Rattle.it_settings.specs.declared.types.Format.{Format}
 use Rattle.it_settings.specs.declared.types.Format.TheVariants.{Text, Json, Proof, Derived}
@@ -11,7 +10,7 @@ use Rattle.it_space.specs.Answers.AnswerView.{Yes, No, Undecided, Region, Contai
 use Rattle.it_space.specs.Problems.{ProblemView}
 use Rattle.it_space.specs.Rows.{Terms}
 use Rattle.it_question.specs.Files.{IsFile}
-use Rattle.it_question.specs.Questions.{BodyView, QuestionView, VerbView, Prove, Eliminate, Contain}
+use Rattle.it_question.specs.Questions.{QuestionView, VerbView, Prove, Eliminate, Contain}
 use Rattle.it_demand.proofs.ZipLemmas.{zip-length}
 use Rattle.it_canon.specs.QuestionDemands.{problem_of}
 use Rattle.it_canon.proofs.ExistenceLemmas.{system_rows}
@@ -27,7 +26,7 @@ use Rattle.it_certificate.specs.AnswerShapes.{HasQuestionShape, IsNumbered, IsNu
 use Rattle.it_certificate.specs.Laws.{OriginsReadBack, ReadsBack, without_zeros}
 use Rattle.it_certificate.specs.Reports.{Derived as DerivedReading, ReadsReport}
 use Rattle.it_certificate.specs.Sources.{Text as QuestionText}
-use Rattle.it_certificate.specs.Values.{answer_text, derived_text, derived_value}
+use Rattle.it_certificate.specs.Values.{derived_text, derived_value}
 use Rattle.it_certificate.proofs.RowLemmas.{nonzero_passes}
 use Rattle.it_report.specs.RowVerdicts.{is_valid, proofs_verdict}
 use Rattle.it_report.specs.LineVerdicts.{Judged}
