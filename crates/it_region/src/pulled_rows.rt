@@ -57,7 +57,7 @@ fn pulled_coordinate(pair: &Pair, sets: &[VarSet], coordinate: u32) -> usize
     if coordinate < count {
         union_of_images(sets, VarSet::from_number(coordinate as u16)).number() as usize
     } else {
-        (1usize << pair.first.space.variables) + (coordinate - count) as usize
+        (1usize << pair.first.space().variables) + (coordinate - count) as usize
     }
 }
 
