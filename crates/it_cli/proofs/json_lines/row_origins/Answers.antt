@@ -7,8 +7,8 @@ use Rattle.it_cli.specs.ToldOrigins.{IsToldOrigin}
 use Rattle.it_cli.proofs.OriginLemmas.{origins_all, origins_more, row_over}
 use Rattle.it_cli.proofs.json_lines.row_origins.Goals as goal
 
-pub told_origin-requires-clause-row : goal.told_origin-requires-clause-row
-told_origin-requires-clause-row c = row_over c.args.problem.now c.args.rows.now c.loop-row.row-index c.row-item.result c.requires.rows c.loop-row-test.true c.row-item.is
+pub told_origin-requires : goal.told_origin-requires
+told_origin-requires c = record { row = row_over c.args.problem.now c.args.rows.now c.loop-row.row-index c.row-item.result c.requires.rows c.loop-row-test.true c.row-item.is }
 
 pub loop-row-preserved : goal.loop-row-preserved
 loop-row-preserved c =

@@ -14,10 +14,11 @@ use Rattle.it_certificate.specs.OriginReading.{rows_of}
 use Rattle.it_cli.proofs.OriginLemmas.{rows_of_problem, told_where_found}
 use Rattle.it_cli.proofs.json_lines.told_origins.Goals as goal
 
-pub row_origins-requires-clause-rows : goal.row_origins-requires-clause-rows
-row_origins-requires-clause-rows c = let q = question_body c.args.question.now in
-    rw c.as_slice.ensures.value (rows_of_problem q c.in_ok-problem-in-Region.problem c.in_ok-problem-in-Region.ensures c.in-Region.rows.items
-    (subst (λ (a : Answer). All (IsOver (size_of (space_of q.names))) (rows_of (answer_view a))) c.in-Region.is c.requires.rows))
+pub row_origins-requires : goal.row_origins-requires
+row_origins-requires c = let q = question_body c.args.question.now in record {
+  rows = rw c.as_slice.ensures.value (rows_of_problem q c.in_ok-problem-in-Region.problem c.in_ok-problem-in-Region.ensures c.in-Region.rows.items
+      (subst (λ (a : Answer). All (IsOver (size_of (space_of q.names))) (rows_of (answer_view a))) c.in-Region.is c.requires.rows));
+}
 
 pub returns-in_ok-origins-in-Region : goal.returns-in_ok-origins-in-Region
 returns-in_ok-origins-in-Region c = let p = c.in_ok-problem-in-Region.problem in
